@@ -58,7 +58,8 @@ impl Outcome {
         }
     }
 
-    // The outcome of a trial, with the number of the call that failed in the attempt that didn't pass.
+    // The outcome of a trial, with the number of the call that failed in the attempt that didn't
+    // pass.
     fn at(self, alloc: Global, call: &str, number: u64) -> Result<Outcome> {
         let report = format!(in alloc; "{}, where {call} {number} fails", self.report)?;
         Ok(Outcome {
@@ -88,8 +89,9 @@ impl Case {
         })
     }
 
-    /// Runs the case, and tries its book in two further ways: by sets of calls that stand alone, which give the same verdict, and,
-    /// where it is to be called legal, at each of its smaller cuts too.
+    /// Runs the case, and tries its book in two further ways: by sets of calls that stand alone,
+    /// which give the same verdict, and, where it is to be called legal, at each of its smaller
+    /// cuts too.
     pub fn run_with_cuts<R: AllocGlobal + Threads + Sync>(&self, rt: &R) -> Result<Outcome> {
         let outcome = self.run(rt)?;
         if !outcome.passed || self.trial != Trial::Once {
@@ -194,8 +196,8 @@ impl Case {
         Outcome::good(rt.alloc())
     }
 
-    // The source gives one byte a read, and the last read finds the end: each of these reads fails in turn, and then the read
-    // after the last, which isn't made.
+    // The source gives one byte a read, and the last read finds the end: each of these reads fails
+    // in turn, and then the read after the last, which isn't made.
     fn run_failing_reads<R: AllocGlobal + Threads + Sync>(&self, rt: &R) -> Result<Outcome> {
         let last = (self.input.len() as u64).saturating_add(1);
         for failing in 1..=last.saturating_add(1) {
@@ -217,8 +219,8 @@ impl Case {
         Outcome::good(rt.alloc())
     }
 
-    // The sink takes one byte a write: each write of the wanted output fails in turn, and then the write after the last, which
-    // isn't made.
+    // The sink takes one byte a write: each write of the wanted output fails in turn, and then the
+    // write after the last, which isn't made.
     fn run_failing_writes<R: AllocGlobal + Threads + Sync>(&self, rt: &R) -> Result<Outcome> {
         for taken in 0..=self.wanted.len() {
             let failing = (taken as u64).saturating_add(1);
@@ -293,7 +295,8 @@ impl Case {
     }
 }
 
-// The answer to a prefix of a text that isn't whole: the line that is cut is the one after the last line feed.
+// The answer to a prefix of a text that isn't whole: the line that is cut is the one after the last
+// line feed.
 fn refusal_of_prefix(alloc: Global, prefix: &[u8]) -> Result<String> {
     let line_feeds = prefix.iter().filter(|byte| **byte == b'\n').count();
     Ok(format!(in alloc; "refused {} Cut\n", line_feeds.saturating_add(1))?)

@@ -1,5 +1,5 @@
-//! The books at the smaller cuts of a legal book: each of them is legal too, since an error is final, and the order that the
-//! search gives is one that a judge without a search accepts.
+//! The books at the smaller cuts of a legal book: each of them is legal too, since an error is
+//! final, and the order that the search gives is one that a judge without a search accepts.
 ghost use Rattle.std.specs.Prelude.{◌≡◌, ℕ, length, IsTrue};
 ghost use Rattle.book_base.specs.Cut.{IsWithin};
 ghost use Rattle.book_base.specs.Book.{answered};
@@ -15,8 +15,8 @@ use std::alloc::Global;
 /// The greatest number of cuts of a book that are tried.
 const MOST: u64 = 20_000;
 
-/// The cuts within the record counts of the book with this text, as many as were tried; a cut at which
-/// the book has no legal order is an error.
+/// The cuts within the record counts of the book with this text, as many as were tried; a cut at
+/// which the book has no legal order is an error.
 pub fn try_cuts(alloc: Global, text: &[u8]) -> Result<u64> {
     let (kind, book) = read_book(alloc, text).map_err(|_| anyhow!("the book can't be read"))?;
     let mut cut = Cut::zero(book.callers());
@@ -31,7 +31,8 @@ pub fn try_cuts(alloc: Global, text: &[u8]) -> Result<u64> {
     Ok(MOST)
 }
 
-// Whether the book at a cut has a legal order. A cut that isn't within the record counts has no book.
+// Whether the book at a cut has a legal order. A cut that isn't within the record counts has no
+// book.
 fn is_legal_at(alloc: Global, kind: Kind, book: &Book, cut: &Cut) -> Result<bool> {
     if cut.n() != book.callers() || !is_within_records(book, cut) {
         return Err(anyhow!("the cut is outside of the records"));
@@ -68,7 +69,8 @@ fn is_within_records(book: &Book, cut: &Cut) -> bool
     true
 }
 
-// Goes on to the next cut within the record counts, the count of the first caller rising first; false after the last.
+// Goes on to the next cut within the record counts, the count of the first caller rising first;
+// false after the last.
 fn step(book: &Book, cut: &mut Cut) -> bool {
     for i in 0..book.callers() {
         if i >= cut.n() {

@@ -1,6 +1,7 @@
 //! Runs the top call on a table of cases, over sources and sinks in memory.
 //!
-//! The table is read from standard input. A case begins with a line `case NAME`, and its lines say, in any order:
+//! The table is read from standard input. A case begins with a line `case NAME`, and its lines say,
+//! in any order:
 //!
 //! | Line | Meaning |
 //! |---|---|
@@ -33,12 +34,12 @@
 //! | `left N` | how many bytes the source is to have left |
 //! | `status N` | the wanted status |
 //!
-//! A book that `verify` is to call legal is also tried at each of its smaller cuts, where it must be legal too, by an order that
-//! is accepted without a search. And the book of few callers of each verdict is judged by sets of calls that stand alone, where
-//! the verdict must be the same.
+//! A book that `verify` is to call legal is also tried at each of its smaller cuts, where it must
+//! be legal too, by an order that is accepted without a search. And the book of few callers of each
+//! verdict is judged by sets of calls that stand alone, where the verdict must be the same.
 //!
-//! Empty lines and lines that begin with `#` are passed over. A line is printed for each case that fails, with what
-//! was answered instead of what was wanted, and `N passed, M failed` last.
+//! Empty lines and lines that begin with `#` are passed over. A line is printed for each case that
+//! fails, with what was answered instead of what was wanted, and `N passed, M failed` last.
 #![tactic(auto)]
 
 mod alone;

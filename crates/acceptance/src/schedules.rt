@@ -1,4 +1,5 @@
-//! What is so of the output of a run whatever the schedule of its callers, where no output can be wanted byte by byte.
+//! What is so of the output of a run whatever the schedule of its callers, where no output can be
+//! wanted byte by byte.
 
 use crate::trial::Told;
 use anyhow::{Context, Result, anyhow};

@@ -24,14 +24,16 @@ use Rattle.bench_clients.specs.declared.worker.Worker.{Worker}
 abbrev pub object_by : {S : Type 0} → (S → List ℕ) → (S → List ℕ → ℕ → List ℕ × ℕ) → S → Sequential
 object_by init next sequential = record { init = init sequential; next = next sequential }
 
--- How many phases each of a plan's callers may make, where they go on by themselves, and where they take the plan's turns.
+-- How many phases each of a plan's callers may make, where they go on by themselves, and where they
+-- take the plan's turns.
 abbrev pub run_allotments : Plan → List ℕ
 run_allotments plan = allotments_of plan.operations plan.stops
 
 abbrev pub replay_allotments : Plan → List ℕ
 replay_allotments plan = allotments_by_turns plan.operations plan.stops plan.turns
 
--- What all callers are given: each its operations and how many phases it may make, and the sequential object that calls are judged by.
+-- What all callers are given: each its operations and how many phases it may make, and the
+-- sequential object that calls are judged by.
 pub record Course : Type 0 where
   pub operations : List (List ℕ)
   pub allotments : List ℕ
@@ -39,10 +41,12 @@ pub record Course : Type 0 where
 
 -- The course of a plan, with these allotments.
 abbrev pub course_of : Plan → List ℕ → Sequential → Course
-course_of plan allotments object = record { operations = plan.operations; allotments = allotments; object = object }
+course_of plan allotments object =
+    record { operations = plan.operations; allotments = allotments; object = object }
 
 module _ {P : Type 0} where
-  -- These rows have room for the callers of a plan, and for the calls of each. They may have more callers.
+  -- These rows have room for the callers of a plan, and for the calls of each. They may have more
+  -- callers.
   pub record HaveRoomFor (plan : Plan) (r : Rows P) : Type 0 where
     pub callers : length plan.operations ≤ r.callers
     pub cap : (i : ℕ) → length (operations_at plan.operations i) ≤ r.cap
@@ -61,26 +65,29 @@ module _ {P : Type 0} where
     pub idle : IsIdle local
     pub none : progress_of local ≡ no_progress
 
-  -- The callers of a plan may start on these rows, with this bench: the rows have room for them, and the bench is theirs and holds each of
-  -- the plan's callers, unused.
-  pub record MayStart (meaning : P → ℕ → ℕ → Meaning) (plan : Plan) (r : Rows P) (b : Bench P) : Type 0 where
+  -- The callers of a plan may start on these rows, with this bench: the rows have room for them,
+  -- and the bench is theirs and holds each of the plan's callers, unused.
+  pub record MayStart (meaning : P → ℕ → ℕ → Meaning) (plan : Plan) (r : Rows P)
+      (b : Bench P) : Type 0 where
     pub rows_for : HaveRoomFor plan r
     pub bench_of : IsBenchOf meaning r b
     pub unused : (i : ℕ) → i < length plan.operations → IsUnused b i
 
-  -- A whole run of a plan may begin, with this many callers beside the plan's: its callers may start, the rows have just these callers, and
-  -- those beside the plan's are unused too.
-  pub record MayBegin (meaning : P → ℕ → ℕ → Meaning) (plan : Plan) (beside : ℕ) (r : Rows P) (b : Bench P) : Type 0 where
+  -- A whole run of a plan may begin, with this many callers beside the plan's: its callers may
+  -- start, the rows have just these callers, and those beside the plan's are unused too.
+  pub record MayBegin (meaning : P → ℕ → ℕ → Meaning) (plan : Plan) (beside : ℕ) (r : Rows P)
+      (b : Bench P) : Type 0 where
     pub starts : MayStart meaning plan r b
     pub callers : r.callers ≡ length plan.operations + beside
     pub others : (i : ℕ) → length plan.operations ≤ i → i < r.callers → IsUnused b i
 
   -- From caller n on both benches hold the same callers, standing the same.
   abbrev pub AreAlikeFrom : ℕ → Bench P → Bench P → Type 0
-  AreAlikeFrom n b c = (i : ℕ) → n ≤ i → (on_bench c i ≡ on_bench b i) × (stance_on c i ≡ stance_on b i)
+  AreAlikeFrom n b c = (i : ℕ) → n ≤ i → (on_bench c i ≡ on_bench b i)
+      × (stance_on c i ≡ stance_on b i)
 
-  -- Of the first n callers the second bench holds those below k, each as the first has it, and no other; and what is there of callers
-  -- from n on is on both alike.
+  -- Of the first n callers the second bench holds those below k, each as the first has it, and no
+  -- other; and what is there of callers from n on is on both alike.
   pub record HoldsBelow (n k : ℕ) (b c : Bench P) : Type 0 where
     pub below : (i : ℕ) → i < k → (on_bench c i ≡ on_bench b i) × (stance_on c i ≡ stance_on b i)
     pub gone : (i : ℕ) → k ≤ i → i < n → on_bench c i ≡ None
@@ -91,33 +98,40 @@ pub record IsRoomFor (operations : List (List ℕ)) (i : ℕ) (own : Own) : Type
   pub none : own.lines.items ≡ []
   pub has_room : length (operations_at operations i) ≤ vec_capacity own.lines
 
--- With a pass that counts no call was made, it has a call for each of this many operations, and it tells of none.
+-- With a pass that counts no call was made, it has a call for each of this many operations, and it
+-- tells of none.
 pub record IsNewCount (operations : ℕ) (count : PassCount) : Type 0 where
   pub none : count.made ≡ 0
   pub has_room : operations ≤ count.room
   pub silent : IfSome count.told (λ pairs. pairs ≡ [])
 
--- The pass of caller i of these rows, with which no call was made: it fits the caller without object steps, and where it counts it has
--- a call for each operation.
-pub record IsFreshPass {P T : Type 0} (r : Rows P) (fits : Fits T) (count : T → Option PassCount) (operations : List (List ℕ)) (i : ℕ) (pass : T) : Type 0 where
+-- The pass of caller i of these rows, with which no call was made: it fits the caller without
+-- object steps, and where it counts it has a call for each operation.
+pub record IsFreshPass {P T : Type 0} (r : Rows P) (fits : Fits T) (count : T → Option PassCount)
+    (operations : List (List ℕ)) (i : ℕ) (pass : T) : Type 0 where
   pub fits_caller : fits r.callers r.cap pass i []
   pub counts : IfSome (count pass) (IsNewCount (length (operations_at operations i)))
 
 -- There is such a pass for each caller, in order.
-pub record AreFreshPasses {P T : Type 0} (r : Rows P) (fits : Fits T) (count : T → Option PassCount) (operations : List (List ℕ)) (passes : List T) : Type 0 where
+pub record AreFreshPasses {P T : Type 0} (r : Rows P) (fits : Fits T) (count : T → Option PassCount)
+    (operations : List (List ℕ)) (passes : List T) : Type 0 where
   pub as_many : length passes ≡ length operations
   pub each : AreInOrder (IsFreshPass r fits count operations) passes
 
 module _ {P T E : Type 0} where
   -- The client of caller i, at work on its course.
-  pub record IsClientOf (meaning : P → ℕ → ℕ → Meaning) (r : Rows P) (says : Says) (object : E → Sequential) (fits : Fits T) (count : T → Option PassCount) (course : Course) (i : ℕ) (c : Client P T E) : Type 0 where
+  pub record IsClientOf (meaning : P → ℕ → ℕ → Meaning) (r : Rows P) (says : Says)
+      (object : E → Sequential) (fits : Fits T) (count : T → Option PassCount) (course : Course)
+      (i : ℕ) (c : Client P T E) : Type 0 where
     pub work : IsAtWork meaning r says object fits count c
     pub who : c.sheet.who ≡ i
     pub operations : c.sheet.operations.now ≡ operations_at course.operations i
     pub judges : object c.sheet.ending ≡ course.object
 
   -- The worker of caller i, before its first phase.
-  pub record IsStart (meaning : P → ℕ → ℕ → Meaning) (r : Rows P) (says : Says) (object : E → Sequential) (fits : Fits T) (count : T → Option PassCount) (course : Course) (i : ℕ) (w : Worker P T E) : Type 0 where
+  pub record IsStart (meaning : P → ℕ → ℕ → Meaning) (r : Rows P) (says : Says)
+      (object : E → Sequential) (fits : Fits T) (count : T → Option PassCount) (course : Course)
+      (i : ℕ) (w : Worker P T E) : Type 0 where
     pub client : Client P T E
     pub here : w.client ≡ Some client
     pub of : IsClientOf meaning r says object fits count course i client

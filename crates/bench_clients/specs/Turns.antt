@@ -12,19 +12,27 @@ use Rattle.bench_clients.specs.Starts.{Course, IsClientOf}
 use Rattle.bench_clients.specs.declared.worker.Worker.{Worker}
 
 module _ {P T E : Type 0} where
-  -- The worker of caller i, after this many turns that named it: its client has spent a phase at each, but none beyond its allotment, and
-  -- where it isn't halted it has the rest of its allotment left.
-  pub record IsTurned (meaning : P → ℕ → ℕ → Meaning) (r : Rows P) (says : Says) (object : E → Sequential) (fits : Fits T) (count : T → Option PassCount) (course : Course) (i turns : ℕ) (w : Worker P T E) : Type 0 where
+  -- The worker of caller i, after this many turns that named it: its client has spent a phase at
+  -- each, but none beyond its allotment, and where it isn't halted it has the rest of its allotment
+  -- left.
+  pub record IsTurned (meaning : P → ℕ → ℕ → Meaning) (r : Rows P) (says : Says)
+      (object : E → Sequential) (fits : Fits T) (count : T → Option PassCount) (course : Course)
+      (i turns : ℕ) (w : Worker P T E) : Type 0 where
     pub client : Client P T E
     pub here : w.client ≡ Some client
     pub of : IsClientOf meaning r says object fits count course i client
     pub spent : HasSpent (min (slice_index course.allotments i) turns) client
-    pub left : GoesOnFrom client.stand → phases_by client + w.allotment ≡ slice_index course.allotments i
+    pub left : GoesOnFrom client.stand
+        → phases_by client + w.allotment ≡ slice_index course.allotments i
     pub within : slice_index course.allotments i ≤ 5 * length client.sheet.operations.now
 
-  -- A worker may take a turn: it has its client, at work, and no more phases left than the client has.
-  pub record IsTurning (meaning : P → ℕ → ℕ → Meaning) (r : Rows P) (says : Says) (object : E → Sequential) (fits : Fits T) (count : T → Option PassCount) (w : Worker P T E) : Type 0 where
+  -- A worker may take a turn: it has its client, at work, and no more phases left than the client
+  -- has.
+  pub record IsTurning (meaning : P → ℕ → ℕ → Meaning) (r : Rows P) (says : Says)
+      (object : E → Sequential) (fits : Fits T) (count : T → Option PassCount)
+      (w : Worker P T E) : Type 0 where
     pub client : Client P T E
     pub here : w.client ≡ Some client
     pub work : IsAtWork meaning r says object fits count client
-    pub left : GoesOnFrom client.stand → phases_by client + w.allotment ≤ 5 * length client.sheet.operations.now
+    pub left : GoesOnFrom client.stand
+        → phases_by client + w.allotment ≤ 5 * length client.sheet.operations.now

@@ -17,19 +17,24 @@ use Rattle.bench_clients.specs.declared.worker.Worker.{Worker}
 abbrev pub Says : Type 1
 Says = Sequential → ℕ → Local → Record → List ℕ → LineEnd → Type 0
 
--- In all of these: the meaning of the program, the rows; what the ends of lines say, and by which object an ending judges; whom a pass
--- fits, and what it counts.
+-- In all of these: the meaning of the program, the rows; what the ends of lines say, and by which
+-- object an ending judges; whom a pass fits, and what it counts.
 module _ {P T E : Type 0} where
-  -- A client is at work: it has come as far as it stands, its pass fits its caller and has come along, there is room for all its calls, and
-  -- what it keeps of an order stands for its object.
-  pub record IsAtWork (meaning : P → ℕ → ℕ → Meaning) (r : Rows P) (says : Says) (object : E → Sequential) (fits : Fits T) (count : T → Option PassCount) (c : Client P T E) : Type 0 where
+  -- A client is at work: it has come as far as it stands, its pass fits its caller and has come
+  -- along, there is room for all its calls, and what it keeps of an order stands for its object.
+  pub record IsAtWork (meaning : P → ℕ → ℕ → Meaning) (r : Rows P) (says : Says)
+      (object : E → Sequential) (fits : Fits T) (count : T → Option PassCount)
+      (c : Client P T E) : Type 0 where
     pub course : IsUnderWay meaning r (says (object c.sheet.ending)) c
     pub pass : HasPass fits count c
     pub has_room : HasRoom r c
     pub stands : KeepsStanding (object c.sheet.ending) c.sheet
 
-  -- A worker is ready: the object serves its caller, and its client is at work, goes on and has that many phases left.
-  pub record IsReady (meaning : P → ℕ → ℕ → Meaning) (r : Rows P) (says : Says) (object : E → Sequential) (fits : Fits T) (count : T → Option PassCount) (serves : Type 0) (w : Worker P T E) : Type 0 where
+  -- A worker is ready: the object serves its caller, and its client is at work, goes on and has
+  -- that many phases left.
+  pub record IsReady (meaning : P → ℕ → ℕ → Meaning) (r : Rows P) (says : Says)
+      (object : E → Sequential) (fits : Fits T) (count : T → Option PassCount) (serves : Type 0)
+      (w : Worker P T E) : Type 0 where
     pub served : serves
     pub client : Client P T E
     pub here : w.client ≡ Some client
@@ -38,7 +43,9 @@ module _ {P T E : Type 0} where
     pub left : phases_by client + w.allotment ≤ 5 * length client.sheet.operations.now
 
   -- A worker has run: its client has spent its phases, and is at work still.
-  pub record HasRun (meaning : P → ℕ → ℕ → Meaning) (r : Rows P) (says : Says) (object : E → Sequential) (fits : Fits T) (count : T → Option PassCount) (w d : Worker P T E) : Type 0 where
+  pub record HasRun (meaning : P → ℕ → ℕ → Meaning) (r : Rows P) (says : Says)
+      (object : E → Sequential) (fits : Fits T) (count : T → Option PassCount)
+      (w d : Worker P T E) : Type 0 where
     pub before : Client P T E
     pub after : Client P T E
     pub was : w.client ≡ Some before

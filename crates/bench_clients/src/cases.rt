@@ -3,9 +3,10 @@
 ghost use Rattle.std.specs.Prelude.{[], ◌∷◌};
 ghost use Rattle.bench_clients.specs.Cases.{in_second_call, with_object_step, silent_pass, pass_of, IsBackAfter};
 
-/// A caller that is in its second call has made its sixth phase, or its seventh as well, in which the
-/// object was asked. It was given as many phases or more; its calls have the operations that it was
-/// given, and its record is published. Before the object was asked, its call has no object step.
+/// A caller that is in its second call has made its sixth phase, or its seventh as well, in which
+/// the object was asked. It was given as many phases or more; its calls have the operations that it
+/// was given, and its record is published. Before the object was asked, its call has no object
+/// step.
 pub fn callers_are_back_after_their_phases()
     // A caller in its second call whose pass tells of its first call alone has made 6 of 6 phases.
     ensures announced { IsBackAfter 6 6 (in_second_call 7 1) (pass_of ((5, 50) ∷ [])) }
@@ -25,7 +26,8 @@ pub fn callers_are_back_after_their_phases()
     // A caller that has published no record hasn't made 6 phases.
     ensures unpublished { ¬ IsBackAfter 10 6 (in_second_call 7 0) (silent_pass 1) }
     // A caller whose second call has an object step hasn't made just 6 phases.
-    ensures a_step_before_it_asked { ¬ IsBackAfter 6 6 (with_object_step (in_second_call 7 1)) (pass_of ((5, 50) ∷ [])) }
+    ensures a_step_before_it_asked { ¬ IsBackAfter 6 6 (with_object_step (in_second_call 7 1))
+        (pass_of ((5, 50) ∷ [])) }
     // A caller whose pass was asked twice hasn't made just 6 phases.
     ensures asked_too_soon { ¬ IsBackAfter 6 6 (in_second_call 7 1) (silent_pass 2) }
 {}

@@ -38,9 +38,11 @@ fn bring_back<'a, P: Program, T, E: Ending + Drop, A: Asks<Program = P, Pass = T
     ensures back { IsBack P.meaning shared.now.rows.now E.says (A.fits shared.now.asks.now) A.count
         course bench.new passes.new.items (lines_in lines.new.items) result client.entry.sheet.who }
     ensures passes { passes.new.items ≡ passes.old.items ++ client.entry.pass ∷ [] }
-    ensures lines { (own : List Line) × (lines_in lines.new.items ≡ lines_in lines.old.items ++ own ∷ []) }
+    ensures lines { (own : List Line)
+        × (lines_in lines.new.items ≡ lines_in lines.old.items ++ own ∷ []) }
     ensures others { (i : ℕ) → i ≢ client.entry.sheet.who
-        → (on_bench bench.new i ≡ on_bench bench.old i) × (stance_on bench.new i ≡ stance_on bench.old i) }
+        → (on_bench bench.new i ≡ on_bench bench.old i)
+        × (stance_on bench.new i ≡ stance_on bench.old i) }
     ensures capacity { (vec_capacity passes.old ≤ vec_capacity passes.new)
         × (vec_capacity lines.old ≤ vec_capacity lines.new) }
 {
@@ -77,7 +79,8 @@ pub fn end_all<'a, P: Program, T, E: Ending + Drop, A: Asks<Program = P, Pass = 
     // The workers are those of the script's callers, from the last one on, and each has its client,
     // at work on the course, which has made all phases of its allotment or was halted before.
     requires workers { AreDownFrom (length script.now.operations)
-        (IsSpent P.meaning shared.now.rows.now E.says E.object (A.fits shared.now.asks.now) A.count course) workers.items }
+        (IsSpent P.meaning shared.now.rows.now E.says E.object
+        (A.fits shared.now.asks.now) A.count course) workers.items }
     // No lines are in their list yet.
     requires no_lines { lines.items ≡ [] }
     // The list of lines has room for those of each caller of the script.

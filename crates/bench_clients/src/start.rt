@@ -15,8 +15,8 @@ use row_table::{Bench, Caller};
 use std::alloc::Global;
 use world_core::Program;
 
-/// How many phases a script gives a caller: those up to its stop, where it has one, and else all five of
-/// each call.
+/// How many phases a script gives a caller: those up to its stop, where it has one, and else all
+/// five of each call.
 pub fn allotment_of(script: &Script, who: u32) -> u64
     // The script is one that texts of version 2 have.
     requires plan { IsPlan Second script.now }
@@ -50,8 +50,10 @@ fn begin<'a, P: Program, T, E: Ending, A: Asks<Program = P, Pass = T>>(
         script.now.operations (who_of caller) pass }
     requires room { IsRoomFor script.now.operations (who_of caller) own }
     requires below { who_of caller < length script.now.operations }
-    ensures { IsStart P.meaning _shared.now.rows.now E.says E.object (A.fits _shared.now.asks.now) A.count
-        (course_of script.now (run_allotments script.now) (E.object ending.now)) (who_of caller) result }
+    ensures { IsStart P.meaning _shared.now.rows.now E.says E.object
+        (A.fits _shared.now.asks.now) A.count
+        (course_of script.now (run_allotments script.now) (E.object ending.now))
+        (who_of caller) result }
 {
     let who = caller.who();
     let operations = script.operations(who);
@@ -92,11 +94,12 @@ fn make_room(alloc: Global, script: &Script) -> Result<Vec<Own>, NoMemory>
     Ok(room)
 }
 
-/// Takes the callers of a script off their bench, from the last to the first, each into a worker for the phases
-/// up to its stop. Beside the workers stands an empty list for the lines of all callers.
+/// Takes the callers of a script off their bench, from the last to the first, each into a worker
+/// for the phases up to its stop. Beside the workers stands an empty list for the lines of all
+/// callers.
 ///
-/// The passes are the callers', in order, and each gets an ending such as this one. Want of memory is answered
-/// before anything is done.
+/// The passes are the callers', in order, and each gets an ending such as this one. Want of memory
+/// is answered before anything is done.
 pub fn start_all<'a, P: Program, T, E: Ending, A: Asks<Program = P, Pass = T>>(
     alloc: Global,
     shared: &Shared<A, P>,
@@ -124,7 +127,8 @@ pub fn start_all<'a, P: Program, T, E: Ending, A: Asks<Program = P, Pass = T>>(
     ensures passes { OnErr result (AreFreshPasses shared.now.rows.now (A.fits shared.now.asks.now)
         A.count script.now.operations passes.new.items) }
     // Else the bench holds none of the script's callers any more.
-    ensures gone { OnOk result ((i : ℕ) → i < length script.now.operations → on_bench bench.new i ≡ None) }
+    ensures gone { OnOk result
+        ((i : ℕ) → i < length script.now.operations → on_bench bench.new i ≡ None) }
     // No pass is left in the list.
     ensures no_passes { OnOk result (passes.new.items ≡ []) }
     // There is one worker for each caller of the script.

@@ -44,9 +44,9 @@ impl<'a, P: Program, T, E: Ending> Worker<'a, P, T, E> {
     }
 }
 
-/// Lets the workers of a script's callers make their phases in the order of its turns, in one thread: at each
-/// turn the worker of the caller that it names makes its next phase, where one is left up to its stop, and it
-/// isn't halted. Steps are counted by themselves.
+/// Lets the workers of a script's callers make their phases in the order of its turns, in one
+/// thread: at each turn the worker of the caller that it names makes its next phase, where one is
+/// left up to its stop, and it isn't halted. Steps are counted by themselves.
 pub fn take_turns<'a, P: Program, T, E: Ending, A: Asks<Program = P, Pass = T>, L: Ledger>(
     shared: &Shared<A, P>,
     script: &Script,
@@ -64,14 +64,16 @@ pub fn take_turns<'a, P: Program, T, E: Ending, A: Asks<Program = P, Pass = T>, 
     // at work on the course that the script gives, before its first phase.
     requires workers { AreDownFrom (length script.now.operations)
         (IsStart P.meaning shared.now.rows.now E.says E.object (A.fits shared.now.asks.now) A.count
-        (course_of script.now (run_allotments script.now) (E.object _ending.now))) workers.old.items }
+        (course_of script.now (run_allotments script.now) (E.object _ending.now)))
+        workers.old.items }
     // There is still one worker for each caller of the script.
     ensures all { length workers.new.items ≡ length script.now.operations }
     // Each worker's client has made as many phases as turns name its caller, up to its stop, or was
     // halted before.
     ensures workers { AreDownFrom (length script.now.operations)
         (IsSpent P.meaning shared.now.rows.now E.says E.object (A.fits shared.now.asks.now) A.count
-        (course_of script.now (replay_allotments script.now) (E.object _ending.now))) workers.new.items }
+        (course_of script.now (replay_allotments script.now) (E.object _ending.now)))
+        workers.new.items }
 {
     let mut steps = Steps::<L>::new(blank);
     let last = script.callers() as usize - 1;

@@ -20,40 +20,50 @@ announced_at book i =
     let size : Page → ℕ = λ p. length p.operations in
     elim (cases_lt i (length book)) [
       | inl lt ↦ get_or-map size book i empty 0 lt
-      | inr le ↦ get_or_past (map size book) i 0 (omega (arith, length-map book size)) ∙ sym (ap size (page_past book i le))
+      | inr le ↦ get_or_past (map size book) i 0 (omega (arith, length-map book size))
+          ∙ sym (ap size (page_past book i le))
     ]
 
 -- a view is within the announced counts where no count of it is above a caller's calls
-pub within_announced : (book : List Page) (view : List ℕ) → ((i : ℕ) → get_or view i 0 ≤ calls_of book i) → IsWithin view (announced book)
+pub within_announced : (book : List Page) (view : List ℕ)
+    → ((i : ℕ) → get_or view i 0 ≤ calls_of book i) → IsWithin view (announced book)
 within_announced book view h i = omega (arith, h i, announced_at book i)
 
-pub below_calls : (book : List Page) (view : List ℕ) → IsWithin view (announced book) → (i : ℕ) → get_or view i 0 ≤ calls_of book i
+pub below_calls : (book : List Page) (view : List ℕ) → IsWithin view (announced book) → (i : ℕ)
+    → get_or view i 0 ≤ calls_of book i
 below_calls book view h i = omega (arith, h i, announced_at book i)
 
 -- the page that was set, and the others
-pub page_of-set_same : (book : List Page) (i : ℕ) (p : Page) → i < length book → page_of (set book i p) i ≡ p
+pub page_of-set_same : (book : List Page) (i : ℕ) (p : Page) → i < length book
+    → page_of (set book i p) i ≡ p
 page_of-set_same book i p h = get_or-set_same book i p empty h
 
-pub page_of-set_other : (book : List Page) (i j : ℕ) (p : Page) → j ≢ i → page_of (set book i p) j ≡ page_of book j
+pub page_of-set_other : (book : List Page) (i j : ℕ) (p : Page) → j ≢ i
+    → page_of (set book i p) j ≡ page_of book j
 page_of-set_other book i j p h = get_or-set_other book i j p empty h
 
 -- a book with the same callers and records, and no fewer calls, is valid still
-pub IsValid-more_calls : (book new : List Page) → length new ≡ length book → ((i : ℕ) → (page_of new i).records ≡ (page_of book i).records)
+pub IsValid-more_calls : (book new : List Page) → length new ≡ length book
+    → ((i : ℕ) → (page_of new i).records ≡ (page_of book i).records)
     → ((i : ℕ) → calls_of book i ≤ calls_of new i) → IsValid book → IsValid new
 IsValid-more_calls book new wide records calls valid =
-    let known : (call : Call) (r : Record) → record_of new call ≡ Some r → record_of book call ≡ Some r
-    = λ call r e. sym (ap (λ (rs : List Record). slice_get rs call.number) (records call.caller)) ∙ e in
+    let known : (call : Call) (r : Record) → record_of new call ≡ Some r
+    → record_of book call ≡ Some r
+    = λ call r e.
+    sym (ap (λ (rs : List Record). slice_get rs call.number) (records call.caller)) ∙ e in
     record {
       answers = λ j. omega (arith, valid.answers j, calls j, ap (length {A = Record}) (records j));
       wide = λ call r e. valid.wide call r (known call r e) ∙ sym wide;
-      within = λ call r e. within_announced new r.view (λ j. omega (arith, below_calls book r.view (valid.within call r (known call r e)) j, calls j));
+      within = λ call r e. within_announced new r.view (λ j.
+          omega (arith, below_calls book r.view (valid.within call r (known call r e)) j, calls j));
       own = λ call r e. valid.own call r (known call r e);
       comparable = λ a b r s e f. valid.comparable a b r s (known a r e) (known b s f);
     }
 
 -- ---- calls without answers
 
-pub page_of-unanswered_book : (calls : List ℕ) (i : ℕ) → page_of (unanswered_book calls) i ≡ unanswered_page (get_or calls i 0)
+pub page_of-unanswered_book : (calls : List ℕ) (i : ℕ)
+    → page_of (unanswered_book calls) i ≡ unanswered_page (get_or calls i 0)
 page_of-unanswered_book [] i = refl
 page_of-unanswered_book (n ∷ calls) zero = refl
 page_of-unanswered_book (n ∷ calls) (suc i) = page_of-unanswered_book calls i
@@ -61,54 +71,83 @@ page_of-unanswered_book (n ∷ calls) (suc i) = page_of-unanswered_book calls i
 pub IsValid-unanswered_book : (calls : List ℕ) → IsValid (unanswered_book calls)
 IsValid-unanswered_book calls =
     let none : (call : Call) (r : Record) → record_of (unanswered_book calls) call ≡ Some r → ⊥
-    = λ call r e. none-some r (sym (ap (λ (p : Page). slice_get p.records call.number) (page_of-unanswered_book calls call.caller)) ∙ e) in
+    = λ call r e. none-some r (sym (ap (λ (p : Page). slice_get p.records call.number)
+    (page_of-unanswered_book calls call.caller)) ∙ e) in
     record {
-      answers = λ i. omega (arith, ap (λ (p : Page). length p.records) (page_of-unanswered_book calls i));
+      answers =
+          λ i. omega (arith, ap (λ (p : Page). length p.records) (page_of-unanswered_book calls i));
       wide = λ call r e. absurd (none call r e);
       within = λ call r e. absurd (none call r e);
       own = λ call r e. absurd (none call r e);
       comparable = λ a b r s e f. absurd (none a r e);
     }
 
-pub IsSmall-unanswered_book : (calls : List ℕ) → 1 ≤ length calls → length calls ≤ MAX_CALLERS → ((i : ℕ) → get_or calls i 0 ≤ MAX_CALLS) → IsSmall (unanswered_book calls)
+pub IsSmall-unanswered_book : (calls : List ℕ) → 1 ≤ length calls → length calls ≤ MAX_CALLERS
+    → ((i : ℕ) → get_or calls i 0 ≤ MAX_CALLS) → IsSmall (unanswered_book calls)
 IsSmall-unanswered_book calls some few small = record {
   some = omega (arith, length-map calls unanswered_page);
   callers = omega (arith, length-map calls unanswered_page);
-  calls = λ i. omega (arith, small i, ap (λ (p : Page). length p.operations) (page_of-unanswered_book calls i), length-replicate {A = ℕ} (get_or calls i 0) 0);
+  calls = λ i. omega (
+    arith,
+    small i,
+    ap (λ (p : Page). length p.operations) (page_of-unanswered_book calls i),
+    length-replicate {A = ℕ} (get_or calls i 0) 0,
+  );
 }
 
 -- one caller more
-pub unanswered_book-more : (book : List Page) (calls : List ℕ) (i : ℕ) (p : Page) → i < length calls → book ≡ unanswered_book (take i calls) → p ≡ unanswered_page (get_or calls i 0)
+pub unanswered_book-more : (book : List Page) (calls : List ℕ) (i : ℕ) (p : Page) → i < length calls
+    → book ≡ unanswered_book (take i calls) → p ≡ unanswered_page (get_or calls i 0)
     → book ++ p ∷ [] ≡ unanswered_book (take (i + 1) calls)
 unanswered_book-more book calls i p h e is =
-    ap (λ (b : List Page). b ++ p ∷ []) e ∙ (ap (λ (q : Page). unanswered_book (take i calls) ++ q ∷ []) is ∙ map-take_more unanswered_page calls i 0 h)
+    ap (λ (b : List Page). b ++ p ∷ []) e
+    ∙ (ap (λ (q : Page). unanswered_book (take i calls) ++ q ∷ []) is
+    ∙ map-take_more unanswered_page calls i 0 h)
 
 -- ---- another operation
 
-pub calls_of-with_operation : (book : List Page) (call : Call) (op j : ℕ) → call.caller < length book → calls_of (with_operation book call op) j ≡ calls_of book j
+pub calls_of-with_operation : (book : List Page) (call : Call) (op j : ℕ)
+    → call.caller < length book → calls_of (with_operation book call op) j ≡ calls_of book j
 calls_of-with_operation book call op j h =
-    let p : Page = record (page_of book call.caller) { operations = set (page_of book call.caller).operations call.number op } in
+    let p : Page = record (page_of book call.caller)
+    { operations = set (page_of book call.caller).operations call.number op } in
     elim (cases_eq j call.caller) [
-      | inl same ↦ subst (λ (k : ℕ). calls_of (set book call.caller p) k ≡ calls_of book k) (sym same) (omega (arith, ap (λ (q : Page). length q.operations) (page_of-set_same book call.caller p h), length-set (page_of book call.caller).operations call.number op))
-      | inr other ↦ ap (λ (q : Page). length q.operations) (page_of-set_other book call.caller j p other)
+      | inl same ↦ subst (λ (k : ℕ). calls_of (set book call.caller p) k ≡ calls_of book k)
+          (sym same) (omega (
+            arith,
+            ap (λ (q : Page). length q.operations) (page_of-set_same book call.caller p h),
+            length-set (page_of book call.caller).operations call.number op,
+          ))
+      | inr other ↦
+          ap (λ (q : Page). length q.operations) (page_of-set_other book call.caller j p other)
     ]
 
-pub records-with_operation : (book : List Page) (call : Call) (op j : ℕ) → call.caller < length book → (page_of (with_operation book call op) j).records ≡ (page_of book j).records
+pub records-with_operation : (book : List Page) (call : Call) (op j : ℕ) → call.caller < length book
+    → (page_of (with_operation book call op) j).records ≡ (page_of book j).records
 records-with_operation book call op j h =
-    let p : Page = record (page_of book call.caller) { operations = set (page_of book call.caller).operations call.number op } in
+    let p : Page = record (page_of book call.caller)
+    { operations = set (page_of book call.caller).operations call.number op } in
     elim (cases_eq j call.caller) [
-      | inl same ↦ subst (λ (k : ℕ). (page_of (set book call.caller p) k).records ≡ (page_of book k).records) (sym same) (ap (λ (q : Page). q.records) (page_of-set_same book call.caller p h))
+      | inl same ↦
+          subst (λ (k : ℕ). (page_of (set book call.caller p) k).records ≡ (page_of book k).records)
+          (sym same) (ap (λ (q : Page). q.records) (page_of-set_same book call.caller p h))
       | inr other ↦ ap (λ (q : Page). q.records) (page_of-set_other book call.caller j p other)
     ]
 
-pub IsValid-with_operation : (book : List Page) (call : Call) (op : ℕ) → call.caller < length book → IsValid book → IsValid (with_operation book call op)
+pub IsValid-with_operation : (book : List Page) (call : Call) (op : ℕ) → call.caller < length book
+    → IsValid book → IsValid (with_operation book call op)
 IsValid-with_operation book call op h valid =
-    IsValid-more_calls book (with_operation book call op) (length-set book call.caller (record (page_of book call.caller) { operations = set (page_of book call.caller).operations call.number op }))
-    (λ j. records-with_operation book call op j h) (λ j. omega (arith, calls_of-with_operation book call op j h)) valid
+    IsValid-more_calls book (with_operation book call op)
+    (length-set book call.caller (record (page_of book call.caller)
+    { operations = set (page_of book call.caller).operations call.number op }))
+    (λ j. records-with_operation book call op j h)
+    (λ j. omega (arith, calls_of-with_operation book call op j h)) valid
 
-pub IsSmall-with_operation : (book : List Page) (call : Call) (op : ℕ) → call.caller < length book → IsSmall book → IsSmall (with_operation book call op)
+pub IsSmall-with_operation : (book : List Page) (call : Call) (op : ℕ) → call.caller < length book
+    → IsSmall book → IsSmall (with_operation book call op)
 IsSmall-with_operation book call op h small =
-    let p : Page = record (page_of book call.caller) { operations = set (page_of book call.caller).operations call.number op } in
+    let p : Page = record (page_of book call.caller)
+    { operations = set (page_of book call.caller).operations call.number op } in
     record {
       some = omega (arith, length-set book call.caller p, small.some);
       callers = omega (arith, length-set book call.caller p, small.callers);
@@ -118,88 +157,134 @@ IsSmall-with_operation book call op h small =
 -- ---- one more call
 
 -- who made how many calls after one more
-pub calls_of-with_call : (book : List Page) (i op j : ℕ) → i < length book → calls_of book j ≤ calls_of (with_call book i op) j
+pub calls_of-with_call : (book : List Page) (i op j : ℕ) → i < length book
+    → calls_of book j ≤ calls_of (with_call book i op) j
 calls_of-with_call book i op j h =
-    let p : Page = record (page_of book i) { operations = (page_of book i).operations ++ op ∷ [] } in
+    let p : Page =
+    record (page_of book i) { operations = (page_of book i).operations ++ op ∷ [] } in
     elim (cases_eq j i) [
-      | inl same ↦ subst (λ (k : ℕ). calls_of book k ≤ calls_of (set book i p) k) (sym same) (omega (arith, ap (λ (q : Page). length q.operations) (page_of-set_same book i p h), length-append (page_of book i).operations (op ∷ [])))
-      | inr other ↦ omega (arith, ap (λ (q : Page). length q.operations) (page_of-set_other book i j p other))
+      | inl same ↦
+          subst (λ (k : ℕ). calls_of book k ≤ calls_of (set book i p) k) (sym same) (omega (
+            arith,
+            ap (λ (q : Page). length q.operations) (page_of-set_same book i p h),
+            length-append (page_of book i).operations (op ∷ []),
+          ))
+      | inr other ↦
+          omega (arith, ap (λ (q : Page). length q.operations) (page_of-set_other book i j p other))
     ]
 
 -- the records are those from before
-pub records-with_call : (book : List Page) (i op j : ℕ) → i < length book → (page_of (with_call book i op) j).records ≡ (page_of book j).records
+pub records-with_call : (book : List Page) (i op j : ℕ) → i < length book
+    → (page_of (with_call book i op) j).records ≡ (page_of book j).records
 records-with_call book i op j h =
-    let p : Page = record (page_of book i) { operations = (page_of book i).operations ++ op ∷ [] } in
+    let p : Page =
+    record (page_of book i) { operations = (page_of book i).operations ++ op ∷ [] } in
     elim (cases_eq j i) [
-      | inl same ↦ subst (λ (k : ℕ). (page_of (set book i p) k).records ≡ (page_of book k).records) (sym same) (ap (λ (q : Page). q.records) (page_of-set_same book i p h))
+      | inl same ↦ subst (λ (k : ℕ). (page_of (set book i p) k).records ≡ (page_of book k).records)
+          (sym same) (ap (λ (q : Page). q.records) (page_of-set_same book i p h))
       | inr other ↦ ap (λ (q : Page). q.records) (page_of-set_other book i j p other)
     ]
 
-pub IsValid-with_call : (book : List Page) (i op : ℕ) → i < length book → IsValid book → IsValid (with_call book i op)
+pub IsValid-with_call : (book : List Page) (i op : ℕ) → i < length book → IsValid book
+    → IsValid (with_call book i op)
 IsValid-with_call book i op h valid =
-    IsValid-more_calls book (with_call book i op) (length-set book i (record (page_of book i) { operations = (page_of book i).operations ++ op ∷ [] }))
+    IsValid-more_calls book (with_call book i op) (length-set book i
+    (record (page_of book i) { operations = (page_of book i).operations ++ op ∷ [] }))
     (λ j. records-with_call book i op j h) (λ j. calls_of-with_call book i op j h) valid
 
-pub IsSmall-with_call : (book : List Page) (i op : ℕ) → i < length book → calls_of book i < MAX_CALLS → IsSmall book → IsSmall (with_call book i op)
+pub IsSmall-with_call : (book : List Page) (i op : ℕ) → i < length book
+    → calls_of book i < MAX_CALLS → IsSmall book → IsSmall (with_call book i op)
 IsSmall-with_call book i op h room small =
-    let p : Page = record (page_of book i) { operations = (page_of book i).operations ++ op ∷ [] } in
+    let p : Page =
+    record (page_of book i) { operations = (page_of book i).operations ++ op ∷ [] } in
     record {
       some = omega (arith, length-set book i p, small.some);
       callers = omega (arith, length-set book i p, small.callers);
       calls = λ j. elim (cases_eq j i) [
-        | inl same ↦ subst (λ (k : ℕ). calls_of (set book i p) k ≤ MAX_CALLS) (sym same) (omega (arith, ap (λ (q : Page). length q.operations) (page_of-set_same book i p h), length-append (page_of book i).operations (op ∷ []), room))
-        | inr other ↦ omega (arith, ap (λ (q : Page). length q.operations) (page_of-set_other book i j p other), small.calls j)
+        | inl same ↦ subst (λ (k : ℕ). calls_of (set book i p) k ≤ MAX_CALLS) (sym same) (omega (
+          arith,
+          ap (λ (q : Page). length q.operations) (page_of-set_same book i p h),
+          length-append (page_of book i).operations (op ∷ []),
+          room,
+        ))
+        | inr other ↦ omega (
+          arith,
+          ap (λ (q : Page). length q.operations) (page_of-set_other book i j p other),
+          small.calls j,
+        )
       ];
     }
 
 -- ---- one more answer
 
 -- the calls are those from before
-pub calls_of-with_answer : (book : List Page) (i : ℕ) (r : Record) (j : ℕ) → i < length book → calls_of (with_answer book i r) j ≡ calls_of book j
+pub calls_of-with_answer : (book : List Page) (i : ℕ) (r : Record) (j : ℕ) → i < length book
+    → calls_of (with_answer book i r) j ≡ calls_of book j
 calls_of-with_answer book i r j h =
     let p : Page = record (page_of book i) { records = (page_of book i).records ++ r ∷ [] } in
     elim (cases_eq j i) [
-      | inl same ↦ subst (λ (k : ℕ). calls_of (set book i p) k ≡ calls_of book k) (sym same) (ap (λ (q : Page). length q.operations) (page_of-set_same book i p h))
+      | inl same ↦ subst (λ (k : ℕ). calls_of (set book i p) k ≡ calls_of book k) (sym same)
+          (ap (λ (q : Page). length q.operations) (page_of-set_same book i p h))
       | inr other ↦ ap (λ (q : Page). length q.operations) (page_of-set_other book i j p other)
     ]
 
-pub announced-with_answer : (book : List Page) (i : ℕ) (r : Record) → announced (with_answer book i r) ≡ announced book
-announced-with_answer book i r = map-set_same (λ (p : Page). length p.operations) book i (record (page_of book i) { records = (page_of book i).records ++ r ∷ [] }) empty refl
+pub announced-with_answer : (book : List Page) (i : ℕ) (r : Record)
+    → announced (with_answer book i r) ≡ announced book
+announced-with_answer book i r = map-set_same (λ (p : Page). length p.operations) book i
+    (record (page_of book i) { records = (page_of book i).records ++ r ∷ [] }) empty refl
 
 -- what was recorded before is recorded still
-pub record_of-with_answer_old : (book : List Page) (i : ℕ) (r : Record) (call : Call) (s : Record) → i < length book → record_of book call ≡ Some s → record_of (with_answer book i r) call ≡ Some s
+pub record_of-with_answer_old : (book : List Page) (i : ℕ) (r : Record) (call : Call) (s : Record)
+    → i < length book → record_of book call ≡ Some s
+    → record_of (with_answer book i r) call ≡ Some s
 record_of-with_answer_old book i r call s h e =
     let p : Page = record (page_of book i) { records = (page_of book i).records ++ r ∷ [] } in
     elim (cases_eq call.caller i) [
       | inl same ↦
           ap (λ (k : ℕ). slice_get (page_of (set book i p) k).records call.number) same
           ∙ (ap (λ (q : Page). slice_get q.records call.number) (page_of-set_same book i p h)
-          ∙ slice_get-push_old (page_of book i).records r call.number s (ap (λ (k : ℕ). slice_get (page_of book k).records call.number) (sym same) ∙ e))
-      | inr other ↦ ap (λ (q : Page). slice_get q.records call.number) (page_of-set_other book i call.caller p other) ∙ e
+          ∙ slice_get-push_old (page_of book i).records r call.number s
+          (ap (λ (k : ℕ). slice_get (page_of book k).records call.number) (sym same) ∙ e))
+      | inr other ↦ ap (λ (q : Page). slice_get q.records call.number)
+          (page_of-set_other book i call.caller p other) ∙ e
     ]
 
 -- what is recorded now was recorded before, or is the new answer
-pub record_of-with_answer_cases : (book : List Page) (i : ℕ) (r : Record) (call : Call) (s : Record) → i < length book → record_of (with_answer book i r) call ≡ Some s
-    → (record_of book call ≡ Some s) ⊎ ((call.caller ≡ i) × (call.number ≡ answers_of book i) × (s ≡ r))
+pub record_of-with_answer_cases : (book : List Page) (i : ℕ) (r : Record) (call : Call) (s : Record)
+    → i < length book → record_of (with_answer book i r) call ≡ Some s
+    → (record_of book call ≡ Some s)
+    ⊎ ((call.caller ≡ i) × (call.number ≡ answers_of book i) × (s ≡ r))
 record_of-with_answer_cases book i r call s h e =
     let p : Page = record (page_of book i) { records = (page_of book i).records ++ r ∷ [] } in
     elim (cases_eq call.caller i) [
       | inl same ↦
           let here : slice_get ((page_of book i).records ++ r ∷ []) call.number ≡ Some s
-          = sym (ap (λ (k : ℕ). slice_get (page_of (set book i p) k).records call.number) same ∙ ap (λ (q : Page). slice_get q.records call.number) (page_of-set_same book i p h)) ∙ e in
+          = sym (ap (λ (k : ℕ). slice_get (page_of (set book i p) k).records call.number) same ∙ ap
+          (λ (q : Page). slice_get q.records call.number) (page_of-set_same book i p h)) ∙ e in
           elim (slice_get-push_cases (page_of book i).records r call.number s here) [
-            | inl old ↦ inl (ap (λ (k : ℕ). slice_get (page_of book k).records call.number) same ∙ old)
+            | inl old ↦
+                inl (ap (λ (k : ℕ). slice_get (page_of book k).records call.number) same ∙ old)
             | inr new ↦ inr (same, new.0, new.1)
           ]
-      | inr other ↦ inl (sym (ap (λ (q : Page). slice_get q.records call.number) (page_of-set_other book i call.caller p other)) ∙ e)
+      | inr other ↦ inl (sym (ap (λ (q : Page). slice_get q.records call.number)
+          (page_of-set_other book i call.caller p other)) ∙ e)
     ]
 
-answers_of-with_answer : (book : List Page) (i : ℕ) (r : Record) (j : ℕ) → i < length book → answers_of book i < calls_of book i → answers_of book j ≤ calls_of book j → answers_of (with_answer book i r) j ≤ calls_of book j
+answers_of-with_answer : (book : List Page) (i : ℕ) (r : Record) (j : ℕ) → i < length book
+    → answers_of book i < calls_of book i → answers_of book j ≤ calls_of book j
+    → answers_of (with_answer book i r) j ≤ calls_of book j
 answers_of-with_answer book i r j h room le =
     let p : Page = record (page_of book i) { records = (page_of book i).records ++ r ∷ [] } in
     elim (cases_eq j i) [
-      | inl same ↦ subst (λ (k : ℕ). answers_of (set book i p) k ≤ calls_of book k) (sym same) (omega (arith, room, ap (λ (q : Page). length q.records) (page_of-set_same book i p h), length-append (page_of book i).records (r ∷ [])))
-      | inr other ↦ omega (arith, le, ap (λ (q : Page). length q.records) (page_of-set_other book i j p other))
+      | inl same ↦
+          subst (λ (k : ℕ). answers_of (set book i p) k ≤ calls_of book k) (sym same) (omega (
+            arith,
+            room,
+            ap (λ (q : Page). length q.records) (page_of-set_same book i p h),
+            length-append (page_of book i).records (r ∷ []),
+          ))
+      | inr other ↦ omega
+          (arith, le, ap (λ (q : Page). length q.records) (page_of-set_other book i j p other))
     ]
 
 -- two cuts are comparable in either order
@@ -208,36 +293,50 @@ swapped a b (inl h) = inr h
 swapped a b (inr h) = inl h
 
 -- the new view, and one of the book's, are comparable; so are two of the book's
-both_comparable : (book : List Page) (i : ℕ) (r : Record) → IsValid book → MayAnswer book i r.view → (a b : Call) (s t : Record)
+both_comparable : (book : List Page) (i : ℕ) (r : Record) → IsValid book → MayAnswer book i r.view
+    → (a b : Call) (s t : Record)
     → (record_of book a ≡ Some s) ⊎ ((a.caller ≡ i) × (a.number ≡ answers_of book i) × (s ≡ r))
     → (record_of book b ≡ Some t) ⊎ ((b.caller ≡ i) × (b.number ≡ answers_of book i) × (t ≡ r))
     → AreComparable s.view t.view
 both_comparable book i r valid may a b s t (inl e) (inl f) = valid.comparable a b s t e f
-both_comparable book i r valid may a b s t (inl e) (inr f) = subst (λ (x : Record). AreComparable s.view x.view) (sym f.2) (swapped r.view s.view (may.comparable a s e))
-both_comparable book i r valid may a b s t (inr e) (inl f) = subst (λ (x : Record). AreComparable x.view t.view) (sym e.2) (may.comparable b t f)
-both_comparable book i r valid may a b s t (inr e) (inr f) = subst (λ (x : Record). AreComparable s.view x.view) (e.2 ∙ sym f.2) (inl (λ i. omega arith))
+both_comparable book i r valid may a b s t (inl e) (inr f) =
+    subst (λ (x : Record). AreComparable s.view x.view) (sym f.2)
+    (swapped r.view s.view (may.comparable a s e))
+both_comparable book i r valid may a b s t (inr e) (inl f) =
+    subst (λ (x : Record). AreComparable x.view t.view) (sym e.2) (may.comparable b t f)
+both_comparable book i r valid may a b s t (inr e) (inr f) =
+    subst (λ (x : Record). AreComparable s.view x.view) (e.2 ∙ sym f.2) (inl (λ i. omega arith))
 
-pub IsValid-with_answer : (book : List Page) (i : ℕ) (r : Record) → i < length book → length r.view ≡ length book → MayAnswer book i r.view → IsValid book → IsValid (with_answer book i r)
+pub IsValid-with_answer : (book : List Page) (i : ℕ) (r : Record) → i < length book → length r.view
+    ≡ length book → MayAnswer book i r.view → IsValid book → IsValid (with_answer book i r)
 IsValid-with_answer book i r h wide may valid =
     let p : Page = record (page_of book i) { records = (page_of book i).records ++ r ∷ [] } in
     record {
-      answers = λ j. rw (calls_of-with_answer book i r j h) (answers_of-with_answer book i r j h may.unanswered (valid.answers j));
+      answers = λ j. rw (calls_of-with_answer book i r j h)
+          (answers_of-with_answer book i r j h may.unanswered (valid.answers j));
       wide = λ call s e. elim (record_of-with_answer_cases book i r call s h e) [
         | inl old ↦ valid.wide call s old ∙ sym (length-set book i p)
         | inr new ↦ ap (λ (x : Record). length x.view) new.2 ∙ (wide ∙ sym (length-set book i p))
       ];
-      within = λ call s e. subst (IsWithin s.view) (sym (announced-with_answer book i r)) (elim (record_of-with_answer_cases book i r call s h e) [
-        | inl old ↦ valid.within call s old
-        | inr new ↦ subst (λ (x : Record). IsWithin x.view (announced book)) (sym new.2) may.within
-      ]);
+      within = λ call s e. subst (IsWithin s.view) (sym (announced-with_answer book i r))
+          (elim (record_of-with_answer_cases book i r call s h e) [
+            | inl old ↦ valid.within call s old
+            | inr new ↦
+                subst (λ (x : Record). IsWithin x.view (announced book)) (sym new.2) may.within
+          ]);
       own = λ call s e. elim (record_of-with_answer_cases book i r call s h e) [
         | inl old ↦ valid.own call s old
-        | inr new ↦ ap (λ (x : Record). get_or x.view call.caller 0) new.2 ∙ (ap (λ (k : ℕ). get_or r.view k 0) new.0 ∙ (may.own ∙ ap (λ (k : ℕ). k + 1) (sym new.1)))
+        | inr new ↦ ap (λ (x : Record). get_or x.view call.caller 0) new.2
+            ∙ (ap (λ (k : ℕ). get_or r.view k 0) new.0
+            ∙ (may.own ∙ ap (λ (k : ℕ). k + 1) (sym new.1)))
       ];
-      comparable = λ a b s t e f. both_comparable book i r valid may a b s t (record_of-with_answer_cases book i r a s h e) (record_of-with_answer_cases book i r b t h f);
+      comparable = λ a b s t e f.
+          both_comparable book i r valid may a b s t (record_of-with_answer_cases book i r a s h e)
+          (record_of-with_answer_cases book i r b t h f);
     }
 
-pub IsSmall-with_answer : (book : List Page) (i : ℕ) (r : Record) → i < length book → IsSmall book → IsSmall (with_answer book i r)
+pub IsSmall-with_answer : (book : List Page) (i : ℕ) (r : Record) → i < length book → IsSmall book
+    → IsSmall (with_answer book i r)
 IsSmall-with_answer book i r h small =
     let p : Page = record (page_of book i) { records = (page_of book i).records ++ r ∷ [] } in
     record {
@@ -247,10 +346,12 @@ IsSmall-with_answer book i r h small =
     }
 
 -- the new answer is recorded
-pub record_of-with_answer_new : (book : List Page) (i : ℕ) (r : Record) → i < length book → record_of (with_answer book i r) (first_unanswered book i) ≡ Some r
+pub record_of-with_answer_new : (book : List Page) (i : ℕ) (r : Record) → i < length book
+    → record_of (with_answer book i r) (first_unanswered book i) ≡ Some r
 record_of-with_answer_new book i r h =
     let p : Page = record (page_of book i) { records = (page_of book i).records ++ r ∷ [] } in
-    ap (λ (q : Page). slice_get q.records (answers_of book i)) (page_of-set_same book i p h) ∙ slice_get-push_last (page_of book i).records r
+    ap (λ (q : Page). slice_get q.records (answers_of book i)) (page_of-set_same book i p h)
+    ∙ slice_get-push_last (page_of book i).records r
 
 -- and nothing else changes
 pub answers_are_recorded : AnswersAreRecorded
@@ -265,13 +366,22 @@ answers_are_recorded =
     }
 
 -- an answer that leaves a valid book is one that may be given
-pub MayAnswer-from_valid : (book : List Page) (i : ℕ) (r : Record) → i < length book → IsValid (with_answer book i r) → MayAnswer book i r.view
+pub MayAnswer-from_valid : (book : List Page) (i : ℕ) (r : Record) → i < length book
+    → IsValid (with_answer book i r) → MayAnswer book i r.view
 MayAnswer-from_valid book i r h valid =
     let p : Page = record (page_of book i) { records = (page_of book i).records ++ r ∷ [] } in
     let new = record_of-with_answer_new book i r h in
     record {
-      unanswered = omega (arith, valid.answers i, calls_of-with_answer book i r i h, ap (λ (q : Page). length q.records) (page_of-set_same book i p h), length-append (page_of book i).records (r ∷ []));
-      within = subst (IsWithin r.view) (announced-with_answer book i r) (valid.within (first_unanswered book i) r new);
+      unanswered = omega (
+        arith,
+        valid.answers i,
+        calls_of-with_answer book i r i h,
+        ap (λ (q : Page). length q.records) (page_of-set_same book i p h),
+        length-append (page_of book i).records (r ∷ []),
+      );
+      within = subst (IsWithin r.view) (announced-with_answer book i r)
+          (valid.within (first_unanswered book i) r new);
       own = valid.own (first_unanswered book i) r new;
-      comparable = λ call s e. valid.comparable (first_unanswered book i) call r s new (record_of-with_answer_old book i r call s h e);
+      comparable = λ call s e. valid.comparable (first_unanswered book i) call r s new
+          (record_of-with_answer_old book i r call s h e);
     }

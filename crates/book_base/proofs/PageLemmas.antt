@@ -22,7 +22,8 @@ pub caller_from_call : (book : List Page) (i k : ℕ) → k < calls_of book i �
 caller_from_call book i k h =
     elim (cases_lt i (length book)) [
       | inl lt ↦ lt
-      | inr le ↦ absurd (omega (arith, ap (λ (p : Page). length p.operations) (page_past book i le)))
+      | inr le ↦
+          absurd (omega (arith, ap (λ (p : Page). length p.operations) (page_past book i le)))
     ]
 
 -- who recorded an answer is there
@@ -34,54 +35,83 @@ caller_from_answer book i k h =
     ]
 
 -- the page of a caller is what its rows hold
-pub page_of-pages : (rows : List Rows) (book : List Page) (i : ℕ) (r : Rows) → pages rows ≡ book → i < length book → r ≡ get_or rows i r → page_of book i ≡ page r
+pub page_of-pages : (rows : List Rows) (book : List Page) (i : ℕ) (r : Rows) → pages rows ≡ book
+    → i < length book → r ≡ get_or rows i r → page_of book i ≡ page r
 page_of-pages rows book i r e h is =
     let inside : i < length rows = omega (arith, length-map rows page, ap length e) in
-    ap (λ (b : List Page). page_of b i) (sym e) ∙ (get_or-map page rows i r empty inside ∙ ap page (sym is))
+    ap (λ (b : List Page). page_of b i) (sym e)
+    ∙ (get_or-map page rows i r empty inside ∙ ap page (sym is))
 
 -- the operation that the rows hold is the call's
-pub operation_from_rows : (rows : List Rows) (book : List Page) (call : Call) (r : Rows) (op : ℕ) → pages rows ≡ book → call.number < calls_of book call.caller → r ≡ get_or rows call.caller r → op ≡ get_or r.operations.items call.number op → operation_of book call ≡ Some op
+pub operation_from_rows : (rows : List Rows) (book : List Page) (call : Call) (r : Rows) (op : ℕ)
+    → pages rows ≡ book → call.number < calls_of book call.caller → r ≡ get_or rows call.caller r
+    → op ≡ get_or r.operations.items call.number op → operation_of book call ≡ Some op
 operation_from_rows rows book call r op e h is there =
-    let known = page_of-pages rows book call.caller r e (caller_from_call book call.caller call.number h) is in
-    let below : call.number < length r.operations.items = subst (λ (p : Page). call.number < length p.operations) known h in
-    ap (λ (p : Page). slice_get p.operations call.number) known ∙ slice_get_read r.operations.items (length r.operations.items) call.number op refl below there
+    let known =
+    page_of-pages rows book call.caller r e (caller_from_call book call.caller call.number h) is in
+    let below : call.number < length r.operations.items =
+    subst (λ (p : Page). call.number < length p.operations) known h in
+    ap (λ (p : Page). slice_get p.operations call.number) known
+    ∙ slice_get_read r.operations.items (length r.operations.items) call.number op refl below there
 
 -- the record that the rows hold is the call's
-pub record_from_rows : (rows : List Rows) (book : List Page) (call : Call) (r : Rows) (found : Record) → pages rows ≡ book → call.number < answers_of book call.caller → r ≡ get_or rows call.caller r → found ≡ get_or r.records.items call.number found → record_of book call ≡ Some found
+pub record_from_rows : (rows : List Rows) (book : List Page) (call : Call) (r : Rows)
+    (found : Record) → pages rows ≡ book → call.number < answers_of book call.caller
+    → r ≡ get_or rows call.caller r → found ≡ get_or r.records.items call.number found
+    → record_of book call ≡ Some found
 record_from_rows rows book call r found e h is there =
-    let known = page_of-pages rows book call.caller r e (caller_from_answer book call.caller call.number h) is in
-    let below : call.number < length r.records.items = subst (λ (p : Page). call.number < length p.records) known h in
-    ap (λ (p : Page). slice_get p.records call.number) known ∙ slice_get_read r.records.items (length r.records.items) call.number found refl below there
+    let known = page_of-pages rows book call.caller r e
+    (caller_from_answer book call.caller call.number h) is in
+    let below : call.number < length r.records.items =
+    subst (λ (p : Page). call.number < length p.records) known h in
+    ap (λ (p : Page). slice_get p.records call.number) known
+    ∙ slice_get_read r.records.items (length r.records.items) call.number found refl below there
 
 -- rows that hold the same page leave the book as it was
-pub pages-set_same : (rows : List Rows) (book : List Page) (i : ℕ) (r s : Rows) → pages rows ≡ book → r ≡ get_or rows i r → page s ≡ page r → pages (set rows i s) ≡ book
+pub pages-set_same : (rows : List Rows) (book : List Page) (i : ℕ) (r s : Rows) → pages rows ≡ book
+    → r ≡ get_or rows i r → page s ≡ page r → pages (set rows i s) ≡ book
 pages-set_same rows book i r s e is same = map-set_same page rows i s r (same ∙ ap page is) ∙ e
 
 -- rows with one more operation hold the book with one more call
-pub pages-with_call : (rows : List Rows) (book : List Page) (i op : ℕ) (r s : Rows) → pages rows ≡ book → i < length book → r ≡ get_or rows i r → s.operations.items ≡ r.operations.items ++ op ∷ [] → s.records.items ≡ r.records.items → pages (set rows i s) ≡ with_call book i op
+pub pages-with_call : (rows : List Rows) (book : List Page) (i op : ℕ) (r s : Rows)
+    → pages rows ≡ book → i < length book → r ≡ get_or rows i r
+    → s.operations.items ≡ r.operations.items ++ op ∷ [] → s.records.items ≡ r.records.items
+    → pages (set rows i s) ≡ with_call book i op
 pages-with_call rows book i op r s e h is pushed same =
     let known = page_of-pages rows book i r e h is in
     let made : List ℕ → List Record → Page = λ ops rs. record { operations = ops; records = rs } in
-    let one : page s ≡ record (page_of book i) { operations = (page_of book i).operations ++ op ∷ [] }
-    = ap (λ (ops : List ℕ). made ops s.records.items) pushed ∙ (ap (made (r.operations.items ++ op ∷ [])) same ∙ ap (λ (p : Page). made (p.operations ++ op ∷ []) p.records) (sym known)) in
+    let one : page s
+    ≡ record (page_of book i) { operations = (page_of book i).operations ++ op ∷ [] }
+    = ap (λ (ops : List ℕ). made ops s.records.items) pushed
+    ∙ (ap (made (r.operations.items ++ op ∷ [])) same
+    ∙ ap (λ (p : Page). made (p.operations ++ op ∷ []) p.records) (sym known)) in
     map-set page rows i s ∙ (ap (λ (b : List Page). set b i (page s)) e ∙ ap (set book i) one)
 
 -- rows with another operation hold the book with it
-pub pages-with_operation : (rows : List Rows) (book : List Page) (call : Call) (op : ℕ) (r s : Rows) → pages rows ≡ book → call.caller < length book → r ≡ get_or rows call.caller r
-    → s.operations.items ≡ set r.operations.items call.number op → s.records.items ≡ r.records.items → pages (set rows call.caller s) ≡ with_operation book call op
+pub pages-with_operation : (rows : List Rows) (book : List Page) (call : Call) (op : ℕ) (r s : Rows)
+    → pages rows ≡ book → call.caller < length book → r ≡ get_or rows call.caller r
+    → s.operations.items ≡ set r.operations.items call.number op → s.records.items ≡ r.records.items
+    → pages (set rows call.caller s) ≡ with_operation book call op
 pages-with_operation rows book call op r s e h is put same =
     let known = page_of-pages rows book call.caller r e h is in
     let made : List ℕ → List Record → Page = λ ops rs. record { operations = ops; records = rs } in
-    let one : page s ≡ record (page_of book call.caller) { operations = set (page_of book call.caller).operations call.number op }
+    let one : page s ≡ record (page_of book call.caller)
+    { operations = set (page_of book call.caller).operations call.number op }
     = ap (λ (ops : List ℕ). made ops s.records.items) put
-    ∙ (ap (made (set r.operations.items call.number op)) same ∙ ap (λ (p : Page). made (set p.operations call.number op) p.records) (sym known)) in
-    map-set page rows call.caller s ∙ (ap (λ (b : List Page). set b call.caller (page s)) e ∙ ap (set book call.caller) one)
+    ∙ (ap (made (set r.operations.items call.number op)) same
+    ∙ ap (λ (p : Page). made (set p.operations call.number op) p.records) (sym known)) in
+    map-set page rows call.caller s
+    ∙ (ap (λ (b : List Page). set b call.caller (page s)) e ∙ ap (set book call.caller) one)
 
 -- rows with one more record hold the book with one more answer
-pub pages-with_answer : (rows : List Rows) (book : List Page) (i : ℕ) (a : Record) (r s : Rows) → pages rows ≡ book → i < length book → r ≡ get_or rows i r → s.operations.items ≡ r.operations.items → s.records.items ≡ r.records.items ++ a ∷ [] → pages (set rows i s) ≡ with_answer book i a
+pub pages-with_answer : (rows : List Rows) (book : List Page) (i : ℕ) (a : Record) (r s : Rows)
+    → pages rows ≡ book → i < length book → r ≡ get_or rows i r
+    → s.operations.items ≡ r.operations.items
+    → s.records.items ≡ r.records.items ++ a ∷ [] → pages (set rows i s) ≡ with_answer book i a
 pages-with_answer rows book i a r s e h is same pushed =
     let known = page_of-pages rows book i r e h is in
     let made : List ℕ → List Record → Page = λ ops rs. record { operations = ops; records = rs } in
     let one : page s ≡ record (page_of book i) { records = (page_of book i).records ++ a ∷ [] }
-    = ap (λ (ops : List ℕ). made ops s.records.items) same ∙ (ap (made r.operations.items) pushed ∙ ap (λ (p : Page). made p.operations (p.records ++ a ∷ [])) (sym known)) in
+    = ap (λ (ops : List ℕ). made ops s.records.items) same ∙ (ap (made r.operations.items) pushed
+    ∙ ap (λ (p : Page). made p.operations (p.records ++ a ∷ [])) (sym known)) in
     map-set page rows i s ∙ (ap (λ (b : List Page). set b i (page s)) e ∙ ap (set book i) one)

@@ -17,63 +17,84 @@ use Rattle.book_base.specs.ForesightLaws.{NoPlacesReachTheStart, OneMorePlaceRea
 use Rattle.book_base.proofs.ViewLemmas.{same_call}
 
 -- the list after one more step
-list_after_run-push : (next : List ℕ → ℕ → List ℕ × ℕ) (book : List Page) (list : List ℕ) (before : List Place) (place : Place)
-    → list_after_run next list (map (step_at book) (before ++ place ∷ [])) ≡ (next (list_after_run next list (map (step_at book) before)) (step_at book place).0).0
+list_after_run-push : (next : List ℕ → ℕ → List ℕ × ℕ) (book : List Page) (list : List ℕ)
+    (before : List Place) (place : Place)
+    → list_after_run next list (map (step_at book) (before ++ place ∷ []))
+    ≡ (next (list_after_run next list (map (step_at book) before)) (step_at book place).0).0
 list_after_run-push next book list [] place = refl
-list_after_run-push next book list (first ∷ before) place = list_after_run-push next book (next list (step_at book first).0).0 before place
+list_after_run-push next book list (first ∷ before) place =
+    list_after_run-push next book (next list (step_at book first).0).0 before place
 
 -- a cut with one more call holds that call, and all that it held
-raised_holds : (cut : List ℕ) (place : Place) (call : Call) → place.caller < length cut → place.number ≡ get_or cut place.caller 0
+raised_holds : (cut : List ℕ) (place : Place) (call : Call) → place.caller < length cut
+    → place.number ≡ get_or cut place.caller 0
     → Holds cut call ⊎ (call_at place ≡ call) → Holds (set cut place.caller (place.number + 1)) call
 raised_holds cut place call inside at (inl held) =
     elim (cases_eq call.caller place.caller) [
-      | inr apart ↦ omega (arith, held, get_or-set_other cut place.caller call.caller (place.number + 1) 0 apart)
+      | inr apart ↦ omega
+          (arith, held, get_or-set_other cut place.caller call.caller (place.number + 1) 0 apart)
       | inl same ↦
-          let below : call.number < get_or cut place.caller 0 = subst (λ (i : ℕ). call.number < get_or cut i 0) same held in
-          subst (λ (i : ℕ). call.number < get_or (set cut place.caller (place.number + 1)) i 0) (sym same)
+          let below : call.number < get_or cut place.caller 0 =
+          subst (λ (i : ℕ). call.number < get_or cut i 0) same held in
+          subst (λ (i : ℕ). call.number < get_or (set cut place.caller (place.number + 1)) i 0)
+          (sym same)
           (omega (arith, get_or-set_same cut place.caller (place.number + 1) 0 inside))
     ]
 raised_holds cut place call inside at (inr is) =
-    subst (λ (c : Call). c.number < get_or (set cut place.caller (place.number + 1)) c.caller 0) is (omega (arith, get_or-set_same cut place.caller (place.number + 1) 0 inside))
+    subst (λ (c : Call). c.number < get_or (set cut place.caller (place.number + 1)) c.caller 0) is
+    (omega (arith, get_or-set_same cut place.caller (place.number + 1) 0 inside))
 
 -- and nothing else
-raised_held : (cut : List ℕ) (place : Place) (call : Call) → place.caller < length cut → place.number ≡ get_or cut place.caller 0
+raised_held : (cut : List ℕ) (place : Place) (call : Call) → place.caller < length cut
+    → place.number ≡ get_or cut place.caller 0
     → Holds (set cut place.caller (place.number + 1)) call → Holds cut call ⊎ (call_at place ≡ call)
 raised_held cut place call inside at held =
     elim (cases_eq call.caller place.caller) [
-      | inr apart ↦ inl (omega (arith, held, get_or-set_other cut place.caller call.caller (place.number + 1) 0 apart))
+      | inr apart ↦ inl (omega
+          (arith, held, get_or-set_other cut place.caller call.caller (place.number + 1) 0 apart))
       | inl same ↦
           let below : call.number < get_or (set cut place.caller (place.number + 1)) place.caller 0
-          = subst (λ (i : ℕ). call.number < get_or (set cut place.caller (place.number + 1)) i 0) same held in
+          = subst (λ (i : ℕ). call.number < get_or (set cut place.caller (place.number + 1)) i 0)
+          same held in
           elim (cases_lt call.number place.number) [
-            | inl less ↦ inl (subst (λ (i : ℕ). call.number < get_or cut i 0) (sym same) (omega arith))
-            | inr more ↦ inr (same_call (call_at place) call (sym same) (omega (arith, get_or-set_same cut place.caller (place.number + 1) 0 inside)))
+            | inl less ↦
+                inl (subst (λ (i : ℕ). call.number < get_or cut i 0) (sym same) (omega arith))
+            | inr more ↦ inr (same_call (call_at place) call (sym same)
+                (omega (arith, get_or-set_same cut place.caller (place.number + 1) 0 inside)))
           ]
     ]
 
 pub no_places_reach_the_start : NoPlacesReachTheStart
 no_places_reach_the_start init next book n = record {
   holds = λ k call (place, at, is). absurd (none-some place at);
-  held = λ call held. absurd (omega (arith, held, get_or-replicate_default {X = ℕ} n call.caller 0));
+  held =
+      λ call held. absurd (omega (arith, held, get_or-replicate_default {X = ℕ} n call.caller 0));
   reached = refl;
 }
 
 pub one_more_place_reaches_on : OneMorePlaceReachesOn
 one_more_place_reaches_on init next book before cut list place reaches inside at = record {
   holds = λ k call stands. elim (slice_get-push_cases before place k stands.0 stands.1) [
-    | inl old ↦ raised_holds cut place call inside at (inl (reaches.holds k call (stands.0, old, stands.2)))
+    | inl old ↦
+        raised_holds cut place call inside at (inl (reaches.holds k call (stands.0, old, stands.2)))
     | inr new ↦ raised_holds cut place call inside at (inr (sym (ap call_at new.1) ∙ stands.2))
   ];
   held = λ call held. elim (raised_held cut place call inside at held) [
-    | inl old ↦ let found = reaches.held call old in (found.0, (found.1.0, slice_get-push_old before place found.0 found.1.0 found.1.1, found.1.2))
+    | inl old ↦ let found = reaches.held call old in (
+      found.0,
+      (found.1.0, slice_get-push_old before place found.0 found.1.0 found.1.1, found.1.2),
+    )
     | inr is ↦ (length before, (place, slice_get-push_last before place, is))
   ];
-  reached = list_after_run-push next book init before place ∙ ap (λ (l : List ℕ). (next l (step_at book place).0).0) reaches.reached;
+  reached = list_after_run-push next book init before place
+      ∙ ap (λ (l : List ℕ). (next l (step_at book place).0).0) reaches.reached;
 }
 
 -- each call that one cut holds stands in the order, and so the other cut holds it
-reached_within : (init : List ℕ) (next : List ℕ → ℕ → List ℕ × ℕ) (book : List Page) (order : List Place) (a b x y : List ℕ)
-    → Reaches init next book order a x → Reaches init next book order b y → (i : ℕ) → get_or a i 0 ≤ get_or b i 0
+reached_within : (init : List ℕ) (next : List ℕ → ℕ → List ℕ × ℕ) (book : List Page)
+    (order : List Place) (a b x y : List ℕ)
+    → Reaches init next book order a x → Reaches init next book order b y → (i : ℕ)
+    → get_or a i 0 ≤ get_or b i 0
 reached_within init next book order a b x y first second i = elim (cases_lt 0 (get_or a i 0)) [
   | inl some ↦
       let call : Call = record { caller = i; number = get_or a i 0 - 1 } in
@@ -85,12 +106,17 @@ reached_within init next book order a b x y first second i = elim (cases_lt 0 (g
 
 pub one_cut_is_reached : OneCutIsReached
 one_cut_is_reached init next book order a b x y wide first second = (
-  ext_get_or 0 a b wide (λ i inside. omega (arith, reached_within init next book order a b x y first second i, reached_within init next book order b a y x second first i)),
+  ext_get_or 0 a b wide (λ i inside. omega (
+    arith,
+    reached_within init next book order a b x y first second i,
+    reached_within init next book order b a y x second first i,
+  )),
   sym first.reached ∙ second.reached,
 )
 
 pub what_stands_is_not_infeasible : WhatStandsIsNotInfeasible
-what_stands_is_not_infeasible init next book before rest place cut list legal reaches infeasible = infeasible before rest place.reply reaches legal
+what_stands_is_not_infeasible init next book before rest place cut list legal reaches infeasible =
+    infeasible before rest place.reply reaches legal
 
 pub preceding_comes_first : PrecedingComesFirst
 preceding_comes_first init next book a b precedes order legal q stands =
@@ -99,11 +125,16 @@ preceding_comes_first init next book a b precedes order legal q stands =
           let says : Record → Type 0 = λ r. get_or r.view b.caller 0 ≤ b.number in
           let known = some_from_is_some_and (record_of book a) says answered in
           let found = legal.answered a known.0 known.1 in
-          let there : StandsAt order found.0 a = (record { caller = a.caller; number = a.number; reply = known.0.reply }, found.1, refl) in
+          let there : StandsAt order found.0 a =
+          (record { caller = a.caller; number = a.number; reply = known.0.reply }, found.1, refl) in
           (found.0, legal.precedence found.0 q a b there stands (inl answered), there)
       | inr own ↦
-          let found = legal.earlier q b stands a.number own.1 in
-          (found.0, found.1, subst (λ (i : ℕ). StandsAt order found.0 (record { caller = i; number = a.number })) (sym own.0) found.2)
+          let found = legal.earlier q b stands a.number own.1 in (
+            found.0,
+            found.1,
+            subst (λ (i : ℕ). StandsAt order found.0 (record { caller = i; number = a.number }))
+                (sym own.0) found.2,
+          )
     ]
 
 pub read_only_may_be_left_out : ReadOnlyMayBeLeftOut

@@ -5,7 +5,8 @@ use Rattle.book_base.specs.declared.call.Record.{Record}
 use Rattle.book_base.specs.declared.TheConstants.{MAX_CALLERS, MAX_CALLS}
 use Rattle.book_base.specs.Cut.{IsWithin, AreComparable}
 
--- one caller's page of a book: the operation words of its calls, and the records of those that are answered
+-- one caller's page of a book: the operation words of its calls, and the records of those that are
+-- answered
 pub record Page : Type 0 where
   pub operations : List ℕ
   pub records : List Record
@@ -46,19 +47,22 @@ announced book = map (λ page. length page.operations) book
 abbrev pub answered : List Page → List ℕ
 answered book = map (λ page. length page.records) book
 
--- A book is valid where its records fit its calls, and its views fit one another as the views of snapshots do
--- (Castañeda and Rodríguez 2023).
+-- A book is valid where its records fit its calls, and its views fit one another as the views of
+-- snapshots do (Castañeda and Rodríguez 2023).
 pub record IsValid (book : List Page) : Type 0 where
   -- a caller has at most as many records as calls
   pub answers : (i : ℕ) → answers_of book i ≤ calls_of book i
   -- each view has one count per caller
   pub wide : (call : Call) (r : Record) → record_of book call ≡ Some r → length r.view ≡ length book
   -- each view lies within the announced counts
-  pub within : (call : Call) (r : Record) → record_of book call ≡ Some r → IsWithin r.view (announced book)
+  pub within : (call : Call) (r : Record) → record_of book call ≡ Some r
+      → IsWithin r.view (announced book)
   -- the view of a caller's record k counts k + 1 of the caller's own calls
-  pub own : (call : Call) (r : Record) → record_of book call ≡ Some r → slice_index r.view call.caller ≡ call.number + 1
+  pub own : (call : Call) (r : Record) → record_of book call ≡ Some r
+      → slice_index r.view call.caller ≡ call.number + 1
   -- of any two views one is within the other
-  pub comparable : (a b : Call) (r s : Record) → record_of book a ≡ Some r → record_of book b ≡ Some s → AreComparable r.view s.view
+  pub comparable : (a b : Call) (r s : Record) → record_of book a ≡ Some r
+      → record_of book b ≡ Some s → AreComparable r.view s.view
 
 -- the numbers of callers and of calls are those that a book may have
 pub record IsSmall (book : List Page) : Type 0 where
@@ -66,20 +70,24 @@ pub record IsSmall (book : List Page) : Type 0 where
   pub callers : length book ≤ MAX_CALLERS
   pub calls : (i : ℕ) → calls_of book i ≤ MAX_CALLS
 
--- Call a precedes call b where a is answered and its view doesn't hold b, or where a is an earlier call of the same caller
--- (Castañeda and Rodríguez 2023).
+-- Call a precedes call b where a is answered and its view doesn't hold b, or where a is an earlier
+-- call of the same caller (Castañeda and Rodríguez 2023).
 abbrev pub Precedes : List Page → Call → Call → Type 0
-Precedes book a b = IsSomeAnd (record_of book a) (λ r. slice_index r.view b.caller ≤ b.number) ⊎ ((a.caller ≡ b.caller) × (a.number < b.number))
+Precedes book a b = IsSomeAnd (record_of book a) (λ r. slice_index r.view b.caller ≤ b.number)
+    ⊎ ((a.caller ≡ b.caller) × (a.number < b.number))
 
 -- the book with one more call of a caller
 abbrev pub with_call : List Page → ℕ → ℕ → List Page
-with_call book i op = slice_set book i (record (page_of book i) { operations = (page_of book i).operations ++ op ∷ [] })
+with_call book i op = slice_set book i
+    (record (page_of book i) { operations = (page_of book i).operations ++ op ∷ [] })
 
 -- the book with the answer to a caller's first unanswered call
 abbrev pub with_answer : List Page → ℕ → Record → List Page
-with_answer book i r = slice_set book i (record (page_of book i) { records = (page_of book i).records ++ r ∷ [] })
+with_answer book i r =
+    slice_set book i (record (page_of book i) { records = (page_of book i).records ++ r ∷ [] })
 
--- the page of a caller that made this many calls: none is answered, and each has the operation word 0
+-- the page of a caller that made this many calls: none is answered, and each has the operation word
+-- 0
 abbrev pub unanswered_page : ℕ → Page
 unanswered_page calls = record { operations = replicate calls 0; records = [] }
 
@@ -90,16 +98,21 @@ unanswered_book calls = map unanswered_page calls
 -- the book with another operation word of a call
 abbrev pub with_operation : List Page → Call → ℕ → List Page
 with_operation book call op =
-    slice_set book call.caller (record (page_of book call.caller) { operations = slice_set (page_of book call.caller).operations call.number op })
+    slice_set book call.caller (record (page_of book call.caller)
+    { operations = slice_set (page_of book call.caller).operations call.number op })
 
 -- a caller's first unanswered call, where it has one
 abbrev pub first_unanswered : List Page → ℕ → Call
 first_unanswered book i = record { caller = i; number = answers_of book i }
 
--- An answer is recorded at its caller's first unanswered call; what was recorded before is recorded still, and nothing else is.
+-- An answer is recorded at its caller's first unanswered call; what was recorded before is recorded
+-- still, and nothing else is.
 pub record AnswersAreRecorded : Type 0 where
-  pub new : (book : List Page) (i : ℕ) (r : Record) → i < length book → record_of (with_answer book i r) (first_unanswered book i) ≡ Some r
-  pub old : (book : List Page) (i : ℕ) (r : Record) (call : Call) (s : Record) → i < length book → record_of book call ≡ Some s
+  pub new : (book : List Page) (i : ℕ) (r : Record) → i < length book
+      → record_of (with_answer book i r) (first_unanswered book i) ≡ Some r
+  pub old : (book : List Page) (i : ℕ) (r : Record) (call : Call) (s : Record) → i < length book
+      → record_of book call ≡ Some s
       → record_of (with_answer book i r) call ≡ Some s
-  pub only : (book : List Page) (i : ℕ) (r : Record) (call : Call) (s : Record) → i < length book → record_of (with_answer book i r) call ≡ Some s
+  pub only : (book : List Page) (i : ℕ) (r : Record) (call : Call) (s : Record) → i < length book
+      → record_of (with_answer book i r) call ≡ Some s
       → (record_of book call ≡ Some s) ⊎ ((call ≡ first_unanswered book i) × (s ≡ r))

@@ -8,18 +8,21 @@ use Rattle.book_base.specs.Book.{Page, page_of, IsCall, operation_of, record_of}
 
 -- The view of a record that the cut holds holds this call.
 abbrev pub IsHeldBySomeView : List Page → List ℕ → Call → Type 0
-IsHeldBySomeView book cut call = (answered : Call) × (r : Record) × Holds cut answered × (record_of book answered ≡ Some r) × Holds r.view call
+IsHeldBySomeView book cut call = (answered : Call) × (r : Record) × Holds cut answered
+    × (record_of book answered ≡ Some r) × Holds r.view call
 
 -- A part of a book is the book at a cut (Castañeda and Rodríguez 2023).
 pub record IsBookAt (book : List Page) (cut : List ℕ) (part : List Page) : Type 0 where
   -- it has the same callers
   pub callers : length part ≡ length book
   -- its records are the first so many of each caller
-  pub records : (i : ℕ) → (page_of part i).records ≡ take (slice_index cut i) (page_of book i).records
+  pub records : (i : ℕ)
+      → (page_of part i).records ≡ take (slice_index cut i) (page_of book i).records
   -- its calls are exactly those that some of these views hold
   pub calls : (call : Call) → IsCall part call ↔ IsHeldBySomeView book cut call
   -- each with its operation
-  pub operations : (call : Call) → IsCall part call → operation_of part call ≡ operation_of book call
+  pub operations : (call : Call) → IsCall part call
+      → operation_of part call ≡ operation_of book call
 
 -- The greatest count that any of these cuts has for a caller: 0 where there is no cut.
 abbrev pub greatest_count : List (List ℕ) → ℕ → ℕ
@@ -30,9 +33,11 @@ greatest_count (cut ∷ cuts) i = max (slice_index cut i) (greatest_count cuts i
 abbrev pub views_at : List ℕ → List Page → List (List ℕ)
 views_at cut [] = []
 views_at [] (page ∷ pages) = []
-views_at (count ∷ counts) (page ∷ pages) = map (λ r. r.view) (take count page.records) ++ views_at counts pages
+views_at (count ∷ counts) (page ∷ pages) =
+    map (λ r. r.view) (take count page.records) ++ views_at counts pages
 
--- The page of a caller in the book at a cut: the caller's first records, and its calls up to the last one that some view holds.
+-- The page of a caller in the book at a cut: the caller's first records, and its calls up to the
+-- last one that some view holds.
 abbrev pub page_at : List ℕ → List Page → ℕ → Page
 page_at cut book i = record {
   operations = take (greatest_count (views_at cut book) i) (page_of book i).operations;

@@ -2,7 +2,8 @@
 use Rattle.std.specs.Prelude.{ℕ, ◌<◌, ◌≤◌, ◌⊎◌, List, slice_index}
 use Rattle.book_base.specs.declared.call.Call.{Call}
 
--- A cut holds a call exactly where the call's number is below the cut's count for its caller (Castañeda and Rodríguez 2023).
+-- A cut holds a call exactly where the call's number is below the cut's count for its caller
+-- (Castañeda and Rodríguez 2023).
 abbrev pub Holds : List ℕ → Call → Type 0
 Holds cut call = call.number < slice_index cut call.caller
 

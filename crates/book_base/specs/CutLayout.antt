@@ -18,12 +18,16 @@ pub record IsPadded (c : Inside) : Type 0 where
 
 -- The array of a cut with these counts: the counts first, and zeros after them.
 abbrev pub padded : List ℕ → Inside
-padded counts = record { n = length counts; at = counts ++ replicate (MAX_CALLERS - length counts) 0 }
+padded counts =
+    record { n = length counts; at = counts ++ replicate (MAX_CALLERS - length counts) 0 }
 
 pub counts_of-inverse : (c : Inside) → IsPadded c → padded (counts_of c) ≡ c
 counts_of-inverse c h =
     let long : length (take c.n c.at) ≡ c.n = omega (arith, length-take c.n c.at) in
-    let tail : replicate (MAX_CALLERS - length (take c.n c.at)) 0 ≡ drop c.n c.at = ap (λ (n : ℕ). replicate (MAX_CALLERS - n) 0) long ∙ sym h.zeros in
-    let whole : take c.n c.at ++ replicate (MAX_CALLERS - length (take c.n c.at)) 0 ≡ c.at = ap (λ (xs : List ℕ). take c.n c.at ++ xs) tail ∙ take-append-drop c.n c.at in
+    let tail : replicate (MAX_CALLERS - length (take c.n c.at)) 0 ≡ drop c.n c.at =
+    ap (λ (n : ℕ). replicate (MAX_CALLERS - n) 0) long ∙ sym h.zeros in
+    let whole : take c.n c.at ++ replicate (MAX_CALLERS - length (take c.n c.at)) 0 ≡ c.at =
+    ap (λ (xs : List ℕ). take c.n c.at ++ xs) tail ∙ take-append-drop c.n c.at in
     let made : ℕ → List ℕ → Inside = λ n at. record { n = n; at = at } in
-    ap (λ (n : ℕ). made n (take c.n c.at ++ replicate (MAX_CALLERS - length (take c.n c.at)) 0)) long ∙ ap (made c.n) whole
+    ap (λ (n : ℕ). made n (take c.n c.at ++ replicate (MAX_CALLERS - length (take c.n c.at)) 0))
+    long ∙ ap (made c.n) whole

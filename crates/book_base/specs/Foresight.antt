@@ -1,4 +1,5 @@
--- What may be known of a book before a search: calls that no legal order has next, and replies that leave every list.
+-- What may be known of a book before a search: calls that no legal order has next, and replies that
+-- leave every list.
 use Rattle.std.specs.Prelude.{◌≡◌, ℕ, ◌+◌, ◌<◌, ◌⊎◌, max, List, [], ◌∷◌, ◌++◌, map, length, replicate, slice_index, slice_index_or, slice_set, Contains, Option, IsSomeAnd}
 use Rattle.std.specs.Ordering.{nat_cmp}
 use Rattle.std.specs.BTreeMap.{is_at, insert_entry}
@@ -16,22 +17,27 @@ abbrev pub list_after_run : (List ℕ → ℕ → List ℕ × ℕ) → List ℕ 
 list_after_run next list [] = list
 list_after_run next list (step ∷ steps) = list_after_run next (next list step.0).0 steps
 
--- An order reaches a cut and a list: the cut holds the calls that stand in the order and no others, and the list is the object's
--- after them.
-pub record Reaches (init : List ℕ) (next : List ℕ → ℕ → List ℕ × ℕ) (book : List Page) (order : List Place) (cut list : List ℕ) : Type 0 where
+-- An order reaches a cut and a list: the cut holds the calls that stand in the order and no others,
+-- and the list is the object's after them.
+pub record Reaches (init : List ℕ) (next : List ℕ → ℕ → List ℕ × ℕ) (book : List Page)
+    (order : List Place) (cut list : List ℕ) : Type 0 where
   pub holds : (k : ℕ) (call : Call) → StandsAt order k call → Holds cut call
   pub held : (call : Call) → Holds cut call → (k : ℕ) × StandsAt order k call
   pub reached : list_after_run next init (map (step_at book) order) ≡ list
 
 -- A call is infeasible next, after a cut and at a list: no legal order that reaches them goes on
 -- with it.
-abbrev pub IsInfeasible : List ℕ → (List ℕ → ℕ → List ℕ × ℕ) → List Page → List ℕ → List ℕ → Call → Type 0
-IsInfeasible init next book cut list call = (before rest : List Place) (reply : ℕ) → Reaches init next book before cut list
-    → IsLegalOrder init next book (before ++ record { caller = call.caller; number = call.number; reply = reply } ∷ rest) → ⊥
+abbrev pub IsInfeasible : List ℕ → (List ℕ → ℕ → List ℕ × ℕ) → List Page → List ℕ → List ℕ
+    → Call → Type 0
+IsInfeasible init next book cut list call = (before rest : List Place) (reply : ℕ)
+    → Reaches init next book before cut list
+    → IsLegalOrder init next book
+    (before ++ record { caller = call.caller; number = call.number; reply = reply } ∷ rest) → ⊥
 
 -- In every legal order where call b stands, call a stands before it.
 abbrev pub MustComeFirst : List ℕ → (List ℕ → ℕ → List ℕ × ℕ) → List Page → Call → Call → Type 0
-MustComeFirst init next book a b = (order : List Place) → IsLegalOrder init next book order → (q : ℕ) → StandsAt order q b → (p : ℕ) × (p < q) × StandsAt order p a
+MustComeFirst init next book a b = (order : List Place) → IsLegalOrder init next book order
+    → (q : ℕ) → StandsAt order q b → (p : ℕ) × (p < q) × StandsAt order p a
 
 -- An operation with this reply leaves every list as it is.
 abbrev pub Leaves : (List ℕ → ℕ → List ℕ × ℕ) → ℕ → ℕ → Type 0
@@ -56,7 +62,8 @@ bar_of known call = slice_index_or (bars_of known call.caller) call.number no_ba
 
 -- there is a bar for a call
 abbrev pub HasBar : Known → Call → Type 0
-HasBar known call = (call.caller < length known.bars) × (call.number < length (bars_of known call.caller))
+HasBar known call = (call.caller < length known.bars)
+    × (call.number < length (bars_of known call.caller))
 
 -- the rank of a word, where it has one
 abbrev pub rank_of : List (ℕ × ℕ) → ℕ → Option ℕ
@@ -68,16 +75,19 @@ IsBelow cut floor = (i : ℕ) × (slice_index cut i < slice_index floor i)
 
 -- A list has a word of a rank below a limit.
 abbrev pub HasEarly : List (ℕ × ℕ) → List ℕ → ℕ → Type 0
-HasEarly ranks list limit = (word : ℕ) × Contains list word × IsSomeAnd (rank_of ranks word) (λ rank. rank < limit)
+HasEarly ranks list limit = (word : ℕ) × Contains list word
+    × IsSomeAnd (rank_of ranks word) (λ rank. rank < limit)
 
--- A call is forbidden next, after a cut and at a list: the cut lacks a call of its floor, or the list has a word of a rank below
--- its limit.
+-- A call is forbidden next, after a cut and at a list: the cut lacks a call of its floor, or the
+-- list has a word of a rank below its limit.
 abbrev pub Forbids : Known → List ℕ → List ℕ → Call → Type 0
-Forbids known cut list call = IsBelow cut (bar_of known call).floor ⊎ HasEarly known.ranks list (bar_of known call).limit
+Forbids known cut list call = IsBelow cut (bar_of known call).floor
+    ⊎ HasEarly known.ranks list (bar_of known call).limit
 
 -- What is known of a book is right for an object: each call that it forbids is infeasible there.
 abbrev pub IsForesight : List ℕ → (List ℕ → ℕ → List ℕ × ℕ) → List Page → Known → Type 0
-IsForesight init next book known = (cut list : List ℕ) (call : Call) → Forbids known cut list call → IsInfeasible init next book cut list call
+IsForesight init next book known = (cut list : List ℕ) (call : Call) → Forbids known cut list call
+    → IsInfeasible init next book cut list call
 
 -- nothing is known
 abbrev pub nothing_known : Known
@@ -89,17 +99,23 @@ blank_bars book = map (λ page. replicate (length page.operations) no_bar) book
 
 -- what is known, with another bar of a call
 abbrev pub with_bar : Known → Call → Bar → Known
-with_bar known call bar = record known { bars = slice_set known.bars call.caller (slice_set (bars_of known call.caller) call.number bar) }
+with_bar known call bar = record known {
+  bars = slice_set known.bars call.caller (slice_set (bars_of known call.caller) call.number bar);
+}
 
 -- what is known, with a call held back until another one stands: its floor holds the other one too
 abbrev pub held_back : Known → Call → Call → Known
 held_back known call other =
     let bar : Bar = bar_of known call in
-    with_bar known call (record bar { floor = slice_set bar.floor other.caller (max (slice_index bar.floor other.caller) (other.number + 1)) })
+    with_bar known call (record bar {
+      floor = slice_set bar.floor other.caller
+          (max (slice_index bar.floor other.caller) (other.number + 1));
+    })
 
 -- what is known, with a limit of a call that is no lower than this one
 abbrev pub limited : Known → Call → ℕ → Known
-limited known call limit = let bar : Bar = bar_of known call in with_bar known call (record bar { limit = max bar.limit limit })
+limited known call limit = let bar : Bar = bar_of known call in
+    with_bar known call (record bar { limit = max bar.limit limit })
 
 -- what is known, with a rank of a word
 abbrev pub ranked : Known → ℕ → ℕ → Known

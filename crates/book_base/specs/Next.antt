@@ -19,16 +19,18 @@ next_call cut i = record { caller = i; number = slice_index cut i }
 abbrev pub HoldsAnswered : List Page → List ℕ → Type 0
 HoldsAnswered book cut = (call : Call) → IsAnswered book call → Holds cut call
 
--- A call of the book may come next after the calls of a cut where it is the next one of its caller, and each call that precedes
--- it is in the cut.
+-- A call of the book may come next after the calls of a cut where it is the next one of its caller,
+-- and each call that precedes it is in the cut.
 pub record MayComeNext (book : List Page) (cut : List ℕ) (call : Call) : Type 0 where
   pub is_call : IsCall book call
   pub next : call.number ≡ slice_index cut call.caller
   pub preceded : (a : Call) → Precedes book a call → Holds cut a
 
--- A place may stand next after the calls of a cut, at this list of the object: its call may come next, and its reply is the one
--- that the object gives, and the recorded one where the call is answered.
-pub record MayStandNext (book : List Page) (next : List ℕ → ℕ → List ℕ × ℕ) (cut list : List ℕ) (place : Place) : Type 0 where
+-- A place may stand next after the calls of a cut, at this list of the object: its call may come
+-- next, and its reply is the one that the object gives, and the recorded one where the call is
+-- answered.
+pub record MayStandNext (book : List Page) (next : List ℕ → ℕ → List ℕ × ℕ) (cut list : List ℕ)
+    (place : Place) : Type 0 where
   pub may_come : MayComeNext book cut (call_at place)
   pub recorded : (r : Record) → record_of book (call_at place) ≡ Some r → r.reply ≡ place.reply
   pub reply : (next list (step_at book place).0).1 ≡ place.reply
@@ -37,9 +39,10 @@ pub record MayStandNext (book : List Page) (next : List ℕ → ℕ → List ℕ
 abbrev pub list_after : List Page → (List ℕ → ℕ → List ℕ × ℕ) → List ℕ → Place → List ℕ
 list_after book next list place = (next list (step_at book place).0).0
 
--- The places may stand one after another, after the calls of a cut and from a list of the object on, and then all answered calls
--- stand.
+-- The places may stand one after another, after the calls of a cut and from a list of the object
+-- on, and then all answered calls stand.
 abbrev pub Continues : List Page → (List ℕ → ℕ → List ℕ × ℕ) → List ℕ → List ℕ → List Place → Type 0
 Continues book next cut list [] = HoldsAnswered book cut
 Continues book next cut list (place ∷ rest) =
-    MayStandNext book next cut list place × Continues book next (raised cut place.caller) (list_after book next list place) rest
+    MayStandNext book next cut list place
+    × Continues book next (raised cut place.caller) (list_after book next list place) rest

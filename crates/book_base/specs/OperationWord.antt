@@ -17,8 +17,11 @@ high_of op = op / 2 ^ 64
 abbrev pub joined : ℕ → ℕ → ℕ
 joined low high = low + high * 2 ^ 64
 
--- A low and a high word below 2^64 are those of the operation word that they make, and each operation word is made of its own.
+-- A low and a high word below 2^64 are those of the operation word that they make, and each
+-- operation word is made of its own.
 abbrev pub WordsAreJoinedAndParted : Type 0
 WordsAreJoinedAndParted =
-    ((low high : ℕ) → low < 2 ^ 64 → high < 2 ^ 64 → IsOperationWord (joined low high) × (low_of (joined low high) ≡ low) × (high_of (joined low high) ≡ high))
-    × ((op : ℕ) → IsOperationWord op → (joined (low_of op) (high_of op) ≡ op) × (low_of op < 2 ^ 64) × (high_of op < 2 ^ 64))
+    ((low high : ℕ) → low < 2 ^ 64 → high < 2 ^ 64 → IsOperationWord (joined low high)
+    × (low_of (joined low high) ≡ low) × (high_of (joined low high) ≡ high))
+    × ((op : ℕ) → IsOperationWord op → (joined (low_of op) (high_of op) ≡ op) × (low_of op < 2 ^ 64)
+    × (high_of op < 2 ^ 64))

@@ -18,9 +18,11 @@ StandsAt order k call = (place : Place) × (slice_get order k ≡ Some place) ×
 abbrev pub step_at : List Page → Place → ℕ × ℕ
 step_at book place = (unwrap_or (operation_of book (call_at place)) 0, place.reply)
 
--- A legal order of a book, for the sequential object that begins with init and goes on by next (Herlihy and Wing 1990, on views).
--- An unanswered call may stand in it with the reply that the object gives, or be left out.
-pub record IsLegalOrder (init : List ℕ) (next : List ℕ → ℕ → List ℕ × ℕ) (book : List Page) (order : List Place) : Type 0 where
+-- A legal order of a book, for the sequential object that begins with init and goes on by next
+-- (Herlihy and Wing 1990, on views). An unanswered call may stand in it with the reply that the
+-- object gives, or be left out.
+pub record IsLegalOrder (init : List ℕ) (next : List ℕ → ℕ → List ℕ × ℕ) (book : List Page)
+    (order : List Place) : Type 0 where
   -- each call in it is a call of the book
   pub calls : (k : ℕ) (call : Call) → StandsAt order k call → IsCall book call
   -- no call stands twice
@@ -30,11 +32,13 @@ pub record IsLegalOrder (init : List ℕ) (next : List ℕ → ℕ → List ℕ 
       → (j : ℕ) × (j < k) × StandsAt order j (record { caller = call.caller; number = number })
   -- each answered call stands in it with its recorded reply
   pub answered : (call : Call) (r : Record) → record_of book call ≡ Some r
-      → (k : ℕ) × (slice_get order k ≡ Some (record { caller = call.caller; number = call.number; reply = r.reply }))
+      → (k : ℕ) × (slice_get order k
+      ≡ Some (record { caller = call.caller; number = call.number; reply = r.reply }))
   -- the replies are those that the object gives when the operations are applied in this order
   pub run : IsLegalRun init next (map (step_at book) order)
   -- where a call precedes another and both stand in it, it stands before the other
-  pub precedence : (j k : ℕ) (a b : Call) → StandsAt order j a → StandsAt order k b → Precedes book a b → j < k
+  pub precedence : (j k : ℕ) (a b : Call) → StandsAt order j a → StandsAt order k b
+      → Precedes book a b → j < k
 
 -- the book has a legal order
 abbrev pub HasLegalOrder : List ℕ → (List ℕ → ℕ → List ℕ × ℕ) → List Page → Type 0

@@ -10,21 +10,27 @@ use Rattle.book_base.specs.Order.{IsLegalOrder}
 use Rattle.book_base.specs.Next.{next_call, MayComeNext, MayStandNext, Continues}
 use Rattle.book_base.specs.Foresight.{Reaches}
 
--- Each view of a book holds at most one unanswered call of each caller: of each caller at most one unanswered call is in some view.
+-- Each view of a book holds at most one unanswered call of each caller: of each caller at most one
+-- unanswered call is in some view.
 abbrev pub HasOneOpen : List Page → Type 0
-HasOneOpen book = (call : Call) (r : Record) (i : ℕ) → record_of book call ≡ Some r → slice_index r.view i ≤ answers_of book i + 1
+HasOneOpen book = (call : Call) (r : Record) (i : ℕ) → record_of book call ≡ Some r
+    → slice_index r.view i ≤ answers_of book i + 1
 
 -- where both calls are answered, the view of one is within that of the other
 abbrev pub ViewsAreWithin : List Page → Call → Call → Type 0
-ViewsAreWithin book a b = (r s : Record) → record_of book a ≡ Some r → record_of book b ≡ Some s → IsWithin r.view s.view
+ViewsAreWithin book a b = (r s : Record) → record_of book a ≡ Some r → record_of book b ≡ Some s
+    → IsWithin r.view s.view
 
--- Of the callers below a number, the caller's first call outside the cut has the least view: it is answered, and its view is
--- within that of each of the others' first calls outside the cut that is answered.
+-- Of the callers below a number, the caller's first call outside the cut has the least view: it is
+-- answered, and its view is within that of each of the others' first calls outside the cut that is
+-- answered.
 pub record IsLeast (book : List Page) (cut : List ℕ) (below caller : ℕ) : Type 0 where
   pub answered : IsAnswered book (next_call cut caller)
-  pub least : (other : ℕ) → other < below → ViewsAreWithin book (next_call cut caller) (next_call cut other)
+  pub least : (other : ℕ) → other < below
+      → ViewsAreWithin book (next_call cut caller) (next_call cut other)
 
--- A caller is forced after a cut: of all answered calls outside the cut its first one has the least view.
+-- A caller is forced after a cut: of all answered calls outside the cut its first one has the least
+-- view.
 abbrev pub IsForced : List Page → List ℕ → ℕ → Type 0
 IsForced book cut caller = IsLeast book cut (length book) caller
 
@@ -32,16 +38,22 @@ IsForced book cut caller = IsLeast book cut (length book) caller
 abbrev pub IsDeadEnd : List Page → (List ℕ → ℕ → List ℕ × ℕ) → List ℕ → List ℕ → Type 0
 IsDeadEnd book next cut list = (rest : List Place) → Continues book next cut list rest → ⊥
 
--- A place may stand at once: it may stand next, and where an order goes on at all, one goes on by it.
-pub record StandsAtOnce (book : List Page) (next : List ℕ → ℕ → List ℕ × ℕ) (cut list : List ℕ) (place : Place) : Type 0 where
+-- A place may stand at once: it may stand next, and where an order goes on at all, one goes on by
+-- it.
+pub record StandsAtOnce (book : List Page) (next : List ℕ → ℕ → List ℕ × ℕ) (cut list : List ℕ)
+    (place : Place) : Type 0 where
   pub may_stand : MayStandNext book next cut list place
-  pub goes_on : (rest : List Place) → Continues book next cut list rest → (other : List Place) × Continues book next cut list (place ∷ other)
+  pub goes_on : (rest : List Place) → Continues book next cut list rest → (other : List Place)
+      × Continues book next cut list (place ∷ other)
 
--- An order from the start reaches a cut and a list, and makes a legal order with all that goes on from there.
-pub record IsReached (init : List ℕ) (next : List ℕ → ℕ → List ℕ × ℕ) (book : List Page) (cut list : List ℕ) : Type 0 where
+-- An order from the start reaches a cut and a list, and makes a legal order with all that goes on
+-- from there.
+pub record IsReached (init : List ℕ) (next : List ℕ → ℕ → List ℕ × ℕ) (book : List Page)
+    (cut list : List ℕ) : Type 0 where
   pub before : List Place
   pub reaches : Reaches init next book before cut list
-  pub legal : (rest : List Place) → Continues book next cut list rest → IsLegalOrder init next book (before ++ rest)
+  pub legal : (rest : List Place) → Continues book next cut list rest
+      → IsLegalOrder init next book (before ++ rest)
 
 -- a caller is marked
 abbrev pub IsMarked : Marks → ℕ → Type 0
@@ -51,10 +63,12 @@ IsMarked marks i = IsTrue (slice_index_or marks.callers i false)
 abbrev pub MarksAllNext : List Page → List ℕ → Marks → Type 0
 MarksAllNext book cut marks = (i : ℕ) → IsMarked marks i ↔ MayComeNext book cut (next_call cut i)
 
--- All that goes on from a cut and a list goes on by the next call of a marked caller as well, and with no more places.
+-- All that goes on from a cut and a list goes on by the next call of a marked caller as well, and
+-- with no more places.
 abbrev pub MarksSuffice : List Page → (List ℕ → ℕ → List ℕ × ℕ) → List ℕ → List ℕ → Marks → Type 0
 MarksSuffice book next cut list marks = (rest : List Place) → Continues book next cut list rest
-    → (place : Place) × (other : List Place) × IsMarked marks place.caller × Continues book next cut list (place ∷ other) × (length other < length rest)
+    → (place : Place) × (other : List Place) × IsMarked marks place.caller
+    × Continues book next cut list (place ∷ other) × (length other < length rest)
 
 -- all callers that are marked here are marked there
 abbrev pub IsMarkedWithin : Marks → Marks → Type 0

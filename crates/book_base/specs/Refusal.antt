@@ -16,7 +16,8 @@ pub record MayAnswer (book : List Page) (i : ℕ) (view : List ℕ) : Type 0 whe
   -- it counts the caller's calls up to this one
   pub own : slice_index view i ≡ answers_of book i + 1
   -- it is comparable with each view of the book
-  pub comparable : (call : Call) (r : Record) → record_of book call ≡ Some r → AreComparable view r.view
+  pub comparable : (call : Call) (r : Record) → record_of book call ≡ Some r
+      → AreComparable view r.view
 
 -- An answer of caller i with this view fails the test that the fault names.
 abbrev pub FailsTest : List Page → ℕ → List ℕ → BookFault → Type 0
@@ -25,11 +26,14 @@ FailsTest book i view NoSuchCall = calls_of book i ≤ answers_of book i
 -- the view's count for caller j is above the calls of j
 FailsTest book i view (ViewOutside j) = (j < length book) × (calls_of book j < slice_index view j)
 -- the own count is below the call's number plus 1
-FailsTest book i view (ViewLacksOwn count) = (count ≡ slice_index view i) × (count < answers_of book i + 1)
+FailsTest book i view (ViewLacksOwn count) = (count ≡ slice_index view i)
+    × (count < answers_of book i + 1)
 -- the own count is above the call's number plus 1
-FailsTest book i view (ViewHasLater count) = (count ≡ slice_index view i) × (answers_of book i + 1 < count)
+FailsTest book i view (ViewHasLater count) = (count ≡ slice_index view i)
+    × (answers_of book i + 1 < count)
 -- neither this view nor that of the call is within the other
-FailsTest book i view (ViewsCross call) = IsSomeAnd (record_of book call) (λ r. ¬ AreComparable view r.view)
+FailsTest book i view (ViewsCross call) =
+    IsSomeAnd (record_of book call) (λ r. ¬ AreComparable view r.view)
 -- no answer fails for these
 FailsTest book i view TooManyCalls = ⊥
 FailsTest book i view NoMemory = ⊥
@@ -55,13 +59,16 @@ abbrev pub named_number : BookFault → ℕ
 named_number (ViewsCross call) = call.number
 named_number e = 0
 
--- One test is tried before another: by its turn, then by the caller that it names, then by the number of the call.
+-- One test is tried before another: by its turn, then by the caller that it names, then by the
+-- number of the call.
 abbrev pub IsTriedBefore : BookFault → BookFault → Type 0
 IsTriedBefore e f =
     (turn_of e < turn_of f)
-    ⊎ ((turn_of e ≡ turn_of f) × ((named_caller e < named_caller f) ⊎ ((named_caller e ≡ named_caller f) × (named_number e < named_number f))))
+    ⊎ ((turn_of e ≡ turn_of f) × ((named_caller e < named_caller f)
+    ⊎ ((named_caller e ≡ named_caller f) × (named_number e < named_number f))))
 
 -- The fault names the first test that the answer fails.
-pub record IsFirstFault (book : List Page) (i : ℕ) (view : List ℕ) (fault : BookFault) : Type 0 where
+pub record IsFirstFault (book : List Page) (i : ℕ) (view : List ℕ)
+    (fault : BookFault) : Type 0 where
   pub fails : FailsTest book i view fault
   pub first : (other : BookFault) → IsTriedBefore other fault → FailsTest book i view other → ⊥

@@ -5,19 +5,26 @@ use Rattle.book_base.specs.declared.call.Record.{Record}
 use Rattle.book_base.specs.Cut.{IsWithin}
 use Rattle.book_base.specs.Book.{Page, answers_of, record_of, IsValid}
 
--- The views of a caller's first records are within a cut, and those of its records from another number on aren't.
-pub record AreViewsWithin (book : List Page) (caller : ℕ) (view : List ℕ) (low high : ℕ) : Type 0 where
+-- The views of a caller's first records are within a cut, and those of its records from another
+-- number on aren't.
+pub record AreViewsWithin (book : List Page) (caller : ℕ) (view : List ℕ)
+    (low high : ℕ) : Type 0 where
   pub ordered : low ≤ high
   pub few : high ≤ answers_of book caller
-  pub below : (k : ℕ) (r : Record) → k < low → record_of book (record { caller = caller; number = k }) ≡ Some r → IsWithin r.view view
-  pub above : (k : ℕ) (r : Record) → high ≤ k → record_of book (record { caller = caller; number = k }) ≡ Some r → ¬ IsWithin r.view view
+  pub below : (k : ℕ) (r : Record) → k < low
+      → record_of book (record { caller = caller; number = k }) ≡ Some r → IsWithin r.view view
+  pub above : (k : ℕ) (r : Record) → high ≤ k
+      → record_of book (record { caller = caller; number = k }) ≡ Some r → ¬ IsWithin r.view view
 
 -- A caller's views rise: the view of a later call of one caller contains that of an earlier one.
 abbrev pub ViewsRise : Type 0
-ViewsRise = (book : List Page) (a b : Call) (r s : Record) → IsValid book → record_of book a ≡ Some r → record_of book b ≡ Some s
+ViewsRise = (book : List Page) (a b : Call) (r s : Record) → IsValid book
+    → record_of book a ≡ Some r → record_of book b ≡ Some s
     → a.caller ≡ b.caller → a.number ≤ b.number → IsWithin r.view s.view
 
--- An answered call precedes its caller's later calls by its view already: the view holds none of them.
+-- An answered call precedes its caller's later calls by its view already: the view holds none of
+-- them.
 abbrev pub PrecedesByItsView : Type 0
-PrecedesByItsView = (book : List Page) (a b : Call) (r : Record) → IsValid book → record_of book a ≡ Some r
+PrecedesByItsView = (book : List Page) (a b : Call) (r : Record) → IsValid book
+    → record_of book a ≡ Some r
     → a.caller ≡ b.caller → a.number < b.number → slice_index r.view b.caller ≤ b.number

@@ -24,7 +24,8 @@ struct Rows {
     records: Vec<Record>,
 }
 
-/// A book: for each caller the operation words of its calls, and the records of those that are answered.
+/// A book: for each caller the operation words of its calls, and the records of those that are
+/// answered.
 ///
 /// Clauses see it as the list of its pages, one a caller. It is valid at all times: its records fit
 /// its calls, and its views fit one another as the views of snapshots do (Castañeda and Rodríguez
@@ -50,7 +51,10 @@ impl Rows {
     fn prefix(&self, alloc: Global, calls: u64, answers: u64) -> Result<Rows, NoMemory>
         requires calls { calls ≤ length self.now.operations.items }
         requires answers { answers ≤ length self.now.records.items }
-        ensures { IfOk result (λ rows. page rows ≡ record { operations = take calls self.now.operations.items; records = take answers self.now.records.items }) }
+        ensures { IfOk result (λ rows. page rows ≡ record {
+          operations = take calls self.now.operations.items;
+          records = take answers self.now.records.items;
+        }) }
     {
         Ok(Rows {
             operations: Vec::from_slice(alloc, &self.operations[..calls as usize])?,
@@ -79,7 +83,8 @@ impl Book {
         requires some { 1 ≤ n }
         // There are at most `MAX_CALLERS` callers.
         requires few { n ≤ MAX_CALLERS }
-        ensures { IfOk result (λ book. book ≡ replicate n (record { operations = []; records = [] })) }
+        ensures { IfOk result
+            (λ book. book ≡ replicate n (record { operations = []; records = [] })) }
     {
         let mut rows = Vec::new(alloc);
         for _ in 0..n {
@@ -91,8 +96,9 @@ impl Book {
         Ok(Book { rows })
     }
 
-    /// The book in which each caller made this many calls, none answered. Each call has the operation
-    /// word 0 until [`Book::set_op`] puts in another, and the room for all answers is taken with the calls.
+    /// The book in which each caller made this many calls, none answered. Each call has the
+    /// operation word 0 until [`Book::set_op`] puts in another, and the room for all answers is
+    /// taken with the calls.
     pub fn with_calls(alloc: Global, calls: &Cut) -> Result<Book, NoMemory>
         // Each caller has at most `MAX_CALLS` calls.
         requires { (i : ℕ) → slice_index calls.now i ≤ MAX_CALLS }
@@ -114,9 +120,11 @@ impl Book {
         // before besides.
         ensures ok { OnOk result (self.new ≡ with_call self.old caller op) }
         // The answer is `TooManyCalls` exactly where the caller has `MAX_CALLS` calls.
-        ensures full { IsErrOf result BookFault.TooManyCalls ↔ (calls_of self.old caller ≡ MAX_CALLS) }
+        ensures full { IsErrOf result BookFault.TooManyCalls
+            ↔ (calls_of self.old caller ≡ MAX_CALLS) }
         // A refusal is `TooManyCalls` or want of memory.
-        ensures causes { IfErr result (λ e. (e ≡ BookFault.TooManyCalls) ⊎ (e ≡ BookFault.NoMemory)) }
+        ensures causes { IfErr result
+            (λ e. (e ≡ BookFault.TooManyCalls) ⊎ (e ≡ BookFault.NoMemory)) }
         // A refusal leaves the book as it was.
         ensures err { OnErr result (self.new ≡ self.old) }
     {
@@ -137,8 +145,8 @@ impl Book {
         self.rows[call.caller as usize].operations[call.number as usize] = op;
     }
 
-    /// Records the answer of a caller's first unanswered call. The first test that the answer fails is
-    /// the refusal, and a refusal leaves the book as it was.
+    /// Records the answer of a caller's first unanswered call. The first test that the answer fails
+    /// is the refusal, and a refusal leaves the book as it was.
     pub fn add_answer(&mut self, caller: u32, reply: u64, view: Cut) -> Result<(), BookFault>
         // The book has a caller with this number.
         requires caller { caller < length self.old }
@@ -146,13 +154,16 @@ impl Book {
         requires wide { length view ≡ length self.old }
         // After an answer Ok the caller's first unanswered call has this reply and this view, and
         // the book is as before besides.
-        ensures ok { OnOk result (self.new ≡ with_answer self.old caller (record { reply = reply; view = view })) }
+        ensures ok { OnOk result
+            (self.new ≡ with_answer self.old caller (record { reply = reply; view = view })) }
         // An answer Ok comes only where the answer keeps the book valid.
         ensures may { OnOk result (MayAnswer self.old caller view) }
         // The first test that the answer fails is the refusal.
-        ensures refused { (fault : BookFault) → IsFirstFault self.old caller view fault → result ≡ Err fault }
+        ensures refused { (fault : BookFault) → IsFirstFault self.old caller view fault
+            → result ≡ Err fault }
         // A refusal is the first test that the answer fails, or want of memory.
-        ensures causes { IfErr result (λ e. IsFirstFault self.old caller view e ⊎ (e ≡ BookFault.NoMemory)) }
+        ensures causes { IfErr result
+            (λ e. IsFirstFault self.old caller view e ⊎ (e ≡ BookFault.NoMemory)) }
         // A refusal leaves the book as it was.
         ensures err { OnErr result (self.new ≡ self.old) }
     {
@@ -165,8 +176,8 @@ impl Book {
         }
     }
 
-    /// Records the answer of a caller's first unanswered call as [`Book::add_answer`] does, where the answer is known
-    /// to pass each test: none is made.
+    /// Records the answer of a caller's first unanswered call as [`Book::add_answer`] does, where
+    /// the answer is known to pass each test: none is made.
     pub fn put_answer(&mut self, caller: u32, reply: u64, view: Cut) -> Result<(), NoMemory>
         // The book has a caller with this number.
         requires caller { caller < length self.old }
@@ -176,7 +187,8 @@ impl Book {
         requires may { MayAnswer self.old caller view }
         // After an answer Ok the caller's first unanswered call has this reply and this view, and
         // the book is as before besides.
-        ensures ok { OnOk result (self.new ≡ with_answer self.old caller (record { reply = reply; view = view })) }
+        ensures ok { OnOk result
+            (self.new ≡ with_answer self.old caller (record { reply = reply; view = view })) }
         // A refusal leaves the book as it was.
         ensures err { OnErr result (self.new ≡ self.old) }
     {
@@ -216,8 +228,10 @@ impl Book {
     // The least caller of whom the view counts more calls than it made.
     fn first_outside(&self, view: &Cut) -> Option<u32>
         requires { length view.now ≡ length self.now }
-        ensures outside { IfSome result (λ j. (j < length self.now) × (calls_of self.now j < slice_index view.now j)) }
-        ensures least { IfSome result (λ j. (k : ℕ) → k < j → slice_index view.now k ≤ calls_of self.now k) }
+        ensures outside { IfSome result
+            (λ j. (j < length self.now) × (calls_of self.now j < slice_index view.now j)) }
+        ensures least { IfSome result
+            (λ j. (k : ℕ) → k < j → slice_index view.now k ≤ calls_of self.now k) }
         ensures none { IfNone result (IsWithin view.now (announced self.now)) }
     {
         for j in 0..self.callers() {
@@ -231,10 +245,15 @@ impl Book {
     // The least call, by caller and number, whose view and this one cross.
     fn first_crossing(&self, view: &Cut) -> Option<Call>
         requires { length view.now ≡ length self.now }
-        ensures crossing { IfSome result (λ call. IsSomeAnd (record_of self.now call) (λ r. ¬ AreComparable view.now r.view)) }
-        ensures least { IfSome result (λ call. (other : Call) (r : Record) → record_of self.now other ≡ Some r
-            → (other.caller < call.caller) ⊎ ((other.caller ≡ call.caller) × (other.number < call.number)) → AreComparable view.now r.view) }
-        ensures none { IfNone result ((call : Call) (r : Record) → record_of self.now call ≡ Some r → AreComparable view.now r.view) }
+        ensures crossing { IfSome result
+            (λ call. IsSomeAnd (record_of self.now call) (λ r. ¬ AreComparable view.now r.view)) }
+        ensures least { IfSome result
+            (λ call. (other : Call) (r : Record) → record_of self.now other ≡ Some r
+            → (other.caller < call.caller)
+            ⊎ ((other.caller ≡ call.caller) × (other.number < call.number))
+            → AreComparable view.now r.view) }
+        ensures none { IfNone result ((call : Call) (r : Record) → record_of self.now call ≡ Some r
+            → AreComparable view.now r.view) }
     {
         for caller in 0..self.callers() {
             if let Some(number) = self.first_crossing_of(caller, view) {
@@ -244,16 +263,20 @@ impl Book {
         None
     }
 
-    // The least call of a caller whose view and this one cross. A caller's views rise, so that only the
-    // first of them that isn't within this one may be it: this one is within all later ones where it is
-    // within that one.
+    // The least call of a caller whose view and this one cross. A caller's views rise, so that only
+    // the first of them that isn't within this one may be it: this one is within all later ones
+    // where it is within that one.
     fn first_crossing_of(&self, caller: u32, view: &Cut) -> Option<u64>
         requires valid { IsValid self.now }
         requires caller { caller < length self.now }
         requires wide { length view.now ≡ length self.now }
-        ensures crossing { IfSome result (λ number. IsSomeAnd (record_of self.now (record { caller = caller; number = number })) (λ r. ¬ AreComparable view.now r.view)) }
-        ensures least { IfSome result (λ number. (k : ℕ) (r : Record) → k < number → record_of self.now (record { caller = caller; number = k }) ≡ Some r → AreComparable view.now r.view) }
-        ensures none { IfNone result ((k : ℕ) (r : Record) → record_of self.now (record { caller = caller; number = k }) ≡ Some r → AreComparable view.now r.view) }
+        ensures crossing { IfSome result (λ number. IsSomeAnd (record_of self.now
+            (record { caller = caller; number = number })) (λ r. ¬ AreComparable view.now r.view)) }
+        ensures least { IfSome result
+            (λ number. (k : ℕ) (r : Record) → k < number → record_of self.now
+            (record { caller = caller; number = k }) ≡ Some r → AreComparable view.now r.view) }
+        ensures none { IfNone result ((k : ℕ) (r : Record) → record_of self.now
+            (record { caller = caller; number = k }) ≡ Some r → AreComparable view.now r.view) }
     {
         let number = self.views_within(caller, view);
         if number >= self.answers(caller) {
@@ -265,8 +288,9 @@ impl Book {
         Some(number)
     }
 
-    // How many of a caller's views are within this one: they are its first, since a caller's views rise. A new view
-    // mostly contains all of them, so that they are looked at from the last one backwards, at distances that double.
+    // How many of a caller's views are within this one: they are its first, since a caller's views
+    // rise. A new view mostly contains all of them, so that they are looked at from the last one
+    // backwards, at distances that double.
     fn views_within(&self, caller: u32, view: &Cut) -> u64
         requires valid { IsValid self.now }
         requires caller { caller < length self.now }
@@ -286,7 +310,8 @@ impl Book {
         0
     }
 
-    // How many of a caller's views are within this one, where it is at least the lower and at most the higher number.
+    // How many of a caller's views are within this one, where it is at least the lower and at most
+    // the higher number.
     fn views_within_between(&self, caller: u32, view: &Cut, lower: u64, higher: u64) -> u64
         requires valid { IsValid self.now }
         requires caller { caller < length self.now }
@@ -307,8 +332,8 @@ impl Book {
         low
     }
 
-    /// The book at a cut: the first so many records of each caller, and the calls that some of their
-    /// views hold (Castañeda and Rodríguez 2023).
+    /// The book at a cut: the first so many records of each caller, and the calls that some of
+    /// their views hold (Castañeda and Rodríguez 2023).
     pub fn at(&self, alloc: Global, cut: &Cut) -> Result<Book, NoMemory>
         // The cut has a count for each caller of the book.
         requires wide { length cut.now ≡ length self.now }
@@ -324,13 +349,14 @@ impl Book {
         Ok(Book { rows })
     }
 
-    // How many calls of a caller are held by the views of the records that a cut holds. A caller's views
-    // rise, so that its last one holds the most.
+    // How many calls of a caller are held by the views of the records that a cut holds. A caller's
+    // views rise, so that its last one holds the most.
     fn held_calls(&self, cut: &Cut, caller: u32) -> u64
         requires wide { length cut.now ≡ length self.now }
         requires answered { IsWithin cut.now (answered self.now) }
         requires caller { caller < length self.now }
-        ensures held { (number : ℕ) → number < result ↔ IsHeldBySomeView self.now cut.now (record { caller = caller; number = number }) }
+        ensures held { (number : ℕ) → number < result
+            ↔ IsHeldBySomeView self.now cut.now (record { caller = caller; number = number }) }
         ensures few { result ≤ calls_of self.now caller }
     {
         let mut held: u64 = 0;
@@ -340,15 +366,18 @@ impl Book {
         held
     }
 
-    // How many calls of a caller are held by the view of another one's last record that a cut holds.
+    // How many calls of a caller are held by the view of another one's last record that a cut
+    // holds.
     fn held_by_last(&self, cut: &Cut, other: u32, caller: u32) -> u64
         requires valid { IsValid self.now }
         requires wide { length cut.now ≡ length self.now }
         requires answered { IsWithin cut.now (answered self.now) }
         requires other { other < length self.now }
         requires caller { caller < length self.now }
-        ensures held { (number : ℕ) → number < result → IsHeldBySomeView self.now cut.now (record { caller = caller; number = number }) }
-        ensures most { (number : ℕ) (r : Record) → number < slice_index cut.now other → record_of self.now (record { caller = other; number = number }) ≡ Some r
+        ensures held { (number : ℕ) → number < result
+            → IsHeldBySomeView self.now cut.now (record { caller = caller; number = number }) }
+        ensures most { (number : ℕ) (r : Record) → number < slice_index cut.now other
+            → record_of self.now (record { caller = other; number = number }) ≡ Some r
             → slice_index r.view caller ≤ result }
     {
         let taken = cut.get(other);
@@ -425,8 +454,8 @@ impl Book {
         self.rows[call.caller as usize].records[call.number as usize]
     }
 
-    /// Whether a call precedes another: it is answered and its view doesn't hold the other, or it is
-    /// an earlier call of the same caller (Castañeda and Rodríguez 2023).
+    /// Whether a call precedes another: it is answered and its view doesn't hold the other, or it
+    /// is an earlier call of the same caller (Castañeda and Rodríguez 2023).
     pub fn precedes(&self, a: Call, b: Call) -> bool
         // Both calls are calls of the book.
         requires first { IsCall self.now a }
@@ -442,7 +471,8 @@ impl Book {
     fn is_within(&self, caller: u32, number: u64, view: &Cut) -> bool
         requires answered { number < answers_of self.now caller }
         requires wide { length view.now ≡ length self.now }
-        ensures { IsSomeAnd (record_of self.now (record { caller = caller; number = number })) (λ r. IsTrue result ↔ IsWithin r.view view.now) }
+        ensures { IsSomeAnd (record_of self.now (record { caller = caller; number = number }))
+            (λ r. IsTrue result ↔ IsWithin r.view view.now) }
     {
         self.view(Call { caller, number }).within(view)
     }

@@ -12,8 +12,8 @@ use std::alloc::Global;
 use std::collections::BTreeMap;
 use std::marker::Model;
 
-/// What bars a call: it stands only after the calls that `floor` holds, and at no list that has a word
-/// of a rank below `limit`.
+/// What bars a call: it stands only after the calls that `floor` holds, and at no list that has a
+/// word of a rank below `limit`.
 #[derive(Clone, Copy, Debug)]
 pub struct Bar {
     pub floor: [u64; MAX_CALLERS],
@@ -34,8 +34,8 @@ impl Bar {
 
 /// What an object knows of a book before a search: for each call a bar, and ranks of words.
 ///
-/// A search asks [`Foresight::forbids`] at each call that it tries. One that keeps the least rank of
-/// its words along its path asks [`Foresight::lacks`] and compares that rank with
+/// A search asks [`Foresight::forbids`] at each call that it tries. One that keeps the least rank
+/// of its words along its path asks [`Foresight::lacks`] and compares that rank with
 /// [`Foresight::limit`] instead, and then looks at no word twice.
 #[derive(Drop)]
 pub struct Foresight {
@@ -58,7 +58,8 @@ impl Foresight {
         // The answer has no bars and no ranks.
         ensures none { result ≡ nothing_known }
         // The answer is right for each object and each book: it forbids nothing.
-        ensures right { (init : List ℕ) (next : List ℕ → ℕ → List ℕ × ℕ) (book : List Page) → IsForesight init next book result }
+        ensures right { (init : List ℕ) (next : List ℕ → ℕ → List ℕ × ℕ) (book : List Page)
+            → IsForesight init next book result }
     {
         Foresight {
             bars: Vec::new(alloc),
@@ -69,11 +70,14 @@ impl Foresight {
     /// For each call of a book a bar that bars nothing.
     pub fn blank(alloc: Global, book: &Book) -> Result<Foresight, NoMemory>
         // The answer has a bar that bars nothing for each call of the book, and no ranks.
-        ensures blank { IfOk result (λ known. known ≡ record { bars = blank_bars book.now; ranks = [] }) }
+        ensures blank { IfOk result
+            (λ known. known ≡ record { bars = blank_bars book.now; ranks = [] }) }
         // The answer has a bar for each call of the book.
-        ensures bars { IfOk result (λ known. (call : Call) → IsCall book.now call → HasBar known call) }
+        ensures bars { IfOk result
+            (λ known. (call : Call) → IsCall book.now call → HasBar known call) }
         // The answer is right for each object and this book: it forbids nothing.
-        ensures right { IfOk result (λ known. (init : List ℕ) (next : List ℕ → ℕ → List ℕ × ℕ) → IsForesight init next book.now known) }
+        ensures right { IfOk result (λ known. (init : List ℕ) (next : List ℕ → ℕ → List ℕ × ℕ)
+            → IsForesight init next book.now known) }
     {
         let mut bars = Vec::new(alloc);
         for caller in 0..book.callers() {
@@ -100,7 +104,8 @@ impl Foresight {
         // What is known stays right where the other call must come before the call in each legal
         // order.
         ensures right { (init : List ℕ) (next : List ℕ → ℕ → List ℕ × ℕ) (book : List Page)
-            → IsForesight init next book self.old → MustComeFirst init next book other call → IsForesight init next book self.new }
+            → IsForesight init next book self.old → MustComeFirst init next book other call
+            → IsForesight init next book self.new }
     {
         let bar = &mut self.bars[call.caller as usize][call.number as usize];
         let i = other.caller as usize;
@@ -117,8 +122,10 @@ impl Foresight {
         ensures bars { (c : Call) → HasBar self.old c → HasBar self.new c }
         // What is known stays right where the call is infeasible at each list that has a word of a
         // rank below the limit.
-        ensures right { (init : List ℕ) (next : List ℕ → ℕ → List ℕ × ℕ) (book : List Page) → IsForesight init next book self.old
-            → ((cut list : List ℕ) → HasEarly self.old.ranks list limit → IsInfeasible init next book cut list call)
+        ensures right { (init : List ℕ) (next : List ℕ → ℕ → List ℕ × ℕ) (book : List Page)
+            → IsForesight init next book self.old
+            → ((cut list : List ℕ) → HasEarly self.old.ranks list limit
+            → IsInfeasible init next book cut list call)
             → IsForesight init next book self.new }
     {
         let bar = &mut self.bars[call.caller as usize][call.number as usize];
@@ -131,11 +138,14 @@ impl Foresight {
         ensures ranked { OnOk result (self.new ≡ ranked self.old word rank) }
         // After an answer Ok the rank of this word is this one, and that of each other word is as
         // before.
-        ensures ranks { OnOk result ((other : ℕ) → rank_of self.new.ranks other ≡ (if other == word then Some rank else rank_of self.old.ranks other)) }
+        ensures ranks { OnOk result ((other : ℕ) → rank_of self.new.ranks other
+            ≡ (if other == word then Some rank else rank_of self.old.ranks other)) }
         // After an answer Ok what is known stays right where each call whose limit is above the
         // rank is infeasible at each list with the word.
-        ensures right { OnOk result ((init : List ℕ) (next : List ℕ → ℕ → List ℕ × ℕ) (book : List Page) → IsForesight init next book self.old
-            → ((cut list : List ℕ) (call : Call) → Contains list word → rank < (bar_of self.old call).limit → IsInfeasible init next book cut list call)
+        ensures right { OnOk result ((init : List ℕ) (next : List ℕ → ℕ → List ℕ × ℕ)
+            (book : List Page) → IsForesight init next book self.old
+            → ((cut list : List ℕ) (call : Call) → Contains list word
+            → rank < (bar_of self.old call).limit → IsInfeasible init next book cut list call)
             → IsForesight init next book self.new) }
         // After want of memory all is as it was.
         ensures err { OnErr result (self.new ≡ self.old) }
@@ -188,7 +198,8 @@ impl Foresight {
             .get(call.number as usize)
     }
 
-    // Whether a word has a rank below a limit. No rank is below 0, so that no word is looked at then.
+    // Whether a word has a rank below a limit. No rank is below 0, so that no word is looked at
+    // then.
     fn has_early(&self, words: &[u64], limit: u64) -> bool
         ensures { IsTrue result ↔ HasEarly self.now.ranks words.now limit }
     {

@@ -10,7 +10,8 @@ ghost use Rattle.book_base.specs.ForesightLaws.{NoPlacesReachTheStart, OneMorePl
 
 /// A book takes exactly those answers that leave it valid.
 pub fn valid_answers_are_taken()
-    ensures { (book : List Page) (caller : ℕ) (answer : Record) → IsValid book → caller < length book → length answer.view ≡ length book
+    ensures { (book : List Page) (caller : ℕ) (answer : Record) → IsValid book
+        → caller < length book → length answer.view ≡ length book
         → (IsValid (with_answer book caller answer) ↔ MayAnswer book caller answer.view) }
 {}
 

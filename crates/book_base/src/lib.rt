@@ -1,4 +1,5 @@
-//! Cuts, books, states and the trait of sequential objects: the words that every other crate speaks.
+//! Cuts, books, states and the trait of sequential objects: the words that every other crate
+//! speaks.
 #![tactic(auto)]
 
 mod book;

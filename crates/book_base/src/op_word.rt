@@ -1,7 +1,8 @@
 ghost use Rattle.std.specs.Prelude.{◌≡◌};
 ghost use Rattle.book_base.specs.OperationWord.{low_of, high_of, joined};
 
-/// An operation word: what a call asks of the object. It stands in a low and a high word of 64 bits.
+/// An operation word: what a call asks of the object. It stands in a low and a high word of 64
+/// bits.
 pub type OpWord = u128;
 
 // How many words there are.

@@ -42,17 +42,19 @@ pub trait SeqObject {
         requires { 1 ≤ state.old.room }
         ensures { state.new ≡ record state.old { words = init self.now } };
 
-    /// Makes one operation: the list becomes the next one, and the answer is the reply. The room stays.
+    /// Makes one operation: the list becomes the next one, and the answer is the reply. The room
+    /// stays.
     fn step(&self, state: &mut State, op: OpWord) -> u64
         // The state has room for one word more.
         requires { length state.old.words < state.old.room }
         // The list becomes the one that follows it by the operation, and the room stays.
-        ensures list { state.new ≡ record state.old { words = (next self.now state.old.words op).0 } }
+        ensures list { state.new
+            ≡ record state.old { words = (next self.now state.old.words op).0 } }
         // The answer is the object's reply to the operation at the list before.
         ensures reply { result ≡ (next self.now state.old.words op).1 };
 
-    /// What the object knows of a book before a search: each call that it forbids next, after a cut and
-    /// at a list, stands so in no legal order. An object that leaves this out forbids nothing.
+    /// What the object knows of a book before a search: each call that it forbids next, after a cut
+    /// and at a list, stands so in no legal order. An object that leaves this out forbids nothing.
     fn foresee(&self, alloc: Global, book: &Book) -> Result<Foresight, NoMemory>
         // What is answered is right: each call that it forbids next, after a cut and at a list, is
         // infeasible there.
@@ -61,8 +63,8 @@ pub trait SeqObject {
         Ok(Foresight::none(alloc))
     }
 
-    /// Whether an operation with this reply is known to leave every list as it is. An object that leaves
-    /// this out knows of none.
+    /// Whether an operation with this reply is known to leave every list as it is. An object that
+    /// leaves this out knows of none.
     fn leaves(&self, op: OpWord, reply: u64) -> bool
         // `true` is answered only where the operation leaves every list at which it has this reply.
         ensures { IsTrue result → Leaves (next self.now) op reply }
@@ -70,8 +72,8 @@ pub trait SeqObject {
         false
     }
 
-    /// What the object looks at in [`SeqObject::narrow`], made once a book. An object that leaves this out
-    /// prepares nothing, and isn't asked to narrow anything.
+    /// What the object looks at in [`SeqObject::narrow`], made once a book. An object that leaves
+    /// this out prepares nothing, and isn't asked to narrow anything.
     fn prepare(&self, alloc: Global, book: &Book) -> Result<Option<Sight>, NoMemory>
         // A sight that is answered says of the book what the object's `sees` states.
         ensures { IfOk result (λ found. IfSome found (sees self.now book.now)) }
@@ -79,10 +81,11 @@ pub trait SeqObject {
         Ok(None)
     }
 
-    /// Which of the calls that may come next a search tries, after a cut and at a list: of those that are
-    /// marked, some that suffice. The fewer are left, the less is tried: where one may stand at once it is
-    /// enough alone, and at a dead end none is needed. No clause says how few are left. The forced caller's
-    /// first call outside the cut has the least view of all such calls.
+    /// Which of the calls that may come next a search tries, after a cut and at a list: of those
+    /// that are marked, some that suffice. The fewer are left, the less is tried: where one may
+    /// stand at once it is enough alone, and at a dead end none is needed. No clause says how few
+    /// are left. The forced caller's first call outside the cut has the least view of all such
+    /// calls.
     fn narrow(
         &self,
         sight: &Sight,
@@ -114,7 +117,8 @@ pub trait SeqObject {
         marks
     }
 
-    /// What the object says of a whole book without a search. An object that leaves this out says nothing.
+    /// What the object says of a whole book without a search. An object that leaves this out says
+    /// nothing.
     fn decide(&self, alloc: Global, book: &Book) -> Result<Decision, NoMemory>
         // What is answered is right: a legal order is one of the book, and none comes only where
         // the book has none.
@@ -127,8 +131,10 @@ pub trait SeqObject {
     ghost begins_small: { (object : Self) → length (init object) ≤ 1 };
 
     /// An operation makes the list at most one word longer.
-    ghost grows_by_one: { (object : Self) (list : List ℕ) (op : ℕ) → length (next object list op).0 ≤ length list + 1 };
+    ghost grows_by_one: { (object : Self) (list : List ℕ) (op : ℕ)
+        → length (next object list op).0 ≤ length list + 1 };
 
     /// An operation that the object doesn't know leaves the list, and its reply is `bad`.
-    ghost unknown_is_bad: { (object : Self) (list : List ℕ) (op : ℕ) → is_known object op ≡ false → next object list op ≡ (list, BAD) };
+    ghost unknown_is_bad: { (object : Self) (list : List ℕ) (op : ℕ) → is_known object op ≡ false
+        → next object list op ≡ (list, BAD) };
 }

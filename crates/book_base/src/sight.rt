@@ -9,19 +9,20 @@ pub struct Labelled {
     pub shows: Vec<Call>,
 }
 
-/// When a call may take effect, by moments: the number of calls that the first view which holds it counts,
-/// and the number that its own view counts. Without such a view it is the greatest number.
+/// When a call may take effect, by moments: the number of calls that the first view which holds it
+/// counts, and the number that its own view counts. Without such a view it is the greatest number.
 #[derive(Clone, Copy, Debug, Drop)]
 pub struct Span {
     pub first: u64,
     pub last: u64,
 }
 
-/// What an object prepares of a book before a search, for [`SeqObject::narrow`] to look at: the calls of
-/// each label, where a label has its place among these, and the span of each call by caller and number.
+/// What an object prepares of a book before a search, for [`SeqObject::narrow`] to look at: the
+/// calls of each label, where a label has its place among these, and the span of each call by
+/// caller and number.
 ///
-/// It is plain data. What its labels mean, and that it has all calls of each, is said by the object that
-/// prepares it.
+/// It is plain data. What its labels mean, and that it has all calls of each, is said by the object
+/// that prepares it.
 ///
 /// [`SeqObject::narrow`]: crate::SeqObject::narrow
 #[derive(Debug, Drop)]

@@ -9,10 +9,12 @@ use Rattle.book_base.specs.Order.{HasLegalOrder}
 
 -- The computed book is the book at the cut, and there is no other.
 abbrev pub IsTheBookAt : Type 0
-IsTheBookAt = (book : List Page) (cut : List ℕ) → IsValid book → IsBookAt book cut (book_at cut book)
+IsTheBookAt = (book : List Page) (cut : List ℕ) → IsValid book
+    → IsBookAt book cut (book_at cut book)
 
 abbrev pub IsTheOnlyOne : Type 0
-IsTheOnlyOne = (book : List Page) (cut : List ℕ) (part : List Page) → IsValid book → IsBookAt book cut part → part ≡ book_at cut book
+IsTheOnlyOne = (book : List Page) (cut : List ℕ) (part : List Page) → IsValid book
+    → IsBookAt book cut part → part ≡ book_at cut book
 
 -- The book at a cut of a valid book is valid.
 abbrev pub StaysValid : Type 0
@@ -20,21 +22,25 @@ StaysValid = (book : List Page) (cut : List ℕ) → IsValid book → IsValid (b
 
 -- The book at a cut of the book at a larger cut is the book at the smaller one.
 abbrev pub IsTheBookAtTheSmaller : Type 0
-IsTheBookAtTheSmaller = (book : List Page) (smaller larger : List ℕ) → IsValid book → IsWithin smaller larger
+IsTheBookAtTheSmaller = (book : List Page) (smaller larger : List ℕ) → IsValid book
+    → IsWithin smaller larger
     → book_at smaller (book_at larger book) ≡ book_at smaller book
 
 -- The record counts of the book at a cut, one that is within those of the book, are the cut.
 abbrev pub RecordCountsAreTheCut : Type 0
-RecordCountsAreTheCut = (book : List Page) (cut : List ℕ) → length cut ≡ length book → IsWithin cut (answered book)
+RecordCountsAreTheCut = (book : List Page) (cut : List ℕ) → length cut ≡ length book
+    → IsWithin cut (answered book)
     → answered (book_at cut book) ≡ cut
 
 -- The book at the cut of all its records has each record of the book.
 abbrev pub KeepsEachRecord : Type 0
-KeepsEachRecord = (book : List Page) (call : Call) → IsValid book → record_of (book_at (answered book) book) call ≡ record_of book call
+KeepsEachRecord = (book : List Page) (call : Call) → IsValid book
+    → record_of (book_at (answered book) book) call ≡ record_of book call
 
 -- some view of the book holds the call
 abbrev pub IsHeldByAView : List Page → Call → Type 0
-IsHeldByAView book call = (other : Call) × (r : Record) × (record_of book other ≡ Some r) × Holds r.view call
+IsHeldByAView book call = (other : Call) × (r : Record) × (record_of book other ≡ Some r)
+    × Holds r.view call
 
 -- And it has exactly those calls of the book that some view holds, each with its operation.
 abbrev pub KeepsEachHeldCall : Type 0
@@ -42,10 +48,12 @@ KeepsEachHeldCall = (book : List Page) (call : Call) → IsValid book
     → IsCall (book_at (answered book) book) call ↔ IsCall book call × IsHeldByAView book call
 
 abbrev pub KeepsEachOperation : Type 0
-KeepsEachOperation = (book : List Page) (call : Call) → IsValid book → IsCall (book_at (answered book) book) call
+KeepsEachOperation = (book : List Page) (call : Call) → IsValid book
+    → IsCall (book_at (answered book) book) call
     → operation_of (book_at (answered book) book) call ≡ operation_of book call
 
 -- It has a legal order exactly where the book has one.
 abbrev pub HasOneWhereTheBookHas : Type 0
-HasOneWhereTheBookHas = (init : List ℕ) (next : List ℕ → ℕ → List ℕ × ℕ) (book : List Page) → IsValid book
+HasOneWhereTheBookHas = (init : List ℕ) (next : List ℕ → ℕ → List ℕ × ℕ) (book : List Page)
+    → IsValid book
     → HasLegalOrder init next (book_at (answered book) book) ↔ HasLegalOrder init next book

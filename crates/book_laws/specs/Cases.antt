@@ -4,8 +4,8 @@ use Rattle.book_base.specs.declared.call.Record.{Record}
 use Rattle.book_base.specs.declared.call.Place.{Place}
 use Rattle.book_base.specs.Book.{Page}
 
--- A queue of numbers above 0: the operation 0 takes the first one, or replies 0 where there is none; any other operation puts itself
--- in, and replies 0.
+-- A queue of numbers above 0: the operation 0 takes the first one, or replies 0 where there is
+-- none; any other operation puts itself in, and replies 0.
 abbrev pub line_next : List ℕ → ℕ → List ℕ × ℕ
 line_next [] zero = ([], 0)
 line_next (first ∷ rest) zero = (rest, first)
@@ -20,19 +20,24 @@ caller_page operations records = record { operations = operations; records = rec
 abbrev pub stand : ℕ → ℕ → ℕ → Place
 stand i k reply = record { caller = i; number = k; reply = reply }
 
--- Caller 0 puts in 5 and then takes, and gets 6, which caller 1 put in meanwhile; and it has made one more call, which no view holds.
+-- Caller 0 puts in 5 and then takes, and gets 6, which caller 1 put in meanwhile; and it has made
+-- one more call, which no view holds.
 abbrev pub overtaken : List Page
-overtaken = caller_page (5 ∷ 0 ∷ 7 ∷ []) (answer 0 (1 ∷ 1 ∷ []) ∷ answer 6 (2 ∷ 1 ∷ []) ∷ []) ∷ caller_page (6 ∷ []) (answer 0 (1 ∷ 1 ∷ []) ∷ []) ∷ []
+overtaken = caller_page (5 ∷ 0 ∷ 7 ∷ []) (answer 0 (1 ∷ 1 ∷ []) ∷ answer 6 (2 ∷ 1 ∷ []) ∷ [])
+    ∷ caller_page (6 ∷ []) (answer 0 (1 ∷ 1 ∷ []) ∷ []) ∷ []
 
 -- The book at the cut of its three records: the call that no view holds is gone.
 abbrev pub overtaken_seen : List Page
-overtaken_seen = caller_page (5 ∷ 0 ∷ []) (answer 0 (1 ∷ 1 ∷ []) ∷ answer 6 (2 ∷ 1 ∷ []) ∷ []) ∷ caller_page (6 ∷ []) (answer 0 (1 ∷ 1 ∷ []) ∷ []) ∷ []
+overtaken_seen = caller_page (5 ∷ 0 ∷ []) (answer 0 (1 ∷ 1 ∷ []) ∷ answer 6 (2 ∷ 1 ∷ []) ∷ [])
+    ∷ caller_page (6 ∷ []) (answer 0 (1 ∷ 1 ∷ []) ∷ []) ∷ []
 
--- The book at the cut of caller 0's first record alone: its view holds the call of caller 1, which is unanswered here.
+-- The book at the cut of caller 0's first record alone: its view holds the call of caller 1, which
+-- is unanswered here.
 abbrev pub overtaken_early : List Page
 overtaken_early = caller_page (5 ∷ []) (answer 0 (1 ∷ 1 ∷ []) ∷ []) ∷ caller_page (6 ∷ []) [] ∷ []
 
--- One order of the three answered calls. At the early cut it has to end after its second place: the third call isn't there.
+-- One order of the three answered calls. At the early cut it has to end after its second place: the
+-- third call isn't there.
 abbrev pub overtaking : List Place
 overtaking = stand 1 0 0 ∷ stand 0 0 0 ∷ stand 0 1 6 ∷ []
 
@@ -42,4 +47,5 @@ tenfold_next list op = (list, 10 * op)
 
 -- Caller 0 got a wrong reply, and caller 1 a right one afterwards.
 abbrev pub mistaken : List Page
-mistaken = caller_page (5 ∷ []) (answer 51 (1 ∷ 0 ∷ []) ∷ []) ∷ caller_page (6 ∷ []) (answer 60 (1 ∷ 1 ∷ []) ∷ []) ∷ []
+mistaken = caller_page (5 ∷ []) (answer 51 (1 ∷ 0 ∷ []) ∷ [])
+    ∷ caller_page (6 ∷ []) (answer 60 (1 ∷ 1 ∷ []) ∷ []) ∷ []

@@ -6,18 +6,24 @@ use Rattle.book_base.specs.Book.{Page, IsValid}
 use Rattle.book_base.specs.BookAt.{book_at}
 use Rattle.book_base.specs.Order.{IsLegalOrder, HasLegalOrder}
 
--- Some prefix of each legal order of the book at a cut is a legal order of the book at a smaller cut.
+-- Some prefix of each legal order of the book at a cut is a legal order of the book at a smaller
+-- cut.
 abbrev pub SomePrefixIsLegal : Type 0
-SomePrefixIsLegal = (init : List ℕ) (next : List ℕ → ℕ → List ℕ × ℕ) (book : List Page) (smaller larger : List ℕ) (order : List Place)
+SomePrefixIsLegal = (init : List ℕ) (next : List ℕ → ℕ → List ℕ × ℕ) (book : List Page)
+    (smaller larger : List ℕ) (order : List Place)
     → IsValid book → IsWithin smaller larger → IsLegalOrder init next (book_at larger book) order
     → (n : ℕ) × IsLegalOrder init next (book_at smaller book) (take n order)
 
 -- Where the book at a cut has a legal order, the book at each smaller cut has one.
 abbrev pub SmallerHasOne : Type 0
-SmallerHasOne = (init : List ℕ) (next : List ℕ → ℕ → List ℕ × ℕ) (book : List Page) (smaller larger : List ℕ)
-    → IsValid book → IsWithin smaller larger → HasLegalOrder init next (book_at larger book) → HasLegalOrder init next (book_at smaller book)
+SmallerHasOne =
+    (init : List ℕ) (next : List ℕ → ℕ → List ℕ × ℕ) (book : List Page) (smaller larger : List ℕ)
+    → IsValid book → IsWithin smaller larger → HasLegalOrder init next (book_at larger book)
+    → HasLegalOrder init next (book_at smaller book)
 
 -- Where the book at a cut has none, the book at each larger cut has none.
 abbrev pub LargerHasNone : Type 0
-LargerHasNone = (init : List ℕ) (next : List ℕ → ℕ → List ℕ × ℕ) (book : List Page) (smaller larger : List ℕ)
-    → IsValid book → IsWithin smaller larger → ¬ HasLegalOrder init next (book_at smaller book) → ¬ HasLegalOrder init next (book_at larger book)
+LargerHasNone =
+    (init : List ℕ) (next : List ℕ → ℕ → List ℕ × ℕ) (book : List Page) (smaller larger : List ℕ)
+    → IsValid book → IsWithin smaller larger → ¬ HasLegalOrder init next (book_at smaller book)
+    → ¬ HasLegalOrder init next (book_at larger book)

@@ -4,7 +4,8 @@ use Rattle.std.specs.List.{range_with_len}
 use Rattle.book_base.specs.Cut.{IsWithin, AreComparable}
 use Rattle.book_base.specs.BookAt.{greatest_count}
 
--- The greatest counts of some cuts of n callers: of each caller the greatest one, 0 where there is no cut.
+-- The greatest counts of some cuts of n callers: of each caller the greatest one, 0 where there is
+-- no cut.
 abbrev pub greatest_counts : ℕ → List (List ℕ) → List ℕ
 greatest_counts n cuts = map (greatest_count cuts) (range_with_len 0 n)
 
@@ -14,11 +15,13 @@ AreCutsOf n cuts = (k : ℕ) (cut : List ℕ) → slice_get cuts k ≡ Some cut 
 
 -- any two of the cuts are comparable
 abbrev pub AreComparableByTwos : List (List ℕ) → Type 0
-AreComparableByTwos cuts = (j k : ℕ) (a b : List ℕ) → slice_get cuts j ≡ Some a → slice_get cuts k ≡ Some b → AreComparable a b
+AreComparableByTwos cuts = (j k : ℕ) (a b : List ℕ) → slice_get cuts j ≡ Some a
+    → slice_get cuts k ≡ Some b → AreComparable a b
 
 -- The greatest counts of cuts that are pairwise comparable, and not none, are one of them.
 abbrev pub GreatestIsOne : Type 0
-GreatestIsOne = (n : ℕ) (first : List ℕ) (others : List (List ℕ)) → AreCutsOf n (first ∷ others) → AreComparableByTwos (first ∷ others)
+GreatestIsOne = (n : ℕ) (first : List ℕ) (others : List (List ℕ)) → AreCutsOf n (first ∷ others)
+    → AreComparableByTwos (first ∷ others)
     → (k : ℕ) × (slice_get (first ∷ others) k ≡ Some (greatest_counts n (first ∷ others)))
 
 -- Each of the cuts is within their greatest counts.

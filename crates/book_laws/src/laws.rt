@@ -1,5 +1,5 @@
-//! Laws of books at cuts, of their legal orders and of cuts. Each is the contract of a function with
-//! nothing in it.
+//! Laws of books at cuts, of their legal orders and of cuts. Each is the contract of a function
+//! with nothing in it.
 
 ghost use Rattle.book_laws.specs.BooksAtCuts.{IsTheBookAt, IsTheOnlyOne, StaysValid, IsTheBookAtTheSmaller, RecordCountsAreTheCut, KeepsEachRecord, KeepsEachHeldCall, KeepsEachOperation, HasOneWhereTheBookHas};
 ghost use Rattle.book_laws.specs.Finality.{SomePrefixIsLegal, SmallerHasOne, LargerHasNone};
@@ -17,8 +17,8 @@ pub fn book_at_is_the_book_at()
     ensures valid { StaysValid }
 {}
 
-/// The book at a cut of the book at a larger cut is the book at the smaller one, and its record counts
-/// are the cut.
+/// The book at a cut of the book at a larger cut is the book at the smaller one, and its record
+/// counts are the cut.
 #[tactic(auto, using(crate::proofs::BookAtLaws::is_the_book_at_the_smaller, crate::proofs::BookAtLaws::record_counts_are_the_cut))]
 pub fn books_at_cuts_agree()
     // The book at a cut of the book at a larger cut is the book at the smaller one.
@@ -27,8 +27,8 @@ pub fn books_at_cuts_agree()
     ensures counts { RecordCountsAreTheCut }
 {}
 
-/// The book at the cut of all its records has all answered calls of the book, and of the others exactly
-/// those that some view holds. It has a legal order exactly where the book has one.
+/// The book at the cut of all its records has all answered calls of the book, and of the others
+/// exactly those that some view holds. It has a legal order exactly where the book has one.
 pub fn calls_without_a_view_are_free()
     // The book at the cut of all its records has each record of the book.
     ensures records { KeepsEachRecord }
@@ -41,9 +41,9 @@ pub fn calls_without_a_view_are_free()
     ensures orders { HasOneWhereTheBookHas }
 {}
 
-/// An error is final: where the book at a cut has a legal order, the book at each smaller cut has one,
-/// and a prefix of that order is one. So where the book at a cut has none, the book at each larger cut has
-/// none (Castañeda and Rodríguez 2023).
+/// An error is final: where the book at a cut has a legal order, the book at each smaller cut has
+/// one, and a prefix of that order is one. So where the book at a cut has none, the book at each
+/// larger cut has none (Castañeda and Rodríguez 2023).
 pub fn error_is_final()
     // Where the book at a cut has a legal order, a prefix of that order is legal for the book at
     // each smaller cut.
@@ -54,8 +54,8 @@ pub fn error_is_final()
     ensures larger { LargerHasNone }
 {}
 
-/// Of cuts that are pairwise comparable, and not none, the greatest counts are one, and it contains each
-/// other.
+/// Of cuts that are pairwise comparable, and not none, the greatest counts are one, and it contains
+/// each other.
 #[tactic(auto, using(crate::proofs::GreatestCuts::greatest_is_one, crate::proofs::GreatestCuts::greatest_contains_each))]
 pub fn greatest_of_comparable()
     // The greatest counts of some pairwise comparable cuts, at least one, are one of these cuts.

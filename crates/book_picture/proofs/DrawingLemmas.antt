@@ -14,29 +14,39 @@ use Rattle.book_picture.specs.Sheets.{IsDrawable, AreDrawable, AreAllDrawable}
 use Rattle.book_picture.specs.Elements.{IsElementOf, AreElementsOf, AreLanesElements}
 
 -- the lane that stands at a place
-row_at : (lanes : List (Vec Interval Global)) (i : ℕ) (lane : Vec Interval Global) → slice_get lanes i ≡ Some lane → get_or (rows_of lanes) i [] ≡ lane.items
+row_at : (lanes : List (Vec Interval Global)) (i : ℕ) (lane : Vec Interval Global)
+    → slice_get lanes i ≡ Some lane → get_or (rows_of lanes) i [] ≡ lane.items
 row_at lanes i lane at =
     let items : Vec Interval Global → List Interval = λ v. v.items in
-    get_or_from_slice_get (rows_of lanes) i lane.items [] (slice_get-map items lanes i ∙ ap (option_map items) at)
+    get_or_from_slice_get (rows_of lanes) i
+    lane.items [] (slice_get-map items lanes i ∙ ap (option_map items) at)
 
 -- an interval of this lane stands on it
-at_lane : (lanes : List (Vec Interval Global)) (i : ℕ) (lane : Vec Interval Global) (items : List Interval) → i < length lanes → lane ≡ get_or lanes i lane
-    → items ≡ lane.items → (k : ℕ) (interval : Interval) → slice_get items k ≡ Some interval → StandsOn (rows_of lanes) i k interval
+at_lane : (lanes : List (Vec Interval Global)) (i : ℕ) (lane : Vec Interval Global)
+    (items : List Interval) → i < length lanes → lane ≡ get_or lanes i lane
+    → items ≡ lane.items → (k : ℕ) (interval : Interval) → slice_get items k ≡ Some interval
+    → StandsOn (rows_of lanes) i k interval
 at_lane lanes i lane items less here same k interval at =
-    let row : get_or (rows_of lanes) i [] ≡ items = row_at lanes i lane (slice_get_read lanes (length lanes) i lane refl less here) ∙ sym same in
+    let row : get_or (rows_of lanes) i [] ≡ items =
+    row_at lanes i lane (slice_get_read lanes (length lanes) i lane refl less here) ∙ sym same in
     ap (λ (xs : List Interval). slice_get xs k) row ∙ at
 
 -- what holds of an interval of some lane holds of one of this lane
-pub drawable_lane : (book : List Page) (lanes : List (Vec Interval Global)) (i : ℕ) (lane : Vec Interval Global) (items : List Interval) → i < length lanes
-    → lane ≡ get_or lanes i lane → items ≡ lane.items → AreAllDrawable book (rows_of lanes) → AreDrawable book items
-drawable_lane book lanes i lane items less here same all = λ k interval at. all i k interval (at_lane lanes i lane items less here same k interval at)
+pub drawable_lane : (book : List Page) (lanes : List (Vec Interval Global)) (i : ℕ)
+    (lane : Vec Interval Global) (items : List Interval) → i < length lanes
+    → lane ≡ get_or lanes i lane → items ≡ lane.items → AreAllDrawable book (rows_of lanes)
+    → AreDrawable book items
+drawable_lane book lanes i lane items less here same all =
+    λ k interval at. all i k interval (at_lane lanes i lane items less here same k interval at)
 
 -- an interval of a lane
-pub drawable_at : (book : List Page) (lane : List Interval) (i : ℕ) (d : Interval) → i < length lane → AreDrawable book lane → IsDrawable book (get_or lane i d)
+pub drawable_at : (book : List Page) (lane : List Interval) (i : ℕ) (d : Interval) → i < length lane
+    → AreDrawable book lane → IsDrawable book (get_or lane i d)
 drawable_at book lane i d less all = all i (get_or lane i d) (slice_get-get_or lane i d less)
 
 -- what the events of a book tell of its calls can be drawn
-pub told_is_drawable : (book : List Page) (events : List Event) (lanes : List (List Interval)) → AreTold book events lanes → AreAllDrawable book lanes
+pub told_is_drawable : (book : List Page) (events : List Event) (lanes : List (List Interval))
+    → AreTold book events lanes → AreAllDrawable book lanes
 told_is_drawable book events lanes told caller k interval at =
     let is = told caller k interval at in
     record {
@@ -49,30 +59,54 @@ told_is_drawable book events lanes told caller k interval at =
 
 module _ (class : Call → List ℕ) (rows : List Row) where
   -- one more element
-  elements_more : (lane : List Interval) (interval : Interval) (text more : List ℕ) → AreElementsOf class rows lane text → IsElementOf class rows interval more
+  elements_more : (lane : List Interval) (interval : Interval) (text more : List ℕ)
+      → AreElementsOf class rows lane text → IsElementOf class rows interval more
       → AreElementsOf class rows (lane ++ interval ∷ []) (text ++ more)
-  elements_more [] interval text more none is = (more, [], is, refl, ap (λ (t : List ℕ). t ++ more) none ∙ sym (append-nil more))
-  elements_more (x ∷ xs) interval text more (first, rest, has, are, e) is =
-      (first, rest ++ more, has, elements_more xs interval rest more are is, ap (λ (t : List ℕ). t ++ more) e ∙ append_assoc first rest more)
+  elements_more [] interval text more none is =
+      (more, [], is, refl, ap (λ (t : List ℕ). t ++ more) none ∙ sym (append-nil more))
+  elements_more (x ∷ xs) interval text more (first, rest, has, are, e) is = (
+    first,
+    rest ++ more,
+    has,
+    elements_more xs interval rest more are is,
+    ap (λ (t : List ℕ). t ++ more) e ∙ append_assoc first rest more,
+  )
 
   -- the elements of one more lane
-  lanes_elements_more : (lanes : List (List Interval)) (lane : List Interval) (text more : List ℕ) → AreLanesElements class rows lanes text → AreElementsOf class rows lane more
+  lanes_elements_more : (lanes : List (List Interval)) (lane : List Interval) (text more : List ℕ)
+      → AreLanesElements class rows lanes text → AreElementsOf class rows lane more
       → AreLanesElements class rows (lanes ++ lane ∷ []) (text ++ more)
-  lanes_elements_more [] lane text more none is = (more, [], is, refl, ap (λ (t : List ℕ). t ++ more) none ∙ sym (append-nil more))
-  lanes_elements_more (x ∷ xs) lane text more (first, rest, has, are, e) is =
-      (first, rest ++ more, has, lanes_elements_more xs lane rest more are is, ap (λ (t : List ℕ). t ++ more) e ∙ append_assoc first rest more)
+  lanes_elements_more [] lane text more none is =
+      (more, [], is, refl, ap (λ (t : List ℕ). t ++ more) none ∙ sym (append-nil more))
+  lanes_elements_more (x ∷ xs) lane text more (first, rest, has, are, e) is = (
+    first,
+    rest ++ more,
+    has,
+    lanes_elements_more xs lane rest more are is,
+    ap (λ (t : List ℕ). t ++ more) e ∙ append_assoc first rest more,
+  )
 
   -- the first elements and one more
-  pub elements_turn : (lane : List Interval) (i : ℕ) (d : Interval) (text more : List ℕ) → i < length lane → AreElementsOf class rows (take i lane) text
-      → IsElementOf class rows (get_or lane i d) more → AreElementsOf class rows (take (i + 1) lane) (text ++ more)
+  pub elements_turn : (lane : List Interval) (i : ℕ) (d : Interval) (text more : List ℕ)
+      → i < length lane → AreElementsOf class rows (take i lane) text
+      → IsElementOf class rows (get_or lane i d) more
+      → AreElementsOf class rows (take (i + 1) lane) (text ++ more)
   elements_turn lane i d text more less are is =
-      subst (λ (xs : List Interval). AreElementsOf class rows xs (text ++ more)) (sym (take_more lane i d less)) (elements_more (take i lane) (get_or lane i d) text more are is)
+      subst (λ (xs : List Interval). AreElementsOf class rows xs (text ++ more))
+      (sym (take_more lane i d less))
+      (elements_more (take i lane) (get_or lane i d) text more are is)
 
   -- the elements of the first lanes and of one more
-  pub lanes_turn : (lanes : List (Vec Interval Global)) (i : ℕ) (lane : Vec Interval Global) (text more : List ℕ) → i < length lanes → lane ≡ get_or lanes i lane
-      → AreLanesElements class rows (rows_of (take i lanes)) text → AreElementsOf class rows lane.items more → AreLanesElements class rows (rows_of (take (i + 1) lanes)) (text ++ more)
+  pub lanes_turn : (lanes : List (Vec Interval Global)) (i : ℕ) (lane : Vec Interval Global)
+      (text more : List ℕ) → i < length lanes → lane ≡ get_or lanes i lane
+      → AreLanesElements class rows (rows_of (take i lanes)) text
+      → AreElementsOf class rows lane.items more
+      → AreLanesElements class rows (rows_of (take (i + 1) lanes)) (text ++ more)
   lanes_turn lanes i lane text more less here are is =
       let items : Vec Interval Global → List Interval = λ v. v.items in
-      let grown : take (i + 1) lanes ≡ take i lanes ++ lane ∷ [] = take_more lanes i lane less ∙ ap (λ (v : Vec Interval Global). take i lanes ++ v ∷ []) (sym here) in
-      let listed : rows_of (take (i + 1) lanes) ≡ rows_of (take i lanes) ++ lane.items ∷ [] = ap rows_of grown ∙ map-append items (take i lanes) (lane ∷ []) in
-      subst (λ (ls : List (List Interval)). AreLanesElements class rows ls (text ++ more)) (sym listed) (lanes_elements_more (rows_of (take i lanes)) lane.items text more are is)
+      let grown : take (i + 1) lanes ≡ take i lanes ++ lane ∷ [] = take_more lanes i lane less
+      ∙ ap (λ (v : Vec Interval Global). take i lanes ++ v ∷ []) (sym here) in
+      let listed : rows_of (take (i + 1) lanes) ≡ rows_of (take i lanes) ++ lane.items ∷ [] =
+      ap rows_of grown ∙ map-append items (take i lanes) (lane ∷ []) in
+      subst (λ (ls : List (List Interval)). AreLanesElements class rows ls (text ++ more))
+      (sym listed) (lanes_elements_more (rows_of (take i lanes)) lane.items text more are is)

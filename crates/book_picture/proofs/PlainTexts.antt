@@ -23,8 +23,12 @@ still_of_none [] b e = absurd cc
 still_of_none (x ∷ []) [] e = e
 still_of_none (x ∷ []) (y ∷ b) e =
     let parts = and_parts (not (x == 103)) (not (x == 47)) e in
-    let slash : (x == 47) ≡ false = elim (cases_Bool (x == 47)) [ inl is ↦ absurd (both_ways (not (x == 47)) (ap not is) parts.1) | inr other ↦ other ] in
-    and_from (not (x == 103)) (not ((x == 47) && (y == 103))) parts.0 (ap (λ (t : Bool). not (t && (y == 103))) slash)
+    let slash : (x == 47) ≡ false = elim (cases_Bool (x == 47)) [
+      | inl is ↦ absurd (both_ways (not (x == 47)) (ap not is) parts.1)
+      | inr other ↦ other
+    ] in
+    and_from (not (x == 103)) (not ((x == 47) && (y == 103))) parts.0
+    (ap (λ (t : Bool). not (t && (y == 103))) slash)
 still_of_none (x ∷ y ∷ a) b e = e
 
 or_first : (a b c : Bool) → (b ≡ true → c ≡ true) → (a || b) ≡ true → (a || c) ≡ true
@@ -36,26 +40,33 @@ plain-append [] b h k = k
 plain-append (x ∷ a) b h k =
     let parts = and_parts (not (x == 60) || is_of_no_group a) (is_plain a) h in
     and_from (not (x == 60) || is_of_no_group (a ++ b)) (is_plain (a ++ b))
-    (or_first (not (x == 60)) (is_of_no_group a) (is_of_no_group (a ++ b)) (still_of_none a b) parts.0)
+    (or_first (not (x == 60)) (is_of_no_group a) (is_of_no_group (a ++ b))
+    (still_of_none a b) parts.0)
     (plain-append a b parts.1 k)
 
 -- a text without '<'
-plain_without : (text : List ℕ) → ((k : ℕ) → k < length text → get_or text k 0 ≢ 60) → is_plain text ≡ true
+plain_without : (text : List ℕ) → ((k : ℕ) → k < length text → get_or text k 0 ≢ 60)
+    → is_plain text ≡ true
 plain_without [] none = refl
 plain_without (x ∷ rest) none =
     let first : not (x == 60) ≡ true = ap not (ne_eqb x 60 (none 0 (omega arith))) in
-    and_from (not (x == 60) || is_of_no_group rest) (is_plain rest) (ap (λ (t : Bool). t || is_of_no_group rest) first) (plain_without rest (λ k inside. none (suc k) (omega arith)))
+    and_from (not (x == 60) || is_of_no_group rest) (is_plain rest)
+    (ap (λ (t : Bool). t || is_of_no_group rest) first)
+    (plain_without rest (λ k inside. none (suc k) (omega arith)))
 
 pub plain_decimal : (n : ℕ) → n < 2 ^ 64 → is_plain (decimal n) ≡ true
-plain_decimal n small = plain_without (decimal n) (λ k inside. eqb-false (get_or (decimal n) k 0) 60 (decimal-Lacks 60 n small (λ range. omega arith) k 0 inside))
+plain_decimal n small = plain_without (decimal n) (λ k inside. eqb-false (get_or (decimal n) k 0) 60
+    (decimal-Lacks 60 n small (λ range. omega arith) k 0 inside))
 
 -- a text that begins with a number
-pub plain_number : (n : ℕ) (rest : List ℕ) → n < 2 ^ 64 → is_plain rest ≡ true → is_plain (decimal n ++ rest) ≡ true
+pub plain_number : (n : ℕ) (rest : List ℕ) → n < 2 ^ 64 → is_plain rest ≡ true
+    → is_plain (decimal n ++ rest) ≡ true
 plain_number n rest small plain = plain-append (decimal n) rest (plain_decimal n small) plain
 
 plain_encoded : (byte : ℕ) → byte ≢ 60 → is_plain (encode_utf8 byte) ≡ true
 plain_encoded byte other =
-    plain_without (encode_utf8 byte) (λ k inside same. other (inside_one byte [] (encode_utf8 byte) k (sym (append-nil (encode_utf8 byte))) inside (omega arith) ∙ same))
+    plain_without (encode_utf8 byte) (λ k inside same. other (inside_one byte [] (encode_utf8 byte)
+    k (sym (append-nil (encode_utf8 byte))) inside (omega arith) ∙ same))
 
 plain_escape : (byte : ℕ) → is_plain (escape_of byte) ≡ true
 plain_escape byte =
@@ -63,11 +74,13 @@ plain_escape byte =
     cond_both {A = List ℕ} (byte == 38) (codes "&amp;") _ P (λ _. refl)
     (λ _. cond_both {A = List ℕ} (byte == 60) (codes "&lt;") _ P (λ _. refl)
     (λ other. cond_both {A = List ℕ} (byte == 62) (codes "&gt;") _ P (λ _. refl)
-    (λ _. cond_both {A = List ℕ} (byte == 34) (codes "&quot;") _ P (λ _. refl) (λ _. plain_encoded byte (eqb-false byte 60 other)))))
+    (λ _. cond_both {A = List ℕ} (byte == 34) (codes "&quot;") _ P (λ _. refl)
+    (λ _. plain_encoded byte (eqb-false byte 60 other)))))
 
 pub plain_escaped : (text : List ℕ) → is_plain (escaped text) ≡ true
 plain_escaped [] = refl
-plain_escaped (x ∷ rest) = plain-append (escape_of x) (escaped rest) (plain_escape x) (plain_escaped rest)
+plain_escaped (x ∷ rest) =
+    plain-append (escape_of x) (escaped rest) (plain_escape x) (plain_escaped rest)
 
 pub plain_kind : (kind : Kind) → is_plain (kind_name kind) ≡ true
 unfolding kind_name
@@ -81,7 +94,8 @@ plain_kind kinds.CasRegister = refl
 plain_kind kinds.Map = refl
 
 -- a line of text
-pub plain_line : (class : List ℕ) (x y : ℕ) (text : List ℕ) → is_plain class ≡ true → x < 2 ^ 64 → y < 2 ^ 64 → is_plain (line_text class x y text) ≡ true
+pub plain_line : (class : List ℕ) (x y : ℕ) (text : List ℕ) → is_plain class ≡ true → x < 2 ^ 64
+    → y < 2 ^ 64 → is_plain (line_text class x y text) ≡ true
 plain_line class x y text word across down =
     let inner : List ℕ = escaped text ++ codes "</text>\n" in
     let after_y : List ℕ = codes "\">" ++ inner in
@@ -99,11 +113,15 @@ plain_line class x y text word across down =
 no_open : (prefix rest : List ℕ) → is_plain (prefix ++ 60 ∷ 103 ∷ rest) ≡ true → ⊥
 no_open [] [] e = cc
 no_open [] (y ∷ rest) e = cc
-no_open (x ∷ prefix) rest e = no_open prefix rest (and_parts (not (x == 60) || is_of_no_group (prefix ++ 60 ∷ 103 ∷ rest)) (is_plain (prefix ++ 60 ∷ 103 ∷ rest)) e).1
+no_open (x ∷ prefix) rest e =
+    no_open prefix rest (and_parts (not (x == 60) || is_of_no_group (prefix ++ 60 ∷ 103 ∷ rest))
+    (is_plain (prefix ++ 60 ∷ 103 ∷ rest)) e).1
 
 no_close : (prefix rest : List ℕ) → is_plain (prefix ++ 60 ∷ 47 ∷ 103 ∷ rest) ≡ true → ⊥
 no_close [] rest e = cc
-no_close (x ∷ prefix) rest e = no_close prefix rest (and_parts (not (x == 60) || is_of_no_group (prefix ++ 60 ∷ 47 ∷ 103 ∷ rest)) (is_plain (prefix ++ 60 ∷ 47 ∷ 103 ∷ rest)) e).1
+no_close (x ∷ prefix) rest e = no_close prefix rest
+    (and_parts (not (x == 60) || is_of_no_group (prefix ++ 60 ∷ 47 ∷ 103 ∷ rest))
+    (is_plain (prefix ++ 60 ∷ 47 ∷ 103 ∷ rest)) e).1
 
 -- such a text has no group
 pub has_no_group : (text : List ℕ) → is_plain text ≡ true → HasNoGroup text
@@ -118,29 +136,41 @@ pub grows_nothing : (text : List ℕ) → GrowsPlain text text
 grows_nothing text = ([], refl, sym (append-nil text))
 
 pub grows_then : (a b d : List ℕ) → GrowsPlain a b → GrowsPlain b d → GrowsPlain a d
-grows_then a b d h k = (h.0 ++ k.0, plain-append h.0 k.0 h.1 k.1, k.2 ∙ ap (λ (t : List ℕ). t ++ k.0) h.2 ∙ append_assoc a h.0 k.0)
+grows_then a b d h k = (
+  h.0 ++ k.0,
+  plain-append h.0 k.0 h.1 k.1,
+  k.2 ∙ ap (λ (t : List ℕ). t ++ k.0) h.2 ∙ append_assoc a h.0 k.0,
+)
 
 -- a line of text grows it
-pub grows_line : (a b class text : List ℕ) (x y : ℕ) → is_plain class ≡ true → x < 2 ^ 64 → y < 2 ^ 64 → b ≡ a ++ line_text class x y text → GrowsPlain a b
-grows_line a b class text x y word across down e = (line_text class x y text, plain_line class x y text word across down, e)
+pub grows_line : (a b class text : List ℕ) (x y : ℕ) → is_plain class ≡ true → x < 2 ^ 64
+    → y < 2 ^ 64 → b ≡ a ++ line_text class x y text → GrowsPlain a b
+grows_line a b class text x y word across down e =
+    (line_text class x y text, plain_line class x y text word across down, e)
 
-pub plain_opening : (width height : ℕ) → width < 2 ^ 64 → height < 2 ^ 64 → is_plain (opening width height) ≡ true
+pub plain_opening : (width height : ℕ) → width < 2 ^ 64 → height < 2 ^ 64
+    → is_plain (opening width height) ≡ true
 plain_opening width height across down =
-    let ground : List ℕ = STYLE.now ++ codes "<rect width=\"100%\" height=\"100%\" fill=\"#ffffff\"/>\n" in
+    let ground : List ℕ =
+    STYLE.now ++ codes "<rect width=\"100%\" height=\"100%\" fill=\"#ffffff\"/>\n" in
     let suffix : List ℕ = codes "\">\n" ++ ground in
     let from_height : List ℕ = codes "\" height=\"" ++ (decimal height ++ suffix) in
-    plain-append (codes "<svg xmlns=\"http://www.w3.org/2000/svg\" width=\"") (decimal width ++ from_height) refl
+    plain-append (codes "<svg xmlns=\"http://www.w3.org/2000/svg\" width=\"")
+    (decimal width ++ from_height) refl
     (plain-append (decimal width) from_height (plain_decimal width across)
     (plain-append (codes "\" height=\"") (decimal height ++ suffix) refl
     (plain-append (decimal height) suffix (plain_decimal height down)
     (plain-append (codes "\">\n") ground refl
-    (plain-append STYLE.now (codes "<rect width=\"100%\" height=\"100%\" fill=\"#ffffff\"/>\n") refl refl)))))
+    (plain-append STYLE.now
+    (codes "<rect width=\"100%\" height=\"100%\" fill=\"#ffffff\"/>\n") refl refl)))))
 
 plain_error : (error : Option Call) → is_plain (error_line error) ≡ true
 plain_error None = refl
-plain_error (Some call) = plain_line (codes "note") 12 80 (error_text call) refl (omega arith) (omega arith)
+plain_error (Some call) =
+    plain_line (codes "note") 12 80 (error_text call) refl (omega arith) (omega arith)
 
-pub plain_first_lines : (legal : Bool) (marks : Marks) (error : Option Call) → is_plain (first_lines legal marks error) ≡ true
+pub plain_first_lines : (legal : Bool) (marks : Marks) (error : Option Call)
+    → is_plain (first_lines legal marks error) ≡ true
 plain_first_lines legal marks error =
     plain-append (line_text (codes "title") 12 24 (title legal marks)) (error_line error)
     (plain_line (codes "title") 12 24 (title legal marks) refl (omega arith) (omega arith))
@@ -160,14 +190,18 @@ bar_then a b d h k = (
   h.0 ++ k.0,
   (
     plain-append h.0 k.0 h.1.0 k.1,
-    (h.1.1.0 ++ k.0, ap (λ (t : List ℕ). t ++ k.0) h.1.1.1 ∙ append_assoc (codes "<path class=\"bar") h.1.1.0 k.0),
+    (
+      h.1.1.0 ++ k.0,
+      ap (λ (t : List ℕ). t ++ k.0) h.1.1.1 ∙ append_assoc (codes "<path class=\"bar") h.1.1.0 k.0,
+    ),
   ),
   k.2 ∙ ap (λ (t : List ℕ). t ++ k.0) h.2 ∙ append_assoc a h.0 k.0,
 )
 
 -- ---- the head
 
-pub head_says : (lines a b d : List ℕ) → IsOpening a → GrowsByLines lines a b → GrowsPlain b d → SaysFirst lines d
+pub head_says : (lines a b d : List ℕ) → IsOpening a → GrowsByLines lines a b → GrowsPlain b d
+    → SaysFirst lines d
 head_says lines a b d start h k = record {
   width = start.0;
   height = start.1;
@@ -178,22 +212,28 @@ head_says lines a b d start h k = record {
       ∙ ap (λ (t : List ℕ). t ++ (lines ++ (h.0 ++ k.0))) start.4;
 }
 
-pub head_plain : (lines a b d : List ℕ) → is_plain lines ≡ true → IsOpening a → GrowsByLines lines a b → GrowsPlain b d → is_plain d ≡ true
+pub head_plain : (lines a b d : List ℕ) → is_plain lines ≡ true → IsOpening a
+    → GrowsByLines lines a b → GrowsPlain b d → is_plain d ≡ true
 head_plain lines a b d plain start h k =
-    let first : is_plain a ≡ true = ap is_plain start.4 ∙ plain_opening start.0 start.1 start.2 start.3 in
+    let first : is_plain a ≡ true =
+    ap is_plain start.4 ∙ plain_opening start.0 start.1 start.2 start.3 in
     let legend : is_plain (lines ++ h.0) ≡ true = plain-append lines h.0 plain h.1 in
     let before : is_plain b ≡ true = ap is_plain h.2 ∙ plain-append a (lines ++ h.0) first legend in
     ap is_plain k.2 ∙ plain-append b k.0 before k.1
 
-pub by_lines : (first second a b d f : List ℕ) → b ≡ a ++ first → d ≡ b ++ second → GrowsPlain d f → GrowsByLines (first ++ second) a f
+pub by_lines : (first second a b d f : List ℕ) → b ≡ a ++ first → d ≡ b ++ second → GrowsPlain d f
+    → GrowsByLines (first ++ second) a f
 by_lines first second a b d f e is k = (
   k.0,
   k.1,
-  k.2 ∙ ap (λ (t : List ℕ). t ++ k.0) (is ∙ ap (λ (t : List ℕ). t ++ second) e ∙ append_assoc a first second) ∙ append_assoc a (first ++ second) k.0,
+  k.2 ∙ ap (λ (t : List ℕ). t ++ k.0)
+      (is ∙ ap (λ (t : List ℕ). t ++ second) e ∙ append_assoc a first second)
+      ∙ append_assoc a (first ++ second) k.0,
 )
 
 -- what follows leaves what a text says first
-pub says_more : (lines other head more text : List ℕ) → lines ≡ other → SaysFirst lines head → text ≡ head ++ more → SaysFirst other text
+pub says_more : (lines other head more text : List ℕ) → lines ≡ other → SaysFirst lines head
+    → text ≡ head ++ more → SaysFirst other text
 says_more lines other head more text same h e =
     let start : List ℕ = opening h.width h.height in
     record {

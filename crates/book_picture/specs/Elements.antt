@@ -18,48 +18,60 @@ use Rattle.book_picture.specs.Values.{values_after, class_of_call}
 abbrev pub IsBar : List ℕ → Type 0
 IsBar text = (is_plain text ≡ true) × ((rest : List ℕ) × (text ≡ codes "<path class=\"bar" ++ rest))
 
--- A text is what a row has of an interval: a bar where the interval has a part in it, and else nothing.
+-- A text is what a row has of an interval: a bar where the interval has a part in it, and else
+-- nothing.
 abbrev pub IsPartIn : Row → Interval → List ℕ → Type 0
-IsPartIn row interval text = MatchBool (has_part row.first (length row.edges.items - 1) interval) (IsBar text) (text ≡ [])
+IsPartIn row interval text =
+    MatchBool (has_part row.first (length row.edges.items - 1) interval) (IsBar text) (text ≡ [])
 
 -- A text is what these rows have of an interval, in their order.
 abbrev pub ArePartsIn : List Row → Interval → List ℕ → Type 0
 ArePartsIn [] interval text = text ≡ []
-ArePartsIn (row ∷ rows) interval text = (first rest : List ℕ) × IsPartIn row interval first × ArePartsIn rows interval rest × (text ≡ first ++ rest)
+ArePartsIn (row ∷ rows) interval text = (first rest : List ℕ) × IsPartIn row interval first
+    × ArePartsIn rows interval rest × (text ≡ first ++ rest)
 
 -- A text has grown by a bar; by what a row has of an interval; and by what these rows have of it.
 abbrev pub GrowsByBar : List ℕ → List ℕ → Type 0
 GrowsByBar before after = (text : List ℕ) × IsBar text × (after ≡ before ++ text)
 
 abbrev pub GrowsByPart : Row → Interval → List ℕ → List ℕ → Type 0
-GrowsByPart row interval before after = (text : List ℕ) × (is_plain text ≡ true) × IsPartIn row interval text × (after ≡ before ++ text)
+GrowsByPart row interval before after = (text : List ℕ) × (is_plain text ≡ true)
+    × IsPartIn row interval text × (after ≡ before ++ text)
 
 abbrev pub GrowsByParts : List Row → Interval → List ℕ → List ℕ → Type 0
-GrowsByParts rows interval before after = (text : List ℕ) × (is_plain text ≡ true) × ArePartsIn rows interval text × (after ≡ before ++ text)
+GrowsByParts rows interval before after = (text : List ℕ) × (is_plain text ≡ true)
+    × ArePartsIn rows interval text × (after ≡ before ++ text)
 
--- A text is an element that names the call of an interval, with the call's classes: in it stands what these rows have of the interval,
--- and no other element of a call.
+-- A text is an element that names the call of an interval, with the call's classes: in it stands
+-- what these rows have of the interval, and no other element of a call.
 abbrev pub IsElementOf : (Call → List ℕ) → List Row → Interval → List ℕ → Type 0
-IsElementOf class rows interval text = (inside : List ℕ) × HasNoGroup inside × ArePartsIn rows interval inside
-    × (text ≡ codes "<g id=\"call-" ++ (decimal interval.call.caller ++ (codes "-" ++ (decimal interval.call.number
-    ++ (codes "\" class=\"" ++ (class interval.call ++ (codes "\">\n" ++ (inside ++ codes "</g>\n"))))))))
+IsElementOf class rows interval text = (inside : List ℕ) × HasNoGroup inside
+    × ArePartsIn rows interval inside
+    × (text ≡ codes "<g id=\"call-"
+    ++ (decimal interval.call.caller ++ (codes "-" ++ (decimal interval.call.number
+    ++ (codes "\" class=\""
+    ++ (class interval.call ++ (codes "\">\n" ++ (inside ++ codes "</g>\n"))))))))
 
 -- A text is one element for each of these intervals, in their order, and nothing else.
 abbrev pub AreElementsOf : (Call → List ℕ) → List Row → List Interval → List ℕ → Type 0
 AreElementsOf class rows [] text = text ≡ []
 AreElementsOf class rows (interval ∷ lane) text =
-    (first rest : List ℕ) × IsElementOf class rows interval first × AreElementsOf class rows lane rest × (text ≡ first ++ rest)
+    (first rest : List ℕ) × IsElementOf class rows interval first
+    × AreElementsOf class rows lane rest × (text ≡ first ++ rest)
 
 -- A text is one element for each interval of these lanes, in their order, and nothing else.
 abbrev pub AreLanesElements : (Call → List ℕ) → List Row → List (List Interval) → List ℕ → Type 0
 AreLanesElements class rows [] text = text ≡ []
 AreLanesElements class rows (lane ∷ lanes) text =
-    (first rest : List ℕ) × AreElementsOf class rows lane first × AreLanesElements class rows lanes rest × (text ≡ first ++ rest)
+    (first rest : List ℕ) × AreElementsOf class rows lane first
+    × AreLanesElements class rows lanes rest × (text ≡ first ++ rest)
 
--- The text of a picture shows each call of a book: after its head, which has no element of a call, it has one element for the one
--- interval of each call, by lanes. The places of the sketch are folded into rows, and a call's classes are the colour of the value
--- that it shows, by the order in which these appear, and whether it is marked.
-pub record ShowsEachCall (kind : Kind) (book : List Page) (marks : Marks) (text : List ℕ) : Type 0 where
+-- The text of a picture shows each call of a book: after its head, which has no element of a call,
+-- it has one element for the one interval of each call, by lanes. The places of the sketch are
+-- folded into rows, and a call's classes are the colour of the value that it shows, by the order in
+-- which these appear, and whether it is marked.
+pub record ShowsEachCall (kind : Kind) (book : List Page) (marks : Marks)
+    (text : List ℕ) : Type 0 where
   pub events : List Event
   pub lanes : List (List Interval)
   pub sketched : IsSketch book events

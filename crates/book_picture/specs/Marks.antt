@@ -19,7 +19,8 @@ marked_numbers NoMemory = []
 
 -- whether a call is one of those with these numbers
 abbrev pub is_named : List (List ℕ) → Call → Bool
-is_named names call = list_any (λ number. number == call.number) (slice_index_or names call.caller [])
+is_named names call =
+    list_any (λ number. number == call.number) (slice_index_or names call.caller [])
 
 -- whether a call is marked
 abbrev pub is_marked : Marks → Call → Bool

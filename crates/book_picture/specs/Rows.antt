@@ -13,7 +13,8 @@ pub record IsRow (places k : ℕ) (row : Row) : Type 0 where
   pub first : row.first ≡ k * ROW_PLACES
   pub edges : length row.edges.items ≡ places_in places k + 1
 
--- The rows have all of this many places, and there are no more rows than these take; a picture has one row at least.
+-- The rows have all of this many places, and there are no more rows than these take; a picture has
+-- one row at least.
 pub record AreFolded (places : ℕ) (rows : List Row) : Type 0 where
   pub some : 1 ≤ length rows
   pub all : places ≤ length rows * ROW_PLACES
@@ -22,7 +23,8 @@ pub record AreFolded (places : ℕ) (rows : List Row) : Type 0 where
 
 -- So many places as a dozen calls have at most stay on one row.
 abbrev pub ADozenStayOnOneRow : Type 0
-ADozenStayOnOneRow = (places : ℕ) (rows : List Row) → places ≤ 12 * 2 → AreFolded places rows → length rows ≡ 1
+ADozenStayOnOneRow = (places : ℕ) (rows : List Row) → places ≤ 12 * 2 → AreFolded places rows
+    → length rows ≡ 1
 
 -- whether an interval has a part in a row of this many places, of which this is the first
 abbrev pub has_part : ℕ → ℕ → Interval → Bool

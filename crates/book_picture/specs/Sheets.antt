@@ -11,8 +11,10 @@ pub record IsDrawable (book : List Page) (interval : Interval) : Type 0 where
 
 -- Each interval of a lane can be drawn.
 abbrev pub AreDrawable : List Page → List Interval → Type 0
-AreDrawable book lane = (k : ℕ) (interval : Interval) → slice_get lane k ≡ Some interval → IsDrawable book interval
+AreDrawable book lane = (k : ℕ) (interval : Interval) → slice_get lane k ≡ Some interval
+    → IsDrawable book interval
 
 -- Each interval of these lanes can be drawn.
 abbrev pub AreAllDrawable : List Page → List (List Interval) → Type 0
-AreAllDrawable book lanes = (caller k : ℕ) (interval : Interval) → StandsOn lanes caller k interval → IsDrawable book interval
+AreAllDrawable book lanes = (caller k : ℕ) (interval : Interval) → StandsOn lanes caller k interval
+    → IsDrawable book interval

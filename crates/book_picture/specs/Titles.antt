@@ -12,7 +12,8 @@ use Rattle.book_picture.specs.Groups.{is_plain}
 -- a line of text, of a class of the style, at a place
 abbrev pub line_text : List ℕ → ℕ → ℕ → List ℕ → List ℕ
 line_text class x y text =
-    codes "<text class=\"" ++ (class ++ (codes "\" x=\"" ++ (decimal x ++ (codes "\" y=\"" ++ (decimal y ++ (codes "\">" ++ (escaped text ++ codes "</text>\n")))))))
+    codes "<text class=\"" ++ (class ++ (codes "\" x=\"" ++ (decimal x
+    ++ (codes "\" y=\"" ++ (decimal y ++ (codes "\">" ++ (escaped text ++ codes "</text>\n")))))))
 
 -- whether there is a legal order
 abbrev pub is_legal : Verdict → Bool
@@ -37,7 +38,8 @@ title legal marks = verdict_text legal ++ marks_text marks
 
 -- what a picture says of the first error line of a run, which is that of this call
 abbrev pub error_text : Call → List ℕ
-error_text call = codes "the first error line of the run is that of call " ++ (decimal call.number ++ (codes " of caller " ++ decimal call.caller))
+error_text call = codes "the first error line of the run is that of call "
+    ++ (decimal call.number ++ (codes " of caller " ++ decimal call.caller))
 
 -- the line that says it, where there is one
 abbrev pub error_line : Option Call → List ℕ
@@ -46,23 +48,28 @@ error_line (Some call) = line_text (codes "note") 12 80 (error_text call)
 
 -- the first lines of a picture: its title, and which error line was the first
 abbrev pub first_lines : Bool → Marks → Option Call → List ℕ
-first_lines legal marks error = line_text (codes "title") 12 24 (title legal marks) ++ error_line error
+first_lines legal marks error =
+    line_text (codes "title") 12 24 (title legal marks) ++ error_line error
 
 -- what stands before the first line of text
 abbrev pub opening : ℕ → ℕ → List ℕ
 opening width height =
-    codes "<svg xmlns=\"http://www.w3.org/2000/svg\" width=\"" ++ (decimal width ++ (codes "\" height=\"" ++ (decimal height ++ (codes "\">\n"
+    codes "<svg xmlns=\"http://www.w3.org/2000/svg\" width=\""
+    ++ (decimal width ++ (codes "\" height=\"" ++ (decimal height ++ (codes "\">\n"
     ++ (STYLE.now ++ codes "<rect width=\"100%\" height=\"100%\" fill=\"#ffffff\"/>\n")))))
 
 -- a text is what stands before the first line of text in a picture of some size
 abbrev pub IsOpening : List ℕ → Type 0
-IsOpening text = (width : ℕ) × (height : ℕ) × (width < 2 ^ 64) × (height < 2 ^ 64) × (text ≡ opening width height)
+IsOpening text = (width : ℕ) × (height : ℕ) × (width < 2 ^ 64) × (height < 2 ^ 64)
+    × (text ≡ opening width height)
 
 -- A text has grown by these lines, and by what has no group.
 abbrev pub GrowsByLines : List ℕ → List ℕ → List ℕ → Type 0
-GrowsByLines lines before after = (rest : List ℕ) × (is_plain rest ≡ true) × (after ≡ before ++ (lines ++ rest))
+GrowsByLines lines before after = (rest : List ℕ) × (is_plain rest ≡ true)
+    × (after ≡ before ++ (lines ++ rest))
 
--- The text of a picture begins with what stands before the first line of text, and with these lines.
+-- The text of a picture begins with what stands before the first line of text, and with these
+-- lines.
 pub record SaysFirst (lines text : List ℕ) : Type 0 where
   pub width : ℕ
   pub height : ℕ

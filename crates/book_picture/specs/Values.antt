@@ -35,55 +35,64 @@ takes_number Binary = true
 
 -- An operation of a kind's table has an argument exactly where a number follows its name.
 abbrev pub ArgumentsAreOfTheTable : Type 0
-ArgumentsAreOfTheTable = (kind : Kind) → AllByRecursion (λ entry. has_argument kind entry.code ≡ takes_number entry.arity) (entries kind)
+ArgumentsAreOfTheTable = (kind : Kind) → AllByRecursion
+    (λ entry. has_argument kind entry.code ≡ takes_number entry.arity) (entries kind)
 
 -- the value that a reply shows, where there is a reply and it shows one
 abbrev pub value_in_reply : Option ℕ → Option ℕ
 value_in_reply None = None
 value_in_reply (Some reply) = shown_value reply
 
--- the value that an operation with its reply shows: its first argument, or else the value of the reply
+-- the value that an operation with its reply shows: its first argument, or else the value of the
+-- reply
 abbrev pub value_of_step : Kind → ℕ → Option ℕ → Option ℕ
 value_of_step kind word reply =
-    if is_known_word kind word then (if has_argument kind (code_of word) then Some (argument_of word) else value_in_reply reply) else value_in_reply reply
+    if is_known_word kind word then (if has_argument kind (code_of word)
+    then Some (argument_of word) else value_in_reply reply) else value_in_reply reply
 
 -- the value that a call of a book shows, where it shows one
 abbrev pub value_of_call : Kind → List Page → Call → Option ℕ
-value_of_call kind book call = value_of_step kind (unwrap_or (operation_of book call) 0) (option_map (λ r. r.reply) (record_of book call))
+value_of_call kind book call = value_of_step kind (unwrap_or (operation_of book call) 0)
+    (option_map (λ r. r.reply) (record_of book call))
 
 -- the values so far, and this one at the end where it is a new one
 abbrev pub with_value : List ℕ → Option ℕ → List ℕ
 with_value values None = values
-with_value values (Some value) = if list_any (λ x. x == value) values then values else values ++ value ∷ []
+with_value values (Some value) =
+    if list_any (λ x. x == value) values then values else values ++ value ∷ []
 
 -- the values after an event: the value that the invoked call shows has appeared
 abbrev pub with_event : Kind → List Page → List ℕ → Event → List ℕ
 with_event kind book values (Invoke call) = with_value values (value_of_call kind book call)
 with_event kind book values (Return call) = values
 
--- the values that the calls of these events show, each once, in the order in which calls that show them are invoked; after the
--- values so far
+-- the values that the calls of these events show, each once, in the order in which calls that show
+-- them are invoked; after the values so far
 abbrev pub values_after : Kind → List Page → List ℕ → List Event → List ℕ
 values_after kind book values [] = values
-values_after kind book values (event ∷ events) = values_after kind book (with_event kind book values event) events
+values_after kind book values (event ∷ events) =
+    values_after kind book (with_event kind book values event) events
 
 -- Each value that a call shows appears, if the call is invoked.
 abbrev pub EachValueAppears : Type 0
-EachValueAppears = (kind : Kind) (book : List Page) (events : List Event) (call : Call) (value : ℕ) → StandsIn events (Invoke call)
+EachValueAppears = (kind : Kind) (book : List Page) (events : List Event) (call : Call) (value : ℕ)
+    → StandsIn events (Invoke call)
     → value_of_call kind book call ≡ Some value → Contains (values_after kind book [] events) value
 
 -- the place of a value among these
 abbrev pub place_among : List ℕ → ℕ → ℕ
 place_among values value = unwrap_or (position (λ x. x == value) values) 0
 
--- the colour of a value: its place among the values, and the colours come again where there are more values
+-- the colour of a value: its place among the values, and the colours come again where there are
+-- more values
 abbrev pub colour_of : List ℕ → Option ℕ → Option ℕ
 colour_of values None = None
 colour_of values (Some value) = Some (place_among values value % COLOURS)
 
 -- Where no more values appear than there are colours, two of them have two colours.
 abbrev pub FewValuesAreToldApart : Type 0
-FewValuesAreToldApart = (values : List ℕ) (v w : ℕ) → length values ≤ COLOURS → Contains values v → Contains values w
+FewValuesAreToldApart = (values : List ℕ) (v w : ℕ) → length values ≤ COLOURS → Contains values v
+    → Contains values w
     → colour_of values (Some v) ≡ colour_of values (Some w) → v ≡ w
 
 -- the class of a colour
@@ -98,4 +107,5 @@ mark_class false = []
 
 -- the classes of a call's element: its colour, and whether it is marked
 abbrev pub class_of_call : Kind → List Page → List ℕ → Marks → Call → List ℕ
-class_of_call kind book values marks call = colour_class (colour_of values (value_of_call kind book call)) ++ mark_class (is_marked marks call)
+class_of_call kind book values marks call = colour_class
+    (colour_of values (value_of_call kind book call)) ++ mark_class (is_marked marks call)

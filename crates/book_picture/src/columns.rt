@@ -15,8 +15,8 @@ const LEFT: usize = 100;
 /// The least width of a column, in pixels.
 const LEAST: usize = 28;
 
-/// The edges of the columns of a row, in pixels: each column is as wide as the labels of the bars that
-/// end in it need.
+/// The edges of the columns of a row, in pixels: each column is as wide as the labels of the bars
+/// that end in it need.
 pub(crate) fn column_edges(
     alloc: Global,
     kind: Kind,

@@ -24,10 +24,11 @@ const LINE: usize = 18;
 
 /// The picture of a book of an object of this kind, with this verdict, as SVG.
 ///
-/// A legal order numbers its calls. Where there is none, nothing in the picture orders the calls but the
-/// places of their bars. The places are folded into rows, which are read one after the other: a call has
-/// a bar in each row in which it has a place. Calls that show the same value have the same colour, and
-/// some are marked. Where the book is the witness of a run, the picture says of which error line.
+/// A legal order numbers its calls. Where there is none, nothing in the picture orders the calls
+/// but the places of their bars. The places are folded into rows, which are read one after the
+/// other: a call has a bar in each row in which it has a place. Calls that show the same value have
+/// the same colour, and some are marked. Where the book is the witness of a run, the picture says
+/// of which error line.
 pub fn draw_book(
     alloc: Global,
     kind: Kind,

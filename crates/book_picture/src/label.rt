@@ -9,7 +9,8 @@ use std::alloc::Global;
 /// The width of a letter, in pixels.
 const LETTER: usize = 8;
 
-/// The room beside a line of letters, in pixels: its margins, and the number of the call in an order.
+/// The room beside a line of letters, in pixels: its margins, and the number of the call in an
+/// order.
 const BESIDE: usize = 48;
 
 /// What stands in the bar of a call: its operation, and below it its reply.

@@ -1,4 +1,5 @@
-//! The picture of a book as SVG: a lane for each caller, folded into rows, and an element for each call.
+//! The picture of a book as SVG: a lane for each caller, folded into rows, and an element for each
+//! call.
 #![tactic(auto)]
 
 mod columns;

@@ -5,7 +5,8 @@ use book_base::{Call, Place};
 
 /// The number of a call in an order, counted from 1, where it stands in it.
 pub(crate) fn number_in(order: &[Place], call: Call) -> Option<usize>
-    ensures found { IfSome result (λ number. (k : ℕ) × (number ≡ k + 1) × StandsAt order.now k call) }
+    ensures found { IfSome result
+        (λ number. (k : ℕ) × (number ≡ k + 1) × StandsAt order.now k call) }
     ensures none { IfNone result ((k : ℕ) → ¬ (StandsAt order.now k call)) }
 {
     for (k, place) in order.iter().enumerate() {

@@ -23,8 +23,8 @@ pub(crate) struct Row {
     pub edges: Vec<usize>,
 }
 
-/// The part of an interval that stands in a row: the edges at which it begins and ends, and whether the
-/// interval begins and ends there too.
+/// The part of an interval that stands in a row: the edges at which it begins and ends, and whether
+/// the interval begins and ends there too.
 #[derive(Clone, Copy, Debug)]
 pub(crate) struct Part {
     pub begin: usize,

@@ -54,7 +54,8 @@ const STYLE: &str = "<style>\n\
     .number { fill: #ffffff; font-size: 10px; font-weight: bold; text-anchor: middle; }\n\
     </style>\n";
 
-/// A sheet for the picture of a book: the rows that its places are folded into, and what is said of it.
+/// A sheet for the picture of a book: the rows that its places are folded into, and what is said of
+/// it.
 #[derive(Drop)]
 pub(crate) struct Sheet<'a> {
     pub alloc: Global,
@@ -206,7 +207,8 @@ impl Sheet<'_> {
 }
 
 impl Bar {
-    // The class of its outline. That of a part which goes on from the row before to the next has none.
+    // The class of its outline. That of a part which goes on from the row before to the next has
+    // none.
     fn class(self) -> &'static str
         ensures { is_plain result.now ≡ true }
     {

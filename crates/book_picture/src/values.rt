@@ -66,8 +66,8 @@ fn add_value(values: &mut Vec<u64>, value: Option<u64>) -> Result<(), NoMemory>
     }
 }
 
-/// The value that a call of a book shows, where it shows one: the first argument of its operation, or
-/// else the value of its reply.
+/// The value that a call of a book shows, where it shows one: the first argument of its operation,
+/// or else the value of its reply.
 pub(crate) fn value_of(kind: Kind, book: &Book, call: Call) -> Option<u64>
     requires { IsCall book.now call }
     ensures { result ≡ value_of_call kind book.now call }
@@ -163,7 +163,8 @@ pub(crate) fn class_of(
     colour: Option<usize>,
     is_marked: bool,
 ) -> Result<String, NoMemory>
-    ensures { IfOk result (λ text. string_bytes text ≡ colour_class colour ++ mark_class is_marked) }
+    ensures { IfOk result
+        (λ text. string_bytes text ≡ colour_class colour ++ mark_class is_marked) }
 {
     let mut class = String::new(alloc);
     put_colour(&mut class, colour)?;

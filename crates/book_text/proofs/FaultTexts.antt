@@ -43,17 +43,26 @@ few_calls Second = omega arith
 
 -- ---- right lines can be completed
 
-length-with_line : (book : List Page) (call : Call) (op : ℕ) (answer : Option Record) → length (with_line book call op answer) ≡ length book
-length-with_line book call op None = length-set book call.caller (record (page_of book call.caller) { operations = set (page_of book call.caller).operations call.number op })
+length-with_line : (book : List Page) (call : Call) (op : ℕ) (answer : Option Record)
+    → length (with_line book call op answer) ≡ length book
+length-with_line book call op None = length-set book call.caller (record (page_of book call.caller)
+    { operations = set (page_of book call.caller).operations call.number op })
 length-with_line book call op (Some r) =
     let answered : List Page = with_answer book call.caller r in
-    length-set answered call.caller (record (page_of answered call.caller) { operations = set (page_of answered call.caller).operations call.number op })
-    ∙ length-set book call.caller (record (page_of book call.caller) { records = (page_of book call.caller).records ++ r ∷ [] })
+    length-set answered call.caller (record (page_of answered call.caller)
+    { operations = set (page_of answered call.caller).operations call.number op })
+    ∙ length-set book call.caller
+    (record (page_of book call.caller) { records = (page_of book call.caller).records ++ r ∷ [] })
 
-named_still : (book after : List Page) (calls : List Call) → length after ≡ length book → AllByRecursion (IsNamedCall book) calls → AllByRecursion (IsNamedCall after) calls
+named_still : (book after : List Page) (calls : List Call) → length after ≡ length book
+    → AllByRecursion (IsNamedCall book) calls → AllByRecursion (IsNamedCall after) calls
 named_still book after [] size h = tt
 named_still book after (call ∷ calls) size h = (
-  record { caller = omega (arith, h.0.caller, size); callers = omega (arith, h.0.callers, size); number = h.0.number },
+  record {
+    caller = omega (arith, h.0.caller, size);
+    callers = omega (arith, h.0.callers, size);
+    number = h.0.number;
+  },
   named_still book after calls size h.1,
 )
 
@@ -67,14 +76,17 @@ CanCome version (InHead (HeadRead kind calls)) = ⊥
 CanCome version (InCalls kind book calls) = AllByRecursion (IsNamedCall book) calls
 CanCome version (AtEnd kind book) = Unit {0}
 
-named_calls : (book : List Page) (i k more : ℕ) → i < length book → length book ≤ MAX_CALLERS → k + more < 2 ^ 64 → AllByRecursion (IsNamedCall book) (calls_from i k more)
+named_calls : (book : List Page) (i k more : ℕ) → i < length book → length book ≤ MAX_CALLERS
+    → k + more < 2 ^ 64 → AllByRecursion (IsNamedCall book) (calls_from i k more)
 named_calls book i k zero inside few small = tt
 named_calls book i k (suc more) inside few small = (
   record { caller = inside; callers = few; number = omega arith },
   named_calls book i (k + 1) more inside few (omega arith),
 )
 
-all_named : (book : List Page) (most i : ℕ) (counts : List ℕ) → i + length counts ≤ length book → length book ≤ MAX_CALLERS → most < 2 ^ 64 → AreAtMost most counts → AllByRecursion (IsNamedCall book) (all_calls i counts)
+all_named : (book : List Page) (most i : ℕ) (counts : List ℕ) → i + length counts ≤ length book
+    → length book ≤ MAX_CALLERS → most < 2 ^ 64 → AreAtMost most counts
+    → AllByRecursion (IsNamedCall book) (all_calls i counts)
 all_named book most i [] inside few small h = tt
 all_named book most i (count ∷ counts) inside few small h =
     AllByRecursion-append (IsNamedCall book) (calls_from i 0 count) (all_calls (i + 1) counts)
@@ -83,28 +95,36 @@ all_named book most i (count ∷ counts) inside few small h =
 
 module _ (version : Version) where
   -- what is due after a right line can come
-  comes_next : (due after : BookDue) (words : List (List ℕ)) → CanCome version due → BookPasses version due words after → CanCome version after
-  comes_next (InHead TitleDue) after words can h = subst (CanCome version) (sym (h.2 ∙ ap after_head h.1.1)) tt
-  comes_next (InHead ObjectDue) after words can h = subst (CanCome version) (sym (h.2 ∙ ap after_head h.1.3)) tt
-  comes_next (InHead (CallersDue kind)) after words can h = subst (CanCome version) (sym (h.2 ∙ ap after_head h.1.3)) h.1.1.few
+  comes_next : (due after : BookDue) (words : List (List ℕ)) → CanCome version due
+      → BookPasses version due words after → CanCome version after
+  comes_next (InHead TitleDue) after words can h =
+      subst (CanCome version) (sym (h.2 ∙ ap after_head h.1.1)) tt
+  comes_next (InHead ObjectDue) after words can h =
+      subst (CanCome version) (sym (h.2 ∙ ap after_head h.1.3)) tt
+  comes_next (InHead (CallersDue kind)) after words can h =
+      subst (CanCome version) (sym (h.2 ∙ ap after_head h.1.3)) h.1.1.few
   comes_next (InHead (CountsDue kind n)) after words can h =
       let counts = h.1.0 in
       let book = unanswered_book counts in
       let size : length book ≡ length counts = length-map counts unanswered_page in
       subst (CanCome version) (sym (h.2 ∙ ap after_head h.1.3))
-      (all_named book (most_calls version) 0 counts (omega arith) (omega (arith, size, h.1.1.count, few_callers version)) (few_calls version) h.1.1.few)
+      (all_named book (most_calls version) 0 counts (omega arith)
+      (omega (arith, size, h.1.1.count, few_callers version)) (few_calls version) h.1.1.few)
   comes_next (InHead (HeadRead kind calls)) after words can h = absurd can
   comes_next (InCalls kind book []) after words can h = subst (CanCome version) (sym h.1) tt
   comes_next (InCalls kind book (call ∷ calls)) after words can h =
       let read = h.1.0 in
-      let size : length h.0.book ≡ length book = ap (length {A = Page}) read.book_is ∙ length-with_line book call read.op read.answer in
+      let size : length h.0.book ≡ length book =
+      ap (length {A = Page}) read.book_is ∙ length-with_line book call read.op read.answer in
       let is : after ≡ InCalls kind h.0.book calls = h.2 ∙ ap (InCalls kind h.0.book) h.1.1 in
       subst (CanCome version) (sym is) (named_still book h.0.book calls size can.1)
   comes_next (AtEnd kind book) after words can h = absurd h
 
-  comes_later : (due after : BookDue) (lines : List (List (List ℕ))) → CanCome version due → AllPass (BookPasses version) due lines after → CanCome version after
+  comes_later : (due after : BookDue) (lines : List (List (List ℕ))) → CanCome version due
+      → AllPass (BookPasses version) due lines after → CanCome version after
   comes_later due after [] can h = subst (CanCome version) h can
-  comes_later due after (words ∷ lines) can h = comes_later h.0 after lines (comes_next due h.0 words can h.1) h.2
+  comes_later due after (words ∷ lines) can h =
+      comes_later h.0 after lines (comes_next due h.0 words can h.1) h.2
 
   -- lines that complete a text
   record Completes (due : BookDue) : Type 0 where
@@ -113,23 +133,42 @@ module _ (version : Version) where
     pub lines : List (List (List ℕ))
     pub right : AllPass (BookPasses version) due lines (AtEnd kind book)
 
-  one_more : (due next : BookDue) (words : List (List ℕ)) → BookPasses version due words next → Completes next → Completes due
-  one_more due next words h c = record { kind = c.kind; book = c.book; lines = words ∷ c.lines; right = (next, h, c.right) }
+  one_more : (due next : BookDue) (words : List (List ℕ)) → BookPasses version due words next
+      → Completes next → Completes due
+  one_more due next words h c =
+      record { kind = c.kind; book = c.book; lines = words ∷ c.lines; right = (next, h, c.right) }
 
   end_comes : (kind : Kind) (book : List Page) → Completes (InCalls kind book [])
-  end_comes kind book = record { kind = kind; book = book; lines = end_words ∷ []; right = (AtEnd kind book, (refl, refl), refl) }
+  end_comes kind book = record {
+    kind = kind;
+    book = book;
+    lines = end_words ∷ [];
+    right = (AtEnd kind book, (refl, refl), refl);
+  }
 
   -- the calls that are due are written without answers
-  calls_come : (kind : Kind) (book : List Page) (calls : List Call) → AllByRecursion (IsNamedCall book) calls → Completes (InCalls kind book calls)
+  calls_come : (kind : Kind) (book : List Page) (calls : List Call)
+      → AllByRecursion (IsNamedCall book) calls → Completes (InCalls kind book calls)
   calls_come kind book [] h = end_comes kind book
   calls_come kind book (call ∷ calls) h =
       let operations : Operations = kind_operations version kind in
       let after : List Page = with_line book call 0 None in
-      let read : IsCallLine version operations book call (call_words version operations call 0 None) after
-      = record { named = h.0; op = 0; answer = None; has = has_zero version; stands = tt; text = refl; book_is = refl } in
+      let read : IsCallLine version operations book call
+      (call_words version operations call 0 None) after
+      = record {
+        named = h.0;
+        op = 0;
+        answer = None;
+        has = has_zero version;
+        stands = tt;
+        text = refl;
+        book_is = refl;
+      } in
       let next : Progress = record { book = after; due = calls } in
-      one_more (InCalls kind book (call ∷ calls)) (InCalls kind after calls) (call_words version operations call 0 None) (next, (read, refl), refl)
-      (calls_come kind after calls (named_still book after calls (length-with_line book call 0 None) h.1))
+      one_more (InCalls kind book (call ∷ calls)) (InCalls kind after calls)
+      (call_words version operations call 0 None) (next, (read, refl), refl)
+      (calls_come kind after calls
+      (named_still book after calls (length-with_line book call 0 None) h.1))
 
   no_calls : (i n : ℕ) → all_calls i (replicate n 0) ≡ []
   no_calls i zero = refl
@@ -143,26 +182,42 @@ module _ (version : Version) where
   counts_come kind n =
       let counts : List ℕ = replicate n 0 in
       let next : BookDue = InCalls kind (unanswered_book counts) (all_calls 0 counts) in
-      one_more (InHead (CountsDue kind n)) next (calls_words counts)
-      (HeadRead kind counts, (counts, record { count = length-replicate n 0; few = no_calls_few (most_calls version) n }, refl, refl), refl)
-      (subst (λ (calls : List Call). Completes (InCalls kind (unanswered_book counts) calls)) (sym (no_calls 0 n)) (end_comes kind (unanswered_book counts)))
+      one_more (InHead (CountsDue kind n)) next (calls_words counts) (
+        HeadRead kind counts,
+        (
+          counts,
+          record { count = length-replicate n 0; few = no_calls_few (most_calls version) n },
+          refl,
+          refl,
+        ),
+        refl,
+      )
+      (subst (λ (calls : List Call). Completes (InCalls kind (unanswered_book counts) calls))
+      (sym (no_calls 0 n)) (end_comes kind (unanswered_book counts)))
 
   one_caller : (v : Version) → 1 ≤ most_callers v
   one_caller First = omega arith
   one_caller Second = omega arith
 
   callers_come : (kind : Kind) → Completes (InHead (CallersDue kind))
-  callers_come kind = one_more (InHead (CallersDue kind)) (InHead (CountsDue kind 1)) (callers_words 1) (CountsDue kind 1, (1, record { some = omega arith; few = one_caller version }, refl, refl), refl) (counts_come kind 1)
+  callers_come kind =
+      one_more (InHead (CallersDue kind)) (InHead (CountsDue kind 1)) (callers_words 1) (
+        CountsDue kind 1,
+        (1, record { some = omega arith; few = one_caller version }, refl, refl),
+        refl,
+      ) (counts_come kind 1)
 
   has_counter : (v : Version) → has_kind v Counter ≡ true
   has_counter First = refl
   has_counter Second = refl
 
   object_comes : Completes (InHead ObjectDue)
-  object_comes = one_more (InHead ObjectDue) (InHead (CallersDue Counter)) (object_words Counter) (CallersDue Counter, (Counter, has_counter version, refl, refl), refl) (callers_come Counter)
+  object_comes = one_more (InHead ObjectDue) (InHead (CallersDue Counter)) (object_words Counter)
+      (CallersDue Counter, (Counter, has_counter version, refl, refl), refl) (callers_come Counter)
 
   title_comes : Completes (InHead TitleDue)
-  title_comes = one_more (InHead TitleDue) (InHead ObjectDue) (title_words version (codes "book")) (ObjectDue, (refl, refl), refl) object_comes
+  title_comes = one_more (InHead TitleDue) (InHead ObjectDue) (title_words version (codes "book"))
+      (ObjectDue, (refl, refl), refl) object_comes
 
   completes : (due : BookDue) → CanCome version due → Completes due
   completes (InHead TitleDue) can = title_comes
@@ -173,34 +228,59 @@ module _ (version : Version) where
   completes (InCalls kind book calls) can = calls_come kind book calls can
   completes (AtEnd kind book) can = record { kind = kind; book = book; lines = []; right = refl }
 
-  text_of_lines : (kind : Kind) (book : List Page) (lines : List (List (List ℕ))) → AllPass (BookPasses version) (InHead TitleDue) lines (AtEnd kind book) → IsBookText version (text_of lines) kind book
+  text_of_lines : (kind : Kind) (book : List Page) (lines : List (List (List ℕ)))
+      → AllPass (BookPasses version) (InHead TitleDue) lines (AtEnd kind book)
+      → IsBookText version (text_of lines) kind book
   text_of_lines kind book lines h = (
     record { bytes = []; number = 1 + length lines },
     record {
-      goes = record { lines = lines; right = h; bytes = sym (append-nil (text_of lines)); number = refl };
+      goes = record {
+        lines = lines;
+        right = h;
+        bytes = sym (append-nil (text_of lines));
+        number = refl;
+      };
       through = refl;
     },
   )
 
   -- some text begins with right lines
-  begins_so : (reached : BookDue) (lines : List (List (List ℕ))) → AllPass (BookPasses version) (InHead TitleDue) lines reached → BeginsSomeText version (text_of lines)
+  begins_so : (reached : BookDue) (lines : List (List (List ℕ)))
+      → AllPass (BookPasses version) (InHead TitleDue) lines reached
+      → BeginsSomeText version (text_of lines)
   begins_so reached lines h =
       let c = completes reached (comes_later (InHead TitleDue) reached lines tt h) in
       let joined : text_of (lines ++ c.lines) ≡ text_of lines ++ text_of c.lines
-      = sym (append-nil (text_of (lines ++ c.lines))) ∙ text_of-append lines c.lines [] ∙ ap (λ (x : List ℕ). text_of lines ++ x) (append-nil (text_of c.lines)) in
-      let whole = AllPass-append (book_rules version) (InHead TitleDue) reached (AtEnd c.kind c.book) lines c.lines h c.right in
-      (c.kind, c.book, text_of c.lines, subst (λ (b : List ℕ). IsBookText version b c.kind c.book) joined (text_of_lines c.kind c.book (lines ++ c.lines) whole))
+      = sym (append-nil (text_of (lines ++ c.lines))) ∙ text_of-append lines c.lines [] ∙ ap
+      (λ (x : List ℕ). text_of lines ++ x) (append-nil (text_of c.lines)) in
+      let whole = AllPass-append (book_rules version) (InHead TitleDue) reached
+      (AtEnd c.kind c.book) lines c.lines h c.right in (
+        c.kind,
+        c.book,
+        text_of c.lines,
+        subst (λ (b : List ℕ). IsBookText version b c.kind c.book) joined
+            (text_of_lines c.kind c.book (lines ++ c.lines) whole),
+      )
 
-  whole_lines : (due after : BookDue) (lines : List (List (List ℕ))) → AllPass (BookPasses version) due lines after → AreWholeLines (length lines) (text_of lines)
+  whole_lines : (due after : BookDue) (lines : List (List (List ℕ)))
+      → AllPass (BookPasses version) due lines after → AreWholeLines (length lines) (text_of lines)
   whole_lines due after [] h = refl
   whole_lines due after (words ∷ lines) h =
       let first : text_of (words ∷ lines) ≡ line_text words ++ text_of lines
-      = sym (append-nil (text_of (words ∷ lines))) ∙ text_of-cons words lines [] ∙ ap (λ (x : List ℕ). line_text words ++ x) (append-nil (text_of lines)) in
-      (join_with_byte 32 words, text_of lines, ap (cut_at 10) first ∙ cut_line words (text_of lines) ((book_sharp version).solid due h.0 words h.1), whole_lines h.0 after lines h.2)
+      = sym (append-nil (text_of (words ∷ lines))) ∙ text_of-cons words lines [] ∙ ap
+      (λ (x : List ℕ). line_text words ++ x) (append-nil (text_of lines)) in (
+        join_with_byte 32 words,
+        text_of lines,
+        ap (cut_at 10) first
+            ∙ cut_line words (text_of lines) ((book_sharp version).solid due h.0 words h.1),
+        whole_lines h.0 after lines h.2,
+      )
 
   -- ---- no text goes on with the line of a fault
 
-  entry_named : (operations : Operations) (n : ℕ) (gap : Bool) (call : Call) (words : List (List ℕ)) (name : What) → EntryFails version operations n gap call words name → (name ≢ what.Cut) × (name ≢ what.Rest)
+  entry_named : (operations : Operations) (n : ℕ) (gap : Bool) (call : Call) (words : List (List ℕ))
+      (name : What) → EntryFails version operations n gap call words name → (name ≢ what.Cut)
+      × (name ≢ what.Rest)
   entry_named operations n gap call words what.Place h = (λ e. absurd cc, λ e. absurd cc)
   entry_named operations n gap call words what.Op h = (λ e. absurd cc, λ e. absurd cc)
   entry_named operations n gap call words what.Gap h = (λ e. absurd cc, λ e. absurd cc)
@@ -208,7 +288,8 @@ module _ (version : Version) where
   entry_named operations n gap call words what.View h = (λ e. absurd cc, λ e. absurd cc)
   entry_named operations n gap call words _ h = absurd h
 
-  view_named : (fault : BookFault) (name : What) → view_test fault ≡ Some name → (name ≢ what.Cut) × (name ≢ what.Rest)
+  view_named : (fault : BookFault) (name : What) → view_test fault ≡ Some name → (name ≢ what.Cut)
+      × (name ≢ what.Rest)
   view_named tests.TooManyCalls name h = absurd cc
   view_named tests.NoSuchCall name h = absurd cc
   view_named (tests.ViewOutside j) name h = (λ e. absurd (cc (h, e)), λ e. absurd (cc (h, e)))
@@ -217,58 +298,94 @@ module _ (version : Version) where
   view_named (tests.ViewsCross call) name h = (λ e. absurd (cc (h, e)), λ e. absurd (cc (h, e)))
   view_named tests.NoMemory name h = absurd cc
 
-  line_named : (due : BookDue) (words : List (List ℕ)) (name : What) → BookFails version due words name → (name ≢ what.Cut) × (name ≢ what.Rest)
+  line_named : (due : BookDue) (words : List (List ℕ)) (name : What)
+      → BookFails version due words name → (name ≢ what.Cut) × (name ≢ what.Rest)
   line_named (InHead TitleDue) words name h = (λ e. absurd (cc (h.0, e)), λ e. absurd (cc (h.0, e)))
-  line_named (InHead ObjectDue) words name h = (λ e. absurd (cc (h.0, e)), λ e. absurd (cc (h.0, e)))
-  line_named (InHead (CallersDue kind)) words name h = (λ e. absurd (cc (h.0, e)), λ e. absurd (cc (h.0, e)))
-  line_named (InHead (CountsDue kind n)) words name h = (λ e. absurd (cc (h.0, e)), λ e. absurd (cc (h.0, e)))
+  line_named (InHead ObjectDue) words name h =
+      (λ e. absurd (cc (h.0, e)), λ e. absurd (cc (h.0, e)))
+  line_named (InHead (CallersDue kind)) words name h =
+      (λ e. absurd (cc (h.0, e)), λ e. absurd (cc (h.0, e)))
+  line_named (InHead (CountsDue kind n)) words name h =
+      (λ e. absurd (cc (h.0, e)), λ e. absurd (cc (h.0, e)))
   line_named (InHead (HeadRead kind calls)) words name h = absurd h
-  line_named (InCalls kind book []) words name h = (λ e. absurd (cc (h.0, e)), λ e. absurd (cc (h.0, e)))
-  line_named (InCalls kind book (call ∷ calls)) words name (inl h) = entry_named (kind_operations version kind) _ _ call words name h
+  line_named (InCalls kind book []) words name h =
+      (λ e. absurd (cc (h.0, e)), λ e. absurd (cc (h.0, e)))
+  line_named (InCalls kind book (call ∷ calls)) words name (inl h) =
+      entry_named (kind_operations version kind) _ _ call words name h
   line_named (InCalls kind book (call ∷ calls)) words name (inr h) = view_named h.fault name h.test
   line_named (AtEnd kind book) words name h = absurd h
 
-  module _ (reached : BookDue) (lines : List (List (List ℕ))) (right : AllPass (BookPasses version) (InHead TitleDue) lines reached) where
+  module _ (reached : BookDue) (lines : List (List (List ℕ)))
+      (right : AllPass (BookPasses version) (InHead TitleDue) lines reached) where
     -- where a whole line is wrong, no text goes on with it
-    no_text_so : (bytes line : List ℕ) (name : What) → book_wanted reached ≡ ALine → IsWrongLine (book_rules version) reached (line ++ 10 ∷ bytes) name → (kind : Kind) (book : List Page) → IsBookText version (text_of lines ++ (line ++ 10 ∷ bytes)) kind book → ⊥
+    no_text_so : (bytes line : List ℕ) (name : What) → book_wanted reached ≡ ALine
+        → IsWrongLine (book_rules version) reached (line ++ 10 ∷ bytes) name
+        → (kind : Kind) (book : List Page)
+        → IsBookText version (text_of lines ++ (line ++ 10 ∷ bytes)) kind book → ⊥
     no_text_so bytes line name wanted wrong kind book text =
         let left : Unread = record { bytes = line ++ 10 ∷ bytes; number = 1 + length lines } in
-        no_first_fault version (text_of lines ++ (line ++ 10 ∷ bytes)) kind book (record { line = 1 + length lines; what = name }) text (record {
+        no_first_fault version (text_of lines ++ (line ++ 10 ∷ bytes)) kind book
+        (record { line = 1 + length lines; what = name }) text (record {
           reached = reached;
           left = left;
           before = record { lines = lines; right = right; bytes = refl; number = refl };
           line = refl;
-          wrong = subst (λ (w : Wanted). IsWrong (book_rules version) reached w left.bytes name) (sym wanted) (inr wrong);
+          wrong = subst (λ (w : Wanted). IsWrong (book_rules version) reached w left.bytes name)
+              (sym wanted) (inr wrong);
         })
 
-    breaks : (rest : List ℕ) (name : What) → book_wanted reached ≡ ALine → IsWrongLine (book_rules version) reached rest name → BreaksText version (text_of lines) rest name
+    breaks : (rest : List ℕ) (name : What) → book_wanted reached ≡ ALine
+        → IsWrongLine (book_rules version) reached rest name
+        → BreaksText version (text_of lines) rest name
     breaks rest name wanted wrong = record {
       named = line_named reached (words_of wrong.line) name wrong.test.fails;
       line = wrong.line;
       suffix = wrong.rest;
       whole = wrong.whole;
       none = λ kind book more text.
-          let joined : (text_of lines ++ (wrong.line ++ 10 ∷ [])) ++ more ≡ text_of lines ++ (wrong.line ++ 10 ∷ more)
-          = append_assoc (text_of lines) (wrong.line ++ 10 ∷ []) more ∙ ap (λ (x : List ℕ). text_of lines ++ x) (append_assoc wrong.line (10 ∷ []) more) in
-          let again : IsWrongLine (book_rules version) reached (wrong.line ++ 10 ∷ more) name = record { line = wrong.line; rest = more; whole = cut_again 10 rest wrong.line wrong.rest more wrong.whole; test = wrong.test } in
-          no_text_so more wrong.line name wanted again kind book (subst (λ (b : List ℕ). IsBookText version b kind book) joined text);
+          let joined : (text_of lines ++ (wrong.line ++ 10 ∷ [])) ++ more
+          ≡ text_of lines ++ (wrong.line ++ 10 ∷ more)
+          = append_assoc (text_of lines) (wrong.line ++ 10 ∷ []) more
+          ∙ ap (λ (x : List ℕ). text_of lines ++ x) (append_assoc wrong.line (10 ∷ []) more) in
+          let again : IsWrongLine (book_rules version) reached (wrong.line ++ 10 ∷ more) name =
+          record {
+            line = wrong.line;
+            rest = more;
+            whole = cut_again 10 rest wrong.line wrong.rest more wrong.whole;
+            test = wrong.test;
+          } in
+          no_text_so more wrong.line name wanted again kind book
+          (subst (λ (b : List ℕ). IsBookText version b kind book) joined text);
     }
 
     abbrev Leaves : List ℕ → What → Type 0
-    Leaves rest name = BreaksText version (text_of lines) rest name ⊎ (EndsEarly rest name ⊎ GoesOn version (text_of lines) rest name)
+    Leaves rest name = BreaksText version (text_of lines) rest name
+        ⊎ (EndsEarly rest name ⊎ GoesOn version (text_of lines) rest name)
 
-    line_leaves : (rest : List ℕ) (name : What) → book_wanted reached ≡ ALine → IsWrong (book_rules version) reached ALine rest name → Leaves rest name
+    line_leaves : (rest : List ℕ) (name : What) → book_wanted reached ≡ ALine
+        → IsWrong (book_rules version) reached ALine rest name → Leaves rest name
     line_leaves rest name wanted (inl cut) = inr (inl (record { named = cut.0; none = cut.1 }))
     line_leaves rest name wanted (inr wrong) = inl (breaks rest name wanted wrong)
 
-  leaves_at : (reached : BookDue) (lines : List (List (List ℕ))) (right : AllPass (BookPasses version) (InHead TitleDue) lines reached) (rest : List ℕ) (name : What) → IsWrong (book_rules version) reached (book_wanted reached) rest name
+  leaves_at : (reached : BookDue) (lines : List (List (List ℕ)))
+      (right : AllPass (BookPasses version) (InHead TitleDue) lines reached) (rest : List ℕ)
+      (name : What) → IsWrong (book_rules version) reached (book_wanted reached) rest name
       → Leaves reached lines right rest name
-  leaves_at (InHead due) lines right rest name h = line_leaves (InHead due) lines right rest name refl h
-  leaves_at (InCalls kind book calls) lines right rest name h = line_leaves (InCalls kind book calls) lines right rest name refl h
-  leaves_at (AtEnd kind book) lines right rest name h = inr (inr (record { named = h.0; kind = kind; book = book; text = text_of_lines kind book lines right; more = h.1 }))
+  leaves_at (InHead due) lines right rest name h =
+      line_leaves (InHead due) lines right rest name refl h
+  leaves_at (InCalls kind book calls) lines right rest name h =
+      line_leaves (InCalls kind book calls) lines right rest name refl h
+  leaves_at (AtEnd kind book) lines right rest name h = inr (inr (record {
+    named = h.0;
+    kind = kind;
+    book = book;
+    text = text_of_lines kind book lines right;
+    more = h.1;
+  }))
 
 -- the first fault stands where the bytes leave the texts
-pub leaves_texts : (version : Version) (bytes : List ℕ) (fault : TextFault) → IsFirstBookFault version bytes fault → LeavesTexts version bytes fault
+pub leaves_texts : (version : Version) (bytes : List ℕ) (fault : TextFault)
+    → IsFirstBookFault version bytes fault → LeavesTexts version bytes fault
 leaves_texts version bytes fault h =
     let lines = h.before.lines in
     record {

@@ -13,35 +13,51 @@ use Rattle.book_text.specs.CallLines.{with_line}
 -- the page of a caller with what the line of its call with this number says
 abbrev pub page_with : Page → ℕ → ℕ → Option Record → Page
 page_with page k op None = record { operations = set page.operations k op; records = page.records }
-page_with page k op (Some answer) = record { operations = set page.operations k op; records = page.records ++ answer ∷ [] }
+page_with page k op (Some answer) =
+    record { operations = set page.operations k op; records = page.records ++ answer ∷ [] }
 
 -- a page stands after those before it
-pub page_of-middle : (done : List Page) (page : Page) (later : List Page) → page_of (done ++ page ∷ later) (length done) ≡ page
+pub page_of-middle : (done : List Page) (page : Page) (later : List Page)
+    → page_of (done ++ page ∷ later) (length done) ≡ page
 page_of-middle [] page later = refl
 page_of-middle (p ∷ done) page later = page_of-middle done page later
 
-set-middle : (done : List Page) (page other : Page) (later : List Page) → set (done ++ page ∷ later) (length done) other ≡ done ++ other ∷ later
+set-middle : (done : List Page) (page other : Page) (later : List Page)
+    → set (done ++ page ∷ later) (length done) other ≡ done ++ other ∷ later
 set-middle [] page other later = refl
-set-middle (p ∷ done) page other later = ap (λ (ps : List Page). p ∷ ps) (set-middle done page other later)
+set-middle (p ∷ done) page other later =
+    ap (λ (ps : List Page). p ∷ ps) (set-middle done page other later)
 
-with_operation-middle : (done : List Page) (page : Page) (later : List Page) (k op : ℕ) → with_operation (done ++ page ∷ later) (record { caller = length done; number = k }) op ≡ done ++ page_with page k op None ∷ later
+with_operation-middle : (done : List Page) (page : Page) (later : List Page) (k op : ℕ)
+    → with_operation (done ++ page ∷ later) (record { caller = length done; number = k }) op
+    ≡ done ++ page_with page k op None ∷ later
 with_operation-middle done page later k op =
-    let made : Page → Page = λ p. record { operations = set p.operations k op; records = p.records } in
-    ap (λ (p : Page). set (done ++ page ∷ later) (length done) (made p)) (page_of-middle done page later) ∙ set-middle done page (made page) later
+    let made : Page → Page =
+    λ p. record { operations = set p.operations k op; records = p.records } in
+    ap (λ (p : Page). set (done ++ page ∷ later) (length done) (made p))
+    (page_of-middle done page later) ∙ set-middle done page (made page) later
 
-with_answer-middle : (done : List Page) (page : Page) (later : List Page) (r : Record) → with_answer (done ++ page ∷ later) (length done) r ≡ done ++ record { operations = page.operations; records = page.records ++ r ∷ [] } ∷ later
+with_answer-middle : (done : List Page) (page : Page) (later : List Page) (r : Record)
+    → with_answer (done ++ page ∷ later) (length done) r
+    ≡ done ++ record { operations = page.operations; records = page.records ++ r ∷ [] } ∷ later
 with_answer-middle done page later r =
-    let made : Page → Page = λ p. record { operations = p.operations; records = p.records ++ r ∷ [] } in
-    ap (λ (p : Page). set (done ++ page ∷ later) (length done) (made p)) (page_of-middle done page later) ∙ set-middle done page (made page) later
+    let made : Page → Page =
+    λ p. record { operations = p.operations; records = p.records ++ r ∷ [] } in
+    ap (λ (p : Page). set (done ++ page ∷ later) (length done) (made p))
+    (page_of-middle done page later) ∙ set-middle done page (made page) later
 
 -- a line changes the page of its caller alone
-pub with_line-middle : (done : List Page) (page : Page) (later : List Page) (k op : ℕ) (answer : Option Record)
-    → with_line (done ++ page ∷ later) (record { caller = length done; number = k }) op answer ≡ done ++ page_with page k op answer ∷ later
+pub with_line-middle : (done : List Page) (page : Page) (later : List Page) (k op : ℕ)
+    (answer : Option Record)
+    → with_line (done ++ page ∷ later) (record { caller = length done; number = k }) op answer
+    ≡ done ++ page_with page k op answer ∷ later
 with_line-middle done page later k op None = with_operation-middle done page later k op
 with_line-middle done page later k op (Some r) =
     let call : Call = record { caller = length done; number = k } in
-    let answered : Page = record { operations = page.operations; records = page.records ++ r ∷ [] } in
-    ap (λ (b : List Page). with_operation b call op) (with_answer-middle done page later r) ∙ with_operation-middle done answered later k op
+    let answered : Page =
+    record { operations = page.operations; records = page.records ++ r ∷ [] } in
+    ap (λ (b : List Page). with_operation b call op) (with_answer-middle done page later r)
+    ∙ with_operation-middle done answered later k op
 
 -- ---- a page of which the first so many calls are read
 
@@ -53,7 +69,8 @@ operations_to (suc k) (op ∷ ops) = op ∷ operations_to k ops
 
 -- the page when the lines of the first so many calls are read
 abbrev pub page_to : ℕ → Page → Page
-page_to k page = record { operations = operations_to k page.operations; records = take k page.records }
+page_to k page =
+    record { operations = operations_to k page.operations; records = take k page.records }
 
 pub length-operations_to : (k : ℕ) (ops : List ℕ) → length (operations_to k ops) ≡ length ops
 length-operations_to zero [] = refl
@@ -65,13 +82,17 @@ operations_to-all : (k : ℕ) (ops : List ℕ) → length ops ≤ k → operatio
 operations_to-all zero [] le = refl
 operations_to-all zero (op ∷ ops) le = absurd (omega arith)
 operations_to-all (suc k) [] le = refl
-operations_to-all (suc k) (op ∷ ops) le = ap (λ (xs : List ℕ). op ∷ xs) (operations_to-all k ops (omega arith))
+operations_to-all (suc k) (op ∷ ops) le =
+    ap (λ (xs : List ℕ). op ∷ xs) (operations_to-all k ops (omega arith))
 
-operations_to-more : (k : ℕ) (ops : List ℕ) (op : ℕ) → slice_get ops k ≡ Some op → set (operations_to k ops) k op ≡ operations_to (suc k) ops
+operations_to-more : (k : ℕ) (ops : List ℕ) (op : ℕ) → slice_get ops k ≡ Some op
+    → set (operations_to k ops) k op ≡ operations_to (suc k) ops
 operations_to-more zero [] op e = absurd cc
-operations_to-more zero (o ∷ ops) op e = let same : o ≡ op = cc in ap (λ (x : ℕ). x ∷ replicate (length ops) 0) (sym same)
+operations_to-more zero (o ∷ ops) op e = let same : o ≡ op = cc in
+    ap (λ (x : ℕ). x ∷ replicate (length ops) 0) (sym same)
 operations_to-more (suc k) [] op e = absurd cc
-operations_to-more (suc k) (o ∷ ops) op e = ap (λ (xs : List ℕ). o ∷ xs) (operations_to-more k ops op e)
+operations_to-more (suc k) (o ∷ ops) op e =
+    ap (λ (xs : List ℕ). o ∷ xs) (operations_to-more k ops op e)
 
 take-all : (k : ℕ) (rs : List Record) → length rs ≤ k → take k rs ≡ rs
 take-all zero [] le = refl
@@ -85,7 +106,8 @@ take-none zero (r ∷ rs) e = absurd cc
 take-none (suc k) [] e = refl
 take-none (suc k) (r ∷ rs) e = ap (λ (xs : List Record). r ∷ xs) (take-none k rs e)
 
-take-some : (k : ℕ) (rs : List Record) (a : Record) → slice_get rs k ≡ Some a → take k rs ++ a ∷ [] ≡ take (suc k) rs
+take-some : (k : ℕ) (rs : List Record) (a : Record) → slice_get rs k ≡ Some a
+    → take k rs ++ a ∷ [] ≡ take (suc k) rs
 take-some zero [] a e = absurd cc
 take-some zero (r ∷ rs) a e = let same : r ≡ a = cc in ap (λ (x : Record). x ∷ []) (sym same)
 take-some (suc k) [] a e = absurd cc
@@ -94,21 +116,29 @@ take-some (suc k) (r ∷ rs) a e = ap (λ (xs : List Record). r ∷ xs) (take-so
 abbrev made_page : List ℕ → List Record → Page
 made_page ops rs = record { operations = ops; records = rs }
 
-same_page : (ops ops' : List ℕ) (rs rs' : List Record) → ops ≡ ops' → rs ≡ rs' → made_page ops rs ≡ made_page ops' rs'
+same_page : (ops ops' : List ℕ) (rs rs' : List Record) → ops ≡ ops' → rs ≡ rs'
+    → made_page ops rs ≡ made_page ops' rs'
 same_page ops ops' rs rs' e f = ap (λ (os : List ℕ). made_page os rs) e ∙ ap (made_page ops') f
 
 -- the line of the next call gives the page of one call more
-pub page_to-more : (page : Page) (k op : ℕ) (answer : Option Record) → slice_get page.operations k ≡ Some op → slice_get page.records k ≡ answer → page_with (page_to k page) k op answer ≡ page_to (k + 1) page
+pub page_to-more : (page : Page) (k op : ℕ) (answer : Option Record)
+    → slice_get page.operations k ≡ Some op → slice_get page.records k ≡ answer
+    → page_with (page_to k page) k op answer ≡ page_to (k + 1) page
 page_to-more page k op None e f =
     let next : suc k ≡ k + 1 = omega arith in
-    same_page _ _ _ _ (operations_to-more k page.operations op e) (take-none k page.records f) ∙ ap (λ (n : ℕ). page_to n page) next
+    same_page _ _ _ _ (operations_to-more k page.operations op e) (take-none k page.records f)
+    ∙ ap (λ (n : ℕ). page_to n page) next
 page_to-more page k op (Some r) e f =
     let next : suc k ≡ k + 1 = omega arith in
-    same_page _ _ _ _ (operations_to-more k page.operations op e) (take-some k page.records r f) ∙ ap (λ (n : ℕ). page_to n page) next
+    same_page _ _ _ _ (operations_to-more k page.operations op e) (take-some k page.records r f)
+    ∙ ap (λ (n : ℕ). page_to n page) next
 
 -- when all lines are read, the page is whole
-pub page_to-all : (page : Page) → length page.records ≤ length page.operations → page_to (length page.operations) page ≡ page
-page_to-all page le = same_page _ _ _ _ (operations_to-all (length page.operations) page.operations (omega arith)) (take-all (length page.operations) page.records le)
+pub page_to-all : (page : Page) → length page.records ≤ length page.operations
+    → page_to (length page.operations) page ≡ page
+page_to-all page le =
+    same_page _ _ _ _ (operations_to-all (length page.operations) page.operations (omega arith))
+    (take-all (length page.operations) page.records le)
 
 -- ---- what a line says of its call, and of the others
 
@@ -117,13 +147,15 @@ slice_get-set_here [] k x lt = absurd (omega arith)
 slice_get-set_here (y ∷ xs) zero x lt = refl
 slice_get-set_here (y ∷ xs) (suc k) x lt = slice_get-set_here xs k x (omega arith)
 
-pub slice_get-set_before : (xs : List ℕ) (k x m : ℕ) → m < k → slice_get (set xs k x) m ≡ slice_get xs m
+pub slice_get-set_before : (xs : List ℕ) (k x m : ℕ) → m < k
+    → slice_get (set xs k x) m ≡ slice_get xs m
 slice_get-set_before [] k x m lt = refl
 slice_get-set_before (y ∷ xs) zero x m lt = absurd (omega arith)
 slice_get-set_before (y ∷ xs) (suc k) x zero lt = refl
 slice_get-set_before (y ∷ xs) (suc k) x (suc m) lt = slice_get-set_before xs k x m (omega arith)
 
-pub slice_get-set_cases : (xs : List ℕ) (k x m z : ℕ) → slice_get (set xs k x) m ≡ Some z → (slice_get xs m ≡ Some z) ⊎ (z ≡ x)
+pub slice_get-set_cases : (xs : List ℕ) (k x m z : ℕ) → slice_get (set xs k x) m ≡ Some z
+    → (slice_get xs m ≡ Some z) ⊎ (z ≡ x)
 slice_get-set_cases [] k x m z e = inl e
 slice_get-set_cases (y ∷ xs) zero x zero z e = inr (sym (same_Some x z e))
 slice_get-set_cases (y ∷ xs) zero x (suc m) z e = inl e
@@ -137,7 +169,8 @@ pub record AreSameTo (k : ℕ) (a b : Page) : Type 0 where
   pub records : (m : ℕ) → m < k → slice_get b.records m ≡ slice_get a.records m
 
 -- a line leaves the calls before its own
-pub page_with-before : (page : Page) (k op : ℕ) (answer : Option Record) → (IsSome answer → k ≤ length page.records) → AreSameTo k page (page_with page k op answer)
+pub page_with-before : (page : Page) (k op : ℕ) (answer : Option Record)
+    → (IsSome answer → k ≤ length page.records) → AreSameTo k page (page_with page k op answer)
 page_with-before page k op None late = record {
   size = length-set page.operations k op;
   operations = λ m lt. slice_get-set_before page.operations k op m lt;
@@ -151,17 +184,21 @@ page_with-before page k op (Some r) late =
       records = λ m lt. slice_get-append_within page.records (r ∷ []) m (omega arith);
     }
 
-pub page_with-operation : (page : Page) (k op : ℕ) (answer : Option Record) → k < length page.operations → slice_get (page_with page k op answer).operations k ≡ Some op
+pub page_with-operation : (page : Page) (k op : ℕ) (answer : Option Record)
+    → k < length page.operations → slice_get (page_with page k op answer).operations k ≡ Some op
 page_with-operation page k op None lt = slice_get-set_here page.operations k op lt
 page_with-operation page k op (Some r) lt = slice_get-set_here page.operations k op lt
 
-pub page_with-record : (page : Page) (k op : ℕ) (answer : Option Record) → length page.records ≤ k → (IsSome answer → k ≤ length page.records) → slice_get (page_with page k op answer).records k ≡ answer
+pub page_with-record : (page : Page) (k op : ℕ) (answer : Option Record) → length page.records ≤ k
+    → (IsSome answer → k ≤ length page.records)
+    → slice_get (page_with page k op answer).records k ≡ answer
 page_with-record page k op None few late = slice_get_past page.records k few
 page_with-record page k op (Some r) few late =
     let le : k ≤ length page.records = late refl in
     let same : k ≡ length page.records = omega arith in
     ap (slice_get (page.records ++ r ∷ [])) same ∙ slice_get-push_last page.records r
 
-pub page_with-few : (page : Page) (k op : ℕ) (answer : Option Record) → length page.records ≤ k → length (page_with page k op answer).records ≤ k + 1
+pub page_with-few : (page : Page) (k op : ℕ) (answer : Option Record) → length page.records ≤ k
+    → length (page_with page k op answer).records ≤ k + 1
 page_with-few page k op None few = omega arith
 page_with-few page k op (Some r) few = omega (arith, length-append page.records (r ∷ []))

@@ -11,17 +11,20 @@ use Rattle.book_text.specs.BookRules.{IsBookText, IsNoBookText}
 
 -- some text of a book begins with these bytes
 abbrev pub BeginsSomeText : Version → List ℕ → Type 0
-BeginsSomeText version prefix = (kind : Kind) × (book : List Page) × (more : List ℕ) × IsBookText version (prefix ++ more) kind book
+BeginsSomeText version prefix = (kind : Kind) × (book : List Page) × (more : List ℕ)
+    × IsBookText version (prefix ++ more) kind book
 
 -- no text of a book begins with these bytes
 abbrev pub BeginsNoText : Version → List ℕ → Type 0
-BeginsNoText version prefix = (kind : Kind) (book : List Page) (more : List ℕ) → ¬ (IsBookText version (prefix ++ more) kind book)
+BeginsNoText version prefix = (kind : Kind) (book : List Page) (more : List ℕ)
+    → ¬ (IsBookText version (prefix ++ more) kind book)
 
 -- the bytes are this many whole lines: each is cut off at its line feed, and nothing is left after
 -- the last
 abbrev pub AreWholeLines : ℕ → List ℕ → Type 0
 AreWholeLines zero bytes = bytes ≡ []
-AreWholeLines (suc count) bytes = (line : List ℕ) × (rest : List ℕ) × (cut_at 10 bytes ≡ Some (line, rest)) × AreWholeLines count rest
+AreWholeLines (suc count) bytes = (line : List ℕ) × (rest : List ℕ)
+    × (cut_at 10 bytes ≡ Some (line, rest)) × AreWholeLines count rest
 
 -- After the first whole lines stands a further whole line, with which no text of a book goes on.
 pub record BreaksText (version : Version) (prefix rest : List ℕ) (what : What) : Type 0 where
@@ -44,8 +47,9 @@ pub record GoesOn (version : Version) (prefix rest : List ℕ) (what : What) : T
   pub text : IsBookText version prefix kind book
   pub more : rest ≢ []
 
--- A fault says where bytes leave the texts of books: some text begins with the lines before the fault's line, and none goes on
--- with the fault's line, or that line isn't whole, or the lines before it are a whole text.
+-- A fault says where bytes leave the texts of books: some text begins with the lines before the
+-- fault's line, and none goes on with the fault's line, or that line isn't whole, or the lines
+-- before it are a whole text.
 pub record LeavesTexts (version : Version) (bytes : List ℕ) (fault : TextFault) : Type 0 where
   pub count : ℕ
   pub prefix : List ℕ
@@ -54,5 +58,6 @@ pub record LeavesTexts (version : Version) (bytes : List ℕ) (fault : TextFault
   pub bytes_are : bytes ≡ prefix ++ rest
   pub lines : AreWholeLines count prefix
   pub begins : BeginsSomeText version prefix
-  pub leaves : BreaksText version prefix rest fault.what ⊎ (EndsEarly rest fault.what ⊎ GoesOn version prefix rest fault.what)
+  pub leaves : BreaksText version prefix rest fault.what
+      ⊎ (EndsEarly rest fault.what ⊎ GoesOn version prefix rest fault.what)
   pub no_text : IsNoBookText version bytes

@@ -34,16 +34,21 @@ in_calls kind progress = InCalls kind progress.book progress.due
 
 -- the right lines of a book's text
 abbrev pub BookPasses : Version → BookDue → List (List ℕ) → BookDue → Type 0
-BookPasses version (InHead due) words after = (next : HeadDue) × HeadPasses version (codes "book") due words next × (after ≡ after_head next)
-BookPasses version (InCalls kind book []) words after = (words ≡ end_words) × (after ≡ AtEnd kind book)
-BookPasses version (InCalls kind book (call ∷ calls)) words after = (next : Progress) × CallPasses version (kind_operations version kind) book (call ∷ calls) words next × (after ≡ in_calls kind next)
+BookPasses version (InHead due) words after = (next : HeadDue)
+    × HeadPasses version (codes "book") due words next × (after ≡ after_head next)
+BookPasses version (InCalls kind book []) words after = (words ≡ end_words)
+    × (after ≡ AtEnd kind book)
+BookPasses version (InCalls kind book (call ∷ calls)) words after = (next : Progress)
+    × CallPasses version (kind_operations version kind) book (call ∷ calls) words next
+    × (after ≡ in_calls kind next)
 BookPasses version (AtEnd kind book) words after = ⊥
 
 -- the tests of the lines of a book's text
 abbrev pub BookFails : Version → BookDue → List (List ℕ) → What → Type 0
 BookFails version (InHead due) words what = HeadFails version (codes "book") due words what
 BookFails version (InCalls kind book []) words what = (what ≡ End) × (words ≢ end_words)
-BookFails version (InCalls kind book (call ∷ calls)) words what = CallFails version (kind_operations version kind) book (call ∷ calls) words what
+BookFails version (InCalls kind book (call ∷ calls)) words what =
+    CallFails version (kind_operations version kind) book (call ∷ calls) words what
 BookFails version (AtEnd kind book) words what = ⊥
 
 -- what is wanted in the text of a book
@@ -54,7 +59,8 @@ book_wanted (AtEnd kind book) = TheEnd
 
 -- the rules of a book's text
 abbrev pub book_rules : Version → Rules BookDue
-book_rules version = record { Passes = BookPasses version; Fails = BookFails version; wanted = book_wanted }
+book_rules version =
+    record { Passes = BookPasses version; Fails = BookFails version; wanted = book_wanted }
 
 -- the bytes from their first line on
 abbrev pub whole_text : List ℕ → Unread
@@ -62,12 +68,16 @@ whole_text bytes = record { bytes = bytes; number = 1 }
 
 -- The first fault of bytes that are to be a book's text.
 abbrev pub IsFirstBookFault : Version → List ℕ → TextFault → Type 0
-IsFirstBookFault version bytes fault = IsFirstFault (book_rules version) (InHead TitleDue) (whole_text bytes) fault
+IsFirstBookFault version bytes fault =
+    IsFirstFault (book_rules version) (InHead TitleDue) (whole_text bytes) fault
 
--- The bytes are the text of this book, for an object of this kind: right lines from the title to the end of the bytes.
+-- The bytes are the text of this book, for an object of this kind: right lines from the title to
+-- the end of the bytes.
 abbrev pub IsBookText : Version → List ℕ → Kind → List Page → Type 0
-IsBookText version bytes kind book = (left : Unread) × IsReadTo (book_rules version) (InHead TitleDue) (whole_text bytes) (AtEnd kind book) left
+IsBookText version bytes kind book = (left : Unread)
+    × IsReadTo (book_rules version) (InHead TitleDue) (whole_text bytes) (AtEnd kind book) left
 
 -- The bytes are the text of no book.
 abbrev pub IsNoBookText : Version → List ℕ → Type 0
-IsNoBookText version bytes = (kind : Kind) (book : List Page) → ¬ (IsBookText version bytes kind book)
+IsNoBookText version bytes = (kind : Kind) (book : List Page)
+    → ¬ (IsBookText version bytes kind book)

@@ -28,35 +28,41 @@ place_words call = decimal call.caller ∷ decimal call.number ∷ []
 -- the words after the operation: none where the call is unanswered, and else the reply and the view
 abbrev pub answer_words : Version → Option Record → List (List ℕ)
 answer_words version None = []
-answer_words version (Some answer) = reply_word answer.reply ∷ codes "view" ∷ cut_words version answer.view
+answer_words version (Some answer) =
+    reply_word answer.reply ∷ codes "view" ∷ cut_words version answer.view
 
 -- the line of a call: its caller and number, its operation, and its answer
 abbrev pub call_words : Version → Operations → Call → ℕ → Option Record → List (List ℕ)
-call_words version operations call op answer = place_words call ++ (operations.words op ++ answer_words version answer)
+call_words version operations call op answer =
+    place_words call ++ (operations.words op ++ answer_words version answer)
 
 -- ---- what the tests of a line speak of
 
 -- after the caller, the number and an operation the line has these words
-pub record IsAfterOperation (operations : Operations) (call : Call) (words suffix : List (List ℕ)) : Type 0 where
+pub record IsAfterOperation (operations : Operations) (call : Call)
+    (words suffix : List (List ℕ)) : Type 0 where
   pub op : ℕ
   pub has : IsTrue (operations.has op)
   pub text : words ≡ place_words call ++ (operations.words op ++ suffix)
 
 -- after the reply the line has these words
-pub record IsAfterReply (operations : Operations) (call : Call) (words suffix : List (List ℕ)) : Type 0 where
+pub record IsAfterReply (operations : Operations) (call : Call)
+    (words suffix : List (List ℕ)) : Type 0 where
   pub reply : ℕ
   pub small : reply < 2 ^ 64
   pub text : IsAfterOperation operations call words (reply_word reply ∷ suffix)
 
 -- after the reply the line has this view of this many callers, and nothing else
-pub record HasView (version : Version) (operations : Operations) (n : ℕ) (call : Call) (words : List (List ℕ)) (view : List ℕ) : Type 0 where
+pub record HasView (version : Version) (operations : Operations) (n : ℕ) (call : Call)
+    (words : List (List ℕ)) (view : List ℕ) : Type 0 where
   pub wide : length view ≡ n
   pub numbers : AreNumbers view
   pub text : IsAfterReply operations call words (codes "view" ∷ cut_words version view)
 
 -- the words are this view, of this many callers
 abbrev pub AreView : Version → ℕ → List ℕ → List (List ℕ) → Type 0
-AreView version n view words = (length view ≡ n) × AreNumbers view × (words ≡ codes "view" ∷ cut_words version view)
+AreView version n view words = (length view ≡ n) × AreNumbers view
+    × (words ≡ codes "view" ∷ cut_words version view)
 
 -- the next word isn't 'view'
 abbrev pub LacksViewWord : List (List ℕ) → Type 0
@@ -67,26 +73,34 @@ LacksViewWord words = (suffix : List (List ℕ)) → words ≢ codes "view" ∷ 
 -- words after it, those up to the next word without a colon, one is no pair of a caller and a count
 -- above 0, or its caller isn't above that of the pair before it; or a word follows them.
 abbrev pub IsNoView : Version → ℕ → List (List ℕ) → Type 0
-IsNoView First n words = (view : List ℕ) → length view ≡ n → AreNumbers view → words ≢ codes "view" ∷ cut_words First view
-IsNoView Second n words = LacksViewWord words ⊎ ((suffix : List (List ℕ)) × (words ≡ codes "view" ∷ suffix) × (HasBadPair n 0 suffix ⊎ HasWordAfterPairs suffix))
+IsNoView First n words = (view : List ℕ) → length view ≡ n → AreNumbers view
+    → words ≢ codes "view" ∷ cut_words First view
+IsNoView Second n words = LacksViewWord words ⊎ ((suffix : List (List ℕ))
+    × (words ≡ codes "view" ∷ suffix) × (HasBadPair n 0 suffix ⊎ HasWordAfterPairs suffix))
 
 -- ---- the tests of a line, by itself
 
--- A line for this call, in a text of this many callers, fails a test that needs no other view. After a gap, an unanswered call
--- of the same caller, a call is unanswered.
+-- A line for this call, in a text of this many callers, fails a test that needs no other view.
+-- After a gap, an unanswered call of the same caller, a call is unanswered.
 abbrev pub EntryFails : Version → Operations → ℕ → Bool → Call → List (List ℕ) → What → Type 0
 -- the line doesn't begin with the caller and the number that are due
-EntryFails version operations n gap call words what.Place = (suffix : List (List ℕ)) → words ≢ place_words call ++ suffix
+EntryFails version operations n gap call words what.Place = (suffix : List (List ℕ))
+    → words ≢ place_words call ++ suffix
 -- the next words are no operation
-EntryFails version operations n gap call words what.Op = (suffix : List (List ℕ)) × (words ≡ place_words call ++ suffix)
-    × ((op : ℕ) (others : List (List ℕ)) → IsTrue (operations.has op) → suffix ≢ operations.words op ++ others)
+EntryFails version operations n gap call words what.Op = (suffix : List (List ℕ))
+    × (words ≡ place_words call ++ suffix)
+    × ((op : ℕ) (others : List (List ℕ)) → IsTrue (operations.has op)
+    → suffix ≢ operations.words op ++ others)
 -- words follow the operation, and an earlier call of this caller is unanswered
-EntryFails version operations n gap call words what.Gap = (suffix : List (List ℕ)) × IsAfterOperation operations call words suffix × (suffix ≢ []) × (gap ≡ true)
+EntryFails version operations n gap call words what.Gap = (suffix : List (List ℕ))
+    × IsAfterOperation operations call words suffix × (suffix ≢ []) × (gap ≡ true)
 -- the next word is no reply
-EntryFails version operations n gap call words what.Reply = (word : List ℕ) × (suffix : List (List ℕ)) × IsAfterOperation operations call words (word ∷ suffix)
+EntryFails version operations n gap call words what.Reply = (word : List ℕ)
+    × (suffix : List (List ℕ)) × IsAfterOperation operations call words (word ∷ suffix)
     × ((reply : ℕ) → reply < 2 ^ 64 → reply_word reply ≢ word)
 -- the next words are no view
-EntryFails version operations n gap call words what.View = (suffix : List (List ℕ)) × IsAfterReply operations call words suffix × IsNoView version n suffix
+EntryFails version operations n gap call words what.View = (suffix : List (List ℕ))
+    × IsAfterReply operations call words suffix × IsNoView version n suffix
 EntryFails version operations n gap call words _ = ⊥
 
 -- ---- the tests of a view
@@ -101,7 +115,8 @@ view_test (tests.ViewHasLater count) = Some what.ViewHasLater
 view_test (tests.ViewsCross other) = Some what.ViewsCross
 view_test tests.NoMemory = None
 
--- A book may refuse the answer of an unanswered call of its own by this fault: by a test of views, or for want of memory.
+-- A book may refuse the answer of an unanswered call of its own by this fault: by a test of views,
+-- or for want of memory.
 abbrev pub MayRefuse : BookFault → Type 0
 MayRefuse tests.TooManyCalls = ⊥
 MayRefuse tests.NoSuchCall = ⊥
@@ -112,7 +127,8 @@ abbrev pub IsUnanswered : List Page → Call → Type 0
 IsUnanswered book call = answers_of book call.caller ≤ call.number
 
 -- the line's view fails a test of views, beside the book that the lines before it give
-pub record ViewFails (version : Version) (operations : Operations) (book : List Page) (call : Call) (words : List (List ℕ)) (name : What) : Type 0 where
+pub record ViewFails (version : Version) (operations : Operations) (book : List Page) (call : Call)
+    (words : List (List ℕ)) (name : What) : Type 0 where
   pub view : List ℕ
   pub has : HasView version operations (length book) call words view
   pub fault : BookFault
@@ -121,8 +137,8 @@ pub record ViewFails (version : Version) (operations : Operations) (book : List 
 
 -- ---- the rules
 
--- What the lines of calls so far say: a book with all the calls that the head announces, in which the calls that are still due
--- have the operation 0 and no answer; and those calls, in their order.
+-- What the lines of calls so far say: a book with all the calls that the head announces, in which
+-- the calls that are still due have the operation 0 and no answer; and those calls, in their order.
 pub record Progress : Type 0 where
   pub book : List Page
   pub due : List Call
@@ -152,21 +168,25 @@ is_gap book call = nat_lt (answers_of book call.caller) call.number
 -- the answer to a call may be written after the lines that give this book
 abbrev pub MayStand : List Page → Call → Option Record → Type 0
 MayStand book call None = Unit {0}
-MayStand book call (Some answer) = (is_gap book call ≡ false) × (answer.reply < 2 ^ 64) × (length answer.view ≡ length book) × AreNumbers answer.view × MayAnswer book call.caller answer.view
+MayStand book call (Some answer) = (is_gap book call ≡ false) × (answer.reply < 2 ^ 64)
+    × (length answer.view ≡ length book) × AreNumbers answer.view
+    × MayAnswer book call.caller answer.view
 
 -- the book with what the line of a call says
 abbrev pub with_line : List Page → Call → ℕ → Option Record → List Page
 with_line book call op None = with_operation book call op
 with_line book call op (Some answer) = with_operation (with_answer book call.caller answer) call op
 
--- a call of a book that texts can have: its caller is one of the book's, and its number can be written
+-- a call of a book that texts can have: its caller is one of the book's, and its number can be
+-- written
 pub record IsNamedCall (book : List Page) (call : Call) : Type 0 where
   pub caller : call.caller < length book
   pub callers : length book ≤ MAX_CALLERS
   pub number : call.number < 2 ^ 64
 
 -- a right line for this call, and the book after it
-pub record IsCallLine (version : Version) (operations : Operations) (book : List Page) (call : Call) (words : List (List ℕ)) (after : List Page) : Type 0 where
+pub record IsCallLine (version : Version) (operations : Operations) (book : List Page) (call : Call)
+    (words : List (List ℕ)) (after : List Page) : Type 0 where
   pub named : IsNamedCall book call
   pub op : ℕ
   pub answer : Option Record
@@ -176,14 +196,18 @@ pub record IsCallLine (version : Version) (operations : Operations) (book : List
   pub book_is : after ≡ with_line book call op answer
 
 -- the right lines of calls
-abbrev pub CallPasses : Version → Operations → List Page → List Call → List (List ℕ) → Progress → Type 0
+abbrev pub CallPasses : Version → Operations → List Page → List Call → List (List ℕ)
+    → Progress → Type 0
 CallPasses version operations book [] words after = ⊥
-CallPasses version operations book (call ∷ calls) words after = IsCallLine version operations book call words after.book × (after.due ≡ calls)
+CallPasses version operations book (call ∷ calls) words after =
+    IsCallLine version operations book call words after.book × (after.due ≡ calls)
 
 -- the tests of the lines of calls
 abbrev pub CallFails : Version → Operations → List Page → List Call → List (List ℕ) → What → Type 0
 CallFails version operations book [] words name = ⊥
-CallFails version operations book (call ∷ calls) words name = EntryFails version operations (length book) (is_gap book call) call words name ⊎ ViewFails version operations book call words name
+CallFails version operations book (call ∷ calls) words name =
+    EntryFails version operations (length book) (is_gap book call) call words name
+    ⊎ ViewFails version operations book call words name
 
 -- a line is wanted as long as a call is due
 abbrev pub call_wanted : List Call → Wanted
@@ -193,7 +217,8 @@ call_wanted (call ∷ calls) = ALine
 -- the rules of the lines of calls
 abbrev pub call_rules : Version → Operations → Rules Progress
 call_rules version operations = record {
-  Passes = λ progress words after. CallPasses version operations progress.book progress.due words after;
+  Passes =
+      λ progress words after. CallPasses version operations progress.book progress.due words after;
   Fails = λ progress words name. CallFails version operations progress.book progress.due words name;
   wanted = λ progress. call_wanted progress.due;
 }
@@ -202,23 +227,29 @@ call_rules version operations = record {
 
 -- The lines of these calls lead from one book to another, whatever is due after them, and leave the
 -- rest unread.
-abbrev pub AreRead : Version → Operations → List Call → List Page → Unread → List Page → Unread → Type 0
+abbrev pub AreRead : Version → Operations → List Call → List Page → Unread → List Page
+    → Unread → Type 0
 AreRead version operations calls book text after left = (more : List Call)
-    → GoesTo (call_rules version operations) (reading book (calls ++ more)) text (reading after more) left
+    → GoesTo (call_rules version operations) (reading book (calls ++ more)) text
+    (reading after more) left
 
 -- The reading of the lines of these calls stops, whatever is due after them.
 abbrev pub AreStopped : Version → Operations → List Call → List Page → Unread → ReadFault → Type 0
 AreStopped version operations calls book text fault = (more : List Call)
     → StopsFor (call_rules version operations) (reading book (calls ++ more)) text fault
 
--- The text begins with the lines of a book's calls, this many of each caller, and leaves the rest unread.
+-- The text begins with the lines of a book's calls, this many of each caller, and leaves the rest
+-- unread.
 abbrev pub AreCallLines : Version → Operations → List ℕ → List Page → Unread → Unread → Type 0
-AreCallLines version operations calls book text left = GoesTo (call_rules version operations) (no_call_read calls) text (reading book []) left
+AreCallLines version operations calls book text left =
+    GoesTo (call_rules version operations) (no_call_read calls) text (reading book []) left
 
 -- Why lines of calls, this many of each caller, aren't read: want of memory, or their first fault.
 abbrev pub AreNoCallLines : Version → Operations → List ℕ → Unread → ReadFault → Type 0
-AreNoCallLines version operations calls text fault = StopsFor (call_rules version operations) (no_call_read calls) text fault
+AreNoCallLines version operations calls text fault =
+    StopsFor (call_rules version operations) (no_call_read calls) text fault
 
 -- The first fault of lines of calls, this many of each caller.
 abbrev pub IsFirstCallFault : Version → Operations → List ℕ → Unread → TextFault → Type 0
-IsFirstCallFault version operations calls text fault = IsFirstFault (call_rules version operations) (no_call_read calls) text fault
+IsFirstCallFault version operations calls text fault =
+    IsFirstFault (call_rules version operations) (no_call_read calls) text fault

@@ -29,6 +29,7 @@ pub record HasRest (text : Unread) (fault : TextFault) : Type 0 where
   pub more : left.bytes ≢ []
   pub fault_is : fault ≡ record { line = left.number; what = Rest }
 
--- why the next line isn't the end of a text: no line is whole, it isn't the last line, or bytes follow it
+-- why the next line isn't the end of a text: no line is whole, it isn't the last line, or bytes
+-- follow it
 abbrev pub IsNoEnd : Unread → TextFault → Type 0
 IsNoEnd text fault = (line_at text ≡ Err fault) ⊎ (IsNoEndLine text fault ⊎ HasRest text fault)

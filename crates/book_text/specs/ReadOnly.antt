@@ -15,7 +15,8 @@ abbrev pub BeginsNone : {Said : Type 0} → (List ℕ → Said → Type 0) → L
 BeginsNone {Said} IsText prefix = (said : Said) (more : List ℕ) → ¬ (IsText (prefix ++ more) said)
 
 -- After the first whole lines stands a further whole line, with which no text goes on.
-pub record Breaks {Said : Type 0} (IsText : List ℕ → Said → Type 0) (prefix rest : List ℕ) (what : What) : Type 0 where
+pub record Breaks {Said : Type 0} (IsText : List ℕ → Said → Type 0) (prefix rest : List ℕ)
+    (what : What) : Type 0 where
   pub named : (what ≢ Cut) × (what ≢ Rest)
   pub line : List ℕ
   pub suffix : List ℕ
@@ -23,15 +24,18 @@ pub record Breaks {Said : Type 0} (IsText : List ℕ → Said → Type 0) (prefi
   pub none : BeginsNone IsText (prefix ++ (line ++ 10 ∷ []))
 
 -- The first whole lines are a text already, and bytes follow.
-pub record GoesPast {Said : Type 0} (IsText : List ℕ → Said → Type 0) (prefix rest : List ℕ) (what : What) : Type 0 where
+pub record GoesPast {Said : Type 0} (IsText : List ℕ → Said → Type 0) (prefix rest : List ℕ)
+    (what : What) : Type 0 where
   pub named : what ≡ Rest
   pub said : Said
   pub text : IsText prefix said
   pub more : rest ≢ []
 
--- A fault says where bytes leave the texts: some text begins with the lines before the fault's line, and none goes on with the fault's
--- line, or that line isn't whole, or the lines before it are a whole text.
-pub record LeavesAt {Said : Type 0} (IsText : List ℕ → Said → Type 0) (bytes : List ℕ) (fault : TextFault) : Type 0 where
+-- A fault says where bytes leave the texts: some text begins with the lines before the fault's
+-- line, and none goes on with the fault's line, or that line isn't whole, or the lines before it
+-- are a whole text.
+pub record LeavesAt {Said : Type 0} (IsText : List ℕ → Said → Type 0) (bytes : List ℕ)
+    (fault : TextFault) : Type 0 where
   pub count : ℕ
   pub prefix : List ℕ
   pub rest : List ℕ
@@ -39,5 +43,6 @@ pub record LeavesAt {Said : Type 0} (IsText : List ℕ → Said → Type 0) (byt
   pub bytes_are : bytes ≡ prefix ++ rest
   pub lines : AreWholeLines count prefix
   pub begins : BeginsSome IsText prefix
-  pub leaves : Breaks IsText prefix rest fault.what ⊎ (EndsEarly rest fault.what ⊎ GoesPast IsText prefix rest fault.what)
+  pub leaves : Breaks IsText prefix rest fault.what
+      ⊎ (EndsEarly rest fault.what ⊎ GoesPast IsText prefix rest fault.what)
   pub no_text : (said : Said) → ¬ (IsText bytes said)

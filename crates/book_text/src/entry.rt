@@ -19,8 +19,8 @@ pub(crate) struct Entry {
     pub(crate) answer: Option<Record>,
 }
 
-/// What the line of this call says, in a text of `n` callers. After a gap, an unanswered call of the
-/// same caller, a call has no answer.
+/// What the line of this call says, in a text of `n` callers. After a gap, an unanswered call of
+/// the same caller, a call has no answer.
 pub(crate) fn read_entry<T: OpText>(
     version: Version,
     operations: &T,

@@ -7,17 +7,24 @@ use Rattle.book_base.specs.declared.fault.ReadFault.TheVariants.{Text, NoMemory}
 use Rattle.text_fields.specs.Faults.{IsFaultOf}
 
 -- what can be found in bytes that have no fault for it is found, where it is one thing
-pub only_answer : {V : Type 0} (IsFound : V → Type 0) (IsFirst : TextFault → Type 0) (result : Result V ReadFault) → IfOk result IsFound → IfErr result (IsFaultOf IsFirst)
-    → ((a b : V) → IsFound a → IsFound b → a ≡ b) → ((v : V) (fault : TextFault) → IsFound v → IsFirst fault → ⊥)
+pub only_answer : {V : Type 0} (IsFound : V → Type 0) (IsFirst : TextFault → Type 0)
+    (result : Result V ReadFault) → IfOk result IsFound → IfErr result (IsFaultOf IsFirst)
+    → ((a b : V) → IsFound a → IsFound b → a ≡ b)
+    → ((v : V) (fault : TextFault) → IsFound v → IsFirst fault → ⊥)
     → (v : V) → IsFound v → MatchResult result (λ w. w ≡ v) (λ e. e ≡ NoMemory)
 only_answer IsFound IsFirst (Ok w) found refused one none v is = one w v found is
 only_answer IsFound IsFirst (Err NoMemory) found refused one none v is = refl
-only_answer IsFound IsFirst (Err (Text fault)) found refused one none v is = absurd (none v fault is refused)
+only_answer IsFound IsFirst (Err (Text fault)) found refused one none v is =
+    absurd (none v fault is refused)
 
 -- bytes with a first fault are refused for it
-pub first_answer : {V : Type 0} (IsFound : V → Type 0) (IsFirst : TextFault → Type 0) (result : Result V ReadFault) → IfOk result IsFound → IfErr result (IsFaultOf IsFirst)
-    → ((a b : TextFault) → IsFirst a → IsFirst b → a ≡ b) → ((v : V) (fault : TextFault) → IsFound v → IsFirst fault → ⊥)
-    → (fault : TextFault) → IsFirst fault → MatchResult result (λ _. ⊥) (λ e. (e ≡ Text fault) ⊎ (e ≡ NoMemory))
+pub first_answer : {V : Type 0} (IsFound : V → Type 0) (IsFirst : TextFault → Type 0)
+    (result : Result V ReadFault) → IfOk result IsFound → IfErr result (IsFaultOf IsFirst)
+    → ((a b : TextFault) → IsFirst a → IsFirst b → a ≡ b)
+    → ((v : V) (fault : TextFault) → IsFound v → IsFirst fault → ⊥)
+    → (fault : TextFault) → IsFirst fault
+    → MatchResult result (λ _. ⊥) (λ e. (e ≡ Text fault) ⊎ (e ≡ NoMemory))
 first_answer IsFound IsFirst (Ok v) found refused one none fault first = none v fault found first
 first_answer IsFound IsFirst (Err NoMemory) found refused one none fault first = inr refl
-first_answer IsFound IsFirst (Err (Text other)) found refused one none fault first = inl (ap Text (one other fault refused first))
+first_answer IsFound IsFirst (Err (Text other)) found refused one none fault first =
+    inl (ap Text (one other fault refused first))

@@ -1,4 +1,5 @@
--- What bytes say of a certificate: its list is a legal order of its book or has one first fault, or the bytes have one.
+-- What bytes say of a certificate: its list is a legal order of its book or has one first fault, or
+-- the bytes have one.
 use Rattle.std.proofs.Common.{◌≡◌, ◌⊎◌, ℕ, List, Result, Ok, Err, refl, ap, subst}
 use Rattle.std.specs.Prelude.{IfOk, IfErr, MatchResult}
 use Rattle.book_base.specs.declared.call.Place.{Place}
@@ -20,67 +21,103 @@ use Rattle.book_verdicts.specs.Certificates.{IsTextOfCertificate, IsLegalCertifi
 use Rattle.text_fields.specs.Faults.{IsFaultOf}
 use Rattle.book_verdicts.proofs.Answers.{only_answer, first_answer}
 
-pub IsTextOfCertificate-from_legal : (bytes : List ℕ) → IsLegalCertificate bytes → IsTextOfCertificate bytes
+pub IsTextOfCertificate-from_legal : (bytes : List ℕ) → IsLegalCertificate bytes
+    → IsTextOfCertificate bytes
 unfolding IsLegalCertificate IsTextOfCertificate
 IsTextOfCertificate-from_legal bytes h = (h.0, h.1, h.2, h.3)
 
-pub IsTextOfCertificate-from_faulty : (bytes : List ℕ) (fault : OrderFault) → IsFaultyCertificate bytes fault → IsTextOfCertificate bytes
+pub IsTextOfCertificate-from_faulty : (bytes : List ℕ) (fault : OrderFault)
+    → IsFaultyCertificate bytes fault → IsTextOfCertificate bytes
 unfolding IsFaultyCertificate IsTextOfCertificate
 IsTextOfCertificate-from_faulty bytes fault h = (h.0, h.1, h.2, h.3)
 
 -- a certificate's text has no first fault
-pub certificate_or_fault : (bytes : List ℕ) (fault : TextFault) → IsTextOfCertificate bytes → IsFirstCertificateFault bytes fault → ⊥
+pub certificate_or_fault : (bytes : List ℕ) (fault : TextFault) → IsTextOfCertificate bytes
+    → IsFirstCertificateFault bytes fault → ⊥
 unfolding IsTextOfCertificate
 certificate_or_fault bytes fault h first = no_fault bytes h.0 h.1 h.2 fault h.3 first
 
-pub certificate_is_legal : (bytes : List ℕ) (kind : Kind) (book : List Page) (order : List Place) → IsCertificateText bytes kind book order → IsLegalOrder (kind_init kind) (kind_next kind) book order → IsLegalCertificate bytes
+pub certificate_is_legal : (bytes : List ℕ) (kind : Kind) (book : List Page) (order : List Place)
+    → IsCertificateText bytes kind book order
+    → IsLegalOrder (kind_init kind) (kind_next kind) book order → IsLegalCertificate bytes
 unfolding IsLegalCertificate
 certificate_is_legal bytes kind book order told legal = (kind, book, order, told, legal)
 
 -- a list with a fault is no legal order
-pub certificate_is_faulty : (bytes : List ℕ) (kind : Kind) (book : List Page) (order : List Place) (fault : OrderFault) → IsCertificateText bytes kind book order → IsFirstFault (kind_init kind) (kind_next kind) book order fault → IsFaultyCertificate bytes fault
+pub certificate_is_faulty : (bytes : List ℕ) (kind : Kind) (book : List Page) (order : List Place)
+    (fault : OrderFault) → IsCertificateText bytes kind book order
+    → IsFirstFault (kind_init kind) (kind_next kind) book order fault
+    → IsFaultyCertificate bytes fault
 unfolding IsFaultyCertificate
-certificate_is_faulty bytes kind book order fault told first =
-    (kind, book, order, told, (λ legal. legal_orders_fail_no_test (kind_init kind) (kind_next kind) book order legal fault first.fails), first)
+certificate_is_faulty bytes kind book order fault told first = (
+  kind,
+  book,
+  order,
+  told,
+  (λ legal. legal_orders_fail_no_test (kind_init kind)
+      (kind_next kind) book order legal fault first.fails),
+  first,
+)
 
 -- no bytes are the text of a certificate with a legal order and of one without
-pub legal_or_faulty : (bytes : List ℕ) (fault : OrderFault) → IsLegalCertificate bytes → IsFaultyCertificate bytes fault → ⊥
+pub legal_or_faulty : (bytes : List ℕ) (fault : OrderFault) → IsLegalCertificate bytes
+    → IsFaultyCertificate bytes fault → ⊥
 unfolding IsLegalCertificate IsFaultyCertificate
 legal_or_faulty bytes fault h k =
     let one = one_certificate bytes h.0 k.0 h.1 k.1 h.2 k.2 h.3 k.3 in
-    let by_kind = subst (λ (kind : Kind). IsLegalOrder (kind_init kind) (kind_next kind) h.1 h.2) one.kinds h.4 in
-    let by_book = subst (λ (book : List Page). IsLegalOrder (kind_init k.0) (kind_next k.0) book h.2) one.books by_kind in
-    k.4 (subst (λ (order : List Place). IsLegalOrder (kind_init k.0) (kind_next k.0) k.1 order) one.orders by_book)
+    let by_kind =
+    subst (λ (kind : Kind). IsLegalOrder (kind_init kind) (kind_next kind) h.1 h.2) one.kinds h.4 in
+    let by_book =
+    subst (λ (book : List Page). IsLegalOrder (kind_init k.0) (kind_next k.0) book h.2)
+    one.books by_kind in
+    k.4 (subst (λ (order : List Place). IsLegalOrder (kind_init k.0) (kind_next k.0) k.1 order)
+    one.orders by_book)
 
 -- a certificate's order has one first fault
-pub one_order_fault : (bytes : List ℕ) (e f : OrderFault) → IsFaultyCertificate bytes e → IsFaultyCertificate bytes f → e ≡ f
+pub one_order_fault : (bytes : List ℕ) (e f : OrderFault) → IsFaultyCertificate bytes e
+    → IsFaultyCertificate bytes f → e ≡ f
 unfolding IsFaultyCertificate
 one_order_fault bytes e f h k =
     let one = one_certificate bytes h.0 k.0 h.1 k.1 h.2 k.2 h.3 k.3 in
-    let by_kind = subst (λ (kind : Kind). IsFirstFault (kind_init kind) (kind_next kind) h.1 h.2 e) one.kinds h.5 in
-    let by_book = subst (λ (book : List Page). IsFirstFault (kind_init k.0) (kind_next k.0) book h.2 e) one.books by_kind in
-    let by_order = subst (λ (order : List Place). IsFirstFault (kind_init k.0) (kind_next k.0) k.1 order e) one.orders by_book in
+    let by_kind = subst
+    (λ (kind : Kind). IsFirstFault (kind_init kind) (kind_next kind) h.1 h.2 e) one.kinds h.5 in
+    let by_book =
+    subst (λ (book : List Page). IsFirstFault (kind_init k.0) (kind_next k.0) book h.2 e)
+    one.books by_kind in
+    let by_order =
+    subst (λ (order : List Place). IsFirstFault (kind_init k.0) (kind_next k.0) k.1 order e)
+    one.orders by_book in
     first_faults_are_one (kind_init k.0) (kind_next k.0) k.1 k.2 e f by_order k.5
 
 -- ---- the answers of `order`
 
 -- a text has one verdict
-one_verdict : (bytes : List ℕ) (a b : OrderVerdict) → IsOrderVerdict bytes a → IsOrderVerdict bytes b → a ≡ b
+one_verdict : (bytes : List ℕ) (a b : OrderVerdict) → IsOrderVerdict bytes a
+    → IsOrderVerdict bytes b → a ≡ b
 one_verdict bytes Legal Legal h k = refl
 one_verdict bytes Legal (Faulty f) h k = absurd (legal_or_faulty bytes f h k)
 one_verdict bytes (Faulty e) Legal h k = absurd (legal_or_faulty bytes e k h)
 one_verdict bytes (Faulty e) (Faulty f) h k = ap Faulty (one_order_fault bytes e f h k)
 
-verdict_or_fault : (bytes : List ℕ) (verdict : OrderVerdict) (fault : TextFault) → IsOrderVerdict bytes verdict → IsFirstCertificateFault bytes fault → ⊥
-verdict_or_fault bytes Legal fault h first = certificate_or_fault bytes fault (IsTextOfCertificate-from_legal bytes h) first
-verdict_or_fault bytes (Faulty e) fault h first = certificate_or_fault bytes fault (IsTextOfCertificate-from_faulty bytes e h) first
+verdict_or_fault : (bytes : List ℕ) (verdict : OrderVerdict) (fault : TextFault)
+    → IsOrderVerdict bytes verdict → IsFirstCertificateFault bytes fault → ⊥
+verdict_or_fault bytes Legal fault h first =
+    certificate_or_fault bytes fault (IsTextOfCertificate-from_legal bytes h) first
+verdict_or_fault bytes (Faulty e) fault h first =
+    certificate_or_fault bytes fault (IsTextOfCertificate-from_faulty bytes e h) first
 
-pub only_verdict : (bytes : List ℕ) (result : Result OrderVerdict ReadFault) → IfOk result (IsOrderVerdict bytes) → IfErr result (IsFaultOf (IsFirstCertificateFault bytes))
-    → (verdict : OrderVerdict) → IsOrderVerdict bytes verdict → MatchResult result (λ v. v ≡ verdict) (λ e. e ≡ NoMemory)
+pub only_verdict : (bytes : List ℕ) (result : Result OrderVerdict ReadFault)
+    → IfOk result (IsOrderVerdict bytes) → IfErr result (IsFaultOf (IsFirstCertificateFault bytes))
+    → (verdict : OrderVerdict) → IsOrderVerdict bytes verdict
+    → MatchResult result (λ v. v ≡ verdict) (λ e. e ≡ NoMemory)
 only_verdict bytes result found refused =
-    only_answer (IsOrderVerdict bytes) (IsFirstCertificateFault bytes) result found refused (one_verdict bytes) (verdict_or_fault bytes)
+    only_answer (IsOrderVerdict bytes) (IsFirstCertificateFault bytes) result found refused
+    (one_verdict bytes) (verdict_or_fault bytes)
 
-pub first_of_verdict : (bytes : List ℕ) (result : Result OrderVerdict ReadFault) → IfOk result (IsOrderVerdict bytes) → IfErr result (IsFaultOf (IsFirstCertificateFault bytes))
-    → (fault : TextFault) → IsFirstCertificateFault bytes fault → MatchResult result (λ _. ⊥) (λ e. (e ≡ Text fault) ⊎ (e ≡ NoMemory))
+pub first_of_verdict : (bytes : List ℕ) (result : Result OrderVerdict ReadFault)
+    → IfOk result (IsOrderVerdict bytes) → IfErr result (IsFaultOf (IsFirstCertificateFault bytes))
+    → (fault : TextFault) → IsFirstCertificateFault bytes fault
+    → MatchResult result (λ _. ⊥) (λ e. (e ≡ Text fault) ⊎ (e ≡ NoMemory))
 first_of_verdict bytes result found refused =
-    first_answer (IsOrderVerdict bytes) (IsFirstCertificateFault bytes) result found refused (one_fault bytes) (verdict_or_fault bytes)
+    first_answer (IsOrderVerdict bytes) (IsFirstCertificateFault bytes) result found refused
+    (one_fault bytes) (verdict_or_fault bytes)

@@ -21,18 +21,23 @@ IsTextOfBook bytes = (kind : Kind) × (book : List Page) × Tells bytes kind boo
 
 -- the bytes are the text of a book that has a legal order
 unfoldable pub IsLegalBook : List ℕ → Type 0
-IsLegalBook bytes = (kind : Kind) × (book : List Page) × Tells bytes kind book × HasLegalOrder (kind_init kind) (kind_next kind) book
+IsLegalBook bytes = (kind : Kind) × (book : List Page) × Tells bytes kind book
+    × HasLegalOrder (kind_init kind) (kind_next kind) book
 
 -- the bytes are the text of a book that has no legal order
 unfoldable pub IsIllegalBook : List ℕ → Type 0
-IsIllegalBook bytes = (kind : Kind) × (book : List Page) × Tells bytes kind book × ¬ (HasLegalOrder (kind_init kind) (kind_next kind) book)
+IsIllegalBook bytes = (kind : Kind) × (book : List Page) × Tells bytes kind book
+    × ¬ (HasLegalOrder (kind_init kind) (kind_next kind) book)
 
 -- the verdict on the book that the bytes are the text of
 abbrev pub IsBookVerdict : List ℕ → BookVerdict → Type 0
 IsBookVerdict bytes Legal = IsLegalBook bytes
 IsBookVerdict bytes Illegal = IsIllegalBook bytes
 
--- the text is that of a certificate of the book that the bytes are the text of: the book, with a legal order of it
+-- the text is that of a certificate of the book that the bytes are the text of: the book, with a
+-- legal order of it
 unfoldable pub Certifies : List ℕ → List ℕ → Type 0
-Certifies bytes text = (kind : Kind) × (book : List Page) × (order : List Place) × Tells bytes kind book
-    × IsCertificateText text kind book order × IsLegalOrder (kind_init kind) (kind_next kind) book order
+Certifies bytes text = (kind : Kind) × (book : List Page) × (order : List Place)
+    × Tells bytes kind book
+    × IsCertificateText text kind book order
+    × IsLegalOrder (kind_init kind) (kind_next kind) book order

@@ -1,4 +1,5 @@
--- What bytes say of a certificate: a book, and a list of its calls with their replies, which is a legal order of it or not.
+-- What bytes say of a certificate: a book, and a list of its calls with their replies, which is a
+-- legal order of it or not.
 use Rattle.std.specs.Prelude.{ℕ, List}
 use Rattle.book_base.specs.declared.call.Place.{Place}
 use Rattle.book_base.specs.Book.{Page}
@@ -13,17 +14,22 @@ use Rattle.book_verdicts.specs.declared.order_verdict.OrderVerdict.TheVariants.{
 
 -- the bytes are the text of a certificate
 unfoldable pub IsTextOfCertificate : List ℕ → Type 0
-IsTextOfCertificate bytes = (kind : Kind) × (book : List Page) × (order : List Place) × IsCertificateText bytes kind book order
+IsTextOfCertificate bytes = (kind : Kind) × (book : List Page) × (order : List Place)
+    × IsCertificateText bytes kind book order
 
 -- the bytes are the text of a certificate whose list of places is a legal order of its book
 unfoldable pub IsLegalCertificate : List ℕ → Type 0
-IsLegalCertificate bytes = (kind : Kind) × (book : List Page) × (order : List Place) × IsCertificateText bytes kind book order
+IsLegalCertificate bytes = (kind : Kind) × (book : List Page) × (order : List Place)
+    × IsCertificateText bytes kind book order
     × IsLegalOrder (kind_init kind) (kind_next kind) book order
 
--- the bytes are the text of a certificate whose list of places is no legal order of its book, and this is its first fault
+-- the bytes are the text of a certificate whose list of places is no legal order of its book, and
+-- this is its first fault
 unfoldable pub IsFaultyCertificate : List ℕ → OrderFault → Type 0
-IsFaultyCertificate bytes fault = (kind : Kind) × (book : List Page) × (order : List Place) × IsCertificateText bytes kind book order
-    × ¬ (IsLegalOrder (kind_init kind) (kind_next kind) book order) × IsFirstFault (kind_init kind) (kind_next kind) book order fault
+IsFaultyCertificate bytes fault = (kind : Kind) × (book : List Page) × (order : List Place)
+    × IsCertificateText bytes kind book order
+    × ¬ (IsLegalOrder (kind_init kind) (kind_next kind) book order)
+    × IsFirstFault (kind_init kind) (kind_next kind) book order fault
 
 -- the bytes are the text of a certificate whose list of places is no legal order of its book
 abbrev pub IsIllegalCertificate : List ℕ → Type 0

@@ -11,8 +11,8 @@ use certificate_text::write_certificate;
 use frontier_check::{Verdict, check};
 use std::alloc::Global;
 
-/// The text of a certificate of the book that the bytes are the text of: the book, with a legal order of it.
-/// There is none where the book has no legal order.
+/// The text of a certificate of the book that the bytes are the text of: the book, with a legal
+/// order of it. There is none where the book has no legal order.
 ///
 /// A text fault names the first line that is wrong, and of its tests the first that it fails.
 pub fn certify(alloc: Global, bytes: &[u8]) -> Result<Option<Vec<u8>>, ReadFault>

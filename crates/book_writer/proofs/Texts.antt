@@ -27,66 +27,91 @@ pub text_of-one : (words : List (List ℕ)) → text_of (words ∷ []) ≡ line_
 text_of-one words = flat_map-cons line_text words [] ∙ append-nil (line_text words)
 
 -- a text with one line more
-pub one_more : (old middle new : List ℕ) (lines : List (List (List ℕ))) (words : List (List ℕ)) → middle ≡ old ++ text_of lines → new ≡ middle ++ line_text words → new ≡ old ++ text_of (lines ++ words ∷ [])
+pub one_more : (old middle new : List ℕ) (lines : List (List (List ℕ))) (words : List (List ℕ))
+    → middle ≡ old ++ text_of lines → new ≡ middle ++ line_text words
+    → new ≡ old ++ text_of (lines ++ words ∷ [])
 one_more old middle new lines words h k =
     both_pieces old middle new (text_of lines) (line_text words) h k
-    ∙ ap (λ (x : List ℕ). old ++ x) (ap (λ (x : List ℕ). text_of lines ++ x) (sym (text_of-one words)) ∙ sym (text_of-both lines (words ∷ [])))
+    ∙ ap (λ (x : List ℕ). old ++ x) (ap (λ (x : List ℕ). text_of lines ++ x)
+    (sym (text_of-one words)) ∙ sym (text_of-both lines (words ∷ [])))
 
 -- a text with more lines
-pub lines_more : (old middle new : List ℕ) (lines more : List (List (List ℕ))) → middle ≡ old ++ text_of lines → new ≡ middle ++ text_of more → new ≡ old ++ text_of (lines ++ more)
+pub lines_more : (old middle new : List ℕ) (lines more : List (List (List ℕ))) → middle
+    ≡ old ++ text_of lines → new ≡ middle ++ text_of more → new ≡ old ++ text_of (lines ++ more)
 lines_more old middle new lines more h k =
-    both_pieces old middle new (text_of lines) (text_of more) h k ∙ ap (λ (x : List ℕ). old ++ x) (sym (text_of-both lines more))
+    both_pieces old middle new (text_of lines) (text_of more) h k
+    ∙ ap (λ (x : List ℕ). old ++ x) (sym (text_of-both lines more))
 
 module _ {X : Type 0} (line : X → List (List ℕ)) where
   -- the lines of a list, and of one item more
   pub lines_push : (xs : List X) (x : X) → map line (xs ++ x ∷ []) ≡ map line xs ++ line x ∷ []
   lines_push xs x = map-append line xs (x ∷ [])
 
-calls_from-push : (i b m k : ℕ) → b + m ≡ k → calls_from i b (suc m) ≡ calls_from i b m ++ record { caller = i; number = k } ∷ []
-calls_from-push i b zero k e = let here : b ≡ k = omega arith in ap (λ (n : ℕ). let call : Call = record { caller = i; number = n } in call ∷ []) here
+calls_from-push : (i b m k : ℕ) → b + m ≡ k
+    → calls_from i b (suc m) ≡ calls_from i b m ++ record { caller = i; number = k } ∷ []
+calls_from-push i b zero k e = let here : b ≡ k = omega arith in
+    ap (λ (n : ℕ). let call : Call = record { caller = i; number = n } in call ∷ []) here
 calls_from-push i b (suc m) k e =
     let first : Call = record { caller = i; number = b } in
     ap (λ (calls : List Call). first ∷ calls) (calls_from-push i (b + 1) m k (omega arith))
 
-pub calls_more : (i k : ℕ) → calls_from i 0 (k + 1) ≡ calls_from i 0 k ++ record { caller = i; number = k } ∷ []
-calls_more i k = let next : k + 1 ≡ suc k = omega arith in ap (calls_from i 0) next ∙ calls_from-push i 0 k k (omega arith)
+pub calls_more : (i k : ℕ)
+    → calls_from i 0 (k + 1) ≡ calls_from i 0 k ++ record { caller = i; number = k } ∷ []
+calls_more i k = let next : k + 1 ≡ suc k = omega arith in
+    ap (calls_from i 0) next ∙ calls_from-push i 0 k k (omega arith)
 
-all_calls-push : (b : ℕ) (counts : List ℕ) (c : ℕ) → all_calls b (counts ++ c ∷ []) ≡ all_calls b counts ++ calls_from (b + length counts) 0 c
-all_calls-push b [] c = let here : b ≡ b + 0 = omega arith in append-nil (calls_from b 0 c) ∙ ap (λ (i : ℕ). calls_from i 0 c) here
+all_calls-push : (b : ℕ) (counts : List ℕ) (c : ℕ)
+    → all_calls b (counts ++ c ∷ []) ≡ all_calls b counts ++ calls_from (b + length counts) 0 c
+all_calls-push b [] c = let here : b ≡ b + 0 = omega arith in
+    append-nil (calls_from b 0 c) ∙ ap (λ (i : ℕ). calls_from i 0 c) here
 all_calls-push b (d ∷ counts) c =
     let there : b + 1 + length counts ≡ b + suc (length counts) = omega arith in
-    ap (λ (calls : List Call). calls_from b 0 d ++ calls) (all_calls-push (b + 1) counts c ∙ ap (λ (i : ℕ). all_calls (b + 1) counts ++ calls_from i 0 c) there)
-    ∙ sym (append_assoc (calls_from b 0 d) (all_calls (b + 1) counts) (calls_from (b + length (d ∷ counts)) 0 c))
+    ap (λ (calls : List Call). calls_from b 0 d ++ calls) (all_calls-push (b + 1) counts c
+    ∙ ap (λ (i : ℕ). all_calls (b + 1) counts ++ calls_from i 0 c) there)
+    ∙ sym (append_assoc (calls_from b 0 d) (all_calls (b + 1) counts)
+    (calls_from (b + length (d ∷ counts)) 0 c))
 
-pub callers_more : (book : List Page) (i : ℕ) → i < length book → all_calls 0 (take (i + 1) (announced book)) ≡ all_calls 0 (take i (announced book)) ++ calls_from i 0 (calls_of book i)
+pub callers_more : (book : List Page) (i : ℕ) → i < length book
+    → all_calls 0 (take (i + 1) (announced book))
+    ≡ all_calls 0 (take i (announced book)) ++ calls_from i 0 (calls_of book i)
 callers_more book i lt =
     let size : Page → ℕ = λ p. length p.operations in
     let inside : i < length (announced book) = omega (arith, length-map book size) in
-    let there : 0 + length (take i (announced book)) ≡ i = omega (arith, length-take i (announced book)) in
+    let there : 0 + length (take i (announced book)) ≡ i =
+    omega (arith, length-take i (announced book)) in
     ap (all_calls 0) (take_more (announced book) i 0 inside)
     ∙ all_calls-push 0 (take i (announced book)) (get_or (announced book) i 0)
-    ∙ ap (λ (k : ℕ). all_calls 0 (take i (announced book)) ++ calls_from k 0 (get_or (announced book) i 0)) there
-    ∙ ap (λ (n : ℕ). all_calls 0 (take i (announced book)) ++ calls_from i 0 n) (announced_at book i)
+    ∙ ap (λ (k : ℕ).
+    all_calls 0 (take i (announced book)) ++ calls_from k 0 (get_or (announced book) i 0)) there
+    ∙ ap (λ (n : ℕ). all_calls 0 (take i (announced book)) ++ calls_from i 0 n)
+    (announced_at book i)
 
 -- what is there is what stands in its place
 pub value_is : {X : Type 0} (o : Option X) (x d : X) → o ≡ Some x → unwrap_or o d ≡ x
 value_is {X = X} o x d e = ap (λ (p : Option X). unwrap_or p d) e
 
 -- what the calls of one caller more have
-pub words_more : (book : List Page) (i : ℕ) → ((call : Call) → call.caller < i → IsCall book call → HasWords book call) → ((number : ℕ) → number < calls_of book i → HasWords book (record { caller = i; number = number }))
+pub words_more : (book : List Page) (i : ℕ)
+    → ((call : Call) → call.caller < i → IsCall book call → HasWords book call) → ((number : ℕ)
+    → number < calls_of book i → HasWords book (record { caller = i; number = number }))
     → (call : Call) → call.caller < i + 1 → IsCall book call → HasWords book call
 words_more book i h k call lt is = elim (cases_lt call.caller i) [
   | inl before ↦ h call before is
   | inr le ↦
       let same : i ≡ call.caller = omega arith in
-      subst (λ (j : ℕ). HasWords book (record { caller = j; number = call.number })) same (k call.number (subst (λ (j : ℕ). call.number < calls_of book j) (sym same) is))
+      subst (λ (j : ℕ). HasWords book (record { caller = j; number = call.number })) same
+      (k call.number (subst (λ (j : ℕ). call.number < calls_of book j) (sym same) is))
 ]
 
 -- what is written before the callers from this one on, of one caller more
-pub caller_written : (kind : Kind) (book : List Page) (middle new : List ℕ) (i : ℕ) → i < length book
-    → middle ≡ text_of (head_lines Second (codes "book") kind (announced book) ++ map (line_of Second (kind_operations Second kind) book) (all_calls 0 (take i (announced book))))
-    → new ≡ middle ++ text_of (map (line_of Second (kind_operations Second kind) book) (calls_from i 0 (calls_of book i)))
-    → new ≡ text_of (head_lines Second (codes "book") kind (announced book) ++ map (line_of Second (kind_operations Second kind) book) (all_calls 0 (take (i + 1) (announced book))))
+pub caller_written : (kind : Kind) (book : List Page) (middle new : List ℕ) (i : ℕ)
+    → i < length book
+    → middle ≡ text_of (head_lines Second (codes "book") kind (announced book) ++ map
+    (line_of Second (kind_operations Second kind) book) (all_calls 0 (take i (announced book))))
+    → new ≡ middle ++ text_of
+    (map (line_of Second (kind_operations Second kind) book) (calls_from i 0 (calls_of book i)))
+    → new ≡ text_of (head_lines Second (codes "book") kind (announced book) ++ map (line_of Second
+    (kind_operations Second kind) book) (all_calls 0 (take (i + 1) (announced book))))
 caller_written kind book middle new i lt h k =
     let line : Call → List (List ℕ) = line_of Second (kind_operations Second kind) book in
     let head : List (List (List ℕ)) = head_lines Second (codes "book") kind (announced book) in
@@ -94,23 +119,28 @@ caller_written kind book middle new i lt h k =
     let more : List Call = calls_from i 0 (calls_of book i) in
     lines_more [] middle new (head ++ map line before) (map line more) h k
     ∙ ap text_of (append_assoc head (map line before) (map line more)
-    ∙ ap (λ (ls : List (List (List ℕ))). head ++ ls) (sym (map-append line before more) ∙ ap (map line) (sym (callers_more book i lt))))
+    ∙ ap (λ (ls : List (List (List ℕ))). head ++ ls)
+    (sym (map-append line before more) ∙ ap (map line) (sym (callers_more book i lt))))
 
 -- all callers are written, and then the end
 pub end_written : (kind : Kind) (book : List Page) (middle new : List ℕ) (i : ℕ) → length book ≤ i
-    → middle ≡ text_of (head_lines Second (codes "book") kind (announced book) ++ map (line_of Second (kind_operations Second kind) book) (all_calls 0 (take i (announced book))))
+    → middle ≡ text_of (head_lines Second (codes "book") kind (announced book) ++ map
+    (line_of Second (kind_operations Second kind) book) (all_calls 0 (take i (announced book))))
     → new ≡ middle ++ line_text end_words → new ≡ text_of (book_lines Second kind book)
 end_written kind book middle new i le h k =
     let line : Call → List (List ℕ) = line_of Second (kind_operations Second kind) book in
     let head : List (List (List ℕ)) = head_lines Second (codes "book") kind (announced book) in
     let size : Page → ℕ = λ p. length p.operations in
-    let whole : take i (announced book) ≡ announced book = take_all i (announced book) (omega (arith, length-map book size)) in
+    let whole : take i (announced book) ≡ announced book =
+    take_all i (announced book) (omega (arith, length-map book size)) in
     one_more [] middle new (head ++ map line (all_calls 0 (take i (announced book)))) end_words h k
-    ∙ ap text_of (append_assoc head (map line (all_calls 0 (take i (announced book)))) (end_words ∷ [])
+    ∙ ap text_of
+    (append_assoc head (map line (all_calls 0 (take i (announced book)))) (end_words ∷ [])
     ∙ ap (λ (counts : List ℕ). head ++ (map line (all_calls 0 counts) ++ end_words ∷ [])) whole)
 
 -- a book of numbers that a text has is written
-pub book_written : (kind : Kind) (book : List Page) (bytes : List ℕ) → IsValid book → IsSmall book → ((call : Call) → call.caller < length book → IsCall book call → HasWords book call)
+pub book_written : (kind : Kind) (book : List Page) (bytes : List ℕ) → IsValid book → IsSmall book
+    → ((call : Call) → call.caller < length book → IsCall book call → HasWords book call)
     → bytes ≡ text_of (book_lines Second kind book) → IsWrittenText Second bytes kind book
 book_written kind book bytes valid small words e = record {
   writable = record {
@@ -120,8 +150,10 @@ book_written kind book bytes valid small words e = record {
     callers = omega (arith, small.callers);
     calls = λ i. omega (arith, small.calls i);
     operations = λ call op at.
-        let is : IsCall book call = slice_get_within (page_of book call.caller).operations call.number op at in
-        lt-ltb op (2 ^ 128) ((words call (caller_from_call book call.caller call.number is) is).operation op at);
+        let is : IsCall book call =
+        slice_get_within (page_of book call.caller).operations call.number op at in
+        lt-ltb op (2 ^ 128)
+        ((words call (caller_from_call book call.caller call.number is) is).operation op at);
     replies = λ call answer at.
         let within = slice_get_within (page_of book call.caller).records call.number answer at in
         let is : IsCall book call = omega (arith, within, valid.answers call.caller) in

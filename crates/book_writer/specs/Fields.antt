@@ -22,7 +22,8 @@ call_text kind book call = line_text (line_of Second (kind_operations Second kin
 
 -- the lines of a caller's calls, in version 2
 abbrev pub caller_text : Kind → List Page → ℕ → List ℕ
-caller_text kind book caller = text_of (map (line_of Second (kind_operations Second kind) book) (calls_from caller 0 (calls_of book caller)))
+caller_text kind book caller = text_of (map (line_of Second (kind_operations Second kind) book)
+    (calls_from caller 0 (calls_of book caller)))
 
 -- The operation and the reply of a call are words of 128 and of 64 bits, as a text can have them.
 pub record HasWords (book : List Page) (call : Call) : Type 0 where

@@ -12,14 +12,17 @@ use Rattle.book_writer.specs.Sketches.{sketch_lines, AreEventsOf}
 
 -- Two books of which the same is written are one, and so are their kinds.
 abbrev pub WrittenBooksAreOne : Type 0
-WrittenBooksAreOne = (version : Version) (bytes : List ℕ) (k l : Kind) (a b : List Page) → IsWrittenText version bytes k a → IsWrittenText version bytes l b → (k ≡ l) × (a ≡ b)
+WrittenBooksAreOne = (version : Version) (bytes : List ℕ) (k l : Kind) (a b : List Page)
+    → IsWrittenText version bytes k a → IsWrittenText version bytes l b → (k ≡ l) × (a ≡ b)
 
 -- No book's text begins another's: where more bytes follow it, the whole is no book's text.
 abbrev pub NoBookTextBeginsAnother : Type 0
-NoBookTextBeginsAnother = (version : Version) (bytes more : List ℕ) (k l : Kind) (a b : List Page) → IsBookText version bytes k a → IsBookText version (bytes ++ more) l b → more ≡ []
+NoBookTextBeginsAnother = (version : Version) (bytes more : List ℕ) (k l : Kind) (a b : List Page)
+    → IsBookText version bytes k a → IsBookText version (bytes ++ more) l b → more ≡ []
 
 -- No sketch's text begins another's.
 abbrev pub NoSketchTextBeginsAnother : Type 0
-NoSketchTextBeginsAnother = (more : List ℕ) (k l : Kind) (a b : List Page) (events others : List Event)
+NoSketchTextBeginsAnother =
+    (more : List ℕ) (k l : Kind) (a b : List Page) (events others : List Event)
     → IsWritable Second k a → AreEventsOf a events → IsWritable Second l b → AreEventsOf b others
     → text_of (sketch_lines k a events) ++ more ≡ text_of (sketch_lines l b others) → more ≡ []

@@ -23,12 +23,15 @@ call_reply book call = unwrap_or (option_map (λ answer. answer.reply) (record_o
 
 -- The line of an event: a call is invoked with its operation, and returns with its reply.
 abbrev pub event_words : Kind → List Page → Event → List (List ℕ)
-event_words kind book (Invoke call) = codes "call" ∷ (place_words call ++ operation_words kind (call_operation book call))
-event_words kind book (Return call) = codes "return" ∷ (place_words call ++ reply_word (call_reply book call) ∷ [])
+event_words kind book (Invoke call) =
+    codes "call" ∷ (place_words call ++ operation_words kind (call_operation book call))
+event_words kind book (Return call) =
+    codes "return" ∷ (place_words call ++ reply_word (call_reply book call) ∷ [])
 
 -- The lines of a sketch: the title, one line for each event in order, and the end.
 abbrev pub sketch_lines : Kind → List Page → List Event → List (List (List ℕ))
-sketch_lines kind book events = title_words Second (codes "sketch") ∷ (map (event_words kind book) events ++ end_words ∷ [])
+sketch_lines kind book events =
+    title_words Second (codes "sketch") ∷ (map (event_words kind book) events ++ end_words ∷ [])
 
 -- Each event is one of the book's: its call is one of the book, and is answered where it returns.
 abbrev pub AreEventsOf : List Page → List Event → Type 0

@@ -15,64 +15,89 @@ use Rattle.broken_rules.specs.Deeds.{reading_of, value_by, is_put, is_take, is_n
 
 -- The opposite of a test decides the opposite.
 pub not_decides : {b : Bool} {P : Type 0} → (b ≡ true) ↔ P → (not b ≡ true) ↔ (P → ⊥)
-not_decides {b} {P} is = (λ e h. both_ways b (not-true b e) (is.1 h), λ never. not_from_false b (false_from_ne_true b (λ e. never (is.0 e))))
+not_decides {b} {P} is = (
+  λ e h. both_ways b (not-true b e) (is.1 h),
+  λ never. not_from_false b (false_from_ne_true b (λ e. never (is.0 e))),
+)
 
 -- Readings that show alike tell the same of a take.
-shown_alike : (a b : Reading) → ((reply : ℕ) → a.shown reply ≡ b.shown reply) → (o : Option Record) → recorded_deal a o ≡ recorded_deal b o
+shown_alike : (a b : Reading) → ((reply : ℕ) → a.shown reply ≡ b.shown reply) → (o : Option Record)
+    → recorded_deal a o ≡ recorded_deal b o
 shown_alike a b same None = refl
 shown_alike a b same (Some r) = ap shown_deal (same r.reply)
 
 -- Of each kind a reply shows a value in one way.
-pub same_takes : (kind : Kind) (book : List Page) (call : Call) → take_of queue_reading book call ≡ take_of (reading_of kind) book call
+pub same_takes : (kind : Kind) (book : List Page) (call : Call)
+    → take_of queue_reading book call ≡ take_of (reading_of kind) book call
 same_takes kinds.Queue book call = refl
-same_takes kind book call = shown_alike queue_reading (reading_of kind) (λ reply. refl) (record_of book call)
+same_takes kind book call =
+    shown_alike queue_reading (reading_of kind) (λ reply. refl) (record_of book call)
 
 -- The test for a put of a value decides whether a deal is one.
 put_decides : (d : Deal) (v : ℕ) → ((is_put d && (value_by d == v)) ≡ true) ↔ (d ≡ deals.Put v)
-put_decides (deals.Put w) v = (λ e. ap deals.Put (eqb-true w v e), λ same. (let e : w ≡ v = cc in eq-eqb w v e))
+put_decides (deals.Put w) v =
+    (λ e. ap deals.Put (eqb-true w v e), λ same. (let e : w ≡ v = cc in eq-eqb w v e))
 put_decides _ v = (λ e. absurd (false≢true e), λ same. absurd cc)
 
 -- The test for a take of a value decides whether a deal is one.
 take_decides : (d : Deal) (v : ℕ) → ((is_take d && (value_by d == v)) ≡ true) ↔ (d ≡ deals.Took v)
-take_decides (deals.Took w) v = (λ e. ap deals.Took (eqb-true w v e), λ same. (let e : w ≡ v = cc in eq-eqb w v e))
+take_decides (deals.Took w) v =
+    (λ e. ap deals.Took (eqb-true w v e), λ same. (let e : w ≡ v = cc in eq-eqb w v e))
 take_decides _ v = (λ e. absurd (false≢true e), λ same. absurd cc)
 
 -- The test for a deal that may take a value decides whether a deal is one.
-neither : {A : Type 0} (d : Deal) (v : ℕ) → (d ≡ deals.Took v → ⊥) → (d ≡ deals.OpenTake → ⊥) → (d ≡ deals.Took v) ⊎ (d ≡ deals.OpenTake) → A
+neither : {A : Type 0} (d : Deal) (v : ℕ) → (d ≡ deals.Took v → ⊥) → (d ≡ deals.OpenTake → ⊥)
+    → (d ≡ deals.Took v) ⊎ (d ≡ deals.OpenTake) → A
 neither d v took is_open h = elim h [ inl e ↦ absurd (took e) | inr e ↦ absurd (is_open e) ]
 
-may_take_decides : (d : Deal) (v : ℕ) → (((is_take d && (value_by d == v)) || is_open d) ≡ true) ↔ ((d ≡ deals.Took v) ⊎ (d ≡ deals.OpenTake))
+may_take_decides : (d : Deal) (v : ℕ) → (((is_take d && (value_by d == v)) || is_open d) ≡ true)
+    ↔ ((d ≡ deals.Took v) ⊎ (d ≡ deals.OpenTake))
 may_take_decides (deals.Took w) v = (
-  λ e. elim (or_cases (w == v) false e) [ inl is ↦ inl (ap deals.Took (eqb-true w v is)) | inr never ↦ absurd (false≢true never) ],
-  λ h. elim h [ inl same ↦ (let e : w ≡ v = cc in or_left (w == v) false (eq-eqb w v e)) | inr other ↦ absurd cc ],
+  λ e. elim (or_cases (w == v) false e) [
+    | inl is ↦ inl (ap deals.Took (eqb-true w v is))
+    | inr never ↦ absurd (false≢true never)
+  ],
+  λ h. elim h [
+    | inl same ↦ (let e : w ≡ v = cc in or_left (w == v) false (eq-eqb w v e))
+    | inr other ↦ absurd cc
+  ],
 )
 may_take_decides deals.OpenTake v = (λ e. inr refl, λ h. refl)
 may_take_decides d v = (λ e. absurd (false≢true e), neither d v (λ e. cc) (λ e. cc))
 
 -- The tests as the code makes them: r is the answer for the deal d, at the value n of the deal e.
-pub puts_same : (r : Bool) (d e f g : Deal) (n : ℕ) → r ≡ (is_put d && (value_by d == n)) → n ≡ value_by e → d ≡ f → e ≡ g
+pub puts_same : (r : Bool) (d e f g : Deal) (n : ℕ) → r ≡ (is_put d && (value_by d == n))
+    → n ≡ value_by e → d ≡ f → e ≡ g
     → (r ≡ true) ↔ (f ≡ deals.Put (value_by g))
 puts_same r d e f g n is at one other =
     let number : n ≡ value_by g = at ∙ ap value_by other in
     let answer : r ≡ (is_put f && (value_by f == value_by g))
-    = is ∙ (ap (λ (x : Deal). is_put x && (value_by x == n)) one ∙ ap (λ (m : ℕ). is_put f && (value_by f == m)) number) in
-    subst (λ (b : Bool). (b ≡ true) ↔ (f ≡ deals.Put (value_by g))) (sym answer) (put_decides f (value_by g))
+    = is ∙ (ap (λ (x : Deal). is_put x && (value_by x == n)) one
+    ∙ ap (λ (m : ℕ). is_put f && (value_by f == m)) number) in
+    subst (λ (b : Bool). (b ≡ true) ↔ (f ≡ deals.Put (value_by g))) (sym answer)
+    (put_decides f (value_by g))
 
-pub takes_same : (r : Bool) (d e f g : Deal) (n : ℕ) → r ≡ (is_take d && (value_by d == n)) → n ≡ value_by e → d ≡ f → e ≡ g
+pub takes_same : (r : Bool) (d e f g : Deal) (n : ℕ) → r ≡ (is_take d && (value_by d == n))
+    → n ≡ value_by e → d ≡ f → e ≡ g
     → (r ≡ true) ↔ (f ≡ deals.Took (value_by g))
 takes_same r d e f g n is at one other =
     let number : n ≡ value_by g = at ∙ ap value_by other in
     let answer : r ≡ (is_take f && (value_by f == value_by g))
-    = is ∙ (ap (λ (x : Deal). is_take x && (value_by x == n)) one ∙ ap (λ (m : ℕ). is_take f && (value_by f == m)) number) in
-    subst (λ (b : Bool). (b ≡ true) ↔ (f ≡ deals.Took (value_by g))) (sym answer) (take_decides f (value_by g))
+    = is ∙ (ap (λ (x : Deal). is_take x && (value_by x == n)) one
+    ∙ ap (λ (m : ℕ). is_take f && (value_by f == m)) number) in
+    subst (λ (b : Bool). (b ≡ true) ↔ (f ≡ deals.Took (value_by g))) (sym answer)
+    (take_decides f (value_by g))
 
-pub may_take_same : (r : Bool) (d e f g : Deal) (n : ℕ) → r ≡ ((is_take d && (value_by d == n)) || is_open d) → n ≡ value_by e → d ≡ f → e ≡ g
+pub may_take_same : (r : Bool) (d e f g : Deal) (n : ℕ)
+    → r ≡ ((is_take d && (value_by d == n)) || is_open d) → n ≡ value_by e → d ≡ f → e ≡ g
     → (r ≡ true) ↔ ((f ≡ deals.Took (value_by g)) ⊎ (f ≡ deals.OpenTake))
 may_take_same r d e f g n is at one other =
     let number : n ≡ value_by g = at ∙ ap value_by other in
     let answer : r ≡ ((is_take f && (value_by f == value_by g)) || is_open f)
-    = is ∙ (ap (λ (x : Deal). (is_take x && (value_by x == n)) || is_open x) one ∙ ap (λ (m : ℕ). (is_take f && (value_by f == m)) || is_open f) number) in
-    subst (λ (b : Bool). (b ≡ true) ↔ ((f ≡ deals.Took (value_by g)) ⊎ (f ≡ deals.OpenTake))) (sym answer) (may_take_decides f (value_by g))
+    = is ∙ (ap (λ (x : Deal). (is_take x && (value_by x == n)) || is_open x) one
+    ∙ ap (λ (m : ℕ). (is_take f && (value_by f == m)) || is_open f) number) in
+    subst (λ (b : Bool). (b ≡ true) ↔ ((f ≡ deals.Took (value_by g)) ⊎ (f ≡ deals.OpenTake)))
+    (sym answer) (may_take_decides f (value_by g))
 
 -- A deal that passes a test is a put, a take or a find of nothing, of its own value.
 pub put_of : (d : Deal) → is_put d ≡ true → d ≡ deals.Put (value_by d)

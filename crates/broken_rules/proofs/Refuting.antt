@@ -49,9 +49,13 @@ unfolding kind_next
 register_is = register_holds_last
 
 -- the kinds whose objects hold values are containers, empty at first
-containers : (kind : Kind) → holds_values kind ≡ true → IsContainer (reading_of kind) (kind_next kind) × ((reading_of kind).values (kind_init kind) ≡ [])
-containers kinds.Queue is = (queue_is_container queue_reading (kind_next kinds.Queue) queue_is, refl)
-containers kinds.Stack is = (stack_is_container stack_reading (kind_next kinds.Stack) stack_is, refl)
+containers : (kind : Kind) → holds_values kind ≡ true
+    → IsContainer (reading_of kind) (kind_next kind)
+    × ((reading_of kind).values (kind_init kind) ≡ [])
+containers kinds.Queue is =
+    (queue_is_container queue_reading (kind_next kinds.Queue) queue_is, refl)
+containers kinds.Stack is =
+    (stack_is_container stack_reading (kind_next kinds.Stack) stack_is, refl)
 containers kinds.Pqueue is = (pqueue_is, refl)
 containers _ is = absurd (false≢true is)
 
@@ -77,23 +81,31 @@ only_register _ is = absurd (false≢true is)
 
 -- ---- what the two calls did
 
-two_parts : (d e : Deal) → (is_put d && is_take e) ≡ true → (d ≡ deals.Put (value_by d)) × (e ≡ deals.Took (value_by e))
-two_parts d e fit = let parts = and_parts (is_put d) (is_take e) fit in (put_of d parts.0, take_is e parts.1)
+two_parts : (d e : Deal) → (is_put d && is_take e) ≡ true → (d ≡ deals.Put (value_by d))
+    × (e ≡ deals.Took (value_by e))
+two_parts d e fit = let parts = and_parts (is_put d) (is_take e) fit in
+    (put_of d parts.0, take_is e parts.1)
 
-two_takes : (d e : Deal) → (is_take d && is_take e) ≡ true → (d ≡ deals.Took (value_by d)) × (e ≡ deals.Took (value_by e))
-two_takes d e fit = let parts = and_parts (is_take d) (is_take e) fit in (take_is d parts.0, take_is e parts.1)
+two_takes : (d e : Deal) → (is_take d && is_take e) ≡ true → (d ≡ deals.Took (value_by d))
+    × (e ≡ deals.Took (value_by e))
+two_takes d e fit = let parts = and_parts (is_take d) (is_take e) fit in
+    (take_is d parts.0, take_is e parts.1)
 
 -- ---- each rule
 
-moved : (kind other : Kind) (book : List Page) (broken : BrokenRule) → kind ≡ other → Breaks kind book broken → Breaks other book broken
+moved : (kind other : Kind) (book : List Page) (broken : BrokenRule) → kind ≡ other
+    → Breaks kind book broken → Breaks other book broken
 moved kind other book broken same breaks = subst (λ (k : Kind). Breaks k book broken) same breaks
 
 module _ (book : List Page) (small : IsSmall book) (first second : Call) where
-  refuted : (rule : Rule) (kind : Kind) → Breaks kind book (record { rule = rule; first = first; second = second }) → ¬ HasLegalOrder (kind_init kind) (kind_next kind) book
+  refuted : (rule : Rule) (kind : Kind)
+      → Breaks kind book (record { rule = rule; first = first; second = second })
+      → ¬ HasLegalOrder (kind_init kind) (kind_next kind) book
   refuted named.TakenUnput kind breaks =
       let holds = containers kind breaks.kept in
       let d : Deal = did kind book first in
-      taken_unput (reading_of kind) (kind_init kind) (kind_next kind) book holds.0 holds.1 (value_by d) first (take_is d breaks.fit) breaks.puts
+      taken_unput (reading_of kind) (kind_init kind) (kind_next kind) book holds.0 holds.1
+      (value_by d) first (take_is d breaks.fit) breaks.puts
   refuted named.TakenTwice kind breaks =
       let holds = containers kind breaks.kept in
       let d : Deal = did kind book first in
@@ -101,76 +113,102 @@ module _ (book : List Page) (small : IsSmall book) (first second : Call) where
       let parts = and_parts (is_put d && is_take e) (value_by d == value_by e) breaks.fit in
       let two = two_parts d e parts.0 in
       let same : value_by d ≡ value_by e = eqb-true (value_by d) (value_by e) parts.1 in
-      taken_twice (reading_of kind) (kind_init kind) (kind_next kind) book holds.0 holds.1 (value_by e) first second
+      taken_twice (reading_of kind) (kind_init kind) (kind_next kind) book holds.0 holds.1
+      (value_by e) first second
       (subst (λ (v : ℕ). d ≡ deals.Put v) same two.0) two.1
-      (subst (λ (v : ℕ). (call : Call) → IsCall book call → did kind book call ≡ deals.Put v → call ≡ first) same breaks.puts) breaks.related
+      (subst (λ (v : ℕ). (call : Call) → IsCall book call → did kind book call ≡ deals.Put v
+      → call ≡ first) same breaks.puts) breaks.related
   refuted named.FoundNothing kind breaks =
       let holds = containers kind breaks.kept in
       let d : Deal = did kind book first in
       let e : Deal = did kind book second in
       let parts = and_parts (is_put d) (is_nothing e) breaks.fit in
-      found_nothing (reading_of kind) (kind_init kind) (kind_next kind) book holds.0 holds.1 (value_by d) first second (put_of d parts.0) (nothing_is e parts.1) breaks.related breaks.takes
+      found_nothing (reading_of kind) (kind_init kind) (kind_next kind) book holds.0 holds.1
+      (value_by d) first second (put_of d parts.0)
+      (nothing_is e parts.1) breaks.related breaks.takes
   refuted named.PassedOver kind breaks =
       let is : kind ≡ kinds.Queue = only_queue kind breaks.kept in
-      let here = moved kind kinds.Queue book (record { rule = named.PassedOver; first = first; second = second }) is breaks in
+      let here = moved kind kinds.Queue book
+      (record { rule = named.PassedOver; first = first; second = second }) is breaks in
       let d : Deal = did kinds.Queue book first in
       let e : Deal = did kinds.Queue book second in
       let two = two_parts d e here.fit in
       subst (λ (k : Kind). ¬ HasLegalOrder (kind_init k) (kind_next k) book) (sym is)
-      (passed_over queue_reading [] (kind_next kinds.Queue) book queue_is refl (value_by d) (value_by e) first second two.0 two.1 here.puts here.takes)
+      (passed_over queue_reading [] (kind_next kinds.Queue) book queue_is refl (value_by d)
+      (value_by e) first second two.0 two.1 here.puts here.takes)
   refuted named.TakenFromUnder kind breaks =
       let is : kind ≡ kinds.Stack = only_stack kind breaks.kept in
-      let here = moved kind kinds.Stack book (record { rule = named.TakenFromUnder; first = first; second = second }) is breaks in
+      let here = moved kind kinds.Stack book
+      (record { rule = named.TakenFromUnder; first = first; second = second }) is breaks in
       let d : Deal = did kinds.Stack book first in
       let e : Deal = did kinds.Stack book second in
       let two = two_parts d e here.fit in
       subst (λ (k : Kind). ¬ HasLegalOrder (kind_init k) (kind_next k) book) (sym is)
-      (taken_from_under stack_reading [] (kind_next kinds.Stack) book stack_is (value_by d) (value_by e) first second two.0 two.1 here.related here.puts here.takes)
+      (taken_from_under stack_reading [] (kind_next kinds.Stack) book stack_is (value_by d)
+      (value_by e) first second two.0 two.1 here.related here.puts here.takes)
   refuted named.LesserLeft kind breaks =
       let is : kind ≡ kinds.Pqueue = only_pqueue kind breaks.kept in
-      let here = moved kind kinds.Pqueue book (record { rule = named.LesserLeft; first = first; second = second }) is breaks in
+      let here = moved kind kinds.Pqueue book
+      (record { rule = named.LesserLeft; first = first; second = second }) is breaks in
       let d : Deal = did kinds.Pqueue book first in
       let e : Deal = did kinds.Pqueue book second in
       let parts = and_parts (is_put d && is_take e) (nat_lt (value_by d) (value_by e)) here.fit in
       let two = two_parts d e parts.0 in
       subst (λ (k : Kind). ¬ HasLegalOrder (kind_init k) (kind_next k) book) (sym is)
-      (lesser_left book (value_by d) (value_by e) first second (ltb-true (value_by d) (value_by e) parts.1) two.0 two.1 here.related here.takes)
+      (lesser_left book (value_by d) (value_by e) first second
+      (ltb-true (value_by d) (value_by e) parts.1) two.0 two.1 here.related here.takes)
   refuted named.CountedTwice kind breaks =
       let is : kind ≡ kinds.Counter = only_counter kind breaks.kept in
-      let here = moved kind kinds.Counter book (record { rule = named.CountedTwice; first = first; second = second }) is breaks in
+      let here = moved kind kinds.Counter book
+      (record { rule = named.CountedTwice; first = first; second = second }) is breaks in
       let d : Deal = did kinds.Counter book first in
       let e : Deal = did kinds.Counter book second in
       let parts = and_parts (is_take d && is_take e) (value_by d == value_by e) here.fit in
       let two = two_takes d e parts.0 in
       subst (λ (k : Kind). ¬ HasLegalOrder (kind_init k) (kind_next k) book) (sym is)
-      (counted_twice book (value_by d) (value_by e) first second small (eqb-true (value_by d) (value_by e) parts.1) here.related two.0 two.1)
+      (counted_twice book (value_by d) (value_by e) first second small
+      (eqb-true (value_by d) (value_by e) parts.1) here.related two.0 two.1)
   refuted named.CountedDown kind breaks =
       let is : kind ≡ kinds.Counter = only_counter kind breaks.kept in
-      let here = moved kind kinds.Counter book (record { rule = named.CountedDown; first = first; second = second }) is breaks in
+      let here = moved kind kinds.Counter book
+      (record { rule = named.CountedDown; first = first; second = second }) is breaks in
       let d : Deal = did kinds.Counter book first in
       let e : Deal = did kinds.Counter book second in
       let parts = and_parts (is_take d && is_take e) (nat_lt (value_by e) (value_by d)) here.fit in
       let two = two_takes d e parts.0 in
       subst (λ (k : Kind). ¬ HasLegalOrder (kind_init k) (kind_next k) book) (sym is)
-      (counted_down book (value_by d) (value_by e) first second small (ltb-true (value_by e) (value_by d) parts.1) two.0 two.1 here.related)
+      (counted_down book (value_by d) (value_by e) first second small
+      (ltb-true (value_by e) (value_by d) parts.1) two.0 two.1 here.related)
   refuted named.ReadUnwritten kind breaks =
       let is : kind ≡ kinds.Register = only_register kind breaks.kept in
-      let here = moved kind kinds.Register book (record { rule = named.ReadUnwritten; first = first; second = second }) is breaks in
+      let here = moved kind kinds.Register book
+      (record { rule = named.ReadUnwritten; first = first; second = second }) is breaks in
       let d : Deal = did kinds.Register book first in
       let parts = and_parts (is_take d) (not (value_by d == 0)) here.fit in
       subst (λ (k : Kind). ¬ HasLegalOrder (kind_init k) (kind_next k) book) (sym is)
-      (read_unwritten register_reading held_in (0 ∷ []) (kind_next kinds.Register) book register_is (value_by d) first
+      (read_unwritten register_reading held_in (0 ∷ []) (kind_next kinds.Register) book register_is
+      (value_by d) first
       (eqb-false (value_by d) 0 (not-true (value_by d == 0) parts.1)) (take_is d parts.0) here.puts)
   refuted named.ReadOverwritten kind breaks =
       let is : kind ≡ kinds.Register = only_register kind breaks.kept in
-      let here = moved kind kinds.Register book (record { rule = named.ReadOverwritten; first = first; second = second }) is breaks in
+      let here = moved kind kinds.Register book
+      (record { rule = named.ReadOverwritten; first = first; second = second }) is breaks in
       let d : Deal = did kinds.Register book first in
       let e : Deal = did kinds.Register book second in
       let two = two_parts d e here.fit in
       subst (λ (k : Kind). ¬ HasLegalOrder (kind_init k) (kind_next k) book) (sym is)
-      (read_overwritten register_reading held_in (0 ∷ []) (kind_next kinds.Register) book register_is (value_by d) (value_by e) first second two.0 two.1 here.related here.puts)
+      (read_overwritten register_reading held_in (0 ∷ []) (kind_next kinds.Register) book
+      register_is (value_by d) (value_by e) first second two.0 two.1 here.related here.puts)
 
 pub what_breaks_is_illegal : WhatBreaksIsIllegal
 what_breaks_is_illegal kind book broken small breaks =
     refuted book small broken.first broken.second broken.rule kind
-    (record { first = breaks.first; second = breaks.second; kept = breaks.kept; fit = breaks.fit; related = breaks.related; puts = breaks.puts; takes = breaks.takes })
+    (record {
+      first = breaks.first;
+      second = breaks.second;
+      kept = breaks.kept;
+      fit = breaks.fit;
+      related = breaks.related;
+      puts = breaks.puts;
+      takes = breaks.takes;
+    })

@@ -10,11 +10,15 @@ use Rattle.broken_rules.specs.declared.rule.Rule.{Rule}
 use Rattle.broken_rules.specs.declared.rule.Rule.TheVariants as named
 use Rattle.broken_rules.specs.Rules.{Breaks, all_rules}
 
--- what holds of the calls of the callers below one, and of this one's calls, holds of the calls of all callers up to it
+-- what holds of the calls of the callers below one, and of this one's calls, holds of the calls of
+-- all callers up to it
 pub callers_more : (P : Call → Type 0) (i : ℕ) → ((call : Call) → call.caller < i → P call)
-    → ((number : ℕ) → P (record { caller = i; number = number })) → (call : Call) → call.caller < i + 1 → P call
+    → ((number : ℕ) → P (record { caller = i; number = number })) → (call : Call)
+    → call.caller < i + 1 → P call
 callers_more P i before here call below = elim (cases_eq call.caller i) [
-  | inl same ↦ subst P (same_call (record { caller = i; number = call.number }) call (sym same) refl) (here call.number)
+  | inl same ↦
+      subst P (same_call (record { caller = i; number = call.number }) call (sym same) refl)
+      (here call.number)
   | inr other ↦ before call (omega (arith, below, other))
 ]
 
@@ -29,11 +33,21 @@ cases_call a b = elim (cases_eq a.caller b.caller) [
 ]
 
 -- what breaks a rule breaks the rule of that name
-pub with_rule : (kind : Kind) (book : List Page) (broken : BrokenRule) (rule : Rule) → broken.rule ≡ rule → Breaks kind book broken
+pub with_rule : (kind : Kind) (book : List Page) (broken : BrokenRule) (rule : Rule)
+    → broken.rule ≡ rule → Breaks kind book broken
     → Breaks kind book (record { rule = rule; first = broken.first; second = broken.second })
 with_rule kind book broken rule same breaks =
-    subst (λ (r : Rule). Breaks kind book (record { rule = r; first = broken.first; second = broken.second })) same
-    (record { first = breaks.first; second = breaks.second; kept = breaks.kept; fit = breaks.fit; related = breaks.related; puts = breaks.puts; takes = breaks.takes })
+    subst (λ (r : Rule).
+    Breaks kind book (record { rule = r; first = broken.first; second = broken.second })) same
+    (record {
+      first = breaks.first;
+      second = breaks.second;
+      kept = breaks.kept;
+      fit = breaks.fit;
+      related = breaks.related;
+      puts = breaks.puts;
+      takes = breaks.takes;
+    })
 
 -- each rule is among those that are tried
 pub all_listed : (rule : Rule) → (k : ℕ) × (slice_get all_rules k ≡ Some rule)

@@ -18,90 +18,139 @@ use Rattle.object_foresight.specs.Deals.{deal_of}
 use Rattle.object_foresight.proofs.Dealing.{puts_by_deal, takes_by_deal}
 use Rattle.broken_rules.proofs.Standing.{taker_of_step, putter_of_step}
 
--- What a stack has from v on, it has still after a step that doesn't take v; and it has no w over v, if the step doesn't put w in.
-covered_by_take : (w v : ℕ) (above below : List ℕ) (shown : Option ℕ) (after : List ℕ) → times w above ≡ 0 → GivesFirst (above ++ v ∷ below) shown after → (shown ≡ Some v → ⊥)
+-- What a stack has from v on, it has still after a step that doesn't take v; and it has no w over
+-- v, if the step doesn't put w in.
+covered_by_take : (w v : ℕ) (above below : List ℕ) (shown : Option ℕ) (after : List ℕ)
+    → times w above ≡ 0 → GivesFirst (above ++ v ∷ below) shown after → (shown ≡ Some v → ⊥)
     → (now : List ℕ) × (after ≡ now ++ v ∷ below) × (times w now ≡ 0)
 covered_by_take w v [] below None after none gives apart = absurd cc
 covered_by_take w v (u ∷ above) below None after none gives apart = absurd cc
-covered_by_take w v [] below (Some x) after none gives apart = let same : v ≡ x = cc in absurd (apart (ap (λ (n : ℕ). Some n) (sym same)))
-covered_by_take w v (u ∷ above) below (Some x) after none gives apart = let rest : above ++ v ∷ below ≡ after = cc in (above, sym rest, omega (arith, none))
+covered_by_take w v [] below (Some x) after none gives apart = let same : v ≡ x = cc in
+    absurd (apart (ap (λ (n : ℕ). Some n) (sym same)))
+covered_by_take w v (u ∷ above) below (Some x) after none gives apart =
+    let rest : above ++ v ∷ below ≡ after = cc in (above, sym rest, omega (arith, none))
 
-covered_by_step : (reading : Reading) (next : List ℕ → ℕ → List ℕ × ℕ) → IsStack reading next → (list : List ℕ) (op w v : ℕ) (above below : List ℕ) (deed : Deed) → reading.deed op ≡ deed
-    → reading.values list ≡ above ++ v ∷ below → times w above ≡ 0 → (value_put deed ≡ Some w → ⊥) → (value_taken deed (reading.shown (next list op).1) ≡ Some v → ⊥)
+covered_by_step : (reading : Reading) (next : List ℕ → ℕ → List ℕ × ℕ) → IsStack reading next
+    → (list : List ℕ) (op w v : ℕ) (above below : List ℕ) (deed : Deed) → reading.deed op ≡ deed
+    → reading.values list ≡ above ++ v ∷ below → times w above ≡ 0 → (value_put deed ≡ Some w → ⊥)
+    → (value_taken deed (reading.shown (next list op).1) ≡ Some v → ⊥)
     → (now : List ℕ) × (reading.values (next list op).0 ≡ now ++ v ∷ below) × (times w now ≡ 0)
-covered_by_step reading next is list op w v above below (Puts u) e held none other apart =
-    (u ∷ above, is.put list op u e ∙ ap (λ (xs : List ℕ). u ∷ xs) held, times-apart w u above (λ (same : u ≡ w). other (ap (λ (n : ℕ). Some n) same)) ∙ none)
+covered_by_step reading next is list op w v above below (Puts u) e held none other apart = (
+  u ∷ above,
+  is.put list op u e ∙ ap (λ (xs : List ℕ). u ∷ xs) held,
+  times-apart w u above (λ (same : u ≡ w). other (ap (λ (n : ℕ). Some n) same)) ∙ none,
+)
 covered_by_step reading next is list op w v above below Takes e held none other apart =
-    covered_by_take w v above below (reading.shown (next list op).1) (reading.values (next list op).0) none
-    (subst (λ (xs : List ℕ). GivesFirst xs (reading.shown (next list op).1) (reading.values (next list op).0)) held (is.take list op e)) apart
-covered_by_step reading next is list op w v above below Neither e held none other apart = (above, is.neither list op e ∙ held, none)
+    covered_by_take w v above below (reading.shown (next list op).1)
+    (reading.values (next list op).0) none
+    (subst (λ (xs : List ℕ). GivesFirst xs (reading.shown (next list op).1)
+    (reading.values (next list op).0)) held (is.take list op e)) apart
+covered_by_step reading next is list op w v above below Neither e held none other apart =
+    (above, is.neither list op e ∙ held, none)
 
 -- So while v isn't taken and w isn't put in, a stack with v on top comes to have no w over v.
-stays_covered : (reading : Reading) (next : List ℕ → ℕ → List ℕ × ℕ) → IsStack reading next → (list : List ℕ) (steps : List (ℕ × ℕ)) → IsRunFrom next list steps
-    → (w v : ℕ) (below : List ℕ) (m d : ℕ) → reading.values (list_after_run next list (take m steps)) ≡ v ∷ below → m + d ≤ length steps
-    → ((k : ℕ) (step : ℕ × ℕ) → m ≤ k → k < m + d → slice_get steps k ≡ Some step → put_by reading step ≡ Some w → ⊥)
-    → ((k : ℕ) (step : ℕ × ℕ) → m ≤ k → k < m + d → slice_get steps k ≡ Some step → taken_by reading step ≡ Some v → ⊥)
-    → (above : List ℕ) × (reading.values (list_after_run next list (take (m + d) steps)) ≡ above ++ v ∷ below) × (times w above ≡ 0)
+stays_covered : (reading : Reading) (next : List ℕ → ℕ → List ℕ × ℕ) → IsStack reading next
+    → (list : List ℕ) (steps : List (ℕ × ℕ)) → IsRunFrom next list steps
+    → (w v : ℕ) (below : List ℕ) (m d : ℕ)
+    → reading.values (list_after_run next list (take m steps)) ≡ v ∷ below → m + d ≤ length steps
+    → ((k : ℕ) (step : ℕ × ℕ) → m ≤ k → k < m + d → slice_get steps k ≡ Some step
+    → put_by reading step ≡ Some w → ⊥)
+    → ((k : ℕ) (step : ℕ × ℕ) → m ≤ k → k < m + d → slice_get steps k ≡ Some step
+    → taken_by reading step ≡ Some v → ⊥)
+    → (above : List ℕ)
+    × (reading.values (list_after_run next list (take (m + d) steps)) ≡ above ++ v ∷ below)
+    × (times w above ≡ 0)
 stays_covered reading next is list steps run w v below m zero top long no_put no_take =
     let same : m + 0 ≡ m = omega arith in
     ([], ap (λ (n : ℕ). reading.values (list_after_run next list (take n steps))) same ∙ top, refl)
 stays_covered reading next is list steps run w v below m (suc d) top long no_put no_take =
-    let before = stays_covered reading next is list steps run w v below m d top (omega arith) (λ k step low lt. no_put k step low (omega arith)) (λ k step low lt. no_take k step low (omega arith)) in
+    let before = stays_covered reading next is list steps run w v below m d top (omega arith)
+    (λ k step low lt. no_put k step low (omega arith))
+    (λ k step low lt. no_take k step low (omega arith)) in
     let n : ℕ = m + d in
     let step : ℕ × ℕ = get_or steps n (0, 0) in
     let at : slice_get steps n ≡ Some step = slice_get-get_or steps n (0, 0) (omega arith) in
     let here : List ℕ = list_after_run next list (take n steps) in
     let ran = step_of_run next list steps n step run at in
     let apart : value_taken (reading.deed step.0) (reading.shown (next here step.0).1) ≡ Some v → ⊥
-    = λ e. no_take n step (omega arith) (omega arith) at (ap (λ (reply : ℕ). taken_by reading (step.0, reply)) (sym ran.0) ∙ e) in
-    let other : value_put (reading.deed step.0) ≡ Some w → ⊥ = λ e. no_put n step (omega arith) (omega arith) at e in
-    let after = covered_by_step reading next is here step.0 w v before.0 below (reading.deed step.0) refl before.1 before.2 other apart in
-    let same : m + suc d ≡ suc n = omega arith in
-    (after.0, ap (λ (k : ℕ). reading.values (list_after_run next list (take k steps))) same ∙ (ap reading.values ran.1 ∙ after.1), after.2)
+    = λ e. no_take n step (omega arith) (omega arith) at
+    (ap (λ (reply : ℕ). taken_by reading (step.0, reply)) (sym ran.0) ∙ e) in
+    let other : value_put (reading.deed step.0) ≡ Some w → ⊥ =
+    λ e. no_put n step (omega arith) (omega arith) at e in
+    let after = covered_by_step reading next is here step.0 w v before.0 below
+    (reading.deed step.0) refl before.1 before.2 other apart in
+    let same : m + suc d ≡ suc n = omega arith in (
+      after.0,
+      ap (λ (k : ℕ). reading.values (list_after_run next list (take k steps))) same
+          ∙ (ap reading.values ran.1 ∙ after.1),
+      after.2,
+    )
 
 -- what is on top, where no w is over v
-top_is : (w v : ℕ) (above below after : List ℕ) → above ++ v ∷ below ≡ w ∷ after → times w above ≡ 0 → v ≡ w
+top_is : (w v : ℕ) (above below after : List ℕ) → above ++ v ∷ below ≡ w ∷ after
+    → times w above ≡ 0 → v ≡ w
 top_is w v [] below after e none = cc
-top_is w v (u ∷ above) below after e none = let same : u ≡ w = cc in absurd (omega (arith, none, ap one_if (eq-eqb u w same)))
+top_is w v (u ∷ above) below after e none = let same : u ≡ w = cc in
+    absurd (omega (arith, none, ap one_if (eq-eqb u w same)))
 
--- A value that is put in before a take of another one is taken before, where that one isn't put in between: not each of its takes
--- comes after.
-pub taken_from_under : (reading : Reading) (init : List ℕ) (next : List ℕ → ℕ → List ℕ × ℕ) (book : List Page) → IsStack reading next
-    → (v w : ℕ) (put taker : Call) → deal_of reading book put ≡ deals.Put v → deal_of reading book taker ≡ deals.Took w → Precedes book put taker
-    → ((call : Call) → IsCall book call → deal_of reading book call ≡ deals.Put w → Precedes book call put ⊎ Precedes book taker call)
-    → ((call : Call) → IsCall book call → (deal_of reading book call ≡ deals.Took v) ⊎ (deal_of reading book call ≡ deals.OpenTake) → Precedes book taker call)
+-- A value that is put in before a take of another one is taken before, where that one isn't put in
+-- between: not each of its takes comes after.
+pub taken_from_under : (reading : Reading) (init : List ℕ) (next : List ℕ → ℕ → List ℕ × ℕ)
+    (book : List Page) → IsStack reading next
+    → (v w : ℕ) (put taker : Call) → deal_of reading book put ≡ deals.Put v
+    → deal_of reading book taker ≡ deals.Took w → Precedes book put taker
+    → ((call : Call) → IsCall book call → deal_of reading book call ≡ deals.Put w
+    → Precedes book call put ⊎ Precedes book taker call)
+    → ((call : Call) → IsCall book call → (deal_of reading book call ≡ deals.Took v)
+    ⊎ (deal_of reading book call ≡ deals.OpenTake) → Precedes book taker call)
     → ¬ HasLegalOrder init next book
 taken_from_under reading init next book is v w put taker puts takes precedes outside follow h =
     let order = h.0 in
     let legal = h.1 in
     let steps = steps_of book order in
-    let m = answered_step reading init next book order legal taker (Some w) (takes_by_deal reading book taker w takes) in
+    let m = answered_step reading init next book order legal taker (Some w)
+    (takes_by_deal reading book taker w takes) in
     let q = preceding_comes_first init next book put taker precedes order legal m.0 m.2 in
-    let step_q = putting_step reading book order put v q.0 (puts_by_deal reading book put v puts) q.2 in
-    let no_put : (k : ℕ) (step : ℕ × ℕ) → q.0 ≤ k → k ≤ m.0 → slice_get steps k ≡ Some step → put_by reading step ≡ Some w → ⊥
+    let step_q =
+    putting_step reading book order put v q.0 (puts_by_deal reading book put v puts) q.2 in
+    let no_put : (k : ℕ) (step : ℕ × ℕ) → q.0 ≤ k → k ≤ m.0 → slice_get steps k ≡ Some step
+    → put_by reading step ≡ Some w → ⊥
     = λ k step low high at is_put.
     (let putter = putter_of_step reading init next book order legal k w step at is_put in
     elim (outside putter.0 putter.2 putter.3) [
-      | inl before ↦ (let lt : k < q.0 = legal.precedence k q.0 putter.0 put putter.1 q.2 before in absurd (omega (arith, lt, low)))
-      | inr after ↦ (let lt : m.0 < k = legal.precedence m.0 k taker putter.0 m.2 putter.1 after in absurd (omega (arith, lt, high)))
+      | inl before ↦ (let lt : k < q.0 = legal.precedence k q.0 putter.0 put putter.1 q.2 before in
+          absurd (omega (arith, lt, low)))
+      | inr after ↦ (let lt : m.0 < k = legal.precedence m.0 k taker putter.0 m.2 putter.1 after in
+          absurd (omega (arith, lt, high)))
     ]) in
-    let no_take : (k : ℕ) (step : ℕ × ℕ) → k ≤ m.0 → slice_get steps k ≡ Some step → taken_by reading step ≡ Some v → ⊥
+    let no_take : (k : ℕ) (step : ℕ × ℕ) → k ≤ m.0 → slice_get steps k ≡ Some step
+    → taken_by reading step ≡ Some v → ⊥
     = λ k step high at takes_v.
     (let other = taker_of_step reading init next book order legal k v step at takes_v in
-    let lt : m.0 < k = legal.precedence m.0 k taker other.0 m.2 other.1 (follow other.0 other.2 other.3) in
+    let lt : m.0 < k =
+    legal.precedence m.0 k taker other.0 m.2 other.1 (follow other.0 other.2 other.3) in
     absurd (omega (arith, lt, high))) in
     let below : List ℕ = reading.values (list_after_run next init (take q.0 steps)) in
     let top : reading.values (list_after_run next init (take (suc q.0) steps)) ≡ v ∷ below
-    = ap reading.values (step_of_run next init steps q.0 step_q.0 legal.run step_q.1).1 ∙ is.put (list_after_run next init (take q.0 steps)) step_q.0.0 v step_q.2 in
+    = ap reading.values (step_of_run next init steps q.0 step_q.0 legal.run step_q.1).1
+    ∙ is.put (list_after_run next init (take q.0 steps)) step_q.0.0 v step_q.2 in
     let gap : ℕ = m.0 - suc q.0 in
     let whole : suc q.0 + gap ≡ m.0 = omega (arith, q.1) in
     let inside : m.0 < length steps = slice_get_within steps m.0 m.1 m.3 in
-    let later = stays_covered reading next is init steps legal.run w v below (suc q.0) gap top (omega (arith, whole, inside))
-    (λ k step low lt at is_put. no_put k step (omega (arith, low)) (omega (arith, lt, whole)) at is_put) (λ k step low lt at takes_v. no_take k step (omega (arith, lt, whole)) at takes_v) in
+    let later = stays_covered reading next is init steps legal.run w v below (suc q.0) gap top
+    (omega (arith, whole, inside))
+    (λ k step low lt at is_put. no_put k step (omega (arith, low)) (omega (arith, lt, whole)) at
+    is_put) (λ k step low lt at takes_v. no_take k step (omega (arith, lt, whole)) at takes_v) in
     let here : List ℕ = list_after_run next init (take m.0 steps) in
-    let now : reading.values here ≡ later.0 ++ v ∷ below = ap (λ (n : ℕ). reading.values (list_after_run next init (take n steps))) (sym whole) ∙ later.1 in
-    let shows : reading.shown (next here m.1.0).1 ≡ Some w = ap reading.shown (step_of_run next init steps m.0 m.1 legal.run m.3).0 ∙ m.5 in
+    let now : reading.values here ≡ later.0 ++ v ∷ below = ap
+    (λ (n : ℕ). reading.values (list_after_run next init (take n steps))) (sym whole) ∙ later.1 in
+    let shows : reading.shown (next here m.1.0).1 ≡ Some w =
+    ap reading.shown (step_of_run next init steps m.0 m.1 legal.run m.3).0 ∙ m.5 in
     let gives : reading.values here ≡ w ∷ reading.values (next here m.1.0).0
-    = subst (λ (o : Option ℕ). GivesFirst (reading.values here) o (reading.values (next here m.1.0).0)) shows (is.take here m.1.0 m.4) in
-    let same : v ≡ w = top_is w v later.0 below (reading.values (next here m.1.0).0) (sym now ∙ gives) later.2 in
-    no_put q.0 step_q.0 (omega arith) (omega (arith, q.1)) step_q.1 (puts_by reading step_q.0 v step_q.2 ∙ ap (λ (n : ℕ). Some n) same)
+    = subst
+    (λ (o : Option ℕ). GivesFirst (reading.values here) o (reading.values (next here m.1.0).0))
+    shows (is.take here m.1.0 m.4) in
+    let same : v ≡ w =
+    top_is w v later.0 below (reading.values (next here m.1.0).0) (sym now ∙ gives) later.2 in
+    no_put q.0 step_q.0 (omega arith) (omega (arith, q.1)) step_q.1
+    (puts_by reading step_q.0 v step_q.2 ∙ ap (λ (n : ℕ). Some n) same)

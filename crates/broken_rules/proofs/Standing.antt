@@ -13,15 +13,19 @@ use Rattle.object_foresight.specs.Deals.{shown_deal, recorded_deal, deal_by_deed
 use Rattle.object_foresight.proofs.Dealing.{deal_of_put}
 
 -- the deed of a step that takes out a value, and what its reply shows
-taken_from_value : (deed : Deed) (shown : Option ℕ) (v : ℕ) → value_taken deed shown ≡ Some v → (deed ≡ Takes) × (shown ≡ Some v)
+taken_from_value : (deed : Deed) (shown : Option ℕ) (v : ℕ) → value_taken deed shown ≡ Some v
+    → (deed ≡ Takes) × (shown ≡ Some v)
 taken_from_value (Puts w) shown v e = absurd (none-some v e)
 taken_from_value Takes shown v e = (refl, e)
 taken_from_value Neither shown v e = absurd (none-some v e)
 
 -- A step that takes out a value is of a call that takes it, or of a take without an answer.
-pub taker_of_step : (reading : Reading) (init : List ℕ) (next : List ℕ → ℕ → List ℕ × ℕ) (book : List Page) (order : List Place) → IsLegalOrder init next book order
-    → (k v : ℕ) (step : ℕ × ℕ) → slice_get (steps_of book order) k ≡ Some step → taken_by reading step ≡ Some v
-    → (call : Call) × StandsAt order k call × IsCall book call × ((deal_of reading book call ≡ deals.Took v) ⊎ (deal_of reading book call ≡ deals.OpenTake))
+pub taker_of_step : (reading : Reading) (init : List ℕ) (next : List ℕ → ℕ → List ℕ × ℕ)
+    (book : List Page) (order : List Place) → IsLegalOrder init next book order
+    → (k v : ℕ) (step : ℕ × ℕ) → slice_get (steps_of book order) k ≡ Some step
+    → taken_by reading step ≡ Some v
+    → (call : Call) × StandsAt order k call × IsCall book call
+    × ((deal_of reading book call ≡ deals.Took v) ⊎ (deal_of reading book call ≡ deals.OpenTake))
 taker_of_step reading init next book order legal k v step e is =
     let place = place_of_step book order k step e in
     let call : Call = call_at place.0 in
@@ -36,19 +40,33 @@ taker_of_step reading init next book order legal k v step e is =
     elim (cases_Option (record_of book call)) [
       | inl none ↦ (call, stands, made, inr (deal ∙ ap (recorded_deal reading) none))
       | inr answer ↦
-          let it : Place = record { caller = call.caller; number = call.number; reply = answer.0.reply } in
+          let it : Place =
+          record { caller = call.caller; number = call.number; reply = answer.0.reply } in
           let found = legal.answered call answer.0 answer.1 in
           let same_place : found.0 ≡ k = legal.once found.0 k call (it, found.1, refl) stands in
-          let one : it ≡ place.0 = same_Some it place.0 (sym found.1 ∙ (ap (slice_get order) same_place ∙ place.1)) in
-          let reply : answer.0.reply ≡ step.1 = ap (λ (p : Place). p.reply) one ∙ ap (λ (s : ℕ × ℕ). s.1) place.2 in
-          let shown : reading.shown answer.0.reply ≡ Some v = ap reading.shown reply ∙ parts.1 in
-          (call, stands, made, inl (deal ∙ (ap (recorded_deal reading) answer.1 ∙ ap shown_deal shown)))
+          let one : it ≡ place.0 =
+          same_Some it place.0 (sym found.1 ∙ (ap (slice_get order) same_place ∙ place.1)) in
+          let reply : answer.0.reply ≡ step.1 =
+          ap (λ (p : Place). p.reply) one ∙ ap (λ (s : ℕ × ℕ). s.1) place.2 in
+          let shown : reading.shown answer.0.reply ≡ Some v = ap reading.shown reply ∙ parts.1 in (
+            call,
+            stands,
+            made,
+            inl (deal ∙ (ap (recorded_deal reading) answer.1 ∙ ap shown_deal shown)),
+          )
     ]
 
 -- A step that puts in a value is of a call that does.
-pub putter_of_step : (reading : Reading) (init : List ℕ) (next : List ℕ → ℕ → List ℕ × ℕ) (book : List Page) (order : List Place) → IsLegalOrder init next book order
-    → (k v : ℕ) (step : ℕ × ℕ) → slice_get (steps_of book order) k ≡ Some step → put_by reading step ≡ Some v
-    → (call : Call) × StandsAt order k call × IsCall book call × (deal_of reading book call ≡ deals.Put v)
+pub putter_of_step : (reading : Reading) (init : List ℕ) (next : List ℕ → ℕ → List ℕ × ℕ)
+    (book : List Page) (order : List Place) → IsLegalOrder init next book order
+    → (k v : ℕ) (step : ℕ × ℕ) → slice_get (steps_of book order) k ≡ Some step
+    → put_by reading step ≡ Some v
+    → (call : Call) × StandsAt order k call × IsCall book call
+    × (deal_of reading book call ≡ deals.Put v)
 putter_of_step reading init next book order legal k v step e is =
-    let putter = call_of_put reading init next book order legal k v step e is in
-    (putter.0, putter.1, legal.calls k putter.0 putter.1, deal_of_put reading book putter.0 v putter.2)
+    let putter = call_of_put reading init next book order legal k v step e is in (
+      putter.0,
+      putter.1,
+      legal.calls k putter.0 putter.1,
+      deal_of_put reading book putter.0 v putter.2,
+    )

@@ -23,21 +23,29 @@ MayTake kind book value call = Took kind book value call ⊎ (did kind book call
 -- What a demand about two calls asks of a call.
 abbrev pub Meets : Kind → List Page → Demand → Call → Call → Call → Type 0
 -- where it puts in the value of the first call, it comes after the first call
-Meets kind book demands.OwnPutsFollow first second call = Puts kind book (value_at kind book first) call → Precedes book first call
+Meets kind book demands.OwnPutsFollow first second call =
+    Puts kind book (value_at kind book first) call → Precedes book first call
 -- where it puts in the value of the second call, it comes after the first call
-Meets kind book demands.OtherPutsFollow first second call = Puts kind book (value_at kind book second) call → Precedes book first call
--- where it puts in the value of the second call, it comes before the first call, or after the second one
+Meets kind book demands.OtherPutsFollow first second call =
+    Puts kind book (value_at kind book second) call → Precedes book first call
+-- where it puts in the value of the second call, it comes before the first call, or after the
+-- second one
 Meets kind book demands.OtherPutsOutside first second call =
-    Puts kind book (value_at kind book second) call → Precedes book call first ⊎ Precedes book second call
+    Puts kind book (value_at kind book second) call → Precedes book call first
+    ⊎ Precedes book second call
 -- where it puts in the value of the first call, it is the first call
-Meets kind book demands.OnlyPut first second call = Puts kind book (value_at kind book first) call → call ≡ first
+Meets kind book demands.OnlyPut first second call = Puts kind book (value_at kind book first) call
+    → call ≡ first
 -- where it takes the value of the second call, it is the second call
-Meets kind book demands.OnlyTake first second call = Took kind book (value_at kind book second) call → call ≡ second
+Meets kind book demands.OnlyTake first second call = Took kind book (value_at kind book second) call
+    → call ≡ second
 -- where it may take the value of the first call, it comes after the second call
-Meets kind book demands.TakesFollow first second call = MayTake kind book (value_at kind book first) call → Precedes book second call
+Meets kind book demands.TakesFollow first second call =
+    MayTake kind book (value_at kind book first) call → Precedes book second call
 -- nothing is asked
 Meets kind book demands.Nothing first second call = Unit {0}
 
 -- All calls of the book meet a demand about two calls.
 abbrev pub AllMeet : Kind → List Page → Demand → Call → Call → Type 0
-AllMeet kind book demand first second = (call : Call) → IsCall book call → Meets kind book demand first second call
+AllMeet kind book demand first second = (call : Call) → IsCall book call
+    → Meets kind book demand first second call

@@ -67,18 +67,22 @@ abbrev pub fits : Rule → Deal → Deal → Bool
 -- the first one takes
 fits rules.TakenUnput first second = is_take first
 -- the second one takes what the first one puts in
-fits rules.TakenTwice first second = is_put first && is_take second && (value_by first == value_by second)
+fits rules.TakenTwice first second =
+    is_put first && is_take second && (value_by first == value_by second)
 -- the first one puts in, and the second one finds nothing
 fits rules.FoundNothing first second = is_put first && is_nothing second
 -- the first one puts in, and the second one takes
 fits rules.PassedOver first second = is_put first && is_take second
 fits rules.TakenFromUnder first second = is_put first && is_take second
 -- the first one puts in a value that is less than the one that the second one takes
-fits rules.LesserLeft first second = is_put first && is_take second && nat_lt (value_by first) (value_by second)
+fits rules.LesserLeft first second =
+    is_put first && is_take second && nat_lt (value_by first) (value_by second)
 -- both reply one count
-fits rules.CountedTwice first second = is_take first && is_take second && (value_by first == value_by second)
+fits rules.CountedTwice first second =
+    is_take first && is_take second && (value_by first == value_by second)
 -- the second one replies a lower count
-fits rules.CountedDown first second = is_take first && is_take second && nat_lt (value_by second) (value_by first)
+fits rules.CountedDown first second =
+    is_take first && is_take second && nat_lt (value_by second) (value_by first)
 -- the first one reads another value than 0
 fits rules.ReadUnwritten first second = is_take first && not (value_by first == 0)
 -- the first one writes, and the second one reads
@@ -124,7 +128,8 @@ Related kind book relations.Apart first second = first ≢ second
 -- the first one precedes the second one
 Related kind book relations.Before first second = Precedes book first second
 -- another call takes what the second one takes
-Related kind book relations.TakenByAnother first second = ¬ AllMeet kind book demands.OnlyTake first second
+Related kind book relations.TakenByAnother first second =
+    ¬ AllMeet kind book demands.OnlyTake first second
 -- nothing is asked
 Related kind book relations.Any first second = Unit {0}
 
@@ -145,11 +150,13 @@ pub record Breaks (kind : Kind) (book : List Page) (broken : BrokenRule) : Type 
 
 -- A book that breaks a rule has no legal order.
 abbrev pub WhatBreaksIsIllegal : Type 0
-WhatBreaksIsIllegal = (kind : Kind) (book : List Page) (broken : BrokenRule) → IsSmall book → Breaks kind book broken
+WhatBreaksIsIllegal = (kind : Kind) (book : List Page) (broken : BrokenRule) → IsSmall book
+    → Breaks kind book broken
     → ¬ HasLegalOrder (kind_init kind) (kind_next kind) book
 
 -- All rules, in the order in which they are tried.
 abbrev pub all_rules : List Rule
 all_rules =
-    rules.TakenUnput ∷ rules.TakenTwice ∷ rules.PassedOver ∷ rules.TakenFromUnder ∷ rules.LesserLeft ∷ rules.FoundNothing ∷ rules.CountedTwice
+    rules.TakenUnput ∷ rules.TakenTwice ∷ rules.PassedOver ∷ rules.TakenFromUnder ∷ rules.LesserLeft
+    ∷ rules.FoundNothing ∷ rules.CountedTwice
     ∷ rules.CountedDown ∷ rules.ReadUnwritten ∷ rules.ReadOverwritten ∷ []

@@ -18,33 +18,46 @@ one_text first deed value end = call_text first ++ deed ++ decimal value ++ end
 
 -- what one call did with a value, and what another one did
 abbrev pub two_text : Call → List ℕ → ℕ → List ℕ → Call → List ℕ → List ℕ
-two_text first deed value middle second end = one_text first deed value middle ++ call_text second ++ end
+two_text first deed value middle second end =
+    one_text first deed value middle ++ call_text second ++ end
 
 -- what two calls did with two values
 abbrev pub both_text : Call → List ℕ → ℕ → List ℕ → Call → List ℕ → ℕ → List ℕ → List ℕ
-both_text first deed value middle second verb other end = two_text first deed value middle second verb ++ decimal other ++ end
+both_text first deed value middle second verb other end =
+    two_text first deed value middle second verb ++ decimal other ++ end
 
 -- the line of a rule, of two calls and their values
 unfoldable pub rule_text : Rule → Call → ℕ → Call → ℕ → List ℕ
-rule_text rules.TakenUnput first value second other = one_text first (codes " took ") value (codes ", which no call had put in before\n")
+rule_text rules.TakenUnput first value second other =
+    one_text first (codes " took ") value (codes ", which no call had put in before\n")
 rule_text rules.TakenTwice first value second other =
-    two_text first (codes " alone put ") value (codes " in, yet it was taken by ") second (codes " and by another call\n")
+    two_text first (codes " alone put ") value (codes " in, yet it was taken by ") second
+    (codes " and by another call\n")
 rule_text rules.FoundNothing first value second other =
-    two_text first (codes " put ") value (codes " in, yet ") second (codes " found nothing while it was there\n")
+    two_text first (codes " put ") value (codes " in, yet ") second
+    (codes " found nothing while it was there\n")
 rule_text rules.PassedOver first value second other =
-    both_text first (codes " put ") value (codes " in first, yet ") second (codes " took ") other (codes " while it was there\n")
+    both_text first (codes " put ") value (codes " in first, yet ") second (codes " took ") other
+    (codes " while it was there\n")
 rule_text rules.TakenFromUnder first value second other =
-    both_text first (codes " put ") value (codes " in last, yet ") second (codes " took ") other (codes " while it was there\n")
+    both_text first (codes " put ") value (codes " in last, yet ") second (codes " took ") other
+    (codes " while it was there\n")
 rule_text rules.LesserLeft first value second other =
-    both_text first (codes " put ") value (codes " in, yet ") second (codes " took ") other (codes ", which is greater, while it was there\n")
-rule_text rules.CountedTwice first value second other = two_text first (codes " counted ") value (codes ", and so did ") second (codes "\n")
+    both_text first (codes " put ") value (codes " in, yet ") second (codes " took ") other
+    (codes ", which is greater, while it was there\n")
+rule_text rules.CountedTwice first value second other =
+    two_text first (codes " counted ") value (codes ", and so did ") second (codes "\n")
 rule_text rules.CountedDown first value second other =
-    both_text first (codes " counted ") value (codes ", and after it ") second (codes " counted ") other (codes "\n")
-rule_text rules.ReadUnwritten first value second other = one_text first (codes " read ") value (codes ", which no call had written before\n")
+    both_text first (codes " counted ") value (codes ", and after it ") second
+    (codes " counted ") other (codes "\n")
+rule_text rules.ReadUnwritten first value second other =
+    one_text first (codes " read ") value (codes ", which no call had written before\n")
 rule_text rules.ReadOverwritten first value second other =
-    both_text first (codes " wrote ") value (codes ", and after it ") second (codes " read ") other (codes ", which was written over\n")
+    both_text first (codes " wrote ") value (codes ", and after it ") second (codes " read ") other
+    (codes ", which was written over\n")
 
 -- the line of a rule that a book breaks
 abbrev pub broken_text : Kind → List Page → BrokenRule → List ℕ
 broken_text kind book broken =
-    rule_text broken.rule broken.first (value_at kind book broken.first) broken.second (value_at kind book broken.second)
+    rule_text broken.rule broken.first (value_at kind book broken.first) broken.second
+    (value_at kind book broken.second)

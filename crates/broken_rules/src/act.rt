@@ -10,8 +10,8 @@ use book_base::{Book, Call, OpWord, SeqObject};
 use object_foresight::{Reader, Role};
 use seq_objects::{Kind, Pqueue, Queue, Register, Stack};
 
-/// What a call of a book did. An increment takes the count that it replies, and a read takes the value that it
-/// shows.
+/// What a call of a book did. An increment takes the count that it replies, and a read takes the
+/// value that it shows.
 #[derive(Clone, Copy, Debug)]
 pub(crate) enum Act {
     /// It puts a value in.

@@ -98,7 +98,8 @@ fn put_follows(kind: Kind, book: &Book, valued: Call, first: Call, call: Call) -
     }
 }
 
-// Whether a call comes before a first call or after a second one, where it puts in the value of the second one.
+// Whether a call comes before a first call or after a second one, where it puts in the value of the
+// second one.
 fn put_is_outside(kind: Kind, book: &Book, first: Call, second: Call, call: Call) -> bool
     requires first { IsCall book.now first }
     requires second { IsCall book.now second }
@@ -161,7 +162,8 @@ fn take_follows(kind: Kind, book: &Book, first: Call, second: Call, call: Call) 
     requires second { IsCall book.now second }
     requires call { IsCall book.now call }
     ensures { IsTrue result
-        ↔ (MayTake kind book.now (value_at kind book.now first) call → Precedes book.now second call) }
+        ↔ (MayTake kind book.now (value_at kind book.now first) call
+        → Precedes book.now second call) }
 {
     if may_take_value(kind, book, first, call) {
         book.precedes(second, call)

@@ -190,7 +190,8 @@ fn put_both(
     end: &[u8],
 ) -> Result<(), NoMemory>
     ensures { OnOk result (out.new.items
-        ≡ out.old.items ++ both_text first deed.now value middle.now second verb.now other end.now) }
+        ≡ out.old.items
+        ++ both_text first deed.now value middle.now second verb.now other end.now) }
 {
     put_two(out, first, deed, value, middle, second, verb)?;
     put_number(out, other)?;

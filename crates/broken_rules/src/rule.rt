@@ -9,35 +9,38 @@ use crate::demand::Demand;
 use book_base::Call;
 use seq_objects::Kind;
 
-/// A rule that the objects of a kind keep. It is broken by two calls, or by one that is named twice.
+/// A rule that the objects of a kind keep. It is broken by two calls, or by one that is named
+/// twice.
 #[derive(Clone, Copy, Debug, PartialEq, Eq)]
 pub enum Rule {
-    /// What is taken was put in before: the first call takes a value that no call puts in but after it.
+    /// What is taken was put in before: the first call takes a value that no call puts in but after
+    /// it.
     TakenUnput,
-    /// A value that is put in once is taken once: the first call alone puts a value in, and the second call
-    /// isn't the only one that takes it.
+    /// A value that is put in once is taken once: the first call alone puts a value in, and the
+    /// second call isn't the only one that takes it.
     TakenTwice,
-    /// A take finds what is there: the first call puts a value in that no call takes but after the second
-    /// call, which finds nothing.
+    /// A take finds what is there: the first call puts a value in that no call takes but after the
+    /// second call, which finds nothing.
     FoundNothing,
-    /// A queue gives the oldest value: the first call puts a value in, and the second one takes another
-    /// value, which is put in later, while the first value is there.
+    /// A queue gives the oldest value: the first call puts a value in, and the second one takes
+    /// another value, which is put in later, while the first value is there.
     PassedOver,
-    /// A stack gives the newest value: the first call puts a value in, and the second one takes another
-    /// value, which was put in earlier, while the first value is there.
+    /// A stack gives the newest value: the first call puts a value in, and the second one takes
+    /// another value, which was put in earlier, while the first value is there.
     TakenFromUnder,
-    /// A priority queue gives the least value: the second call takes a value while a lesser one is there,
-    /// which the first call puts in.
+    /// A priority queue gives the least value: the second call takes a value while a lesser one is
+    /// there, which the first call puts in.
     LesserLeft,
     /// A counter gives each count once: two calls reply the same one.
     CountedTwice,
-    /// A counter goes up: the second call replies a lower count than the first one, which precedes it.
+    /// A counter goes up: the second call replies a lower count than the first one, which precedes
+    /// it.
     CountedDown,
-    /// What is read was written before: the first call reads a value that no call writes but after it, and
-    /// that isn't 0.
+    /// What is read was written before: the first call reads a value that no call writes but after
+    /// it, and that isn't 0.
     ReadUnwritten,
-    /// A register holds the value written last: the first call writes a value over the one that the second
-    /// call reads.
+    /// A register holds the value written last: the first call writes a value over the one that the
+    /// second call reads.
     ReadOverwritten,
 }
 

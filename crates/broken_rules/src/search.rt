@@ -28,8 +28,9 @@ const RULES: [Rule; 10] = [
     Rule::ReadOverwritten,
 ];
 
-/// A rule that a book breaks, with the two calls by which it does; none, where it breaks none of the rules of
-/// [`Rule`]. A book that breaks one has no legal order. One that breaks none may have one or not.
+/// A rule that a book breaks, with the two calls by which it does; none, where it breaks none of
+/// the rules of [`Rule`]. A book that breaks one has no legal order. One that breaks none may have
+/// one or not.
 ///
 /// All pairs of calls are tried, and for some of them all calls: it is made for small books.
 pub fn broken_rule(kind: Kind, book: &Book) -> Option<BrokenRule>
@@ -83,7 +84,11 @@ fn broken_by_caller(kind: Kind, book: &Book, rule: Rule, caller: u32) -> Option<
     requires { caller < length book.now }
     ensures broken { IfSome result (λ broken. Breaks kind book.now broken) }
     ensures none { IfNone result ((number : ℕ) (second : Call)
-        → Breaks kind book.now (record { rule = rule; first = record { caller = caller; number = number }; second = second }) → ⊥) }
+        → Breaks kind book.now (record {
+          rule = rule;
+          first = record { caller = caller; number = number };
+          second = second;
+        }) → ⊥) }
 {
     for number in 0..book.calls(caller) {
         match broken_with(kind, book, rule, Call { caller, number }) {
@@ -122,7 +127,11 @@ fn broken_with_caller(
     requires caller { caller < length book.now }
     ensures broken { IfSome result (λ broken. Breaks kind book.now broken) }
     ensures none { IfNone result ((number : ℕ) → Breaks kind book.now
-        (record { rule = rule; first = first; second = record { caller = caller; number = number } }) → ⊥) }
+        (record {
+          rule = rule;
+          first = first;
+          second = record { caller = caller; number = number };
+        }) → ⊥) }
 {
     for number in 0..book.calls(caller) {
         let broken = BrokenRule {

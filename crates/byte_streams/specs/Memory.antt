@@ -2,8 +2,8 @@
 use Rattle.std.specs.Prelude.{◌≡◌, ◌⊎◌, ℕ, ◌-◌, ◌<◌, ◌++◌, List, length, min, drop, Contains}
 use Rattle.byte_streams.specs.Fault.{next_count}
 
--- A source in memory: the bytes that are left, the numbers of the calls that fail, the most bytes that a read gives,
--- the number of the last call, and the faults so far.
+-- A source in memory: the bytes that are left, the numbers of the calls that fail, the most bytes
+-- that a read gives, the number of the last call, and the faults so far.
 pub record SourceState : Type 0 where
   pub left : List ℕ
   pub fails : List ℕ
@@ -27,8 +27,8 @@ given_count s room = min (min room s.most) (length s.left)
 abbrev pub after_read : SourceState → ℕ → SourceState
 after_read s count = record s { left = drop count s.left; calls = next_count s.calls }
 
--- A sink in memory: the bytes that it has taken, the room for them, the numbers of the calls that fail,
--- the most bytes that a write takes, the number of the last call, and the faults so far.
+-- A sink in memory: the bytes that it has taken, the room for them, the numbers of the calls that
+-- fail, the most bytes that a write takes, the number of the last call, and the faults so far.
 pub record SinkState : Type 0 where
   pub taken : List ℕ
   pub room : ℕ
@@ -43,7 +43,8 @@ room_left s = s.room - length s.taken
 
 -- the sink's next call fails: its number says so, or no room is left for a piece that isn't empty
 abbrev pub WriteFails : SinkState → List ℕ → Type 0
-WriteFails s piece = Contains s.fails (next_count s.calls) ⊎ ((0 < length piece) × (room_left s ≡ 0))
+WriteFails s piece = Contains s.fails (next_count s.calls)
+    ⊎ ((0 < length piece) × (room_left s ≡ 0))
 
 -- after a call that failed: nothing is taken
 abbrev pub after_failed_write : SinkState → SinkState

@@ -12,7 +12,8 @@ use Rattle.byte_streams.specs.declared.status.Status.TheVariants.{Fine, Found, R
 use Rattle.byte_streams.specs.Told.{HasRead}
 use Rattle.byte_streams.specs.Writing.{EndsWriting}
 
--- An answer has a text of the first kind where it says that nothing was found, and else one of the second kind.
+-- An answer has a text of the first kind where it says that nothing was found, and else one of the
+-- second kind.
 abbrev pub IsAnswer : (List ℕ → Type 0) → (List ℕ → Type 0) → Answer → Type 0
 IsAnswer IsFine IsFound (answers.Fine text) = IsFine text.items
 IsAnswer IsFine IsFound (answers.Found text) = IsFound text.items
@@ -23,8 +24,10 @@ IsRefusedFor IsFault bytes fault =
     ((INPUT_LIMIT < length bytes) × (fault ≡ record { line = 0; what = Long }))
     ⊎ ((length bytes ≤ INPUT_LIMIT) × IsFault bytes fault)
 
--- The output of an input has this status and this text: nothing was found, something was found, or the input is refused.
-abbrev pub IsOutput : (List ℕ → List ℕ → Type 0) → (List ℕ → List ℕ → Type 0) → (List ℕ → TextFault → Type 0) → List ℕ
+-- The output of an input has this status and this text: nothing was found, something was found, or
+-- the input is refused.
+abbrev pub IsOutput : (List ℕ → List ℕ → Type 0) → (List ℕ → List ℕ → Type 0)
+    → (List ℕ → TextFault → Type 0) → List ℕ
     → Status → List ℕ → Type 0
 IsOutput IsFine IsFound IsFault bytes Fine text = (length bytes ≤ INPUT_LIMIT) × IsFine bytes text
 IsOutput IsFine IsFound IsFault bytes Found text = (length bytes ≤ INPUT_LIMIT) × IsFound bytes text
@@ -32,9 +35,10 @@ IsOutput IsFine IsFound IsFault bytes Refused text =
     (fault : TextFault) × IsRefusedFor IsFault bytes fault × (text ≡ refusal_text fault)
 IsOutput IsFine IsFound IsFault bytes status text = ⊥
 
--- A program with these outputs has ended with a status: no input was read and nothing is written, or the output of what was read
--- is written.
-abbrev pub Ends : (List ℕ → Status → List ℕ → Type 0) → Status → Option (List ℕ) → Option (List ℕ) → Option (List ℕ)
+-- A program with these outputs has ended with a status: no input was read and nothing is written,
+-- or the output of what was read is written.
+abbrev pub Ends : (List ℕ → Status → List ℕ → Type 0) → Status → Option (List ℕ) → Option (List ℕ)
+    → Option (List ℕ)
     → Option (List ℕ) → Type 0
 Ends IsOne status left left' taken taken' =
     (((status ≡ ReadFault) ⊎ (status ≡ NoMemory)) × Keeps taken taken')

@@ -1,16 +1,20 @@
--- The bytes that a source has left and those that a sink has taken, where they tell them: `None` is told nothing.
+-- The bytes that a source has left and those that a sink has taken, where they tell them: `None` is
+-- told nothing.
 use Rattle.std.specs.Prelude.{◌≡◌, ℕ, ◌+◌, ◌<◌, List, length, take, drop, Option, Some, None, Result, MatchResult, ⊤}
 use Rattle.std.specs.Io.KnownBytes.{Appends}
 use Rattle.byte_streams.specs.declared.TheConstants.{INPUT_LIMIT}
 
--- the bytes read of those that a source held: all of them, or the limit's number of bytes and one more
+-- the bytes read of those that a source held: all of them, or the limit's number of bytes and one
+-- more
 abbrev pub read_of : List ℕ → List ℕ
 read_of held = take (INPUT_LIMIT + 1) held
 
--- A source was read to its end, or until one byte more than the limit was read: the bytes read, and those that are left.
+-- A source was read to its end, or until one byte more than the limit was read: the bytes read, and
+-- those that are left.
 abbrev pub HasRead : Option (List ℕ) → Option (List ℕ) → List ℕ → Type 0
 HasRead None left bytes = ⊤
-HasRead (Some held) left bytes = (bytes ≡ read_of held) × (left ≡ Some (drop (INPUT_LIMIT + 1) held))
+HasRead (Some held) left bytes = (bytes ≡ read_of held)
+    × (left ≡ Some (drop (INPUT_LIMIT + 1) held))
 
 -- a sink has taken the first bytes of a text, and not all of them
 abbrev pub AppendsPart : Option (List ℕ) → Option (List ℕ) → List ℕ → Type 0

@@ -10,8 +10,9 @@ use book_base::NoMemory;
 use std::alloc::Global;
 use std::marker::Model;
 
-/// A sink in memory with a fixed room, that fails at the calls that it is told, and takes a limited number of
-/// bytes at a time. The room is taken when the sink is made, so that no write takes memory.
+/// A sink in memory with a fixed room, that fails at the calls that it is told, and takes a limited
+/// number of bytes at a time. The room is taken when the sink is made, so that no write takes
+/// memory.
 #[derive(Debug, Drop)]
 pub struct MemorySink {
     bytes: Vec<u8>,
@@ -34,8 +35,9 @@ impl Model for MemorySink {
 }
 
 impl MemorySink {
-    /// A sink with this room. A write takes at most `most` bytes, and fails exactly where the number of the
-    /// call, counted from 1, is in `fails`, or where no room is left for a piece that isn't empty.
+    /// A sink with this room. A write takes at most `most` bytes, and fails exactly where the
+    /// number of the call, counted from 1, is in `fails`, or where no room is left for a piece that
+    /// isn't empty.
     pub fn new(
         alloc: Global,
         room: usize,
@@ -46,7 +48,14 @@ impl MemorySink {
         requires { 1 ≤ most }
         // The sink has taken nothing and counted no call and no fault, and has this room, these
         // failing calls and this bound.
-        ensures { IfOk result (λ sink. sink ≡ record { taken = []; room = room; fails = fails.items; most = most; calls = 0; faults = 0 }) }
+        ensures { IfOk result (λ sink. sink ≡ record {
+          taken = [];
+          room = room;
+          fails = fails.items;
+          most = most;
+          calls = 0;
+          faults = 0;
+        }) }
     {
         let bytes = Vec::with_capacity(alloc, room)?;
         Ok(MemorySink {
@@ -99,7 +108,8 @@ impl Sink for MemorySink {
         ensures count { IfOk result (λ count. count ≡ taken_count self.old (length piece.now)) }
         // A write takes the first bytes of the piece, as many as are answered, and counts as a
         // call.
-        ensures after { IfOk result (λ count. self.new ≡ after_write self.old (take count piece.now)) }
+        ensures after { IfOk result
+            (λ count. self.new ≡ after_write self.old (take count piece.now)) }
     {
         self.calls = self.calls.saturating_add(1);
         let free = self.room - self.bytes.len();

@@ -8,7 +8,8 @@ use crate::pieces::fill;
 use crate::source::Source;
 use std::marker::Model;
 
-/// A source in memory that fails at the calls that it is told, and gives a limited number of bytes at a time.
+/// A source in memory that fails at the calls that it is told, and gives a limited number of bytes
+/// at a time.
 #[derive(Debug, Drop)]
 pub struct MemorySource {
     bytes: Vec<u8>,
@@ -31,14 +32,15 @@ impl Model for MemorySource {
 }
 
 impl MemorySource {
-    /// A source of these bytes. A read gives at most `most` bytes, and fails exactly where the number of the
-    /// call, counted from 1, is in `fails`.
+    /// A source of these bytes. A read gives at most `most` bytes, and fails exactly where the
+    /// number of the call, counted from 1, is in `fails`.
     pub fn new(bytes: Vec<u8>, fails: Vec<u64>, most: usize) -> MemorySource
         // A call may take or give at least one byte.
         requires { 1 ≤ most }
         // The source has all of the bytes left, has counted no call and no fault, and has these
         // failing calls and this bound.
-        ensures { result ≡ record { left = bytes.items; fails = fails.items; most = most; calls = 0; faults = 0 } }
+        ensures { result ≡
+            record { left = bytes.items; fails = fails.items; most = most; calls = 0; faults = 0 } }
     {
         MemorySource {
             bytes,
@@ -77,7 +79,8 @@ impl Source for MemorySource {
         // A read gives as many bytes as the piece, the bound and the bytes left allow.
         ensures count { IfOk result (λ count. count ≡ given_count self.old (length piece.old)) }
         // The piece begins with the bytes that are given, and is as before besides.
-        ensures given { IfOk result (λ count. piece.new ≡ take count self.old.left ++ drop count piece.old) }
+        ensures given { IfOk result
+            (λ count. piece.new ≡ take count self.old.left ++ drop count piece.old) }
         // A read takes as many bytes off the source as are answered, and counts as a call.
         ensures after { IfOk result (λ count. self.new ≡ after_read self.old count) }
     {

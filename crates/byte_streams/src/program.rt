@@ -40,27 +40,31 @@ pub trait Program {
     /// What the program answers to an input.
     fn answer(&self, alloc: Global, bytes: &[u8]) -> Result<Answer, ReadFault>
         // An answer has a text that says of the input what was found, or that nothing was.
-        ensures told { IfOk result (IsAnswer (is_fine self.now bytes.now) (is_found self.now bytes.now)) }
+        ensures told { IfOk result
+            (IsAnswer (is_fine self.now bytes.now) (is_found self.now bytes.now)) }
         // A refusal has a fault that the input is refused for, or says want of memory.
         ensures refused { IfErr result (IsFaultOf (is_fault self.now bytes.now)) };
 }
 
-/// Reads a source, and writes a program's output: its answer with the status `Fine` or `Found`, or why the input is
-/// refused, as when it is longer than [`INPUT_LIMIT`].
+/// Reads a source, and writes a program's output: its answer with the status `Fine` or `Found`, or
+/// why the input is refused, as when it is longer than [`INPUT_LIMIT`].
 pub fn run_program<P: Program, S: Source, K: Sink>(
     program: &P,
     alloc: Global,
     source: &mut S,
     sink: &mut K,
 ) -> Status
-    // The output of what was read is written with its status, or a prefix of it; or nothing was read, and nothing is
-    // written.
-    ensures ends { Ends (IsOutput (P.is_fine program.now) (P.is_found program.now) (P.is_fault program.now)) result
+    // The output of what was read is written with its status, or a prefix of it; or nothing was
+    // read, and nothing is written.
+    ensures ends { Ends
+        (IsOutput (P.is_fine program.now) (P.is_found program.now) (P.is_fault program.now)) result
         (S.left source.old) (S.left source.new) (K.taken sink.old) (K.taken sink.new) }
     // `ReadFault` is answered only where the source's count of faults rose in this call.
-    ensures read_fault { result ≡ Status.ReadFault → Rose (S.faults source.old) (S.faults source.new) }
+    ensures read_fault { result ≡ Status.ReadFault
+        → Rose (S.faults source.old) (S.faults source.new) }
     // `WriteFault` is answered only where the sink's count of faults rose in this call.
-    ensures write_fault { result ≡ Status.WriteFault → Rose (K.faults sink.old) (K.faults sink.new) }
+    ensures write_fault { result ≡ Status.WriteFault
+        → Rose (K.faults sink.old) (K.faults sink.new) }
     // An answer other than `ReadFault` left the source's count of faults.
     ensures read_calm { ¬ (result ≡ Status.ReadFault) → S.faults source.new ≡ S.faults source.old }
     // An answer other than `WriteFault` left the sink's count of faults.
@@ -81,7 +85,8 @@ fn write_output<P: Program, K: Sink>(
     sink: &mut K,
 ) -> Status
     ensures ends { EndsWriting
-        (IsOutput (P.is_fine program.now) (P.is_found program.now) (P.is_fault program.now) bytes.now) result
+        (IsOutput (P.is_fine program.now) (P.is_found program.now)
+        (P.is_fault program.now) bytes.now) result
         (K.taken sink.old) (K.taken sink.new) }
     ensures fault { result ≡ Status.WriteFault → Rose (K.faults sink.old) (K.faults sink.new) }
     ensures calm { ¬ (result ≡ Status.WriteFault) → K.faults sink.new ≡ K.faults sink.old }
@@ -125,7 +130,8 @@ fn output_for<P: Program>(program: &P, alloc: Global, bytes: &[u8]) -> Result<Ou
 // The answer to an input that isn't too long.
 fn answer_within<P: Program>(program: &P, alloc: Global, bytes: &[u8]) -> Result<Answer, ReadFault>
     ensures short { IfOk result (λ _. length bytes.now ≤ INPUT_LIMIT) }
-    ensures told { IfOk result (IsAnswer (P.is_fine program.now bytes.now) (P.is_found program.now bytes.now)) }
+    ensures told { IfOk result
+        (IsAnswer (P.is_fine program.now bytes.now) (P.is_found program.now bytes.now)) }
     ensures refused { IfErr result (IsFaultOf (IsRefusedFor (P.is_fault program.now) bytes.now)) }
 {
     if bytes.len() > INPUT_LIMIT {

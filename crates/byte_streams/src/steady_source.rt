@@ -40,7 +40,8 @@ impl Source for SteadySource {
         // A read never fails, and gives as many bytes as the piece and the bytes left allow.
         ensures count { IsOkAnd result (λ count. count ≡ min (length piece.old) (length self.old)) }
         // The piece begins with the bytes that are given, and is as before besides.
-        ensures given { IfOk result (λ count. piece.new ≡ take count self.old ++ drop count piece.old) }
+        ensures given { IfOk result
+            (λ count. piece.new ≡ take count self.old ++ drop count piece.old) }
         // The source has lost as many bytes as are answered.
         ensures after { IfOk result (λ count. self.new ≡ drop count self.old) }
     {

@@ -21,12 +21,15 @@ fn read_more<S: Source>(
 ) -> Result<usize, ReadAllError>
     requires { 0 < length piece.old }
     ensures bound { IfOk result (λ count. count ≤ length piece.old) }
-    ensures bytes { IfOk result (λ count. (given : List ℕ) × (length given ≡ count) × (bytes.new.items ≡ bytes.old.items ++ given)
+    ensures bytes { IfOk result (λ count. (given : List ℕ) × (length given ≡ count)
+        × (bytes.new.items ≡ bytes.old.items ++ given)
         × Consumes (S.left source.old) (S.left source.new) given) }
     ensures end { IfOk result (λ count. count ≡ 0 → IsAtEnd (S.left source.new)) }
-    ensures err { OnErr result ((given : List ℕ) × Consumes (S.left source.old) (S.left source.new) given) }
+    ensures err { OnErr result
+        ((given : List ℕ) × Consumes (S.left source.old) (S.left source.new) given) }
     ensures later { S.faults source.old ≤ S.faults source.new }
-    ensures cause { IsErrOf result ReadAllError.Fault → Rose (S.faults source.old) (S.faults source.new) }
+    ensures cause { IsErrOf result ReadAllError.Fault
+        → Rose (S.faults source.old) (S.faults source.new) }
     ensures calm { ¬ IsErrOf result ReadAllError.Fault → S.faults source.new ≡ S.faults source.old }
 {
     let count = source.read(piece)?;
@@ -38,16 +41,19 @@ fn read_more<S: Source>(
 pub fn read_all<S: Source>(alloc: Global, source: &mut S) -> Result<Vec<u8>, ReadAllError>
     // The answer is the bytes that the source had, or the first `INPUT_LIMIT` + 1 of them where it
     // had more, and these are read.
-    ensures read { IfOk result (λ bytes. HasRead (S.left source.old) (S.left source.new) bytes.items) }
+    ensures read { IfOk result
+        (λ bytes. HasRead (S.left source.old) (S.left source.new) bytes.items) }
     // At most `INPUT_LIMIT` + 1 bytes are answered.
     ensures bound { IfOk result (λ bytes. length bytes.items ≤ INPUT_LIMIT + 1) }
 
     // After an error, the bytes that are left are a suffix of those that were left.
-    ensures err { OnErr result ((given : List ℕ) × Consumes (S.left source.old) (S.left source.new) given) }
+    ensures err { OnErr result
+        ((given : List ℕ) × Consumes (S.left source.old) (S.left source.new) given) }
     // The source's count of faults isn't lower than before.
     ensures later { S.faults source.old ≤ S.faults source.new }
     // An answer `Fault` comes only where the source's count of faults rose in this call.
-    ensures cause { IsErrOf result ReadAllError.Fault → Rose (S.faults source.old) (S.faults source.new) }
+    ensures cause { IsErrOf result ReadAllError.Fault
+        → Rose (S.faults source.old) (S.faults source.new) }
     // An answer other than `Fault` left the source's count of faults.
     ensures calm { ¬ IsErrOf result ReadAllError.Fault → S.faults source.new ≡ S.faults source.old }
 {

@@ -1,4 +1,5 @@
--- The handle of a caller: what it has, when its parts belong together, and what its calls leave of it.
+-- The handle of a caller: what it has, when its parts belong together, and what its calls leave of
+-- it.
 use Rattle.std.specs.Prelude.{◌≡◌, ℕ, ◌<◌, false, List, Option}
 use Rattle.std.specs.Arc.{arc_value}
 use Rattle.book_base.specs.declared.call.Record.{Record}
@@ -52,17 +53,21 @@ caller_in (Announced call) = caller_announced call
 caller_in (Wrong w) = w.caller
 caller_in (Unjudged c) = c
 
--- The caller is one of these rows and stands as the stage says, what is kept it has gathered itself, and the book of an error has no
--- legal order.
+-- The caller is one of these rows and stands as the stage says, what is kept it has gathered
+-- itself, and the book of an error has no legal order.
 abbrev pub IsSoundAt : Rows Outside → Kind → Option Gathered → Stage → Type 0
-IsSoundAt r kind gathered (Idle c) = IsCallerOf every_reply r c × IsFree c × IsGatheredBy (local_with c) gathered
-IsSoundAt r kind gathered (Announced call) = IsCallerOf every_reply r (caller_announced call) × IsGatheredBy (announced_local call) gathered
-IsSoundAt r kind gathered (Wrong w) = IsCallerOf every_reply r w.caller × ¬ HasLegalOrder (kind_init kind) (kind_next kind) w.book
+IsSoundAt r kind gathered (Idle c) = IsCallerOf every_reply r c × IsFree c
+    × IsGatheredBy (local_with c) gathered
+IsSoundAt r kind gathered (Announced call) = IsCallerOf every_reply r (caller_announced call)
+    × IsGatheredBy (announced_local call) gathered
+IsSoundAt r kind gathered (Wrong w) = IsCallerOf every_reply r w.caller
+    × ¬ HasLegalOrder (kind_init kind) (kind_next kind) w.book
 IsSoundAt r kind gathered (Unjudged c) = IsCallerOf every_reply r c
 
 -- What is kept of an order stands, for the kind that is kept, in the book that is kept.
 abbrev pub KeepsStanding : Kept → Type 0
-KeepsStanding kept = StandsIn (kind_init kept.kind) (kind_next kept.kind) kept.gathered kept.standing
+KeepsStanding kept =
+    StandsIn (kind_init kept.kind) (kind_next kept.kind) kept.gathered kept.standing
 
 -- The parts of a handle belong together.
 abbrev pub IsSoundCaller : CallerHandle → Type 0
@@ -72,9 +77,11 @@ IsSoundCaller h = IsSoundAt (rows_of h) h.kept.kind h.kept.gathered h.stage × K
 abbrev pub IsOfSameTable : CallerHandle → CallerHandle → Type 0
 IsOfSameTable h k = (rows_of k ≡ rows_of h) × (kind_of k ≡ kind_of h)
 
--- The caller stands between two calls and has a call left; it has announced a call; its last call was an error.
+-- The caller stands between two calls and has a call left; it has announced a call; its last call
+-- was an error.
 abbrev pub MayAnnounce : CallerHandle → Type 0
-MayAnnounce h = (c : Caller Outside) × (h.stage ≡ Idle c) × ((local_with c).announced < (rows_of h).cap)
+MayAnnounce h = (c : Caller Outside) × (h.stage ≡ Idle c)
+    × ((local_with c).announced < (rows_of h).cap)
 
 abbrev pub HasAnnounced : CallerHandle → Type 0
 HasAnnounced h = (call : announced.Announced Outside) × (h.stage ≡ Announced call)
@@ -85,17 +92,20 @@ IsInError h = (w : wrong.Wrong) × (h.stage ≡ Wrong w)
 -- The caller of the one handle announced a call with this operation, and stands so at the other.
 abbrev pub HasBegun : ℕ → CallerHandle → CallerHandle → Type 0
 HasBegun op h k =
-    (c : Caller Outside) × (call : announced.Announced Outside) × (h.stage ≡ Idle c) × (k.stage ≡ Announced call)
+    (c : Caller Outside) × (call : announced.Announced Outside) × (h.stage ≡ Idle c)
+    × (k.stage ≡ Announced call)
     × IsAnnouncedBy every_reply (rows_of h) c op call
 
 -- The outcome of a call that was an error.
 abbrev pub outcome_of : wrong.Wrong → Outcome
 outcome_of w = outcome.Illegal w.reply w.view w.seen w.book
 
--- What the answer to a call that was announced says, by where its caller stands afterwards: delivered, with a legal order of the
--- published records at the seen cut; wrong, with their book, which has none; or not judged, and then the record is published all the
--- same, and the caller halted.
-abbrev pub AnswersFor : Rows Outside → Kind → announced.Announced Outside → ℕ → Stage → Answer → Type 0
+-- What the answer to a call that was announced says, by where its caller stands afterwards:
+-- delivered, with a legal order of the published records at the seen cut; wrong, with their book,
+-- which has none; or not judged, and then the record is published all the same, and the caller
+-- halted.
+abbrev pub AnswersFor : Rows Outside → Kind → announced.Announced Outside → ℕ → Stage
+    → Answer → Type 0
 AnswersFor r kind call reply stage answer.Delivered =
     (c : Caller Outside) × (found : Outcome) × (stage ≡ Idle c) × (is_illegal found ≡ false)
     × IsJudgedAs every_reply r (kind_init kind) (kind_next kind) call reply c found
@@ -104,18 +114,22 @@ AnswersFor r kind call reply stage answer.Illegal =
     × IsJudgedAs every_reply r (kind_init kind) (kind_next kind) call reply w.caller (outcome_of w)
 AnswersFor r kind call reply stage answer.Unjudged =
     (c : Caller Outside) × (told : Record) × (seen : List ℕ) × (stage ≡ Unjudged c)
-    × IsPublishedBy every_reply r call reply c told seen × (stance_of c ≡ record ready { live = false })
+    × IsPublishedBy every_reply r call reply c told seen
+    × (stance_of c ≡ record ready { live = false })
 
--- The call that was announced at the one handle has this reply and this answer, and its caller stands so at the other.
+-- The call that was announced at the one handle has this reply and this answer, and its caller
+-- stands so at the other.
 abbrev pub HasEnded : ℕ → CallerHandle → Answer → CallerHandle → Type 0
 HasEnded reply h found k =
-    (call : announced.Announced Outside) × (h.stage ≡ Announced call) × AnswersFor (rows_of h) (kind_of h) call reply k.stage found
+    (call : announced.Announced Outside) × (h.stage ≡ Announced call)
+    × AnswersFor (rows_of h) (kind_of h) call reply k.stage found
 
--- The call that was announced at the one handle is published with this reply, and nothing is judged: its caller stands between two
--- calls at the other.
+-- The call that was announced at the one handle is published with this reply, and nothing is
+-- judged: its caller stands between two calls at the other.
 abbrev pub HasPublished : ℕ → CallerHandle → CallerHandle → Type 0
 HasPublished reply h k =
-    (call : announced.Announced Outside) × (c : Caller Outside) × (told : Record) × (seen : List ℕ) × (h.stage ≡ Announced call)
+    (call : announced.Announced Outside) × (c : Caller Outside) × (told : Record) × (seen : List ℕ)
+    × (h.stage ≡ Announced call)
     × (k.stage ≡ Idle c) × IsPublishedBy every_reply (rows_of h) call reply c told seen
 
 -- The bytes are the text of the book of the handle's error, which has no legal order.

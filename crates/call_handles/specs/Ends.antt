@@ -22,28 +22,32 @@ abbrev pub record_seen : {P : Type 0} → Seen P → Record
 record_seen s = record { reply = reply_seen s; view = view_seen s }
 
 module _ {P : Type 0} (meaning : P → ℕ → ℕ → Meaning) (r : Rows P) where
-  -- The call is that of this caller, announced with this operation: the row of the operation is the one event of its caller after a
-  -- scan.
+  -- The call is that of this caller, announced with this operation: the row of the operation is the
+  -- one event of its caller after a scan.
   pub record IsAnnouncedBy (c : Caller P) (op : ℕ) (call : Announced P) : Type 0 where
     pub still : IsStill meaning r c (caller_announced call)
     pub operation : op_announced call ≡ op
     pub announced : HasAnnounced r.callers op (local_with c) (announced_local call)
-    pub progress : progress_of (announced_local call) ≡ after_announcing op (progress_of (local_with c))
+    pub progress : progress_of (announced_local call)
+        ≡ after_announcing op (progress_of (local_with c))
     pub grows : Grows (local_with c) (announced_local call)
 
-  -- The caller has published this record of the announced call, with the reply that was handed in, and has seen this cut since, in
-  -- which all its own records are. It has made no other call.
-  pub record IsPublishedBy (call : Announced P) (reply : ℕ) (c : Caller P) (told : Record) (seen : List ℕ) : Type 0 where
+  -- The caller has published this record of the announced call, with the reply that was handed in,
+  -- and has seen this cut since, in which all its own records are. It has made no other call.
+  pub record IsPublishedBy (call : Announced P) (reply : ℕ) (c : Caller P) (told : Record)
+      (seen : List ℕ) : Type 0 where
     pub still : IsStill meaning r (caller_announced call) c
     pub replied : told.reply ≡ reply
     pub wide : AreWide r.callers told.view seen
     pub own : HoldsOwn seen c
-    pub progress : progress_of (local_with c) ≡ after_seeing seen (after_publishing (after_viewing told (progress_of (announced_local call))))
+    pub progress : progress_of (local_with c) ≡ after_seeing seen
+        (after_publishing (after_viewing told (progress_of (announced_local call))))
     pub grows : Grows (announced_local call) (local_with c)
 
-  -- The call was judged, and this is its right outcome: by what its caller has peeked, and for the book of all callers' calls at the
-  -- seen cut, in whatever reachable world has the caller's local.
-  pub record IsJudgedAs (init : List ℕ) (next : List ℕ → ℕ → List ℕ × ℕ) (call : Announced P) (reply : ℕ) (c : Caller P) (outcome : Outcome) : Type 0 where
+  -- The call was judged, and this is its right outcome: by what its caller has peeked, and for the
+  -- book of all callers' calls at the seen cut, in whatever reachable world has the caller's local.
+  pub record IsJudgedAs (init : List ℕ) (next : List ℕ → ℕ → List ℕ × ℕ) (call : Announced P)
+      (reply : ℕ) (c : Caller P) (outcome : Outcome) : Type 0 where
     pub published : IsPublishedBy call reply c (record_in outcome) (cut_in outcome)
     pub stance : stance_of c ≡ stance_after outcome
     pub by_peeks : IsRightByPeeks init next r.callers (local_with c) outcome

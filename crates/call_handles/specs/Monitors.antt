@@ -1,4 +1,5 @@
--- The handle of a monitor: what it has, when its parts belong together, and what its rounds leave of it.
+-- The handle of a monitor: what it has, when its parts belong together, and what its rounds leave
+-- of it.
 use Rattle.std.specs.Prelude.{◌≡◌, ℕ, List, None, Some, IfSome}
 use Rattle.std.specs.Arc.{arc_value}
 use Rattle.book_base.specs.Book.{Page}
@@ -38,8 +39,8 @@ monitor_in h = h.monitor
 abbrev pub IsLegalFor : MonitorHandle → List Page → Type 0
 IsLegalFor h book = HasLegalOrder (kind_init h.kind) (kind_next h.kind) book
 
--- The monitor is one of these rows and of the handle's board, what is kept of an order stands in the book that the monitor keeps, and
--- the book of a witness has no legal order.
+-- The monitor is one of these rows and of the handle's board, what is kept of an order stands in
+-- the book that the monitor keeps, and the book of a witness has no legal order.
 pub record IsSoundMonitor (h : MonitorHandle) : Type 0 where
   pub of : IsMonitorOf every_reply (rows_watched h) h.monitor
   pub on : IsOn h.board h.monitor
@@ -57,21 +58,27 @@ MayJudge h = own_of h.monitor ≡ None
 abbrev pub HasFoundWrong : MonitorHandle → Type 0
 HasFoundWrong h = (w : Witness) × (own_of h.monitor ≡ Some w)
 
--- A round by which the handle's monitor became this one is right: by what its caller has peeked, and for the book of all callers'
--- calls at its cut, in whatever reachable world has the local that the caller has then.
+-- A round by which the handle's monitor became this one is right: by what its caller has peeked,
+-- and for the book of all callers' calls at its cut, in whatever reachable world has the local that
+-- the caller has then.
 pub record IsRightOfRound (h : MonitorHandle) (m : Monitor Outside) (made : Round) : Type 0 where
-  pub found : HasFound (kind_init h.kind) (kind_next h.kind) (rows_watched h).callers (local_of h.monitor) (local_of m) (own_of m) made
-  pub worlds : (locals : List Local) → AreTogether (shape_of every_reply (rows_watched h)) locals → local_at locals (who_of (caller_of m)) ≡ local_of m
+  pub found : HasFound (kind_init h.kind) (kind_next h.kind) (rows_watched h).callers
+      (local_of h.monitor) (local_of m) (own_of m) made
+  pub worlds : (locals : List Local) → AreTogether (shape_of every_reply (rows_watched h)) locals
+      → local_at locals (who_of (caller_of m)) ≡ local_of m
       → IsRightRound (kind_init h.kind) (kind_next h.kind) locals (own_of m) made
 
--- What a judgement of the monitor says: a round at a cut where the published records have a legal order; one where they have none, with
--- their book as the witness; or a scan, and no verdict and no witness.
+-- What a judgement of the monitor says: a round at a cut where the published records have a legal
+-- order; one where they have none, with their book as the witness; or a scan, and no verdict and no
+-- witness.
 abbrev pub HasJudged : MonitorHandle → Judgement → MonitorHandle → Type 0
 HasJudged h Legal k = (cut : List ℕ) × IsRightOfRound h k.monitor (round.Legal cut)
 HasJudged h Illegal k = (cut : List ℕ) × IsRightOfRound h k.monitor (round.Illegal cut)
-HasJudged h Unjudged k = HasScannedSome (local_of h.monitor) (local_of k.monitor) × (own_of k.monitor ≡ None)
+HasJudged h Unjudged k = HasScannedSome (local_of h.monitor) (local_of k.monitor)
+    × (own_of k.monitor ≡ None)
 
 -- The bytes are the text of the book of the illegal round, which has no legal order.
 abbrev pub IsFoundWitness : MonitorHandle → List ℕ → Type 0
 IsFoundWitness h bytes =
-    (w : Witness) × (own_of h.monitor ≡ Some w) × IsBookText Second bytes (kind_watched h) w.book × ¬ IsLegalFor h w.book
+    (w : Witness) × (own_of h.monitor ≡ Some w) × IsBookText Second bytes (kind_watched h) w.book
+    × ¬ IsLegalFor h w.book

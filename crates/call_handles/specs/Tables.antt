@@ -16,7 +16,8 @@ use Rattle.call_handles.specs.declared.table_handle.TableHandle.{TableHandle}
 use Rattle.call_handles.specs.Callers.{every_reply, rows_of, kind_of, stage_of}
 use Rattle.call_handles.specs.Monitors.{rows_watched, kind_watched, monitor_in}
 
--- The rows of the table, the kind by which calls are judged, and the number of the caller that it gives next.
+-- The rows of the table, the kind by which calls are judged, and the number of the caller that it
+-- gives next.
 abbrev pub rows_in : TableHandle → Rows Outside
 rows_in t = arc_value t.rows
 
@@ -30,7 +31,8 @@ next_of t = t.next
 pub record IsSoundTable (t : TableHandle) : Type 0 where
   pub bench : IsBenchOf every_reply (rows_in t) t.bench
   pub few : t.next ≤ (rows_in t).callers
-  pub fresh_from : (i : ℕ) → t.next ≤ i → i < (rows_in t).callers → (on_bench t.bench i ≡ Some fresh) × (stance_on t.bench i ≡ Some ready)
+  pub fresh_from : (i : ℕ) → t.next ≤ i → i < (rows_in t).callers
+      → (on_bench t.bench i ≡ Some fresh) × (stance_on t.bench i ≡ Some ready)
 
 -- It is of the same table, and gives next the caller of this number.
 abbrev pub GivesNext : ℕ → TableHandle → TableHandle → Type 0
@@ -40,10 +42,12 @@ GivesNext n t u = (rows_in u ≡ rows_in t) × (kind_in u ≡ kind_in t) × (nex
 abbrev pub IsFreshOf : TableHandle → ℕ → CallerHandle → Type 0
 IsFreshOf t who h =
     (rows_of h ≡ rows_in t) × (kind_of h ≡ kind_in t)
-    × ((c : Caller Outside) × (stage_of h ≡ Idle c) × (who_of c ≡ who) × (local_with c ≡ fresh) × (stance_of c ≡ ready))
+    × ((c : Caller Outside) × (stage_of h ≡ Idle c) × (who_of c ≡ who) × (local_with c ≡ fresh)
+    × (stance_of c ≡ ready))
 
 -- The handle is of this caller of the table as a monitor, which has made no round.
 abbrev pub IsFreshMonitorOf : TableHandle → ℕ → MonitorHandle → Type 0
 IsFreshMonitorOf t who h =
-    (rows_watched h ≡ rows_in t) × (kind_watched h ≡ kind_in t) × (who_of (caller_of (monitor_in h)) ≡ who)
+    (rows_watched h ≡ rows_in t) × (kind_watched h ≡ kind_in t)
+    × (who_of (caller_of (monitor_in h)) ≡ who)
     × (local_of (monitor_in h) ≡ fresh) × (own_of (monitor_in h) ≡ None)

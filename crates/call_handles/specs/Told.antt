@@ -6,5 +6,7 @@ use Rattle.call_handles.specs.declared.handed.HandedPass.{HandedPass}
 use Rattle.call_handles.specs.Passes.{pairs_in, made_with, HasReplyOf}
 
 -- The list that it tells has as many pairs as calls were made with it.
-pub as_many_as_made : (object : Handed) (pass : HandedPass) (pairs : List (ℕ × ℕ)) → HasReplyOf object pass → Some (pairs_in pass) ≡ Some pairs → length pairs ≡ made_with pass
-as_many_as_made object pass pairs own told = ap (λ (l : List (ℕ × ℕ)). length l) (sym (same_Some (pairs_in pass) pairs told))
+pub as_many_as_made : (object : Handed) (pass : HandedPass) (pairs : List (ℕ × ℕ))
+    → HasReplyOf object pass → Some (pairs_in pass) ≡ Some pairs → length pairs ≡ made_with pass
+as_many_as_made object pass pairs own told =
+    ap (λ (l : List (ℕ × ℕ)). length l) (sym (same_Some (pairs_in pass) pairs told))

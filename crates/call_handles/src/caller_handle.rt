@@ -16,9 +16,9 @@ use std::sync::Arc;
 
 /// One caller of a table, with all that its calls need.
 ///
-/// It makes one call at a time: [`announce`](CallerHandle::announce), then the object's own call, wherever that is
-/// made, then with its reply [`answered`](CallerHandle::answered), which judges the call, or
-/// [`publish`](CallerHandle::publish), which leaves that to the monitors of the table.
+/// It makes one call at a time: [`announce`](CallerHandle::announce), then the object's own call,
+/// wherever that is made, then with its reply [`answered`](CallerHandle::answered), which judges
+/// the call, or [`publish`](CallerHandle::publish), which leaves that to the monitors of the table.
 #[derive(Drop)]
 pub struct CallerHandle {
     pub(crate) kept: Kept,
@@ -39,7 +39,8 @@ pub enum Answer {
 impl CallerHandle {
     ghost use Rattle.call_handles.specs.Callers.{every_reply, rows_of, kind_of, stage_of, caller_in, IsSoundCaller, IsOfSameTable, MayAnnounce, HasAnnounced, IsInError, HasBegun, HasEnded, HasPublished, IsWitnessOf};
 
-    /// The handle of a caller of this table, which is between two calls. Its calls are judged by this kind.
+    /// The handle of a caller of this table, which is between two calls. Its calls are judged by
+    /// this kind.
     pub fn new(rows: Arc<Rows, Global>, kind: Kind, caller: Caller) -> CallerHandle
         // The caller is one of these rows.
         requires caller { IsCallerOf every_reply (arc_value rows) caller }
@@ -63,8 +64,8 @@ impl CallerHandle {
         }
     }
 
-    /// The caller, which may go back to its bench. A call that is announced stays unanswered, and then the caller is
-    /// halted.
+    /// The caller, which may go back to its bench. A call that is announced stays unanswered, and
+    /// then the caller is halted.
     pub fn into_caller(self) -> Caller
         // The parts of the handle belong together.
         requires sound { IsSoundCaller self }
@@ -90,8 +91,8 @@ impl CallerHandle {
         }
     }
 
-    /// Announces a call with this operation, where the caller stands between two calls and has a call left: whether
-    /// it does. Else the handle is as it was.
+    /// Announces a call with this operation, where the caller stands between two calls and has a
+    /// call left: whether it does. Else the handle is as it was.
     pub fn announce(self, op: OpWord) -> (CallerHandle, bool)
         // The parts of the handle belong together.
         requires sound { IsSoundCaller self }
@@ -120,8 +121,8 @@ impl CallerHandle {
         }
     }
 
-    /// Hands in the reply of the object to the call that is announced, which is judged. There is no answer where none
-    /// is announced, and then the handle is as it was.
+    /// Hands in the reply of the object to the call that is announced, which is judged. There is no
+    /// answer where none is announced, and then the handle is as it was.
     pub fn answered(self, alloc: Global, reply: u64) -> (CallerHandle, Option<Answer>)
         // The parts of the handle belong together.
         requires sound { IsSoundCaller self }
@@ -148,8 +149,8 @@ impl CallerHandle {
         }
     }
 
-    /// Hands in the reply of the object to the call that is announced, which is published with its view, and judges
-    /// nothing: whether one was announced. Else the handle is as it was.
+    /// Hands in the reply of the object to the call that is announced, which is published with its
+    /// view, and judges nothing: whether one was announced. Else the handle is as it was.
     pub fn publish(self, reply: u64) -> (CallerHandle, bool)
         // The parts of the handle belong together.
         requires sound { IsSoundCaller self }
@@ -182,7 +183,8 @@ impl CallerHandle {
         // There is a text exactly where the caller's last call was an error.
         ensures when { IfOk result (λ found. IsSome found ↔ IsInError self.now) }
         // The text is that of the book of the error, which has no legal order.
-        ensures text { IfOk result (λ found. IfSome found (λ text. IsWitnessOf self.now text.items)) }
+        ensures text { IfOk result
+            (λ found. IfSome found (λ text. IsWitnessOf self.now text.items)) }
     {
         match &self.stage {
             Stage::Wrong(wrong) => Ok(Some(write_book(alloc, self.kept.kind, &wrong.book)?)),

@@ -20,10 +20,11 @@ use std::alloc::Global;
 use std::sync::ledger::Ledger;
 use world_core::{Outside, Program};
 
-/// What an announced call comes to whose reply is handed in: it is published, and the book at the cut that its caller
-/// has seen since is judged.
+/// What an announced call comes to whose reply is handed in: it is published, and the book at the
+/// cut that its caller has seen since is judged.
 ///
-/// It is all of [`enforce_after`](enforcer::enforce_after) that comes after the object has answered.
+/// It is all of [`enforce_after`](enforcer::enforce_after) that comes after the object has
+/// answered.
 pub(crate) fn finish<L: Ledger>(
     alloc: Global,
     rows: &Rows,
@@ -34,7 +35,8 @@ pub(crate) fn finish<L: Ledger>(
     standing: &mut Option<Standing>,
     steps: &mut Steps<L>,
 ) -> Result<(Caller, Judged), Unjudged>
-    requires rows { IsCallerOf ⟦<Outside as Program>⟧.meaning rows.now (caller_announced announced) }
+    requires rows { IsCallerOf ⟦<Outside as Program>⟧.meaning rows.now
+        (caller_announced announced) }
     requires gathered { IsGatheredBy (announced_local announced) gathered.old }
     requires stands { StandsIn (⟦<Kind as SeqObject>⟧.init kind) (⟦<Kind as SeqObject>⟧.next kind)
         gathered.old standing.old }

@@ -5,7 +5,8 @@ ghost use Rattle.drv_wrapper.specs.States.{caller_announced, op_announced, calle
 use book_base::OpWord;
 use drv_wrapper::{Announced, Answered, BlackBox, ObjectPass, ask};
 
-/// An object outside the library, which has been asked there: it answers the reply that was handed in.
+/// An object outside the library, which has been asked there: it answers the reply that was handed
+/// in.
 #[derive(Drop)]
 pub struct Handed {
     pub reply: u64,

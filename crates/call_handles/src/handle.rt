@@ -2,8 +2,9 @@ use crate::caller_handle::CallerHandle;
 use crate::monitor_handle::MonitorHandle;
 use crate::table_handle::TableHandle;
 
-/// What a program in another language holds: a table, one of its callers, or one of its monitors. `Spare` stands where
-/// there is none of them yet: room that is taken before a caller leaves the table.
+/// What a program in another language holds: a table, one of its callers, or one of its monitors.
+/// `Spare` stands where there is none of them yet: room that is taken before a caller leaves the
+/// table.
 #[derive(Drop)]
 pub enum Handle {
     Spare,

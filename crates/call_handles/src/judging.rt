@@ -31,7 +31,8 @@ fn judge_counted<L: Ledger>(
     ensures same { (kept.new.rows ≡ kept.old.rows) × (kept.new.kind ≡ kept.old.kind) }
     ensures sound { IsSoundAt (arc_value kept.old.rows) kept.old.kind kept.new.gathered result.0 }
     ensures stands { KeepsStanding kept.new }
-    ensures ended { AnswersFor (arc_value kept.old.rows) kept.old.kind call reply result.0 result.1 }
+    ensures ended { AnswersFor (arc_value kept.old.rows) kept.old.kind call reply
+        result.0 result.1 }
 {
     let mut steps = Steps::<L>::new(blank);
     let ended = finish(
@@ -87,7 +88,8 @@ pub(crate) fn judge_alone(
     ensures same { (kept.new.rows ≡ kept.old.rows) × (kept.new.kind ≡ kept.old.kind) }
     ensures sound { IsSoundAt (arc_value kept.old.rows) kept.old.kind kept.new.gathered result.0 }
     ensures stands { KeepsStanding kept.new }
-    ensures ended { AnswersFor (arc_value kept.old.rows) kept.old.kind call reply result.0 result.1 }
+    ensures ended { AnswersFor (arc_value kept.old.rows) kept.old.kind call reply
+        result.0 result.1 }
 {
     judge_counted::<Brand>(alloc, kept, call, reply, Blank::new(1))
 }

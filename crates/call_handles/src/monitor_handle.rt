@@ -12,9 +12,11 @@ use seq_objects::Kind;
 use std::alloc::Global;
 use std::sync::Arc;
 
-/// A caller of a table that makes no calls, with all that its rounds need: it judges what the others have published.
+/// A caller of a table that makes no calls, with all that its rounds need: it judges what the
+/// others have published.
 ///
-/// It makes rounds by [`judge`](MonitorHandle::judge) until one is illegal, and has its witness then.
+/// It makes rounds by [`judge`](MonitorHandle::judge) until one is illegal, and has its witness
+/// then.
 #[derive(Drop)]
 pub struct MonitorHandle {
     pub(crate) rows: Arc<Rows, Global>,
@@ -40,8 +42,8 @@ impl MonitorHandle {
     ghost use Rattle.call_handles.specs.Callers.{every_reply};
     ghost use Rattle.call_handles.specs.Monitors.{rows_watched, kind_watched, monitor_in, IsSoundMonitor, IsOfSameWatch, MayJudge, HasFoundWrong, HasJudged, IsFoundWitness};
 
-    /// The handle of a caller of this table, which is between two calls, as a monitor. It judges by this kind, and has
-    /// made no round. It takes no memory.
+    /// The handle of a caller of this table, which is between two calls, as a monitor. It judges by
+    /// this kind, and has made no round. It takes no memory.
     pub fn new(alloc: Global, rows: Arc<Rows, Global>, kind: Kind, caller: Caller) -> MonitorHandle
         // The caller is one of these rows.
         requires caller { IsCallerOf every_reply (arc_value rows) caller }
@@ -77,8 +79,9 @@ impl MonitorHandle {
         }
     }
 
-    /// Makes a round, where none was illegal yet: scans what is published, and judges the book at that cut. There is no
-    /// answer after an illegal round, and then the handle is as it was. After want of memory it may make a further one.
+    /// Makes a round, where none was illegal yet: scans what is published, and judges the book at
+    /// that cut. There is no answer after an illegal round, and then the handle is as it was. After
+    /// want of memory it may make a further one.
     pub fn judge(self, alloc: Global) -> (MonitorHandle, Option<Judgement>)
         // The parts of the handle belong together.
         requires sound { IsSoundMonitor self }
@@ -108,7 +111,8 @@ impl MonitorHandle {
         // There is a text exactly where the monitor has made an illegal round.
         ensures when { IfOk result (λ found. IsSome found ↔ HasFoundWrong self.now) }
         // The text is that of the book of the illegal round, which has no legal order.
-        ensures text { IfOk result (λ found. IfSome found (λ text. IsFoundWitness self.now text.items)) }
+        ensures text { IfOk result
+            (λ found. IfSome found (λ text. IsFoundWitness self.now text.items)) }
     {
         match self.monitor.own() {
             Some(witness) => Ok(Some(write_book(alloc, self.kind, &witness.book)?)),

@@ -13,15 +13,16 @@ use std::marker::Brand;
 use std::sync::ledger::{Blank, Ledger};
 use world_core::{Outside, Program};
 
-/// What an announced call comes to whose reply is handed in, before anybody judges it: the view is taken, reply and
-/// view are published, and the published records are seen.
+/// What an announced call comes to whose reply is handed in, before anybody judges it: the view is
+/// taken, reply and view are published, and the published records are seen.
 pub(crate) fn publish_reply<L: Ledger>(
     rows: &Rows,
     announced: Announced,
     reply: u64,
     steps: &mut Steps<L>,
 ) -> Seen
-    requires rows { IsCallerOf ⟦<Outside as Program>⟧.meaning rows.now (caller_announced announced) }
+    requires rows { IsCallerOf ⟦<Outside as Program>⟧.meaning rows.now
+        (caller_announced announced) }
     ensures published { IsPublishedBy ⟦<Outside as Program>⟧.meaning rows.now announced reply
         (caller_seen result) (record_seen result) (cut_seen result) }
 {
@@ -31,7 +32,8 @@ pub(crate) fn publish_reply<L: Ledger>(
     seen(published, rows, steps)
 }
 
-// Publishes a call whose reply is handed in, and judges nothing. Its steps are counted by themselves.
+// Publishes a call whose reply is handed in, and judges nothing. Its steps are counted by
+// themselves.
 fn publish_counted<L: Ledger>(rows: &Rows, call: Announced, reply: u64, blank: Blank) -> Caller
     requires blank { (blank.name ≡ L.name) × (blank.parts ≡ L.parts) × (0 < blank.parts) }
     requires rows { IsCallerOf ⟦<Outside as Program>⟧.meaning rows.now (caller_announced call) }
@@ -43,7 +45,8 @@ fn publish_counted<L: Ledger>(rows: &Rows, call: Announced, reply: u64, blank: B
     publish_reply(rows, call, reply, &mut steps).defer()
 }
 
-/// Publishes a call whose reply is handed in, and judges nothing: its caller, which may make its next call.
+/// Publishes a call whose reply is handed in, and judges nothing: its caller, which may make its
+/// next call.
 pub(crate) fn publish_alone(rows: &Rows, call: Announced, reply: u64) -> Caller
     requires rows { IsCallerOf ⟦<Outside as Program>⟧.meaning rows.now (caller_announced call) }
     ensures published { (told : Record) × (seen : List ℕ)

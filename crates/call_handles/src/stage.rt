@@ -15,7 +15,8 @@ pub enum Stage {
     Unjudged(Caller),
 }
 
-/// A call that was an error: the published records at its seen cut, its own among them, have no legal order.
+/// A call that was an error: the published records at its seen cut, its own among them, have no
+/// legal order.
 #[derive(Drop)]
 pub struct Wrong {
     pub caller: Caller,

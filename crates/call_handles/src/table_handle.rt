@@ -13,8 +13,8 @@ use std::alloc::Global;
 use std::sync::Arc;
 use world_core::Outside;
 
-/// A table, which gives the handles of its callers one by one, each to make calls or as a monitor. All of them judge by
-/// one kind.
+/// A table, which gives the handles of its callers one by one, each to make calls or as a monitor.
+/// All of them judge by one kind.
 ///
 /// The table goes with the last of these handles and its own.
 #[derive(Drop)]
@@ -65,16 +65,19 @@ impl TableHandle {
         })
     }
 
-    /// The handle of the next caller, while there is one. For want of memory the table is as it was.
+    /// The handle of the next caller, while there is one. For want of memory the table is as it
+    /// was.
     pub fn caller(&mut self) -> Result<Option<CallerHandle>, NoMemory>
         // The parts of the table belong together.
         requires sound { IsSoundTable self.old }
         // The parts of the table still belong together.
         ensures sound { IsSoundTable self.new }
         // There is no handle exactly where the table has given all its callers.
-        ensures when { IfOk result (λ found. IsNone found ↔ (next_of self.old ≡ (rows_in self.old).callers)) }
+        ensures when { IfOk result
+            (λ found. IsNone found ↔ (next_of self.old ≡ (rows_in self.old).callers)) }
         // The handle is of the table's next caller, which has made no call.
-        ensures given { IfOk result (λ found. IfSome found (IsFreshOf self.old (next_of self.old))) }
+        ensures given { IfOk result
+            (λ found. IfSome found (IsFreshOf self.old (next_of self.old))) }
         // The parts of the handle belong together.
         ensures given_sound { IfOk result (λ found. IfSome found IsSoundCaller) }
         // With a handle the table is the same one, and gives the caller after this one next.
@@ -93,16 +96,19 @@ impl TableHandle {
         Ok(Some(CallerHandle::new(rows, self.kind, caller)))
     }
 
-    /// The handle of the next caller as a monitor, while there is one. For want of memory the table is as it was.
+    /// The handle of the next caller as a monitor, while there is one. For want of memory the table
+    /// is as it was.
     pub fn monitor(&mut self, alloc: Global) -> Result<Option<MonitorHandle>, NoMemory>
         // The parts of the table belong together.
         requires sound { IsSoundTable self.old }
         // The parts of the table still belong together.
         ensures sound { IsSoundTable self.new }
         // There is no handle exactly where the table has given all its callers.
-        ensures when { IfOk result (λ found. IsNone found ↔ (next_of self.old ≡ (rows_in self.old).callers)) }
+        ensures when { IfOk result
+            (λ found. IsNone found ↔ (next_of self.old ≡ (rows_in self.old).callers)) }
         // The handle is of the table's next caller as a monitor, which has made no round.
-        ensures given { IfOk result (λ found. IfSome found (IsFreshMonitorOf self.old (next_of self.old))) }
+        ensures given { IfOk result
+            (λ found. IfSome found (IsFreshMonitorOf self.old (next_of self.old))) }
         // The parts of the handle belong together.
         ensures given_sound { IfOk result (λ found. IfSome found IsSoundMonitor) }
         // With a handle the table is the same one, and gives the caller after this one next.

@@ -15,25 +15,33 @@ use Rattle.call_intervals.specs.Intervals.{rows_of, IsIntervalOf, IsLaneOf, Stan
 use Rattle.call_intervals.proofs.IntervalLemmas.{ends_before, precedes_later, lies_within}
 
 -- These are the intervals of a caller's first calls, by number.
-pub record IsPrefixOf (book : List Page) (events : List Event) (caller : ℕ) (lane : List Interval) : Type 0 where
-  pub named : (number : ℕ) (interval : Interval) → slice_get lane number ≡ Some interval → interval.call ≡ record { caller = caller; number = number }
-  pub told : (number : ℕ) (interval : Interval) → slice_get lane number ≡ Some interval → IsIntervalOf book events interval
+pub record IsPrefixOf (book : List Page) (events : List Event) (caller : ℕ)
+    (lane : List Interval) : Type 0 where
+  pub named : (number : ℕ) (interval : Interval) → slice_get lane number ≡ Some interval
+      → interval.call ≡ record { caller = caller; number = number }
+  pub told : (number : ℕ) (interval : Interval) → slice_get lane number ≡ Some interval
+      → IsIntervalOf book events interval
 
-pub prefix_none : (book : List Page) (events : List Event) (caller : ℕ) (lane : List Interval) → lane ≡ [] → IsPrefixOf book events caller lane
+pub prefix_none : (book : List Page) (events : List Event) (caller : ℕ) (lane : List Interval)
+    → lane ≡ [] → IsPrefixOf book events caller lane
 prefix_none book events caller lane empty =
-    let none : (number : ℕ) (interval : Interval) → slice_get lane number ≡ Some interval → ⊥ = λ number interval at.
+    let none : (number : ℕ) (interval : Interval) → slice_get lane number ≡ Some interval → ⊥ =
+    λ number interval at.
     none-some interval (sym (ap (λ (xs : List Interval). slice_get xs number) empty) ∙ at) in
     record {
       named = λ number interval at. absurd (none number interval at);
       told = λ number interval at. absurd (none number interval at);
     }
 
-pub prefix_more : (book : List Page) (events : List Event) (caller : ℕ) (lane : List Interval) (interval : Interval) → IsPrefixOf book events caller lane
-    → interval.call ≡ record { caller = caller; number = length lane } → IsIntervalOf book events interval → IsPrefixOf book events caller (lane ++ interval ∷ [])
+pub prefix_more : (book : List Page) (events : List Event) (caller : ℕ) (lane : List Interval)
+    (interval : Interval) → IsPrefixOf book events caller lane
+    → interval.call ≡ record { caller = caller; number = length lane }
+    → IsIntervalOf book events interval → IsPrefixOf book events caller (lane ++ interval ∷ [])
 prefix_more book events caller lane interval prefix named told = record {
   named = λ number other at. elim (slice_get-push_cases lane interval number other at) [
     | inl old ↦ prefix.named number other old
-    | inr new ↦ let made : ℕ → Call = λ n. record { caller = caller; number = n } in ap (λ (x : Interval). x.call) new.1 ∙ (named ∙ ap made (sym new.0))
+    | inr new ↦ let made : ℕ → Call = λ n. record { caller = caller; number = n } in
+        ap (λ (x : Interval). x.call) new.1 ∙ (named ∙ ap made (sym new.0))
   ];
   told = λ number other at. elim (slice_get-push_cases lane interval number other at) [
     | inl old ↦ prefix.told number other old
@@ -42,7 +50,8 @@ prefix_more book events caller lane interval prefix named told = record {
 }
 
 -- the intervals of all calls of a caller are its lane
-pub prefix_whole : (book : List Page) (events : List Event) (caller : ℕ) (lane : List Interval) → IsPrefixOf book events caller lane
+pub prefix_whole : (book : List Page) (events : List Event) (caller : ℕ) (lane : List Interval)
+    → IsPrefixOf book events caller lane
     → length lane ≡ calls_of book caller → IsLaneOf book events caller lane
 prefix_whole book events caller lane prefix all = record {
   calls = λ number. (λ less. omega (arith, less), λ is. omega (arith, is));
@@ -51,42 +60,64 @@ prefix_whole book events caller lane prefix all = record {
 }
 
 -- Each caller of a book has its lane.
-pub record AreLanesOf (book : List Page) (events : List Event) (lanes : List (List Interval)) : Type 0 where
+pub record AreLanesOf (book : List Page) (events : List Event)
+    (lanes : List (List Interval)) : Type 0 where
   pub callers : length lanes ≡ length book
-  pub own : (caller : ℕ) → caller < length lanes → IsLaneOf book events caller (get_or lanes caller [])
+  pub own : (caller : ℕ) → caller < length lanes
+      → IsLaneOf book events caller (get_or lanes caller [])
 
 -- one more lane
-pub lanes_more : (book : List Page) (events : List Event) (lanes : List (Vec Interval Global)) (lane : Vec Interval Global) (n : ℕ) → length (rows_of lanes) ≡ n
-    → ((i : ℕ) → i < n → IsLaneOf book events i (get_or (rows_of lanes) i [])) → IsLaneOf book events n lane.items
-    → (length (rows_of (lanes ++ lane ∷ [])) ≡ n + 1) × ((i : ℕ) → i < n + 1 → IsLaneOf book events i (get_or (rows_of (lanes ++ lane ∷ [])) i []))
+pub lanes_more : (book : List Page) (events : List Event) (lanes : List (Vec Interval Global))
+    (lane : Vec Interval Global) (n : ℕ) → length (rows_of lanes) ≡ n
+    → ((i : ℕ) → i < n → IsLaneOf book events i (get_or (rows_of lanes) i []))
+    → IsLaneOf book events n lane.items
+    → (length (rows_of (lanes ++ lane ∷ [])) ≡ n + 1)
+    × ((i : ℕ) → i < n + 1 → IsLaneOf book events i (get_or (rows_of (lanes ++ lane ∷ [])) i []))
 lanes_more book events lanes lane n count own last =
-    let grown : rows_of (lanes ++ lane ∷ []) ≡ rows_of lanes ++ lane.items ∷ [] = map-append (λ (v : Vec Interval Global). v.items) lanes (lane ∷ []) in
-    let Own : List (List Interval) → ℕ → Type 0 = λ rows i. IsLaneOf book events i (get_or rows i []) in
-    let here : Own (rows_of lanes ++ lane.items ∷ []) n = subst (IsLaneOf book events n) (sym (get_or_push (rows_of lanes) lane.items [] n count)) last in (
-      omega (arith, ap (length {A = List Interval}) grown, length-append (rows_of lanes) (lane.items ∷ []), count),
+    let grown : rows_of (lanes ++ lane ∷ []) ≡ rows_of lanes ++ lane.items ∷ [] =
+    map-append (λ (v : Vec Interval Global). v.items) lanes (lane ∷ []) in
+    let Own : List (List Interval) → ℕ → Type 0 =
+    λ rows i. IsLaneOf book events i (get_or rows i []) in
+    let here : Own (rows_of lanes ++ lane.items ∷ []) n = subst (IsLaneOf book events n)
+    (sym (get_or_push (rows_of lanes) lane.items [] n count)) last in (
+      omega (
+        arith,
+        ap (length {A = List Interval}) grown,
+        length-append (rows_of lanes) (lane.items ∷ []),
+        count,
+      ),
       λ i. subst (λ rows. i < n + 1 → Own rows i) (sym grown)
           (below_more (Own (rows_of lanes ++ lane.items ∷ [])) n
-          (λ k less. subst (IsLaneOf book events k) (sym (get_or_append_left (rows_of lanes) (lane.items ∷ []) [] k (omega (arith, count, less)))) (own k less)) here i),
+          (λ k less. subst (IsLaneOf book events k) (sym (get_or_append_left (rows_of lanes)
+          (lane.items ∷ []) [] k (omega (arith, count, less)))) (own k less)) here i),
     )
 
 -- what stands on a lane is the interval of the caller's call with this number
-pub standing : (book : List Page) (events : List Event) (lanes : List (List Interval)) → AreLanesOf book events lanes → (caller place : ℕ) (interval : Interval)
-    → StandsOn lanes caller place interval → (interval.call ≡ record { caller = caller; number = place }) × IsIntervalOf book events interval
+pub standing : (book : List Page) (events : List Event) (lanes : List (List Interval))
+    → AreLanesOf book events lanes → (caller place : ℕ) (interval : Interval)
+    → StandsOn lanes caller place interval
+    → (interval.call ≡ record { caller = caller; number = place })
+    × IsIntervalOf book events interval
 standing book events lanes are caller place interval at =
     elim (cases_lt caller (length lanes)) [
       | inl here ↦
           let own = are.own caller here in
           (own.named place interval at, own.told place interval at)
-      | inr past ↦ absurd (none-some interval (ap (λ (lane : List Interval). slice_get lane place) (sym (get_or_past lanes caller [] past)) ∙ at))
+      | inr past ↦ absurd (none-some interval (ap (λ (lane : List Interval). slice_get lane place)
+          (sym (get_or_past lanes caller [] past)) ∙ at))
     ]
 
-pub stand_on_their_lanes : (book : List Page) (events : List Event) (lanes : List (List Interval)) → AreLanesOf book events lanes → StandOnTheirLanes lanes
+pub stand_on_their_lanes : (book : List Page) (events : List Event) (lanes : List (List Interval))
+    → AreLanesOf book events lanes → StandOnTheirLanes lanes
 stand_on_their_lanes book events lanes are caller place interval at =
-    let known = standing book events lanes are caller place interval at in ap (λ (call : Call). call.caller) known.0
+    let known = standing book events lanes are caller place interval at in
+    ap (λ (call : Call). call.caller) known.0
 
-pub have_one_each : (book : List Page) (events : List Event) (lanes : List (List Interval)) → AreLanesOf book events lanes → HaveOneEach book lanes
+pub have_one_each : (book : List Page) (events : List Event) (lanes : List (List Interval))
+    → AreLanesOf book events lanes → HaveOneEach book lanes
 have_one_each book events lanes are call is =
-    let here : call.caller < length lanes = omega (arith, are.callers, caller_from_call book call.caller call.number is) in
+    let here : call.caller < length lanes =
+    omega (arith, are.callers, caller_from_call book call.caller call.number is) in
     let own = are.own call.caller here in
     let there : call.number < length (get_or lanes call.caller []) = (own.calls call.number).1 is in
     elim (slice_get_cases (get_or lanes call.caller []) call.number).1 [
@@ -104,18 +135,25 @@ have_one_each book events lanes are call is =
       | inr past ↦ absurd (omega (arith, past.0))
     ]
 
-pub are_told : (book : List Page) (events : List Event) (lanes : List (List Interval)) → AreLanesOf book events lanes → AreTold book events lanes
-are_told book events lanes are caller place interval at = let known = standing book events lanes are caller place interval at in known.1
+pub are_told : (book : List Page) (events : List Event) (lanes : List (List Interval))
+    → AreLanesOf book events lanes → AreTold book events lanes
+are_told book events lanes are caller place interval at = let known =
+    standing book events lanes are caller place interval at in known.1
 
-pub lie_within : (book : List Page) (events : List Event) (lanes : List (List Interval)) → IsValid book → IsSketch book events → AreLanesOf book events lanes → LieWithin events lanes
-lie_within book events lanes valid h are caller place interval at = lies_within book events valid h interval (are_told book events lanes are caller place interval at)
+pub lie_within : (book : List Page) (events : List Event) (lanes : List (List Interval))
+    → IsValid book → IsSketch book events → AreLanesOf book events lanes → LieWithin events lanes
+lie_within book events lanes valid h are caller place interval at = lies_within book events valid h
+    interval (are_told book events lanes are caller place interval at)
 
-pub are_apart : (book : List Page) (events : List Event) (lanes : List (List Interval)) → IsValid book → IsSketch book events → AreLanesOf book events lanes → AreApart book lanes
+pub are_apart : (book : List Page) (events : List Event) (lanes : List (List Interval))
+    → IsValid book → IsSketch book events → AreLanesOf book events lanes → AreApart book lanes
 are_apart book events lanes valid h are i j k l a b at bt before =
     let is = are_told book events lanes are i k a at in
     let bis = are_told book events lanes are j l b bt in
     ends_before book events valid h a b.call b.begin is bis.call bis.begins before
 
-pub meet : (book : List Page) (events : List Event) (lanes : List (List Interval)) → IsSketch book events → AreLanesOf book events lanes → Meet book lanes
+pub meet : (book : List Page) (events : List Event) (lanes : List (List Interval))
+    → IsSketch book events → AreLanesOf book events lanes → Meet book lanes
 meet book events lanes h are i j k l a b at bt answered less =
-    precedes_later book events h a b (are_told book events lanes are i k a at) (are_told book events lanes are j l b bt) answered less
+    precedes_later book events h a b (are_told book events lanes are i k a at)
+    (are_told book events lanes are j l b bt) answered less

@@ -16,24 +16,32 @@ abbrev pub next_of : Call → Call
 next_of call = record call { number = call.number + 1 }
 
 -- An interval is what the events of a book tell of its call.
-pub record IsIntervalOf (book : List Page) (events : List Event) (interval : Interval) : Type 0 where
+pub record IsIntervalOf (book : List Page) (events : List Event)
+    (interval : Interval) : Type 0 where
   -- it is of a call of the book, and begins where that is invoked
   pub call : IsCall book interval.call
   pub begins : slice_get events interval.begin ≡ Some (Invoke interval.call)
   -- it is open exactly where the call is unanswered
   pub open_is : IsTrue interval.is_open ↔ ¬ (IsAnswered book interval.call)
   -- that of an answered call ends after the call's return
-  pub returns : IsAnswered book interval.call → (place : ℕ) × (interval.end ≡ place + 1) × (slice_get events place ≡ Some (Return interval.call))
+  pub returns : IsAnswered book interval.call → (place : ℕ) × (interval.end ≡ place + 1)
+      × (slice_get events place ≡ Some (Return interval.call))
   -- that of an unanswered call ends where the next call of its caller is invoked, or after all
   -- events where there is none
-  pub breaks_off : ¬ (IsAnswered book interval.call) → IsCall book (next_of interval.call) → slice_get events interval.end ≡ Some (Invoke (next_of interval.call))
-  pub goes_on : ¬ (IsAnswered book interval.call) → ¬ (IsCall book (next_of interval.call)) → interval.end ≡ length events
+  pub breaks_off : ¬ (IsAnswered book interval.call) → IsCall book (next_of interval.call)
+      → slice_get events interval.end ≡ Some (Invoke (next_of interval.call))
+  pub goes_on : ¬ (IsAnswered book interval.call) → ¬ (IsCall book (next_of interval.call))
+      → interval.end ≡ length events
 
 -- The intervals of a caller's calls, by number.
-pub record IsLaneOf (book : List Page) (events : List Event) (caller : ℕ) (lane : List Interval) : Type 0 where
-  pub calls : (number : ℕ) → (number < length lane) ↔ IsCall book (record { caller = caller; number = number })
-  pub named : (number : ℕ) (interval : Interval) → slice_get lane number ≡ Some interval → interval.call ≡ record { caller = caller; number = number }
-  pub told : (number : ℕ) (interval : Interval) → slice_get lane number ≡ Some interval → IsIntervalOf book events interval
+pub record IsLaneOf (book : List Page) (events : List Event) (caller : ℕ)
+    (lane : List Interval) : Type 0 where
+  pub calls : (number : ℕ) → (number < length lane)
+      ↔ IsCall book (record { caller = caller; number = number })
+  pub named : (number : ℕ) (interval : Interval) → slice_get lane number ≡ Some interval
+      → interval.call ≡ record { caller = caller; number = number }
+  pub told : (number : ℕ) (interval : Interval) → slice_get lane number ≡ Some interval
+      → IsIntervalOf book events interval
 
 -- the lanes as lists of intervals
 abbrev pub rows_of : List (Vec Interval Global) → List (List Interval)
@@ -41,11 +49,13 @@ rows_of lanes = map (λ lane. lane.items) lanes
 
 -- an interval stands on the lane of a caller, at a place
 abbrev pub StandsOn : List (List Interval) → ℕ → ℕ → Interval → Type 0
-StandsOn lanes caller place interval = slice_get (slice_index_or lanes caller []) place ≡ Some interval
+StandsOn lanes caller place interval =
+    slice_get (slice_index_or lanes caller []) place ≡ Some interval
 
 -- Each interval stands on the lane of its caller.
 abbrev pub StandOnTheirLanes : List (List Interval) → Type 0
-StandOnTheirLanes lanes = (caller place : ℕ) (interval : Interval) → StandsOn lanes caller place interval → interval.call.caller ≡ caller
+StandOnTheirLanes lanes = (caller place : ℕ) (interval : Interval)
+    → StandsOn lanes caller place interval → interval.call.caller ≡ caller
 
 -- A call has exactly one interval.
 pub record HasOneInterval (lanes : List (List Interval)) (call : Call) : Type 0 where
@@ -54,7 +64,8 @@ pub record HasOneInterval (lanes : List (List Interval)) (call : Call) : Type 0 
   pub interval : Interval
   pub stands : StandsOn lanes caller place interval
   pub is_its : interval.call ≡ call
-  pub only : (i k : ℕ) (other : Interval) → StandsOn lanes i k other → other.call ≡ call → (i ≡ caller) × (k ≡ place)
+  pub only : (i k : ℕ) (other : Interval) → StandsOn lanes i k other → other.call ≡ call
+      → (i ≡ caller) × (k ≡ place)
 
 -- Each call of a book has exactly one interval.
 abbrev pub HaveOneEach : List Page → List (List Interval) → Type 0
@@ -62,11 +73,13 @@ HaveOneEach book lanes = (call : Call) → IsCall book call → HasOneInterval l
 
 -- Each interval is what the events of a book tell of its call.
 abbrev pub AreTold : List Page → List Event → List (List Interval) → Type 0
-AreTold book events lanes = (caller place : ℕ) (interval : Interval) → StandsOn lanes caller place interval → IsIntervalOf book events interval
+AreTold book events lanes = (caller place : ℕ) (interval : Interval)
+    → StandsOn lanes caller place interval → IsIntervalOf book events interval
 
 -- Each interval has a place, and all its places are of events.
 abbrev pub LieWithin : List Event → List (List Interval) → Type 0
-LieWithin events lanes = (caller place : ℕ) (interval : Interval) → StandsOn lanes caller place interval
+LieWithin events lanes = (caller place : ℕ) (interval : Interval)
+    → StandsOn lanes caller place interval
     → (interval.begin < interval.end) × (interval.end ≤ length events)
 
 -- Where a call precedes another, its interval ends before the other's begins: they share no place.

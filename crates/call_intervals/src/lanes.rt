@@ -13,8 +13,8 @@ use std::alloc::Global;
 
 /// The intervals of a book's calls in its sketch: a lane for each caller, with its calls by number.
 ///
-/// Where a call precedes another (Castañeda and Rodríguez 2023), its interval ends before the other's
-/// begins.
+/// Where a call precedes another (Castañeda and Rodríguez 2023), its interval ends before the
+/// other's begins.
 pub fn call_lanes(
     alloc: Global,
     book: &Book,

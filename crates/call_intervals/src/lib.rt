@@ -1,4 +1,5 @@
-//! The intervals of a book's calls in its sketch: from invocation to return, on a lane for each caller.
+//! The intervals of a book's calls in its sketch: from invocation to return, on a lane for each
+//! caller.
 #![tactic(auto)]
 
 mod interval;

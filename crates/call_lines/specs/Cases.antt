@@ -1,4 +1,5 @@
--- Worked lines of three callers, with all four ends: one delivered call and one that is under way, an error, and an unchecked call.
+-- Worked lines of three callers, with all four ends: one delivered call and one that is under way,
+-- an error, and an unchecked call.
 use Rattle.std.specs.Prelude.{ℕ, List, [], ◌∷◌, Option, Some, None}
 use Rattle.book_base.specs.declared.call.Call.{Call}
 use Rattle.book_base.specs.declared.call.Record.{Record}
@@ -76,7 +77,8 @@ judged op r cut = record { operation = op; reached = Has_seen r cut }
 
 -- The calls of the worked lines.
 abbrev pub worked_calls : List (List Made)
-worked_calls = (judged 5 first (1 ∷ 0 ∷ 0 ∷ []) ∷ made 7 ∷ []) ∷ (judged 6 second (1 ∷ 1 ∷ 0 ∷ []) ∷ []) ∷ (recorded 8 third ∷ []) ∷ []
+worked_calls = (judged 5 first (1 ∷ 0 ∷ 0 ∷ []) ∷ made 7 ∷ [])
+    ∷ (judged 6 second (1 ∷ 1 ∷ 0 ∷ []) ∷ []) ∷ (recorded 8 third ∷ []) ∷ []
 
 -- The page of a caller with these operations and records.
 abbrev pub page : List ℕ → List Record → Page
@@ -84,24 +86,29 @@ page operations records = record { operations = operations; records = records }
 
 -- The book of the worked lines.
 abbrev pub worked_book : List Page
-worked_book = page (5 ∷ 7 ∷ []) (first ∷ []) ∷ page (6 ∷ []) (second ∷ []) ∷ page (8 ∷ []) (third ∷ []) ∷ []
+worked_book =
+    page (5 ∷ 7 ∷ []) (first ∷ []) ∷ page (6 ∷ []) (second ∷ []) ∷ page (8 ∷ []) (third ∷ []) ∷ []
 
 -- The second caller's line, with another seen cut.
 abbrev pub seen_by_second : List ℕ → List (List Line)
-seen_by_second cut = (delivered 5 first (1 ∷ 0 ∷ 0 ∷ []) ∷ pending 7 ∷ []) ∷ (delivered 6 second cut ∷ []) ∷ (unchecked 8 third ∷ []) ∷ []
+seen_by_second cut = (delivered 5 first (1 ∷ 0 ∷ 0 ∷ []) ∷ pending 7 ∷ [])
+    ∷ (delivered 6 second cut ∷ []) ∷ (unchecked 8 third ∷ []) ∷ []
 
 -- The second caller's line as an error, with another seen cut.
 abbrev pub failed_by_second : List ℕ → List (List Line)
-failed_by_second cut = (delivered 5 first (1 ∷ 0 ∷ 0 ∷ []) ∷ pending 7 ∷ []) ∷ (failed 6 second cut ∷ []) ∷ (unchecked 8 third ∷ []) ∷ []
+failed_by_second cut = (delivered 5 first (1 ∷ 0 ∷ 0 ∷ []) ∷ pending 7 ∷ [])
+    ∷ (failed 6 second cut ∷ []) ∷ (unchecked 8 third ∷ []) ∷ []
 
--- Three delivered lines of two callers, of which the one in the middle saw most; and an error line that saw still more.
+-- Three delivered lines of two callers, of which the one in the middle saw most; and an error line
+-- that saw still more.
 abbrev pub three_delivered : List (List Line)
 three_delivered =
     (delivered 1 (answer 0 []) (1 ∷ 0 ∷ []) ∷ delivered 2 (answer 0 []) (2 ∷ 1 ∷ []) ∷ [])
     ∷ (delivered 3 (answer 0 []) (1 ∷ 1 ∷ []) ∷ failed 4 (answer 0 []) (2 ∷ 2 ∷ []) ∷ [])
     ∷ []
 
--- How far a caller has come with an object outside the world: its calls, and how many records it has published.
+-- How far a caller has come with an object outside the world: its calls, and how many records it
+-- has published.
 abbrev pub progress : List Made → ℕ → Progress
 progress calls published = record { calls = calls; published = published; steps = [] }
 
@@ -109,7 +116,8 @@ progress calls published = record { calls = calls; published = published; steps 
 abbrev pub object_step : ℕ → ℕ → Object_step
 object_step old new = record { place = 0; old = old; new = new }
 
--- The local of a caller that has published its first call, with two object steps, and announced its second, with one.
+-- The local of a caller that has published its first call, with two object steps, and announced its
+-- second, with one.
 abbrev pub stepped : Local
 stepped =
     record fresh {

@@ -22,46 +22,61 @@ pub record IsAllotted (operations : List ℕ) (allotment : ℕ) (own : List Line
   pub marks : marks_of (map made_of own) ≡ marks_after (phases_of allotment own)
   pub keeps : KeepsTo allotment own
 
--- How the seen cuts fit, where the callers have published this many records: each has a count for each caller, none above what that
--- caller published, and holds its own call as the last of its caller; and any two are comparable.
+-- How the seen cuts fit, where the callers have published this many records: each has a count for
+-- each caller, none above what that caller published, and holds its own call as the last of its
+-- caller; and any two are comparable.
 pub record AreSeen (published : List ℕ) (lines : List (List Line)) : Type 0 where
-  pub wide : (call : Call) (cut : List ℕ) → seen_at lines call ≡ Some cut → length cut ≡ length lines
+  pub wide : (call : Call) (cut : List ℕ) → seen_at lines call ≡ Some cut
+      → length cut ≡ length lines
   pub within : (call : Call) (cut : List ℕ) → seen_at lines call ≡ Some cut → IsWithin cut published
-  pub own : (call : Call) (cut : List ℕ) → seen_at lines call ≡ Some cut → slice_index cut call.caller ≡ call.number + 1
-  pub comparable : (a b : Call) (s t : List ℕ) → seen_at lines a ≡ Some s → seen_at lines b ≡ Some t → AreComparable s t
+  pub own : (call : Call) (cut : List ℕ) → seen_at lines call ≡ Some cut
+      → slice_index cut call.caller ≡ call.number + 1
+  pub comparable : (a b : Call) (s t : List ℕ) → seen_at lines a ≡ Some s → seen_at lines b ≡ Some t
+      → AreComparable s t
 
 -- The seen cuts of the delivered lines, by caller and then by number.
 abbrev pub delivered_cuts : List (List Line) → List (List ℕ)
-delivered_cuts lines = flat_map (λ (own : List Line). filter_map (λ (line : Line). delivered_in line.end) own) lines
+delivered_cuts lines =
+    flat_map (λ (own : List Line). filter_map (λ (line : Line). delivered_in line.end) own) lines
 
--- The greatest seen cut of a delivered line of n callers: of each caller the greatest count, which is 0 where no line is delivered.
+-- The greatest seen cut of a delivered line of n callers: of each caller the greatest count, which
+-- is 0 where no line is delivered.
 abbrev pub delivered_cut : ℕ → List (List Line) → List ℕ
 delivered_cut n lines = map (greatest_count (delivered_cuts lines)) (range_with_len 0 n)
 
--- A report of the callers of a world is lawful: for the sequential object that begins with init and goes on by next, for each caller's
--- operations, and for how many phases each was given (Herlihy and Wing 1990, Castañeda and Rodríguez 2023).
-pub record IsLawful (init : List ℕ) (next : List ℕ → ℕ → List ℕ × ℕ) (s : Shape) (operations : List (List ℕ)) (allotments : List ℕ) (lines : List (List Line)) : Type 0 where
+-- A report of the callers of a world is lawful: for the sequential object that begins with init and
+-- goes on by next, for each caller's operations, and for how many phases each was given (Herlihy
+-- and Wing 1990, Castañeda and Rodríguez 2023).
+pub record IsLawful (init : List ℕ) (next : List ℕ → ℕ → List ℕ × ℕ) (s : Shape)
+    (operations : List (List ℕ)) (allotments : List ℕ) (lines : List (List Line)) : Type 0 where
   -- there is a list of lines for each caller
   pub callers : length lines ≡ s.callers
   -- each caller has its lines: all calls that it made, of its operations in order
-  pub allotted : (i : ℕ) → i < s.callers → IsAllotted (operations_at operations i) (slice_index allotments i) (lines_at lines i)
+  pub allotted : (i : ℕ) → i < s.callers
+      → IsAllotted (operations_at operations i) (slice_index allotments i) (lines_at lines i)
   -- the book of the lines is valid
   pub valid : IsValid (book_of_lines lines)
   -- the seen cuts fit one another, and what was published
   pub seen : AreSeen (published_in allotments lines) lines
   -- where a line is delivered, the greatest seen cut of a delivered line is that of one of them
-  pub greatest : (call : Call) (cut : List ℕ) → delivered_at lines call ≡ Some cut → (top : Call) × (delivered_at lines top ≡ Some (delivered_cut s.callers lines))
+  pub greatest : (call : Call) (cut : List ℕ) → delivered_at lines call ≡ Some cut → (top : Call)
+      × (delivered_at lines top ≡ Some (delivered_cut s.callers lines))
   -- it contains the seen cut of each delivered line
-  pub contains : (call : Call) (cut : List ℕ) → delivered_at lines call ≡ Some cut → IsWithin cut (delivered_cut s.callers lines)
+  pub contains : (call : Call) (cut : List ℕ) → delivered_at lines call ≡ Some cut
+      → IsWithin cut (delivered_cut s.callers lines)
   -- it holds each delivered line
-  pub holds : (call : Call) (cut : List ℕ) → delivered_at lines call ≡ Some cut → Holds (delivered_cut s.callers lines) call
+  pub holds : (call : Call) (cut : List ℕ) → delivered_at lines call ≡ Some cut
+      → Holds (delivered_cut s.callers lines) call
   -- so all delivered replies stand in one legal order: the book at this cut has one
-  pub one_order : HasLegalOrder init next (book_at (delivered_cut s.callers lines) (book_of_lines lines))
+  pub one_order : HasLegalOrder init next
+      (book_at (delivered_cut s.callers lines) (book_of_lines lines))
   -- at the seen cut of an error line the book has no legal order
-  pub no_order : (call : Call) (cut : List ℕ) → error_at lines call ≡ Some cut → ¬ HasLegalOrder init next (book_at cut (book_of_lines lines))
-  -- where a line is an error, no run of any program and of any cap that ends with the calls of these lines, whatever the verdicts, has a
-  -- linearizable object history
+  pub no_order : (call : Call) (cut : List ℕ) → error_at lines call ≡ Some cut
+      → ¬ HasLegalOrder init next (book_at cut (book_of_lines lines))
+  -- where a line is an error, no run of any program and of any cap that ends with the calls of
+  -- these lines, whatever the verdicts, has a linearizable object history
   pub no_run : (call : Call) (cut : List ℕ) → error_at lines call ≡ Some cut
-      → (t : Shape) (steps : List Step) → IsRun t steps → map calls_in (end_of t steps).locals ≡ calls_of lines → ¬ IsLinearizable init next (history_of t steps)
+      → (t : Shape) (steps : List Step) → IsRun t steps → map calls_in (end_of t steps).locals
+      ≡ calls_of lines → ¬ IsLinearizable init next (history_of t steps)
   -- the lines are those of a reachable world
   pub reached : (w : World) × IsReachable s w × AreLinesOf init next w.locals lines

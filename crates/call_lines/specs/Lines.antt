@@ -65,7 +65,8 @@ seen_at lines call = option_and_then (λ (line : Line). seen_in line.end) (line_
 
 -- The seen cut of a call, where its line is delivered.
 abbrev pub delivered_at : List (List Line) → Call → Option (List ℕ)
-delivered_at lines call = option_and_then (λ (line : Line). delivered_in line.end) (line_at lines call)
+delivered_at lines call =
+    option_and_then (λ (line : Line). delivered_in line.end) (line_at lines call)
 
 -- The seen cut of a call, where its line is an error.
 abbrev pub error_at : List (List Line) → Call → Option (List ℕ)
@@ -79,15 +80,20 @@ is_error line = is_some (error_in line.end)
 abbrev pub any_error : List Line → Bool
 any_error lines = list_any is_error lines
 
--- The verdict at the end of a line is right, by this book of all callers: a line is delivered where the book at its seen cut has a
--- legal order, and an error where that book has none. A pending or an unchecked line has no verdict.
-abbrev pub IsJudged : (init : List ℕ) → (next : List ℕ → ℕ → List ℕ × ℕ) → List Page → LineEnd → Type 0
+-- The verdict at the end of a line is right, by this book of all callers: a line is delivered where
+-- the book at its seen cut has a legal order, and an error where that book has none. A pending or
+-- an unchecked line has no verdict.
+abbrev pub IsJudged : (init : List ℕ) → (next : List ℕ → ℕ → List ℕ × ℕ) → List Page
+    → LineEnd → Type 0
 IsJudged init next book Pending = Unit {0}
 IsJudged init next book (Unchecked r) = Unit {0}
 IsJudged init next book (Delivered r cut) = HasLegalOrder init next (book_at cut book)
 IsJudged init next book (Error r cut) = ¬ HasLegalOrder init next (book_at cut book)
 
--- The lines of these locals: their calls, and on each the right verdict by the book of all the lines.
-pub record AreLinesOf (init : List ℕ) (next : List ℕ → ℕ → List ℕ × ℕ) (locals : List Local) (lines : List (List Line)) : Type 0 where
+-- The lines of these locals: their calls, and on each the right verdict by the book of all the
+-- lines.
+pub record AreLinesOf (init : List ℕ) (next : List ℕ → ℕ → List ℕ × ℕ) (locals : List Local)
+    (lines : List (List Line)) : Type 0 where
   pub calls : calls_of lines ≡ map calls_in locals
-  pub judged : (call : Call) (line : Line) → line_at lines call ≡ Some line → IsJudged init next (book_of_lines lines) line.end
+  pub judged : (call : Call) (line : Line) → line_at lines call ≡ Some line
+      → IsJudged init next (book_of_lines lines) line.end

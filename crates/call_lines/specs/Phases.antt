@@ -1,4 +1,5 @@
--- The phases of a caller, counted over all its calls, five for each: what a caller has made that has gone so far.
+-- The phases of a caller, counted over all its calls, five for each: what a caller has made that
+-- has gone so far.
 use Rattle.std.specs.Prelude.{◌≡◌, ℕ, ◌+◌, ◌/◌, ◌%◌, ◌==◌, nat_lt, if◌then◌else◌, List, [], ◌∷◌, ◌++◌, map, take, replicate}
 use Rattle.std.specs.List.{flat_map}
 use Rattle.book_base.specs.declared.call.Record.{Record}
@@ -26,7 +27,8 @@ published_by p = (p + 1) / 5
 abbrev pub judged : ℕ → ℕ
 judged p = p / 5
 
--- How far a call has come, without what it was told: it is announced, has its record, or has its seen cut too.
+-- How far a call has come, without what it was told: it is announced, has its record, or has its
+-- seen cut too.
 pub data Mark : Type 0 where
   Announced : Mark
   Recorded : Mark
@@ -38,9 +40,11 @@ mark_of Is_announced = Announced
 mark_of (Has_record r) = Recorded
 mark_of (Has_seen r cut) = Seen
 
--- The mark of the call that is under way, this many phases after the calls before it were judged: none where it isn't announced.
+-- The mark of the call that is under way, this many phases after the calls before it were judged:
+-- none where it isn't announced.
 abbrev pub mark_under_way : ℕ → List Mark
-mark_under_way phases = if phases == 0 then [] else (if nat_lt phases 3 then Announced ∷ [] else Recorded ∷ [])
+mark_under_way phases =
+    if phases == 0 then [] else (if nat_lt phases 3 then Announced ∷ [] else Recorded ∷ [])
 
 -- The marks of a caller's calls after p phases: the judged ones, and that of the call under way.
 abbrev pub marks_after : ℕ → List Mark
@@ -54,7 +58,8 @@ operations_of calls = map (λ (c : Made). c.operation) calls
 abbrev pub marks_of : List Made → List Mark
 marks_of calls = map (λ (c : Made). mark_of c.reached) calls
 
--- How far a caller has come: its calls, how many records it has published, and the object steps of all its calls in order.
+-- How far a caller has come: its calls, how many records it has published, and the object steps of
+-- all its calls in order.
 pub record Progress : Type 0 where
   pub calls : List Made
   pub published : ℕ
@@ -64,12 +69,13 @@ pub record Progress : Type 0 where
 abbrev pub progress_of : Local → Progress
 progress_of l = record { calls = calls_in l; published = l.published; steps = all_steps_of l }
 
--- The progress of a caller before its first phase: it has no call, no published record and no object step.
+-- The progress of a caller before its first phase: it has no call, no published record and no
+-- object step.
 abbrev pub no_progress : Progress
 no_progress = record { calls = []; published = 0; steps = [] }
 
--- A caller with these operations has come exactly as far as its first p phases go: no call and no operation is left out, and none is
--- further than that.
+-- A caller with these operations has come exactly as far as its first p phases go: no call and no
+-- operation is left out, and none is further than that.
 pub record IsProgressAfter (operations : List ℕ) (p : ℕ) (progress : Progress) : Type 0 where
   pub in_order : operations_of progress.calls ≡ take (begun p) operations
   pub marks : marks_of progress.calls ≡ marks_after p
@@ -81,10 +87,12 @@ HasMade operations p l = IsProgressAfter operations p (progress_of l)
 
 -- The operation and the reply of each call that has its record.
 abbrev pub answers_in : List Made → List (ℕ × ℕ)
-answers_in calls = flat_map (λ (c : Made). map (λ (r : Record). (c.operation, r.reply)) (records_of c.reached)) calls
+answers_in calls = flat_map
+    (λ (c : Made). map (λ (r : Record). (c.operation, r.reply)) (records_of c.reached)) calls
 
--- What an object tells of a caller that has made p phases, an operation and a reply for each call that it was asked: the operations
--- are those of the first calls, and the first replies those of the answered calls. So there is at most one pair more than answers.
+-- What an object tells of a caller that has made p phases, an operation and a reply for each call
+-- that it was asked: the operations are those of the first calls, and the first replies those of
+-- the answered calls. So there is at most one pair more than answers.
 pub record IsTold (p : ℕ) (calls : List Made) (pairs : List (ℕ × ℕ)) : Type 0 where
   pub operations : map (λ (pair : ℕ × ℕ). pair.0) pairs ≡ take (asked p) (operations_of calls)
   pub replies : take (answered p) pairs ≡ answers_in calls

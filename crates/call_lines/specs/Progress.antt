@@ -5,11 +5,15 @@ use Rattle.world_core.specs.Local.{Object_step}
 use Rattle.world_core.specs.Calls.{Reached, Is_announced, Has_record, Has_seen, Made}
 use Rattle.call_lines.specs.Phases.{Progress}
 
--- Announcing puts one more call at the end, which has no object step yet. Asking an object outside the world leaves all as it is.
+-- Announcing puts one more call at the end, which has no object step yet. Asking an object outside
+-- the world leaves all as it is.
 abbrev pub after_announcing : ℕ → Progress → Progress
-after_announcing operation progress = record progress { calls = progress.calls ++ record { operation = operation; reached = Is_announced } ∷ [] }
+after_announcing operation progress = record progress {
+  calls = progress.calls ++ record { operation = operation; reached = Is_announced } ∷ [];
+}
 
--- A step on an object word puts it after the caller's other object steps: it is one of the last call.
+-- A step on an object word puts it after the caller's other object steps: it is one of the last
+-- call.
 abbrev pub after_stepping : Object_step → Progress → Progress
 after_stepping step progress = record progress { steps = progress.steps ++ step ∷ [] }
 
@@ -23,7 +27,8 @@ with_last further (c ∷ d ∷ calls) = c ∷ with_last further (d ∷ calls)
 abbrev pub TheLastCallGoesOn : Type 0
 TheLastCallGoesOn =
     (further : Reached → Reached) (calls : List Made) (last : Made)
-    → with_last further (calls ++ last ∷ []) ≡ calls ++ record { operation = last.operation; reached = further last.reached } ∷ []
+    → with_last further (calls ++ last ∷ [])
+    ≡ calls ++ record { operation = last.operation; reached = further last.reached } ∷ []
 
 -- Taking the view gives the last call its record.
 abbrev pub after_viewing : Record → Progress → Progress

@@ -12,17 +12,23 @@ use Rattle.call_lines.specs.Lines.{made_of}
 use Rattle.call_lines.specs.Phases.{HasMade}
 use Rattle.call_lines.specs.Allotments.{phases_of, KeepsTo}
 
--- The verdict at the end of a line, by a book that this caller of n gathered at the line's seen cut: a legal order of it was found, or
--- it has none.
-abbrev pub IsJudgedBy : (init : List ℕ) → (next : List ℕ → ℕ → List ℕ × ℕ) → ℕ → Local → LineEnd → Type 0
+-- The verdict at the end of a line, by a book that this caller of n gathered at the line's seen
+-- cut: a legal order of it was found, or it has none.
+abbrev pub IsJudgedBy : (init : List ℕ) → (next : List ℕ → ℕ → List ℕ × ℕ) → ℕ → Local
+    → LineEnd → Type 0
 IsJudgedBy init next n l Pending = Unit {0}
 IsJudgedBy init next n l (Unchecked r) = Unit {0}
-IsJudgedBy init next n l (Delivered r cut) = (book : List Page) × IsGathered n l cut book × HasLegalOrder init next book
-IsJudgedBy init next n l (Error r cut) = (book : List Page) × IsGathered n l cut book × ¬ HasLegalOrder init next book
+IsJudgedBy init next n l (Delivered r cut) = (book : List Page) × IsGathered n l cut book
+    × HasLegalOrder init next book
+IsJudgedBy init next n l (Error r cut) = (book : List Page) × IsGathered n l cut book
+    × ¬ HasLegalOrder init next book
 
--- What a worker of one of n callers leaves, for its operations and its allotment, in its caller's local and its lines.
-pub record HasWorked (init : List ℕ) (next : List ℕ → ℕ → List ℕ × ℕ) (n : ℕ) (operations : List ℕ) (allotment : ℕ) (l : Local) (own : List Line) : Type 0 where
-  -- there is a line for each of the caller's calls, which says how far it came: so a line's cut is the seen cut of that call
+-- What a worker of one of n callers leaves, for its operations and its allotment, in its caller's
+-- local and its lines.
+pub record HasWorked (init : List ℕ) (next : List ℕ → ℕ → List ℕ × ℕ) (n : ℕ) (operations : List ℕ)
+    (allotment : ℕ) (l : Local) (own : List Line) : Type 0 where
+  -- there is a line for each of the caller's calls, which says how far it came: so a line's cut is
+  -- the seen cut of that call
   pub calls : map made_of own ≡ calls_in l
   -- it made all phases of its allotment, but for those after an error
   pub made : HasMade operations (phases_of allotment own) l

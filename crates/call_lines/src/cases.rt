@@ -12,23 +12,28 @@ ghost use Rattle.world_core.specs.Local.{fresh};
 ghost use Rattle.world_core.specs.CallSteps.{operation_now, steps_now, all_steps_of};
 ghost use Rattle.world_core.specs.Event.{Announce, Object, local_after};
 
-/// How many calls have come how far, after no phase up to eleven of them: the announcement is the first of
-/// five phases, then come the object's answer, the view, the publication and the verdict.
+/// How many calls have come how far, after no phase up to eleven of them: the announcement is the
+/// first of five phases, then come the object's answer, the view, the publication and the verdict.
 pub fn phases_are_five_for_each_call()
     // After no phase up to eleven of them 0, 1, 1, 1, 1, 1, 2, 2, 2, 2, 2 and 3 calls are
     // announced.
-    ensures begun { map begun (range_with_len 0 12) ≡ 0 ∷ 1 ∷ 1 ∷ 1 ∷ 1 ∷ 1 ∷ 2 ∷ 2 ∷ 2 ∷ 2 ∷ 2 ∷ 3 ∷ [] }
+    ensures begun { map begun (range_with_len 0 12)
+        ≡ 0 ∷ 1 ∷ 1 ∷ 1 ∷ 1 ∷ 1 ∷ 2 ∷ 2 ∷ 2 ∷ 2 ∷ 2 ∷ 3 ∷ [] }
     // After no phase up to eleven of them 0, 0, 1, 1, 1, 1, 1, 2, 2, 2, 2 and 2 calls were asked of
     // the object.
-    ensures asked { map asked (range_with_len 0 12) ≡ 0 ∷ 0 ∷ 1 ∷ 1 ∷ 1 ∷ 1 ∷ 1 ∷ 2 ∷ 2 ∷ 2 ∷ 2 ∷ 2 ∷ [] }
+    ensures asked { map asked (range_with_len 0 12)
+        ≡ 0 ∷ 0 ∷ 1 ∷ 1 ∷ 1 ∷ 1 ∷ 1 ∷ 2 ∷ 2 ∷ 2 ∷ 2 ∷ 2 ∷ [] }
     // After no phase up to eleven of them 0, 0, 0, 1, 1, 1, 1, 1, 2, 2, 2 and 2 calls have their
     // record.
-    ensures answered { map answered (range_with_len 0 12) ≡ 0 ∷ 0 ∷ 0 ∷ 1 ∷ 1 ∷ 1 ∷ 1 ∷ 1 ∷ 2 ∷ 2 ∷ 2 ∷ 2 ∷ [] }
+    ensures answered { map answered (range_with_len 0 12)
+        ≡ 0 ∷ 0 ∷ 0 ∷ 1 ∷ 1 ∷ 1 ∷ 1 ∷ 1 ∷ 2 ∷ 2 ∷ 2 ∷ 2 ∷ [] }
     // After no phase up to eleven of them 0, 0, 0, 0, 1, 1, 1, 1, 1, 2, 2 and 2 records are
     // published.
-    ensures published { map published_by (range_with_len 0 12) ≡ 0 ∷ 0 ∷ 0 ∷ 0 ∷ 1 ∷ 1 ∷ 1 ∷ 1 ∷ 1 ∷ 2 ∷ 2 ∷ 2 ∷ [] }
+    ensures published { map published_by (range_with_len 0 12)
+        ≡ 0 ∷ 0 ∷ 0 ∷ 0 ∷ 1 ∷ 1 ∷ 1 ∷ 1 ∷ 1 ∷ 2 ∷ 2 ∷ 2 ∷ [] }
     // After no phase up to eleven of them 0, 0, 0, 0, 0, 1, 1, 1, 1, 1, 2 and 2 calls are judged.
-    ensures judged { map judged_by (range_with_len 0 12) ≡ 0 ∷ 0 ∷ 0 ∷ 0 ∷ 0 ∷ 1 ∷ 1 ∷ 1 ∷ 1 ∷ 1 ∷ 2 ∷ 2 ∷ [] }
+    ensures judged { map judged_by (range_with_len 0 12)
+        ≡ 0 ∷ 0 ∷ 0 ∷ 0 ∷ 0 ∷ 1 ∷ 1 ∷ 1 ∷ 1 ∷ 1 ∷ 2 ∷ 2 ∷ [] }
 {}
 
 /// The marks of a caller's calls, after no phase up to eleven of them.
@@ -55,36 +60,46 @@ pub fn marks_tell_how_far_calls_are()
     ensures eleven { marks_after 11 ≡ Seen ∷ Seen ∷ Announced ∷ [] }
 {}
 
-/// The second call of a caller, phase by phase: after the first call, and as the fourth phase has and hasn't
-/// published its record.
+/// The second call of a caller, phase by phase: after the first call, and as the fourth phase has
+/// and hasn't published its record.
 pub fn a_second_call_goes_on()
     // Announcing the operation 7 puts a second call after the judged one.
-    ensures announced { after_announcing 7 (progress (judged 5 first [] ∷ []) 1) ≡ progress (judged 5 first [] ∷ made 7 ∷ []) 1 }
+    ensures announced { after_announcing 7 (progress (judged 5 first [] ∷ []) 1)
+        ≡ progress (judged 5 first [] ∷ made 7 ∷ []) 1 }
     // Taking the view gives the second call its record, and none is published by it.
-    ensures viewed { after_viewing second (progress (judged 5 first [] ∷ made 7 ∷ []) 1) ≡ progress (judged 5 first [] ∷ recorded 7 second ∷ []) 1 }
+    ensures viewed { after_viewing second (progress (judged 5 first [] ∷ made 7 ∷ []) 1)
+        ≡ progress (judged 5 first [] ∷ recorded 7 second ∷ []) 1 }
     // Publishing raises the count of published records to 2, and leaves the calls.
-    ensures published { after_publishing (progress (judged 5 first [] ∷ recorded 7 second ∷ []) 1) ≡ progress (judged 5 first [] ∷ recorded 7 second ∷ []) 2 }
+    ensures published { after_publishing (progress (judged 5 first [] ∷ recorded 7 second ∷ []) 1)
+        ≡ progress (judged 5 first [] ∷ recorded 7 second ∷ []) 2 }
     // Judging gives the second call its seen cut.
-    ensures seen { after_seeing (2 ∷ []) (progress (judged 5 first [] ∷ recorded 7 second ∷ []) 2) ≡ progress (judged 5 first [] ∷ judged 7 second (2 ∷ []) ∷ []) 2 }
+    ensures seen { after_seeing (2 ∷ []) (progress (judged 5 first [] ∷ recorded 7 second ∷ []) 2)
+        ≡ progress (judged 5 first [] ∷ judged 7 second (2 ∷ []) ∷ []) 2 }
     // Progress with one judged and one announced call is what six phases make.
-    ensures after_six { IsProgressAfter (5 ∷ 7 ∷ []) 6 (progress (judged 5 first [] ∷ made 7 ∷ []) 1) }
+    ensures after_six { IsProgressAfter (5 ∷ 7 ∷ []) 6
+        (progress (judged 5 first [] ∷ made 7 ∷ []) 1) }
     // Progress with one judged and one recorded call, and one published record, is what eight
     // phases make.
-    ensures after_eight { IsProgressAfter (5 ∷ 7 ∷ []) 8 (progress (judged 5 first [] ∷ recorded 7 second ∷ []) 1) }
+    ensures after_eight { IsProgressAfter (5 ∷ 7 ∷ []) 8
+        (progress (judged 5 first [] ∷ recorded 7 second ∷ []) 1) }
     // Progress with one judged and one recorded call, and two published records, is what nine
     // phases make.
-    ensures after_nine { IsProgressAfter (5 ∷ 7 ∷ []) 9 (progress (judged 5 first [] ∷ recorded 7 second ∷ []) 2) }
+    ensures after_nine { IsProgressAfter (5 ∷ 7 ∷ []) 9
+        (progress (judged 5 first [] ∷ recorded 7 second ∷ []) 2) }
     // Progress with one published record isn't what nine phases make.
-    ensures not_after_nine { ¬ IsProgressAfter (5 ∷ 7 ∷ []) 9 (progress (judged 5 first [] ∷ recorded 7 second ∷ []) 1) }
+    ensures not_after_nine { ¬ IsProgressAfter (5 ∷ 7 ∷ []) 9
+        (progress (judged 5 first [] ∷ recorded 7 second ∷ []) 1) }
     // Progress whose second call has an operation other than the caller's isn't what eight phases
     // make.
-    ensures another_operation { ¬ IsProgressAfter (5 ∷ 6 ∷ []) 8 (progress (judged 5 first [] ∷ recorded 7 second ∷ []) 1) }
+    ensures another_operation { ¬ IsProgressAfter (5 ∷ 6 ∷ []) 8
+        (progress (judged 5 first [] ∷ recorded 7 second ∷ []) 1) }
     // Progress without the second call isn't what six phases make.
-    ensures a_call_left_out { ¬ IsProgressAfter (5 ∷ 7 ∷ []) 6 (progress (judged 5 first [] ∷ []) 1) }
+    ensures a_call_left_out { ¬ IsProgressAfter (5 ∷ 7 ∷ []) 6
+        (progress (judged 5 first [] ∷ []) 1) }
 {}
 
-/// The object steps of a caller's calls: a caller has none before its first call, none in a call that it has
-/// just announced, and each further one is the last of the call under way and of all.
+/// The object steps of a caller's calls: a caller has none before its first call, none in a call
+/// that it has just announced, and each further one is the last of the call under way and of all.
 pub fn object_steps_are_of_calls()
     // A local at the start has no progress.
     ensures none { progress_of fresh ≡ no_progress }
@@ -97,35 +112,43 @@ pub fn object_steps_are_of_calls()
     // The progress of a local has the object steps of all its calls.
     ensures progress { (progress_of stepped).steps ≡ all_steps_of stepped }
     // An object step adds itself to the progress of its local.
-    ensures stepped { progress_of (local_after 3 stepped (Object (object_step 9 2))) ≡ after_stepping (object_step 9 2) (progress_of stepped) }
+    ensures stepped { progress_of (local_after 3 stepped (Object (object_step 9 2)))
+        ≡ after_stepping (object_step 9 2) (progress_of stepped) }
     // An object step is the last one of the call under way.
-    ensures stepped_now { steps_now (local_after 3 stepped (Object (object_step 9 2))) ≡ object_step 6 9 ∷ object_step 9 2 ∷ [] }
+    ensures stepped_now { steps_now (local_after 3 stepped (Object (object_step 9 2)))
+        ≡ object_step 6 9 ∷ object_step 9 2 ∷ [] }
     // An object step is the last one of all steps of its caller.
-    ensures last { (after_stepping (object_step 9 2) (progress_of stepped)).steps ≡ object_step 0 3 ∷ object_step 3 6 ∷ object_step 6 9 ∷ object_step 9 2 ∷ [] }
+    ensures last { (after_stepping (object_step 9 2) (progress_of stepped)).steps
+        ≡ object_step 0 3 ∷ object_step 3 6 ∷ object_step 6 9 ∷ object_step 9 2 ∷ [] }
     // A call that has just been announced has no object step.
     ensures announced { steps_now (local_after 3 fresh Announce) ≡ [] }
     // Progress with object steps of both calls is what six phases make.
     ensures any_steps { IsProgressAfter (5 ∷ 7 ∷ []) 6 (progress_of stepped) }
 {}
 
-/// What an object tells: a pair for each call that it was asked, of which the last may have no record yet.
+/// What an object tells: a pair for each call that it was asked, of which the last may have no
+/// record yet.
 pub fn objects_tell_of_what_they_were_asked()
     // The answers of calls are the operation and the reply of each call that has its record.
-    ensures answers { answers_in (judged 5 first [] ∷ recorded 7 second ∷ made 8 ∷ []) ≡ (5, 50) ∷ (7, 61) ∷ [] }
+    ensures answers { answers_in (judged 5 first [] ∷ recorded 7 second ∷ made 8 ∷ [])
+        ≡ (5, 50) ∷ (7, 61) ∷ [] }
     // An object tells of one call after six phases, since the second one wasn't asked yet.
     ensures announced { IsTold 6 (judged 5 first [] ∷ made 7 ∷ []) ((5, 50) ∷ []) }
     // An object tells of two calls after seven phases, of the second one with whatever reply.
     ensures asked { IsTold 7 (judged 5 first [] ∷ made 7 ∷ []) ((5, 50) ∷ (7, 4) ∷ []) }
     // An object tells of two calls after eight phases, each with the reply of its record.
-    ensures viewed { IsTold 8 (judged 5 first [] ∷ recorded 7 second ∷ []) ((5, 50) ∷ (7, 61) ∷ []) }
+    ensures viewed { IsTold 8 (judged 5 first [] ∷ recorded 7 second ∷ [])
+        ((5, 50) ∷ (7, 61) ∷ []) }
     // An object doesn't tell of a call that it wasn't asked yet.
     ensures not_asked { ¬ IsTold 6 (judged 5 first [] ∷ made 7 ∷ []) ((5, 50) ∷ (7, 4) ∷ []) }
     // An object doesn't leave out a call that it was asked.
     ensures forgotten { ¬ IsTold 7 (judged 5 first [] ∷ made 7 ∷ []) ((5, 50) ∷ []) }
     // An object doesn't tell another reply than that of the call's record.
-    ensures another_reply { ¬ IsTold 8 (judged 5 first [] ∷ recorded 7 second ∷ []) ((5, 50) ∷ (7, 4) ∷ []) }
+    ensures another_reply { ¬ IsTold 8 (judged 5 first [] ∷ recorded 7 second ∷ [])
+        ((5, 50) ∷ (7, 4) ∷ []) }
     // An object doesn't tell another operation than the call's.
-    ensures another_operation { ¬ IsTold 7 (judged 5 first [] ∷ made 7 ∷ []) ((5, 50) ∷ (9, 4) ∷ []) }
+    ensures another_operation { ¬ IsTold 7 (judged 5 first [] ∷ made 7 ∷ [])
+        ((5, 50) ∷ (9, 4) ∷ []) }
 {}
 
 /// The calls, the book and the seen cuts of lines with all four ends.
@@ -136,13 +159,19 @@ pub fn lines_tell_of_calls()
     ensures book { book_of_lines worked_lines ≡ worked_book }
     // Of the worked lines the delivered one and the error have seen cuts, and a call without a line
     // has none.
-    ensures seen { map (seen_at worked_lines) (call 0 0 ∷ call 0 1 ∷ call 1 0 ∷ call 2 0 ∷ call 2 1 ∷ call 3 0 ∷ []) ≡ Some (1 ∷ 0 ∷ 0 ∷ []) ∷ None ∷ Some (1 ∷ 1 ∷ 0 ∷ []) ∷ None ∷ None ∷ None ∷ [] }
+    ensures seen { map (seen_at worked_lines)
+        (call 0 0 ∷ call 0 1 ∷ call 1 0 ∷ call 2 0 ∷ call 2 1 ∷ call 3 0 ∷ [])
+        ≡ Some (1 ∷ 0 ∷ 0 ∷ []) ∷ None ∷ Some (1 ∷ 1 ∷ 0 ∷ []) ∷ None ∷ None ∷ None ∷ [] }
     // Of the worked lines one is delivered, with its seen cut.
-    ensures delivered { map (delivered_at worked_lines) (call 0 0 ∷ call 0 1 ∷ call 1 0 ∷ call 2 0 ∷ []) ≡ Some (1 ∷ 0 ∷ 0 ∷ []) ∷ None ∷ None ∷ None ∷ [] }
+    ensures delivered { map (delivered_at worked_lines)
+        (call 0 0 ∷ call 0 1 ∷ call 1 0 ∷ call 2 0 ∷ [])
+        ≡ Some (1 ∷ 0 ∷ 0 ∷ []) ∷ None ∷ None ∷ None ∷ [] }
     // Of the worked lines one is an error, with its seen cut.
-    ensures error { map (error_at worked_lines) (call 0 0 ∷ call 0 1 ∷ call 1 0 ∷ call 2 0 ∷ []) ≡ None ∷ None ∷ Some (1 ∷ 1 ∷ 0 ∷ []) ∷ None ∷ [] }
+    ensures error { map (error_at worked_lines) (call 0 0 ∷ call 0 1 ∷ call 1 0 ∷ call 2 0 ∷ [])
+        ≡ None ∷ None ∷ Some (1 ∷ 1 ∷ 0 ∷ []) ∷ None ∷ [] }
     // Of the three callers the second one has an error.
-    ensures has_error { map (λ i. any_error (lines_at worked_lines i)) (0 ∷ 1 ∷ 2 ∷ []) ≡ false ∷ true ∷ false ∷ [] }
+    ensures has_error { map (λ i. any_error (lines_at worked_lines i)) (0 ∷ 1 ∷ 2 ∷ [])
+        ≡ false ∷ true ∷ false ∷ [] }
     // A caller has an error also where a line before it is delivered.
     ensures error_after { any_error (delivered 5 first [] ∷ failed 6 second [] ∷ []) ≡ true }
 {}
@@ -156,7 +185,8 @@ pub fn callers_are_given_phases()
     // A caller that stops at once is given no phase.
     ensures stop_at_once { phases_for (Some 0) 3 ≡ 0 }
     // A caller is given as many turns as the list of turns names it.
-    ensures turns { map (turns_of (1 ∷ 0 ∷ 1 ∷ 2 ∷ 1 ∷ [])) (0 ∷ 1 ∷ 2 ∷ 3 ∷ []) ≡ 1 ∷ 3 ∷ 1 ∷ 0 ∷ [] }
+    ensures turns { map (turns_of (1 ∷ 0 ∷ 1 ∷ 2 ∷ 1 ∷ [])) (0 ∷ 1 ∷ 2 ∷ 3 ∷ [])
+        ≡ 1 ∷ 3 ∷ 1 ∷ 0 ∷ [] }
     // Callers with stops after 6 phases, none and 3 phases are given 6, 10 and 3 phases.
     ensures allotments { allotments_of worked_operations worked_stops ≡ 6 ∷ 10 ∷ 3 ∷ [] }
     // Callers without stops are given five phases for each of their calls.
@@ -164,7 +194,8 @@ pub fn callers_are_given_phases()
     // A caller without calls is given no phase.
     ensures no_calls { allotments_of ([] ∷ []) [] ≡ 0 ∷ [] }
     // A caller that is given turns makes a phase at each, up to its stop.
-    ensures by_turns { allotments_by_turns worked_operations worked_stops (0 ∷ 1 ∷ 2 ∷ 2 ∷ 1 ∷ 2 ∷ 2 ∷ []) ≡ 1 ∷ 2 ∷ 3 ∷ [] }
+    ensures by_turns { allotments_by_turns worked_operations worked_stops
+        (0 ∷ 1 ∷ 2 ∷ 2 ∷ 1 ∷ 2 ∷ 2 ∷ []) ≡ 1 ∷ 2 ∷ 3 ∷ [] }
     // A caller without an error makes all phases that it is given.
     ensures all_made { phases_of 6 (lines_at worked_lines 0) ≡ 6 }
     // A caller with an error makes its phases up to that of the error's verdict.
@@ -175,8 +206,9 @@ pub fn callers_are_given_phases()
     ensures published_later { published_in (6 ∷ 10 ∷ 4 ∷ []) worked_lines ≡ 1 ∷ 1 ∷ 1 ∷ [] }
 {}
 
-/// The lines of one caller with the operations 5 and 7, for allotments of no phase up to ten: one line for
-/// each call that was made, none left out, none beyond an error or the allotment, and in order.
+/// The lines of one caller with the operations 5 and 7, for allotments of no phase up to ten: one
+/// line for each call that was made, none left out, none beyond an error or the allotment, and in
+/// order.
 pub fn lines_are_those_of_the_allotment()
     // Without a phase a caller has no line.
     ensures none { IsAllotted (5 ∷ 7 ∷ []) 0 [] }
@@ -195,7 +227,8 @@ pub fn lines_are_those_of_the_allotment()
     // An error may be the last line of a caller that is given more phases.
     ensures error { IsAllotted (5 ∷ 7 ∷ []) 10 (failed 5 first [] ∷ []) }
     // An error may come after a delivered line, and be the last one.
-    ensures last_error { IsAllotted (5 ∷ 7 ∷ []) 10 (delivered 5 first [] ∷ failed 7 first [] ∷ []) }
+    ensures last_error { IsAllotted (5 ∷ 7 ∷ []) 10
+        (delivered 5 first [] ∷ failed 7 first [] ∷ []) }
     // Without a phase no line is pending.
     ensures begun_too_early { ¬ IsAllotted (5 ∷ 7 ∷ []) 0 (pending 5 ∷ []) }
     // After one phase a line isn't left out.
@@ -213,24 +246,30 @@ pub fn lines_are_those_of_the_allotment()
     // After ten phases no second line is left out after a delivered one.
     ensures left_out { ¬ IsAllotted (5 ∷ 7 ∷ []) 10 (delivered 5 first [] ∷ []) }
     // After an error there is no line.
-    ensures after_an_error { ¬ IsAllotted (5 ∷ 7 ∷ []) 10 (failed 5 first [] ∷ delivered 7 first [] ∷ []) }
+    ensures after_an_error { ¬ IsAllotted (5 ∷ 7 ∷ []) 10
+        (failed 5 first [] ∷ delivered 7 first [] ∷ []) }
     // The lines of a caller stand in the order of its operations.
-    ensures another_order { ¬ IsAllotted (5 ∷ 7 ∷ []) 10 (delivered 7 first [] ∷ delivered 5 first [] ∷ []) }
+    ensures another_order { ¬ IsAllotted (5 ∷ 7 ∷ []) 10
+        (delivered 7 first [] ∷ delivered 5 first [] ∷ []) }
     // A caller has no more lines than operations.
-    ensures one_too_many { ¬ IsAllotted (5 ∷ 7 ∷ []) 11 (delivered 5 first [] ∷ delivered 7 first [] ∷ pending 0 ∷ []) }
+    ensures one_too_many { ¬ IsAllotted (5 ∷ 7 ∷ []) 11
+        (delivered 5 first [] ∷ delivered 7 first [] ∷ pending 0 ∷ []) }
 {}
 
-/// The seen cuts of the worked lines fit: and others don't, which are narrow, lack their own line, hold an
-/// own line more, hold a record that wasn't published, or aren't comparable.
+/// The seen cuts of the worked lines fit: and others don't, which are narrow, lack their own line,
+/// hold an own line more, hold a record that wasn't published, or aren't comparable.
 pub fn seen_cuts_fit()
     // The seen cuts of the worked lines fit.
     ensures worked { AreSeen (published_in (6 ∷ 10 ∷ 3 ∷ []) worked_lines) worked_lines }
     // A seen cut with a record of caller 2 doesn't fit where that caller wasn't given the phase
     // that publishes it.
-    ensures unpublished { ¬ AreSeen (published_in (6 ∷ 10 ∷ 3 ∷ []) (seen_by_second (1 ∷ 1 ∷ 1 ∷ []))) (seen_by_second (1 ∷ 1 ∷ 1 ∷ [])) }
+    ensures unpublished { ¬ AreSeen
+        (published_in (6 ∷ 10 ∷ 3 ∷ []) (seen_by_second (1 ∷ 1 ∷ 1 ∷ [])))
+        (seen_by_second (1 ∷ 1 ∷ 1 ∷ [])) }
     // A seen cut with a record of caller 2 fits where that caller was given the phase that
     // publishes it.
-    ensures published { AreSeen (published_in (6 ∷ 10 ∷ 4 ∷ []) (seen_by_second (1 ∷ 1 ∷ 1 ∷ []))) (seen_by_second (1 ∷ 1 ∷ 1 ∷ [])) }
+    ensures published { AreSeen (published_in (6 ∷ 10 ∷ 4 ∷ []) (seen_by_second (1 ∷ 1 ∷ 1 ∷ [])))
+        (seen_by_second (1 ∷ 1 ∷ 1 ∷ [])) }
     // A seen cut with two counts for three callers doesn't fit.
     ensures narrow { ¬ AreSeen (1 ∷ 1 ∷ 0 ∷ []) (seen_by_second (1 ∷ 1 ∷ [])) }
     // A seen cut that lacks its own call doesn't fit.
@@ -241,15 +280,19 @@ pub fn seen_cuts_fit()
     ensures crossing { ¬ AreSeen (1 ∷ 1 ∷ 1 ∷ []) (seen_by_second (0 ∷ 1 ∷ 0 ∷ [])) }
 {}
 
-/// The seen cut of an error line fits as a delivered line's does: others don't, which hold a record that wasn't
-/// published, are narrow, lack their own line, hold an own line more, or aren't comparable.
+/// The seen cut of an error line fits as a delivered line's does: others don't, which hold a record
+/// that wasn't published, are narrow, lack their own line, hold an own line more, or aren't
+/// comparable.
 pub fn seen_cuts_of_errors_fit()
     // An error's seen cut with a record of caller 2 doesn't fit where that caller wasn't given the
     // phase that publishes it.
-    ensures unpublished { ¬ AreSeen (published_in (6 ∷ 10 ∷ 3 ∷ []) (failed_by_second (1 ∷ 1 ∷ 1 ∷ []))) (failed_by_second (1 ∷ 1 ∷ 1 ∷ [])) }
+    ensures unpublished { ¬ AreSeen
+        (published_in (6 ∷ 10 ∷ 3 ∷ []) (failed_by_second (1 ∷ 1 ∷ 1 ∷ [])))
+        (failed_by_second (1 ∷ 1 ∷ 1 ∷ [])) }
     // An error's seen cut with a record of caller 2 fits where that caller was given the phase that
     // publishes it.
-    ensures published { AreSeen (published_in (6 ∷ 10 ∷ 4 ∷ []) (failed_by_second (1 ∷ 1 ∷ 1 ∷ []))) (failed_by_second (1 ∷ 1 ∷ 1 ∷ [])) }
+    ensures published { AreSeen (published_in (6 ∷ 10 ∷ 4 ∷ []) (failed_by_second (1 ∷ 1 ∷ 1 ∷ [])))
+        (failed_by_second (1 ∷ 1 ∷ 1 ∷ [])) }
     // An error's seen cut with two counts for three callers doesn't fit.
     ensures narrow { ¬ AreSeen (1 ∷ 1 ∷ 0 ∷ []) (failed_by_second (1 ∷ 1 ∷ [])) }
     // An error's seen cut that lacks its own call doesn't fit.
@@ -264,7 +307,8 @@ pub fn seen_cuts_of_errors_fit()
 pub fn greatest_delivered_cuts()
     // The delivered cuts of the three delivered lines and the error are those of the three
     // delivered ones.
-    ensures cuts { delivered_cuts three_delivered ≡ (1 ∷ 0 ∷ []) ∷ (2 ∷ 1 ∷ []) ∷ (1 ∷ 1 ∷ []) ∷ [] }
+    ensures cuts { delivered_cuts three_delivered
+        ≡ (1 ∷ 0 ∷ []) ∷ (2 ∷ 1 ∷ []) ∷ (1 ∷ 1 ∷ []) ∷ [] }
     // The greatest delivered cut of these lines is that of the second one.
     ensures three { delivered_cut 2 three_delivered ≡ 2 ∷ 1 ∷ [] }
     // The greatest delivered cut of the worked lines is that of the only delivered one.

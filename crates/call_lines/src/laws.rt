@@ -1,12 +1,12 @@
-//! How far a caller has come, by the parts of its local that tell of its calls. Each law is the contract of a
-//! function with nothing in it.
+//! How far a caller has come, by the parts of its local that tell of its calls. Each law is the
+//! contract of a function with nothing in it.
 
 ghost use Rattle.call_lines.specs.Progress.{TheLastCallGoesOn};
 ghost use Rattle.call_lines.specs.Account.{NothingGrows, OperationsAreCalls, ObjectStepsAreOfTheLastCall, RepliesAreNoRecords, ViewsMakeRecords, PublicationsCount, SeenCutsAreOfTheLastCall, AnnouncementsAreCalls, ObjectStepsCount, PublishesCount};
 
-/// As an operation, a view, a seen cut or the count of published records is one more, the caller has come one
-/// phase further; with one more reply, or where nothing of them changes, it hasn't. One more object step is
-/// the last of all its steps.
+/// As an operation, a view, a seen cut or the count of published records is one more, the caller
+/// has come one phase further; with one more reply, or where nothing of them changes, it hasn't.
+/// One more object step is the last of all its steps.
 pub fn locals_tell_how_far_callers_are()
     // Where a caller's account of its calls stays, its progress stays.
     ensures nothing { NothingGrows }
@@ -27,8 +27,8 @@ pub fn locals_tell_how_far_callers_are()
     ensures seen { SeenCutsAreOfTheLastCall }
 {}
 
-/// An announcement is one more call, which has no object step; an object step is the last of all; and a
-/// publication is one more published record.
+/// An announcement is one more call, which has no object step; an object step is the last of all;
+/// and a publication is one more published record.
 pub fn events_take_callers_on()
     // An announcement adds a call, with the staged operation, to its caller's progress.
     ensures announcements { AnnouncementsAreCalls }

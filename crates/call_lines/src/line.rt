@@ -1,6 +1,7 @@
 use book_base::{Cut, OpWord, Record};
 
-/// How the line of a call ends. The cut is the seen cut: what its caller saw published after its own record was.
+/// How the line of a call ends. The cut is the seen cut: what its caller saw published after its
+/// own record was.
 #[derive(Clone, Copy, Debug)]
 pub enum LineEnd {
     /// The call was announced, and its caller stopped before it had the view.

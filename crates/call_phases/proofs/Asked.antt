@@ -17,25 +17,45 @@ use Rattle.call_phases.specs.Course.{HasCome}
 use Rattle.call_phases.specs.Finishing.{KeepsAsked}
 
 -- what a caller's program allows it, that of its rows does
-allowed_by_rows : {P : Type 0} (meaning : P → ℕ → ℕ → Meaning) (r : Rows P) (c : Caller P) (who reply : ℕ) → IsCallerOf meaning r c → who_of c ≡ who
-    → MayGet meaning c reply → IsTrue ((shape_of meaning r).program.may_reply who (local_with c) reply)
+allowed_by_rows : {P : Type 0} (meaning : P → ℕ → ℕ → Meaning) (r : Rows P) (c : Caller P)
+    (who reply : ℕ) → IsCallerOf meaning r c → who_of c ≡ who
+    → MayGet meaning c reply
+    → IsTrue ((shape_of meaning r).program.may_reply who (local_with c) reply)
 allowed_by_rows {P} meaning r c who reply h number may =
-    subst (λ (i : ℕ). IsTrue ((meaning r.program r.callers r.cap).may_reply i (local_with c) reply)) number
-    (subst (λ (n : ℕ). IsTrue ((meaning r.program r.callers n).may_reply (who_of c) (local_with c) reply)) h.cap
-    (subst (λ (n : ℕ). IsTrue ((meaning r.program n c.cap).may_reply (who_of c) (local_with c) reply)) h.callers
-    (subst (λ (p : P). IsTrue ((meaning p c.callers c.cap).may_reply (who_of c) (local_with c) reply)) h.program may)))
+    subst (λ (i : ℕ). IsTrue ((meaning r.program r.callers r.cap).may_reply i (local_with c) reply))
+    number
+    (subst (λ (n : ℕ).
+    IsTrue ((meaning r.program r.callers n).may_reply (who_of c) (local_with c) reply)) h.cap
+    (subst (λ (n : ℕ).
+    IsTrue ((meaning r.program n c.cap).may_reply (who_of c) (local_with c) reply)) h.callers
+    (subst
+    (λ (p : P). IsTrue ((meaning p c.callers c.cap).may_reply (who_of c) (local_with c) reply))
+    h.program may)))
 
 -- wherever the caller stands
-pub keeps_asked : {P : Type 0} (meaning : P → ℕ → ℕ → Meaning) (r : Rows P) (says : ℕ → Local → Record → List ℕ → LineEnd → Type 0) (who : ℕ) (operations : List ℕ) (s : Stand P) (own : List Line)
-    → HasCome meaning r says who operations s own → KeepsAsked (shape_of meaning r).program who (phases_at (length own) s) (local_at_stand s)
-keeps_asked meaning r says who operations (Idle c) own h = record { unasked = λ e. absurd (omega (arith, e)); asked = λ e. absurd (omega (arith, e)) }
-keeps_asked meaning r says who operations (Announced a) own h = record { unasked = λ e. h.may.1; asked = λ e. absurd (omega (arith, e)) }
+pub keeps_asked : {P : Type 0} (meaning : P → ℕ → ℕ → Meaning) (r : Rows P)
+    (says : ℕ → Local → Record → List ℕ → LineEnd → Type 0) (who : ℕ) (operations : List ℕ)
+    (s : Stand P) (own : List Line)
+    → HasCome meaning r says who operations s own
+    → KeepsAsked (shape_of meaning r).program who (phases_at (length own) s) (local_at_stand s)
+keeps_asked meaning r says who operations (Idle c) own h =
+    record { unasked = λ e. absurd (omega (arith, e)); asked = λ e. absurd (omega (arith, e)) }
+keeps_asked meaning r says who operations (Announced a) own h =
+    record { unasked = λ e. h.may.1; asked = λ e. absurd (omega (arith, e)) }
 keeps_asked meaning r says who operations (Answered a) own h =
     record {
       unasked = λ e. absurd (omega (arith, e));
-      asked = λ e. (reply_answered a, allowed_by_rows meaning r (caller_answered a) who (reply_answered a) h.caller h.number h.may.1);
+      asked = λ e. (
+        reply_answered a,
+        allowed_by_rows meaning r (caller_answered a) who
+            (reply_answered a) h.caller h.number h.may.1,
+      );
     }
-keeps_asked meaning r says who operations (Viewed v) own h = record { unasked = λ e. absurd (omega (arith, e)); asked = λ e. absurd (omega (arith, e)) }
-keeps_asked meaning r says who operations (Published p) own h = record { unasked = λ e. absurd (omega (arith, e)); asked = λ e. absurd (omega (arith, e)) }
-keeps_asked meaning r says who operations (Halted c) own h = record { unasked = λ e. absurd (omega (arith, e)); asked = λ e. absurd (omega (arith, e)) }
-keeps_asked meaning r says who operations (Unjudged u) own h = record { unasked = λ e. absurd (omega (arith, e)); asked = λ e. absurd (omega (arith, e)) }
+keeps_asked meaning r says who operations (Viewed v) own h =
+    record { unasked = λ e. absurd (omega (arith, e)); asked = λ e. absurd (omega (arith, e)) }
+keeps_asked meaning r says who operations (Published p) own h =
+    record { unasked = λ e. absurd (omega (arith, e)); asked = λ e. absurd (omega (arith, e)) }
+keeps_asked meaning r says who operations (Halted c) own h =
+    record { unasked = λ e. absurd (omega (arith, e)); asked = λ e. absurd (omega (arith, e)) }
+keeps_asked meaning r says who operations (Unjudged u) own h =
+    record { unasked = λ e. absurd (omega (arith, e)); asked = λ e. absurd (omega (arith, e)) }

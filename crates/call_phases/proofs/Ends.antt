@@ -28,7 +28,9 @@ use Rattle.call_phases.proofs.Phases.{progress_along}
 use Rattle.call_phases.proofs.Lines.{lines_stay, one_more_line, no_more_errors}
 use Rattle.call_phases.proofs.Coming.{Stays, seen_calls}
 
-module _ {P : Type 0} (meaning : P → ℕ → ℕ → Meaning) (r : Rows P) (says : ℕ → Local → Record → List ℕ → LineEnd → Type 0) (stays : Stays says) (who : ℕ) (operations : List ℕ) (own : List Line) where
+module _ {P : Type 0} (meaning : P → ℕ → ℕ → Meaning) (r : Rows P)
+    (says : ℕ → Local → Record → List ℕ → LineEnd → Type 0) (stays : Stays says) (who : ℕ)
+    (operations : List ℕ) (own : List Line) where
   abbrev Come : Stand P → List Line → Type 0
   Come s own' = HasCome meaning r says who operations s own'
 
@@ -38,23 +40,31 @@ module _ {P : Type 0} (meaning : P → ℕ → ℕ → Meaning) (r : Rows P) (sa
   -- an idle caller has announced as many calls as it has lines
   pub idle_announced : (c : Caller P) → Come (at.Idle c) own → (local_with c).announced ≡ length own
   idle_announced c h =
-      let phase = local_has_phase (shape_of meaning r) (who_of c) (local_with c) h.caller.seat.local in
-      let begun = as_many_calls operations (5 * length own + 0) (progress_of (local_with c)) h.made in
+      let phase =
+      local_has_phase (shape_of meaning r) (who_of c) (local_with c) h.caller.seat.local in
+      let begun =
+      as_many_calls operations (5 * length own + 0) (progress_of (local_with c)) h.made in
       omega (
         arith,
         begun,
         phase.operations,
         length-map (calls_in (local_with c)) (λ (m : Made). m.operation),
-        length-map-range_with_len (λ k. call_in (local_with c) k) 0 (length (local_with c).operations),
+        length-map-range_with_len (λ k. call_in (local_with c) k) 0
+            (length (local_with c).operations),
       )
 
   -- what has ended in whatever way: the calls, and the lines of those before
-  ended_calls : (p : Published P) (e : Ended P) (h : Come (at.Published p) own) (end : HasEnded meaning r says p e)
-      → calls_in (local_ended e) ≡ h.ended ++ record { operation = op; reached = Has_seen (record_published p) end.cut } ∷ []
-  ended_calls p e h end = seen_calls (progress_of (local_with (caller_published p))) (progress_of (local_ended e)) end.cut (record_published p) op h.ended end.progress h.calls
+  ended_calls : (p : Published P) (e : Ended P) (h : Come (at.Published p) own)
+      (end : HasEnded meaning r says p e)
+      → calls_in (local_ended e)
+      ≡ h.ended ++ record { operation = op; reached = Has_seen (record_published p) end.cut } ∷ []
+  ended_calls p e h end = seen_calls (progress_of (local_with (caller_published p)))
+      (progress_of (local_ended e)) end.cut (record_published p) op h.ended end.progress h.calls
 
   -- .. and the client has come on
-  pub ended_come : (p : Published P) (e : Ended P) (s : Stand P) (own' : List Line) → Come (at.Published p) own → HasEnded meaning r says p e → IsNoted op own e own' s → Come s own'
+  pub ended_come : (p : Published P) (e : Ended P) (s : Stand P) (own' : List Line)
+      → Come (at.Published p) own → HasEnded meaning r says p e → IsNoted op own e own' s
+      → Come s own'
   ended_come p (GoesOn c end) s own' h e noted =
       let line : Line = record { op = op; end = end } in
       let all : List Line = own ++ line ∷ [] in
@@ -62,17 +72,23 @@ module _ {P : Type 0} (meaning : P → ℕ → ℕ → Meaning) (r : Rows P) (sa
       let come : Come (at.Idle c) all = record {
         caller = e.still.0;
         number = e.still.1 ∙ h.number;
-        made = progress_along operations (5 * (length own + 1)) (5 * length all + 0) _ _ (omega (arith, length_push own line)) (sym e.progress)
-            (seeing_is_a_phase operations (length own) (progress_of (local_with (caller_published p))) e.cut h.made);
-        ended = h.ended ++ record { operation = op; reached = Has_seen (record_published p) e.cut } ∷ [];
-        calls = calls ∙ sym (append-nil (h.ended ++ record { operation = op; reached = Has_seen (record_published p) e.cut } ∷ []));
+        made = progress_along operations (5 * (length own + 1)) (5 * length all + 0) _ _
+            (omega (arith, length_push own line)) (sym e.progress)
+            (seeing_is_a_phase operations (length own)
+            (progress_of (local_with (caller_published p))) e.cut h.made);
+        ended = h.ended
+            ++ record { operation = op; reached = Has_seen (record_published p) e.cut } ∷ [];
+        calls = calls ∙ sym (append-nil (h.ended
+            ++ record { operation = op; reached = Has_seen (record_published p) e.cut } ∷ []));
         lines = one_more_line _ h.ended own _ line
-            (lines_stay _ _ (λ r' cut end'. stays r.callers (local_with (caller_published p)) (local_with c) r' cut end' e.grows) h.ended own h.lines)
+            (lines_stay _ _ (λ r' cut end'. stays r.callers (local_with (caller_published p))
+            (local_with c) r' cut end' e.grows) h.ended own h.lines)
             (record { operation = refl; end = e.says_of });
         errors = no_more_errors own line h.errors (e.error op);
         may = e.stands;
       } in
-      subst (λ (t : Stand P). Come t own') (sym noted.0) (subst (λ (o : List Line). Come (at.Idle c) o) (sym noted.1) come)
+      subst (λ (t : Stand P). Come t own') (sym noted.0)
+      (subst (λ (o : List Line). Come (at.Idle c) o) (sym noted.1) come)
   ended_come p (Halts c end) s own' h e noted =
       let line : Line = record { op = op; end = end } in
       let all : List Line = own ++ line ∷ [] in
@@ -80,42 +96,60 @@ module _ {P : Type 0} (meaning : P → ℕ → ℕ → Meaning) (r : Rows P) (sa
       let come : Come (at.Halted c) all = record {
         caller = e.still.0;
         number = e.still.1 ∙ h.number;
-        made = progress_along operations (5 * (length own + 1)) (5 * length all + 0) _ _ (omega (arith, length_push own line)) (sym e.progress)
-            (seeing_is_a_phase operations (length own) (progress_of (local_with (caller_published p))) e.cut h.made);
-        ended = h.ended ++ record { operation = op; reached = Has_seen (record_published p) e.cut } ∷ [];
-        calls = calls ∙ sym (append-nil (h.ended ++ record { operation = op; reached = Has_seen (record_published p) e.cut } ∷ []));
+        made = progress_along operations (5 * (length own + 1)) (5 * length all + 0) _ _
+            (omega (arith, length_push own line)) (sym e.progress)
+            (seeing_is_a_phase operations (length own)
+            (progress_of (local_with (caller_published p))) e.cut h.made);
+        ended = h.ended
+            ++ record { operation = op; reached = Has_seen (record_published p) e.cut } ∷ [];
+        calls = calls ∙ sym (append-nil (h.ended
+            ++ record { operation = op; reached = Has_seen (record_published p) e.cut } ∷ []));
         lines = one_more_line _ h.ended own _ line
-            (lines_stay _ _ (λ r' cut end'. stays r.callers (local_with (caller_published p)) (local_with c) r' cut end' e.grows) h.ended own h.lines)
+            (lines_stay _ _ (λ r' cut end'. stays r.callers (local_with (caller_published p))
+            (local_with c) r' cut end' e.grows) h.ended own h.lines)
             (record { operation = refl; end = e.says_of });
-        errors = record { before = own; line = line; is = refl; none = h.errors; error = e.error op };
+        errors =
+            record { before = own; line = line; is = refl; none = h.errors; error = e.error op };
         may = e.stands;
       } in
-      subst (λ (t : Stand P). Come t own') (sym noted.0) (subst (λ (o : List Line). Come (at.Halted c) o) (sym noted.1) come)
+      subst (λ (t : Stand P). Come t own') (sym noted.0)
+      (subst (λ (o : List Line). Come (at.Halted c) o) (sym noted.1) come)
   ended_come p (WantsMemory u) s own' h e noted =
       let calls = ended_calls p (WantsMemory u) h e in
-      let with : Record → List ℕ → List Made = λ x y. record { operation = op; reached = Has_seen x y } ∷ [] in
+      let with : Record → List ℕ → List Made =
+      λ x y. record { operation = op; reached = Has_seen x y } ∷ [] in
       let is : with (record_published p) e.cut ≡ with (record_unjudged u) u.seen =
-      ap (λ (x : Record). with x e.cut) (sym e.says_of.0) ∙ ap (with (record_unjudged u)) (sym e.says_of.1) in
+      ap (λ (x : Record). with x e.cut) (sym e.says_of.0)
+      ∙ ap (with (record_unjudged u)) (sym e.says_of.1) in
       let come : Come (at.Unjudged u) own = record {
         caller = e.still.0;
         number = e.still.1 ∙ h.number;
-        made = progress_along operations (5 * (length own + 1)) (5 * length own + 5) _ _ (omega arith) (sym e.progress)
-            (seeing_is_a_phase operations (length own) (progress_of (local_with (caller_published p))) e.cut h.made);
+        made = progress_along operations (5 * (length own + 1)) (5 * length own + 5) _ _
+            (omega arith) (sym e.progress)
+            (seeing_is_a_phase operations (length own)
+            (progress_of (local_with (caller_published p))) e.cut h.made);
         ended = h.ended;
         calls = calls ∙ ap (λ (rest : List Made). h.ended ++ rest) is;
-        lines = lines_stay _ _ (λ r' cut end'. stays r.callers (local_with (caller_published p)) (local_with u.caller) r' cut end' e.grows) h.ended own h.lines;
+        lines = lines_stay _ _ (λ r' cut end'. stays r.callers (local_with (caller_published p))
+            (local_with u.caller) r' cut end' e.grows) h.ended own h.lines;
         errors = h.errors;
         may = e.stands;
       } in
-      subst (λ (t : Stand P). Come t own') (sym noted.0) (subst (λ (o : List Line). Come (at.Unjudged u) o) (sym noted.1) come)
+      subst (λ (t : Stand P). Come t own') (sym noted.0)
+      (subst (λ (o : List Line). Come (at.Unjudged u) o) (sym noted.1) come)
 
 -- the fifth phase is made, however the call has ended
-pub phases_noted : {P : Type 0} (op : ℕ) (own : List Line) (p : Published P) (e : Ended P) (s : Stand P) (own' : List Line) → IsNoted op own e own' s → phases_at (length own') s ≡ 5 * length own + 5
+pub phases_noted : {P : Type 0} (op : ℕ) (own : List Line) (p : Published P) (e : Ended P)
+    (s : Stand P) (own' : List Line) → IsNoted op own e own' s
+    → phases_at (length own') s ≡ 5 * length own + 5
 phases_noted {P} op own p (GoesOn c end) s own' noted =
-    let long : length own' ≡ length own + 1 = ap (λ (o : List Line). length o) noted.1 ∙ length_push own (record { op = op; end = end }) in
+    let long : length own' ≡ length own + 1 =
+    ap (λ (o : List Line). length o) noted.1 ∙ length_push own (record { op = op; end = end }) in
     ap (λ (t : Stand P). phases_at (length own') t) noted.0 ∙ omega (arith, long)
 phases_noted {P} op own p (Halts c end) s own' noted =
-    let long : length own' ≡ length own + 1 = ap (λ (o : List Line). length o) noted.1 ∙ length_push own (record { op = op; end = end }) in
+    let long : length own' ≡ length own + 1 =
+    ap (λ (o : List Line). length o) noted.1 ∙ length_push own (record { op = op; end = end }) in
     ap (λ (t : Stand P). phases_at (length own') t) noted.0 ∙ omega (arith, long)
 phases_noted {P} op own p (WantsMemory u) s own' noted =
-    ap (λ (t : Stand P). phases_at (length own') t) noted.0 ∙ ap (λ (o : List Line). 5 * length o + 5) noted.1
+    ap (λ (t : Stand P). phases_at (length own') t) noted.0
+    ∙ ap (λ (o : List Line). 5 * length o + 5) noted.1

@@ -33,25 +33,35 @@ unstaged_is (w ∷ ws) h = cc
 
 -- a caller is idle after the judgement
 pub idle_is : (l : Local) → is_announcing l.phase ≡ true → is_unstaged l.staged ≡ true → IsIdle l
-idle_is l announcing unstaged = record { announcing = announcing_is l.phase announcing; unstaged = unstaged_is l.staged unstaged }
+idle_is l announcing unstaged = record {
+  announcing = announcing_is l.phase announcing;
+  unstaged = unstaged_is l.staged unstaged;
+}
 
 -- peeks alone only add to what was found
 pub peeks_grow : (l m : Local) (before after : ℕ) → HasOnlyPeeked l m before after → Grows l m
 peeks_grow l m before after h =
-    subst (λ (k : Local). Grows l k) (sym h.local) (grows_by l (with_peeked l h.more) [] h.more [] refl refl (sym (append-nil l.cuts)))
+    subst (λ (k : Local). Grows l k) (sym h.local)
+    (grows_by l (with_peeked l h.more) [] h.more [] refl refl (sym (append-nil l.cuts)))
 
 module _ {P : Type 0} where
-  pub caller_is : (c : Caller P) (end : LineEnd) (e : Ended P) → IsEndedBy c end e → caller_ended e ≡ c
+  pub caller_is : (c : Caller P) (end : LineEnd) (e : Ended P) → IsEndedBy c end e
+      → caller_ended e ≡ c
   caller_is c Pending e is = ap caller_ended is
   caller_is c (Unchecked r) e is = ap caller_ended is
   caller_is c (Delivered r cut) e is = ap caller_ended is
   caller_is c (Error r cut) e is = ap caller_ended is
 
-  pub stands_after : (c : Caller P) (end : LineEnd) (e : Ended P) → IsEndedBy c end e → IsIdle (local_with c) → stance_of c ≡ stance_after end → StandsAfter e
-  stands_after c Pending e is idle stance = subst (λ (x : Ended P). StandsAfter x) (sym is) (record { idle = idle; stance = stance })
-  stands_after c (Unchecked r) e is idle stance = subst (λ (x : Ended P). StandsAfter x) (sym is) (record { idle = idle; stance = stance })
-  stands_after c (Delivered r cut) e is idle stance = subst (λ (x : Ended P). StandsAfter x) (sym is) (record { idle = idle; stance = stance })
-  stands_after c (Error r cut) e is idle stance = subst (λ (x : Ended P). StandsAfter x) (sym is) (ap (λ (s : Stance). s.live) stance)
+  pub stands_after : (c : Caller P) (end : LineEnd) (e : Ended P) → IsEndedBy c end e
+      → IsIdle (local_with c) → stance_of c ≡ stance_after end → StandsAfter e
+  stands_after c Pending e is idle stance =
+      subst (λ (x : Ended P). StandsAfter x) (sym is) (record { idle = idle; stance = stance })
+  stands_after c (Unchecked r) e is idle stance =
+      subst (λ (x : Ended P). StandsAfter x) (sym is) (record { idle = idle; stance = stance })
+  stands_after c (Delivered r cut) e is idle stance =
+      subst (λ (x : Ended P). StandsAfter x) (sym is) (record { idle = idle; stance = stance })
+  stands_after c (Error r cut) e is idle stance =
+      subst (λ (x : Ended P). StandsAfter x) (sym is) (ap (λ (s : Stance). s.live) stance)
 
   pub fits_error : (c : Caller P) (end : LineEnd) (e : Ended P) → IsEndedBy c end e → FitsError e
   fits_error c Pending e is = subst (λ (x : Ended P). FitsError x) (sym is) (λ op. refl)
@@ -60,13 +70,22 @@ module _ {P : Type 0} where
   fits_error c (Error r cut) e is = subst (λ (x : Ended P). FitsError x) (sym is) (λ op. refl)
 
   -- the line says what was judged
-  pub says_judged : (object : Sequential) (n : ℕ) (c : Caller P) (end : LineEnd) (e : Ended P) (r : Record) (cut : List ℕ) → IsEndedBy c end e → IsVerdictOn r cut end
-      → IsJudgedBy object.init object.next n (local_with c) end → SaysOf (SaysJudged object n) r cut e
+  pub says_judged : (object : Sequential) (n : ℕ) (c : Caller P) (end : LineEnd) (e : Ended P)
+      (r : Record) (cut : List ℕ) → IsEndedBy c end e → IsVerdictOn r cut end
+      → IsJudgedBy object.init object.next n (local_with c) end
+      → SaysOf (SaysJudged object n) r cut e
   says_judged object n c end e r cut is (inl same) judged =
-      let ended : e ≡ GoesOn c (Delivered r cut) = subst (λ (x : LineEnd). IsEndedBy c x e) same is in
-      subst (λ (x : Ended P). SaysOf (SaysJudged object n) r cut x) (sym ended)
-      (refl, refl, subst (λ (x : LineEnd). IsJudgedBy object.init object.next n (local_with c) x) same judged)
+      let ended : e ≡ GoesOn c (Delivered r cut) =
+      subst (λ (x : LineEnd). IsEndedBy c x e) same is in
+      subst (λ (x : Ended P). SaysOf (SaysJudged object n) r cut x) (sym ended) (
+        refl,
+        refl,
+        subst (λ (x : LineEnd). IsJudgedBy object.init object.next n (local_with c) x) same judged,
+      )
   says_judged object n c end e r cut is (inr same) judged =
       let ended : e ≡ Halts c (Error r cut) = subst (λ (x : LineEnd). IsEndedBy c x e) same is in
-      subst (λ (x : Ended P). SaysOf (SaysJudged object n) r cut x) (sym ended)
-      (refl, refl, subst (λ (x : LineEnd). IsJudgedBy object.init object.next n (local_with c) x) same judged)
+      subst (λ (x : Ended P). SaysOf (SaysJudged object n) r cut x) (sym ended) (
+        refl,
+        refl,
+        subst (λ (x : LineEnd). IsJudgedBy object.init object.next n (local_with c) x) same judged,
+      )

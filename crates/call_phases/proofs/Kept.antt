@@ -1,5 +1,5 @@
--- What a client has gathered stays gathered while its caller goes on. The proof that is kept of it is truncated; but all that it says
--- is decided, so that the proof is at hand again.
+-- What a client has gathered stays gathered while its caller goes on. The proof that is kept of it
+-- is truncated; but all that it says is decided, so that the proof is at hand again.
 use Rattle.std.proofs.Common.{◌≡◌, refl, sym, subst, ap, ℕ, zero, suc, ◌+◌, ◌<◌, inl, inr, List, [], ◌∷◌, length, slice_index, slice_index_or, Option, Some, None, arith}
 use Rattle.std.specs.List.{Contains}
 use Rattle.std.proofs.Math.Logic.{∥∥₁_map, ∥∥₁_elim}
@@ -57,16 +57,30 @@ dec_region M M = yes refl
 
 dec_word : (x y : Peeked) → Dec (x ≡ y)
 dec_word x y =
-    elim (dec_× (dec_region x.region y.region) (dec_× (dec_equal x.caller y.caller) (dec_× (dec_equal x.row y.row) (dec_× (dec_equal x.place y.place) (dec_equal x.word y.word))))) [
-      | yes same ↦ yes (λ i. record { region = same.0 i; caller = same.1.0 i; row = same.1.1.0 i; place = same.1.1.1.0 i; word = same.1.1.1.1 i })
+    elim (dec_× (dec_region x.region y.region) (dec_× (dec_equal x.caller y.caller) (dec_×
+    (dec_equal x.row y.row) (dec_× (dec_equal x.place y.place) (dec_equal x.word y.word))))) [
+      | yes same ↦ yes (λ i. record {
+        region = same.0 i;
+        caller = same.1.0 i;
+        row = same.1.1.0 i;
+        place = same.1.1.1.0 i;
+        word = same.1.1.1.1 i;
+      })
       | no other ↦
           no (λ (e : x ≡ y). other (
             ap (λ (p : Peeked). p.region) e,
-            (ap (λ (p : Peeked). p.caller) e, (ap (λ (p : Peeked). p.row) e, (ap (λ (p : Peeked). p.place) e, ap (λ (p : Peeked). p.word) e))),
+            (
+              ap (λ (p : Peeked). p.caller) e,
+              (
+                ap (λ (p : Peeked). p.row) e,
+                (ap (λ (p : Peeked). p.place) e, ap (λ (p : Peeked). p.word) e),
+              ),
+            ),
           ))
     ]
 
-nowhere : (xs : List Peeked) (y x : Peeked) → (y ≡ x → ⊥) → (Contains xs x → ⊥) → (k : ℕ) → k < length (y ∷ xs) → slice_index_or (y ∷ xs) k x ≡ x → ⊥
+nowhere : (xs : List Peeked) (y x : Peeked) → (y ≡ x → ⊥) → (Contains xs x → ⊥) → (k : ℕ)
+    → k < length (y ∷ xs) → slice_index_or (y ∷ xs) k x ≡ x → ⊥
 nowhere xs y x other suffix zero low is = other is
 nowhere xs y x other suffix (suc k) low is = suffix (k, omega (arith, low), is)
 
@@ -90,19 +104,32 @@ dec_held book cut call =
           yes (record { caller = found.0; number = found.1 }, found.2, found.3, found.4, found.5)
       | inr past ↦
           no (λ (h : IsHeldBySomeView book cut call).
-          omega (arith, past, h.4, views_at-least cut book h.0.caller h.0.number h.1 call.caller h.2 h.3))
+          omega
+          (arith, past, h.4, views_at-least cut book h.0.caller h.0.number h.1 call.caller h.2 h.3))
     ]
 
-gathered_is : (n : ℕ) (l : Local) (cut : List ℕ) (book : List Page) → ∥ IsGathered n l cut book ∥₁ → IsGathered n l cut book
+gathered_is : (n : ℕ) (l : Local) (cut : List ℕ) (book : List Page) → ∥ IsGathered n l cut book ∥₁
+    → IsGathered n l cut book
 gathered_is n l cut book h =
-    let peeked : (region : Region) (call : Call) (place x : ℕ) → ∥ HasPeeked l region call place x ∥₁ → HasPeeked l region call place x =
-    λ region call place x. holds (dec_peeked l.peeked (record { region = region; caller = call.caller; row = call.number; place = place; word = x })) in
+    let peeked : (region : Region) (call : Call) (place x : ℕ)
+    → ∥ HasPeeked l region call place x ∥₁ → HasPeeked l region call place x =
+    λ region call place x. holds (dec_peeked l.peeked (record {
+      region = region;
+      caller = call.caller;
+      row = call.number;
+      place = place;
+      word = x;
+    })) in
     record {
       callers = holds (dec_equal (length book) n) (∥∥₁_map h (λ g. g.callers));
-      records = λ i low. holds (dec_equal (answers_of book i) (slice_index cut i)) (∥∥₁_map h (λ g. g.records i low));
+      records = λ i low. holds (dec_equal (answers_of book i) (slice_index cut i))
+          (∥∥₁_map h (λ g. g.records i low));
       calls = λ call. (
-        λ (there : IsCall book call). holds (dec_held book cut call) (∥∥₁_map h (λ g. (g.calls call).0 there)),
-        λ (held : IsHeldBySomeView book cut call). holds (dec_below call.number (calls_of book call.caller)) (∥∥₁_map h (λ g. (g.calls call).1 held)),
+        λ (there : IsCall book call).
+            holds (dec_held book cut call) (∥∥₁_map h (λ g. (g.calls call).0 there)),
+        λ (held : IsHeldBySomeView book cut call).
+            holds (dec_below call.number (calls_of book call.caller))
+            (∥∥₁_map h (λ g. (g.calls call).1 held)),
       );
       operations = λ call op e. (
         peeked N call 0 (low_of op) (∥∥₁_map h (λ g. (g.operations call op e).0)),
@@ -111,28 +138,35 @@ gathered_is n l cut book h =
       replies = λ call r e. peeked M call 0 r.reply (∥∥₁_map h (λ g. g.replies call r e));
       views = λ call r e. (
         holds (dec_equal (length r.view) n) (∥∥₁_map h (λ g. (g.views call r e).0)),
-        λ j low. peeked M call (1 + j) (slice_index r.view j) (∥∥₁_map h (λ g. (g.views call r e).1 j low)),
+        λ j low. peeked M call (1 + j) (slice_index r.view j)
+            (∥∥₁_map h (λ g. (g.views call r e).1 j low)),
       );
     }
 
 -- what is kept was gathered
-pub gathered_by_is : (l : Local) (gathered : Option Gathered) → ∥ IsGatheredBy l gathered ∥₁ → IsGatheredBy l gathered
+pub gathered_by_is : (l : Local) (gathered : Option Gathered) → ∥ IsGatheredBy l gathered ∥₁
+    → IsGatheredBy l gathered
 gathered_by_is l None h = tt
 gathered_by_is l (Some g) h = gathered_is (length g.book) l g.cut g.book h
 
 -- and stays so
-pub stays_gathered : (l m : Local) (gathered : Option Gathered) → Grows l m → IsGatheredBy l gathered → IsGatheredBy m gathered
+pub stays_gathered : (l m : Local) (gathered : Option Gathered) → Grows l m
+    → IsGatheredBy l gathered → IsGatheredBy m gathered
 stays_gathered l m gathered grows h = gathered_by_stays l m gathered grows.peeked h
 
-pub stays_kept : (l m : Local) (gathered : Option Gathered) → Grows l m → ∥ IsGatheredBy l gathered ∥₁ → ∥ IsGatheredBy m gathered ∥₁
+pub stays_kept : (l m : Local) (gathered : Option Gathered) → Grows l m
+    → ∥ IsGatheredBy l gathered ∥₁ → ∥ IsGatheredBy m gathered ∥₁
 stays_kept l m gathered grows h = ∥∥₁_map h (stays_gathered l m gathered grows)
 
 -- where the caller of a call that has ended stands once its line is noted
-pub stand_noted : {P : Type 0} (op : ℕ) (own : List Line) (e : Ended P) (own' : List Line) (s : Stand P) → IsNoted op own e own' s → caller_ended e ≡ caller_at s
+pub stand_noted : {P : Type 0} (op : ℕ) (own : List Line) (e : Ended P) (own' : List Line)
+    (s : Stand P) → IsNoted op own e own' s → caller_ended e ≡ caller_at s
 stand_noted op own (GoesOn c end) own' s is = sym (ap caller_at is.0)
 stand_noted op own (Halts c end) own' s is = sym (ap caller_at is.0)
 stand_noted op own (WantsMemory u) own' s is = sym (ap caller_at is.0)
 
 -- what was kept at a stand
-pub kept_at : {P : Type 0} (s t : Stand P) (gathered : Option Gathered) → s ≡ t → ∥ IsGatheredBy (local_at_stand s) gathered ∥₁ → ∥ IsGatheredBy (local_at_stand t) gathered ∥₁
-kept_at {P} s t gathered is h = subst (λ (x : Stand P). ∥ IsGatheredBy (local_at_stand x) gathered ∥₁) is h
+pub kept_at : {P : Type 0} (s t : Stand P) (gathered : Option Gathered) → s ≡ t
+    → ∥ IsGatheredBy (local_at_stand s) gathered ∥₁ → ∥ IsGatheredBy (local_at_stand t) gathered ∥₁
+kept_at {P} s t gathered is h =
+    subst (λ (x : Stand P). ∥ IsGatheredBy (local_at_stand x) gathered ∥₁) is h

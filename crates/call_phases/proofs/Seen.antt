@@ -16,22 +16,29 @@ use Rattle.enforcer.specs.States.{caller_published, reply_published, view_publis
 use Rattle.call_phases.specs.declared.ended.Ended.{Ended}
 use Rattle.call_phases.specs.Endings.{record_published, record_seen, caller_ended, local_ended, HasEnded, StandsAfter, FitsError, SaysOf}
 
-module _ {P : Type 0} (meaning : P → ℕ → ℕ → Meaning) (r : Rows P) (says : ℕ → Local → Record → List ℕ → LineEnd → Type 0) where
+module _ {P : Type 0} (meaning : P → ℕ → ℕ → Meaning) (r : Rows P)
+    (says : ℕ → Local → Record → List ℕ → LineEnd → Type 0) where
   pub has_ended : (p : Published P) (s : Seen P) (e : Ended P)
-      → IsStill meaning r (caller_published p) (caller_seen s) → (reply_seen s ≡ reply_published p) × (view_seen s ≡ view_published p)
-      → progress_of (local_with (caller_seen s)) ≡ after_seeing (cut_seen s) (progress_of (local_with (caller_published p)))
+      → IsStill meaning r (caller_published p) (caller_seen s) → (reply_seen s ≡ reply_published p)
+      × (view_seen s ≡ view_published p)
+      → progress_of (local_with (caller_seen s))
+      ≡ after_seeing (cut_seen s) (progress_of (local_with (caller_published p)))
       → Grows (local_with (caller_published p)) (local_with (caller_seen s))
-      → IsStill meaning r (caller_seen s) (caller_ended e) → progress_of (local_ended e) ≡ progress_of (local_with (caller_seen s))
-      → Grows (local_with (caller_seen s)) (local_ended e) → StandsAfter e → FitsError e → SaysOf (says r.callers) (record_seen s) (cut_seen s) e
+      → IsStill meaning r (caller_seen s) (caller_ended e)
+      → progress_of (local_ended e) ≡ progress_of (local_with (caller_seen s))
+      → Grows (local_with (caller_seen s)) (local_ended e) → StandsAfter e → FitsError e
+      → SaysOf (says r.callers) (record_seen s) (cut_seen s) e
       → HasEnded meaning r says p e
   has_ended p s e still same progress grows still' progress' grows' stands error says_of =
       let is : record_seen s ≡ record_published p =
-      ap (λ (x : ℕ). record { reply = x; view = view_seen s }) same.0 ∙ ap (λ (x : List ℕ). record { reply = reply_published p; view = x }) same.1 in
+      ap (λ (x : ℕ). record { reply = x; view = view_seen s }) same.0
+      ∙ ap (λ (x : List ℕ). record { reply = reply_published p; view = x }) same.1 in
       record {
         cut = cut_seen s;
         still = (still'.0, still'.1 ∙ still.1);
         progress = progress' ∙ progress;
-        grows = grows_on (local_with (caller_published p)) (local_with (caller_seen s)) (local_ended e) grows grows';
+        grows = grows_on (local_with (caller_published p)) (local_with (caller_seen s))
+            (local_ended e) grows grows';
         stands = stands;
         error = error;
         says_of = subst (λ (x : Record). SaysOf (says r.callers) x (cut_seen s) e) is says_of;

@@ -7,7 +7,8 @@ use Rattle.call_phases.specs.Clients.{Spent}
 
 module _ {P : Type 0} where
   -- by exactly this many phases, wherever the caller then stands
-  pub spent_by : (allotment lines : ℕ) (s : Stand P) → phases_at lines s ≡ allotment → Spent allotment lines s
+  pub spent_by : (allotment lines : ℕ) (s : Stand P) → phases_at lines s ≡ allotment
+      → Spent allotment lines s
   spent_by allotment lines (Idle c) is = is
   spent_by allotment lines (Announced a) is = is
   spent_by allotment lines (Answered a) is = is
@@ -17,7 +18,8 @@ module _ {P : Type 0} where
   spent_by allotment lines (Unjudged u) is = omega (arith, is)
 
   -- a caller that goes on has made all of them
-  pub spent_exact : (allotment lines : ℕ) (s : Stand P) → GoesOnFrom s → Spent allotment lines s → phases_at lines s ≡ allotment
+  pub spent_exact : (allotment lines : ℕ) (s : Stand P) → GoesOnFrom s → Spent allotment lines s
+      → phases_at lines s ≡ allotment
   spent_exact allotment lines (Idle c) goes is = is
   spent_exact allotment lines (Announced a) goes is = is
   spent_exact allotment lines (Answered a) goes is = is
@@ -27,7 +29,8 @@ module _ {P : Type 0} where
   spent_exact allotment lines (Unjudged u) goes is = absurd goes
 
   -- one that is halted has spent each greater allotment too
-  pub spent_more : (allotment greater lines : ℕ) (s : Stand P) → (GoesOnFrom s → ⊥) → allotment ≤ greater → Spent allotment lines s → Spent greater lines s
+  pub spent_more : (allotment greater lines : ℕ) (s : Stand P) → (GoesOnFrom s → ⊥)
+      → allotment ≤ greater → Spent allotment lines s → Spent greater lines s
   spent_more allotment greater lines (Idle c) stops more is = absurd (stops tt)
   spent_more allotment greater lines (Announced a) stops more is = absurd (stops tt)
   spent_more allotment greater lines (Answered a) stops more is = absurd (stops tt)

@@ -1,4 +1,5 @@
--- What holds of a client that stands somewhere, at the stand that this is, and with the sheet and the pass that these are.
+-- What holds of a client that stands somewhere, at the stand that this is, and with the sheet and
+-- the pass that these are.
 use Rattle.std.proofs.Common.{◌≡◌, ◌∙◌, refl, sym, subst, ap, ℕ, List, length}
 use Rattle.std.specs.Prelude.{Option}
 use Rattle.book_base.specs.declared.call.Record.{Record}
@@ -24,19 +25,27 @@ use Rattle.call_phases.specs.Stands.{caller_at, local_at_stand, phases_at, GoesO
 use Rattle.call_phases.specs.Course.{HasCome, Counts}
 use Rattle.call_phases.specs.Keeping.{KeepsStanding}
 
-pub come_at : {P : Type 0} {meaning : P → ℕ → ℕ → Meaning} {r : Rows P} {says : ℕ → Local → Record → List ℕ → LineEnd → Type 0} {who : ℕ} {operations : List ℕ} {own : List Line} (s t : Stand P)
-    → s ≡ t → HasCome meaning r says who operations s own → HasCome meaning r says who operations t own
-come_at {P} {meaning} {r} {says} {who} {operations} {own} s t is h = subst (λ (z : Stand P). HasCome meaning r says who operations z own) is h
+pub come_at : {P : Type 0} {meaning : P → ℕ → ℕ → Meaning} {r : Rows P} {says : ℕ → Local → Record
+    → List ℕ → LineEnd → Type 0} {who : ℕ} {operations : List ℕ} {own : List Line} (s t : Stand P)
+    → s ≡ t → HasCome meaning r says who operations s own
+    → HasCome meaning r says who operations t own
+come_at {P} {meaning} {r} {says} {who} {operations} {own} s t is h =
+    subst (λ (z : Stand P). HasCome meaning r says who operations z own) is h
 
-pub counted_at : {P : Type 0} (count : Option PassCount) (operations : List ℕ) (own : List Line) (s t : Stand P) → s ≡ t → Counts count operations s own → Counts count operations t own
-counted_at {P} count operations own s t is h = subst (λ (z : Stand P). Counts count operations z own) is h
+pub counted_at : {P : Type 0} (count : Option PassCount) (operations : List ℕ) (own : List Line)
+    (s t : Stand P) → s ≡ t → Counts count operations s own → Counts count operations t own
+counted_at {P} count operations own s t is h =
+    subst (λ (z : Stand P). Counts count operations z own) is h
 
-pub fits_at : {P T : Type 0} (fits : Fits T) (pass : T) (s t : Stand P) → s ≡ t → FitsCaller fits pass (caller_at s) → FitsCaller fits pass (caller_at t)
+pub fits_at : {P T : Type 0} (fits : Fits T) (pass : T) (s t : Stand P) → s ≡ t
+    → FitsCaller fits pass (caller_at s) → FitsCaller fits pass (caller_at t)
 fits_at {P} fits pass s t is h = subst (λ (z : Stand P). FitsCaller fits pass (caller_at z)) is h
 
 -- a pass that fits a caller fits it still where it has the same object steps
-pub fits_stays : {P T : Type 0} (meaning : P → ℕ → ℕ → Meaning) (r : Rows P) (fits : Fits T) (pass : T) (c d : Caller P) → IsCallerOf meaning r c → IsStill meaning r c d
-    → all_steps_of (local_with d) ≡ all_steps_of (local_with c) → FitsCaller fits pass c → FitsCaller fits pass d
+pub fits_stays : {P T : Type 0} (meaning : P → ℕ → ℕ → Meaning) (r : Rows P) (fits : Fits T)
+    (pass : T) (c d : Caller P) → IsCallerOf meaning r c → IsStill meaning r c d
+    → all_steps_of (local_with d) ≡ all_steps_of (local_with c) → FitsCaller fits pass c
+    → FitsCaller fits pass d
 fits_stays meaning r fits pass c d was still steps h =
     let callers : d.callers ≡ c.callers = still.0.callers ∙ sym was.callers in
     let cap : d.cap ≡ c.cap = still.0.cap ∙ sym was.cap in
@@ -46,7 +55,8 @@ fits_stays meaning r fits pass c d was still steps h =
     (subst (λ (own : List Object_step). fits c.callers c.cap pass (who_of c) own) (sym steps) h)))
 
 -- a caller that goes on stands somewhere before the end of a call
-pub stands_before : {P : Type 0} (s : Stand P) → GoesOnFrom s → ((c : Caller P) → s ≡ at.Idle c → ⊥) → ((a : Announced P) → s ≡ at.Announced a → ⊥) → ((a : Answered P) → s ≡ at.Answered a → ⊥)
+pub stands_before : {P : Type 0} (s : Stand P) → GoesOnFrom s → ((c : Caller P) → s ≡ at.Idle c → ⊥)
+    → ((a : Announced P) → s ≡ at.Announced a → ⊥) → ((a : Answered P) → s ≡ at.Answered a → ⊥)
     → ((v : Viewed P) → s ≡ at.Viewed v → ⊥) → ((p : Published P) → s ≡ at.Published p → ⊥) → ⊥
 stands_before (at.Idle c) goes idle announced answered viewed published = idle c refl
 stands_before (at.Announced a) goes idle announced answered viewed published = announced a refl
@@ -58,31 +68,43 @@ stands_before (at.Unjudged u) goes idle announced answered viewed published = go
 
 -- with the stand and the sheet that these are
 module _ {P E : Type 0} (s t : Stand P) (h k : Sheet E) (stand_is : s ≡ t) (sheet_is : h ≡ k) where
-  pub phases_with : (phases : ℕ) → phases_at (length k.lines.items) t ≡ phases → phases_at (length h.lines.items) s ≡ phases
-  phases_with phases is = ap (λ (x : Sheet E). phases_at (length x.lines.items) s) sheet_is ∙ ap (λ (z : Stand P). phases_at (length k.lines.items) z) stand_is ∙ is
+  pub phases_with : (phases : ℕ) → phases_at (length k.lines.items) t ≡ phases
+      → phases_at (length h.lines.items) s ≡ phases
+  phases_with phases is = ap (λ (x : Sheet E). phases_at (length x.lines.items) s) sheet_is
+      ∙ ap (λ (z : Stand P). phases_at (length k.lines.items) z) stand_is ∙ is
 
-  pub come_with : (meaning : P → ℕ → ℕ → Meaning) (r : Rows P) (says : Sequential → ℕ → Local → Record → List ℕ → LineEnd → Type 0) (object : E → Sequential)
-      → HasCome meaning r (says (object k.ending)) k.who k.operations.now t k.lines.items → HasCome meaning r (says (object h.ending)) h.who h.operations.now s h.lines.items
+  pub come_with : (meaning : P → ℕ → ℕ → Meaning) (r : Rows P)
+      (says : Sequential → ℕ → Local → Record → List ℕ → LineEnd → Type 0) (object : E → Sequential)
+      → HasCome meaning r (says (object k.ending)) k.who k.operations.now t k.lines.items
+      → HasCome meaning r (says (object h.ending)) h.who h.operations.now s h.lines.items
   come_with meaning r says object come =
-      subst (λ (z : Stand P). HasCome meaning r (says (object h.ending)) h.who h.operations.now z h.lines.items) (sym stand_is)
-      (subst (λ (x : Sheet E). HasCome meaning r (says (object x.ending)) x.who x.operations.now t x.lines.items) (sym sheet_is) come)
+      subst (λ (z : Stand P). HasCome meaning r
+      (says (object h.ending)) h.who h.operations.now z h.lines.items) (sym stand_is)
+      (subst (λ (x : Sheet E). HasCome meaning r
+      (says (object x.ending)) x.who x.operations.now t x.lines.items) (sym sheet_is) come)
 
   pub counted_with : {T : Type 0} (p q : T) → p ≡ q → (count : T → Option PassCount)
-      → Counts (count q) k.operations.now t k.lines.items → Counts (count p) h.operations.now s h.lines.items
+      → Counts (count q) k.operations.now t k.lines.items
+      → Counts (count p) h.operations.now s h.lines.items
   counted_with {T} p q pass_is count counted =
       subst (λ (z : Stand P). Counts (count p) h.operations.now z h.lines.items) (sym stand_is)
       (subst (λ (x : Sheet E). Counts (count p) x.operations.now t x.lines.items) (sym sheet_is)
       (subst (λ (x : T). Counts (count x) k.operations.now t k.lines.items) (sym pass_is) counted))
 
-  pub fits_with : {T : Type 0} (fits : Fits T) (p q : T) → p ≡ q → FitsCaller fits q (caller_at t) → FitsCaller fits p (caller_at s)
+  pub fits_with : {T : Type 0} (fits : Fits T) (p q : T) → p ≡ q → FitsCaller fits q (caller_at t)
+      → FitsCaller fits p (caller_at s)
   fits_with {T} fits p q pass_is h =
-      subst (λ (z : Stand P). FitsCaller fits p (caller_at z)) (sym stand_is) (subst (λ (x : T). FitsCaller fits x (caller_at t)) (sym pass_is) h)
+      subst (λ (z : Stand P). FitsCaller fits p (caller_at z)) (sym stand_is)
+      (subst (λ (x : T). FitsCaller fits x (caller_at t)) (sym pass_is) h)
 
-  pub kept_with : ∥ IsGatheredBy (local_at_stand t) k.gathered ∥₁ → ∥ IsGatheredBy (local_at_stand s) h.gathered ∥₁
+  pub kept_with : ∥ IsGatheredBy (local_at_stand t) k.gathered ∥₁
+      → ∥ IsGatheredBy (local_at_stand s) h.gathered ∥₁
   kept_with kept =
       subst (λ (z : Stand P). ∥ IsGatheredBy (local_at_stand z) h.gathered ∥₁) (sym stand_is)
       (subst (λ (x : Sheet E). ∥ IsGatheredBy (local_at_stand t) x.gathered ∥₁) (sym sheet_is) kept)
 
 -- What stands by the sheet that this is.
-pub standing_with : {E : Type 0} (h k : Sheet E) → h ≡ k → (object : E → Sequential) → KeepsStanding (object k.ending) k → KeepsStanding (object h.ending) h
-standing_with {E} h k is object stands = subst (λ (x : Sheet E). KeepsStanding (object x.ending) x) (sym is) stands
+pub standing_with : {E : Type 0} (h k : Sheet E) → h ≡ k → (object : E → Sequential)
+    → KeepsStanding (object k.ending) k → KeepsStanding (object h.ending) h
+standing_with {E} h k is object stands =
+    subst (λ (x : Sheet E). KeepsStanding (object x.ending) x) (sym is) stands

@@ -12,8 +12,8 @@ use Rattle.call_phases.specs.declared.stand.Stand.{Stand}
 use Rattle.call_phases.specs.declared.stand.Stand.TheVariants.{Halted, Unjudged}
 use Rattle.call_phases.specs.declared.client.Client.{Client}
 
--- A caller that stands there after this many lines has spent an allotment of phases: it has made all
--- of them, or halted within them.
+-- A caller that stands there after this many lines has spent an allotment of phases: it has made
+-- all of them, or halted within them.
 abbrev pub Spent : {P : Type 0} → ℕ → ℕ → Stand P → Type 0
 Spent allotment lines (Halted c) = 5 * lines ≤ allotment
 Spent allotment lines (Unjudged u) = 5 * lines + 5 ≤ allotment
@@ -29,11 +29,14 @@ module _ {P T E : Type 0} where
   HasSpent allotment c = Spent allotment (length c.sheet.lines.items) c.stand
 
   -- A client has come this far.
-  abbrev pub IsUnderWay : (P → ℕ → ℕ → Meaning) → Rows P → (ℕ → Local → Record → List ℕ → LineEnd → Type 0) → Client P T E → Type 0
-  IsUnderWay meaning r says c = HasCome meaning r says c.sheet.who c.sheet.operations.now c.stand c.sheet.lines.items
+  abbrev pub IsUnderWay : (P → ℕ → ℕ → Meaning) → Rows P
+      → (ℕ → Local → Record → List ℕ → LineEnd → Type 0) → Client P T E → Type 0
+  IsUnderWay meaning r says c =
+      HasCome meaning r says c.sheet.who c.sheet.operations.now c.stand c.sheet.lines.items
 
   -- A client's pass fits its caller, and has come along with its calls, where it counts them.
-  pub record HasPass (fits : Fits T) (count : T → Option PassCount) (c : Client P T E) : Type 0 where
+  pub record HasPass (fits : Fits T) (count : T → Option PassCount)
+      (c : Client P T E) : Type 0 where
     pub fits_caller : FitsCaller fits c.pass (caller_at c.stand)
     pub counts : Counts (count c.pass) c.sheet.operations.now c.stand c.sheet.lines.items
 

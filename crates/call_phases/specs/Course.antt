@@ -1,4 +1,5 @@
--- How far a client has come with its operations: its caller, its lines, and the pass by which it asks.
+-- How far a client has come with its operations: its caller, its lines, and the pass by which it
+-- asks.
 use Rattle.std.specs.Prelude.{◌≡◌, ◌≤◌, ℕ, true, false, List, [], ◌∷◌, ◌++◌, Option, IfSome, length, slice_index}
 use Rattle.book_base.specs.declared.call.Record.{Record}
 use Rattle.world_core.specs.Shape.{Meaning}
@@ -31,21 +32,26 @@ module _ {P : Type 0} where
   ErrorsFit (Halted c) own = EndsInError own
   ErrorsFit _ own = any_error own ≡ false
 
-  -- A client of this caller has come with these operations to this stand and these lines: the caller, one of these rows, has made
-  -- exactly the phases up to there, the lines are those of all its calls but the one under way, and it can go on from there.
-  pub record HasCome (meaning : P → ℕ → ℕ → Meaning) (r : Rows P) (says : ℕ → Local → Record → List ℕ → LineEnd → Type 0) (who : ℕ) (operations : List ℕ) (s : Stand P) (own : List Line) : Type 0 where
+  -- A client of this caller has come with these operations to this stand and these lines: the
+  -- caller, one of these rows, has made exactly the phases up to there, the lines are those of all
+  -- its calls but the one under way, and it can go on from there.
+  pub record HasCome (meaning : P → ℕ → ℕ → Meaning) (r : Rows P)
+      (says : ℕ → Local → Record → List ℕ → LineEnd → Type 0) (who : ℕ) (operations : List ℕ)
+      (s : Stand P) (own : List Line) : Type 0 where
     pub caller : IsCallerOf meaning r (caller_at s)
     pub number : who_of (caller_at s) ≡ who
     pub made : HasMade operations (phases_at (length own) s) (local_at_stand s)
     pub ended : List Made
-    pub calls : calls_in (local_at_stand s) ≡ ended ++ under_way (slice_index operations (length own)) s
+    pub calls : calls_in (local_at_stand s)
+        ≡ ended ++ under_way (slice_index operations (length own)) s
     pub lines : AreLinesOfCalls (says r.callers (local_at_stand s)) ended own
     pub errors : ErrorsFit s own
     pub may : MayGoOn meaning r (slice_index operations (length own)) s
 
   -- The last of these pairs is that of the call that was answered last, until its view is taken.
   abbrev pub EndsAnswered : Stand P → List (ℕ × ℕ) → Type 0
-  EndsAnswered (Answered a) pairs = (prefix : List (ℕ × ℕ)) × (pairs ≡ prefix ++ (op_answered a, reply_answered a) ∷ [])
+  EndsAnswered (Answered a) pairs = (prefix : List (ℕ × ℕ))
+      × (pairs ≡ prefix ++ (op_answered a, reply_answered a) ∷ [])
   EndsAnswered _ pairs = Unit {0}
 
   -- The pairs are what an object tells of a client's calls up to this stand.
@@ -53,14 +59,17 @@ module _ {P : Type 0} where
     pub told : IsTold (phases_at (length own) s) (calls_in (local_at_stand s)) pairs
     pub last : EndsAnswered s pairs
 
-  -- A pass with which this many calls were made, and that tells these pairs, has come along: the object was asked for exactly the calls
-  -- whose second phase was made, and what is told, where anything is, is what was asked and answered.
-  pub record HasAskedFor (made : ℕ) (told : Option (List (ℕ × ℕ))) (s : Stand P) (own : List Line) : Type 0 where
+  -- A pass with which this many calls were made, and that tells these pairs, has come along: the
+  -- object was asked for exactly the calls whose second phase was made, and what is told, where
+  -- anything is, is what was asked and answered.
+  pub record HasAskedFor (made : ℕ) (told : Option (List (ℕ × ℕ))) (s : Stand P)
+      (own : List Line) : Type 0 where
     pub made_is : made ≡ asked (phases_at (length own) s)
     pub told_is : IfSome told (HasTold s own)
 
   -- A pass that counts has come along, and has a call for each of these operations.
-  pub record HasCounted (operations : List ℕ) (s : Stand P) (own : List Line) (count : PassCount) : Type 0 where
+  pub record HasCounted (operations : List ℕ) (s : Stand P) (own : List Line)
+      (count : PassCount) : Type 0 where
     pub asked : HasAskedFor count.made count.told s own
     pub has_room : length operations ≤ count.room
 

@@ -60,7 +60,8 @@ module _ {P : Type 0} where
 
   -- What an ending says is said of the record and the seen cut of the call; where memory was wanted
   -- nothing is said, and they are handed back.
-  abbrev pub SaysOf : (Local → Record → List ℕ → LineEnd → Type 0) → Record → List ℕ → Ended P → Type 0
+  abbrev pub SaysOf : (Local → Record → List ℕ → LineEnd → Type 0) → Record → List ℕ
+      → Ended P → Type 0
   SaysOf says r cut (GoesOn c end) = says (local_with c) r cut end
   SaysOf says r cut (Halts c end) = says (local_with c) r cut end
   SaysOf says r cut (WantsMemory u) = (record_unjudged u ≡ r) × (u.seen ≡ cut)
@@ -75,20 +76,29 @@ module _ {P : Type 0} where
   -- Where the caller stands after a call that has ended, and its lines with that of the call, where
   -- it has one.
   abbrev pub IsNoted : ℕ → List Line → Ended P → List Line → Stand P → Type 0
-  IsNoted op own (GoesOn c end) own' s = (s ≡ Idle c) × (own' ≡ own ++ record { op = op; end = end } ∷ [])
-  IsNoted op own (Halts c end) own' s = (s ≡ Halted c) × (own' ≡ own ++ record { op = op; end = end } ∷ [])
+  IsNoted op own (GoesOn c end) own' s = (s ≡ Idle c)
+      × (own' ≡ own ++ record { op = op; end = end } ∷ [])
+  IsNoted op own (Halts c end) own' s = (s ≡ Halted c)
+      × (own' ≡ own ++ record { op = op; end = end } ∷ [])
   IsNoted op own (WantsMemory u) own' s = (s ≡ Unjudged u) × (own' ≡ own)
 
-  -- A call has ended by an ending that says this: its caller, one of these rows, saw a cut, and came no further with its calls.
-  pub record HasEnded (meaning : P → ℕ → ℕ → Meaning) (r : Rows P) (says : ℕ → Local → Record → List ℕ → LineEnd → Type 0) (p : Published P) (e : Ended P) : Type 0 where
+  -- A call has ended by an ending that says this: its caller, one of these rows, saw a cut, and
+  -- came no further with its calls.
+  pub record HasEnded (meaning : P → ℕ → ℕ → Meaning) (r : Rows P)
+      (says : ℕ → Local → Record → List ℕ → LineEnd → Type 0) (p : Published P)
+      (e : Ended P) : Type 0 where
     pub cut : List ℕ
     pub still : IsStill meaning r (caller_published p) (caller_ended e)
-    pub progress : progress_of (local_ended e) ≡ after_seeing cut (progress_of (local_with (caller_published p)))
+    pub progress : progress_of (local_ended e)
+        ≡ after_seeing cut (progress_of (local_with (caller_published p)))
     pub grows : Grows (local_with (caller_published p)) (local_ended e)
     pub stands : StandsAfter e
     pub error : FitsError e
     pub says_of : SaysOf (says r.callers) (record_published p) cut e
 
   -- A published call has ended in some way, and its line is noted, where it has one.
-  abbrev pub Ends : (P → ℕ → ℕ → Meaning) → Rows P → (ℕ → Local → Record → List ℕ → LineEnd → Type 0) → Published P → ℕ → List Line → List Line → Stand P → Type 0
-  Ends meaning r says p op own own' s = (e : Ended P) × HasEnded meaning r says p e × IsNoted op own e own' s
+  abbrev pub Ends : (P → ℕ → ℕ → Meaning) → Rows P
+      → (ℕ → Local → Record → List ℕ → LineEnd → Type 0) → Published P → ℕ → List Line → List Line
+      → Stand P → Type 0
+  Ends meaning r says p op own own' s = (e : Ended P) × HasEnded meaning r says p e
+      × IsNoted op own e own' s

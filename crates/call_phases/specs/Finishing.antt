@@ -18,26 +18,30 @@ use Rattle.call_phases.specs.Clients.{Spent}
 use Rattle.call_phases.specs.declared.stand.Stand.{Stand}
 use Rattle.call_phases.specs.declared.stand.Stand.TheVariants.{Idle, Announced, Answered, Viewed, Published, Halted, Unjudged}
 
--- What is kept of the call under way of a caller i that has made this many phases: one that was announced and not asked has no object
--- step, and to one that was asked and has no view its program allows a reply.
+-- What is kept of the call under way of a caller i that has made this many phases: one that was
+-- announced and not asked has no object step, and to one that was asked and has no view its program
+-- allows a reply.
 pub record KeepsAsked (program : Meaning) (i phases : ℕ) (l : Local) : Type 0 where
   pub unasked : phases % 5 ≡ 1 → steps_now l ≡ []
   pub asked : phases % 5 ≡ 2 → (reply : ℕ) × IsTrue (program.may_reply i l reply)
 
--- How a caller is left that has made this many phases: within a call it is halted, and where it is live it is free for its next call.
+-- How a caller is left that has made this many phases: within a call it is halted, and where it is
+-- live it is free for its next call.
 pub record IsLeftStanding (phases : ℕ) (l : Local) (stance : Stance) : Type 0 where
   pub within : phases % 5 ≢ 0 → stance.live ≡ false
   pub between : stance.live ≡ true → IsIdle l × (stance ≡ fresh_stance)
 
 module _ {P : Type 0} where
-  -- How a caller stands that is left there: as it stood where no call of it is under way, and else halted.
+  -- How a caller stands that is left there: as it stood where no call of it is under way, and else
+  -- halted.
   abbrev pub stance_left : Stand P → Stance
   stance_left (Idle c) = stance_of c
   stance_left (Halted c) = stance_of c
   stance_left (Unjudged u) = stance_of u.caller
   stance_left s = record (stance_of (caller_at s)) { live = false }
 
-  -- The end of the line of a call that its caller leaves there: pending without its record, and unchecked with it.
+  -- The end of the line of a call that its caller leaves there: pending without its record, and
+  -- unchecked with it.
   abbrev pub end_at : Stand P → Option LineEnd
   end_at (Idle c) = None
   end_at (Announced a) = Some Pending
@@ -55,7 +59,8 @@ module _ {P : Type 0} where
   -- A client that stands there after these lines leaves this local and its lines, whatever
   -- allotment it has spent, and has made the phases that they tell of. Nothing is said of lines
   -- where memory was wanted.
-  abbrev pub Leaves : (ℕ → Local → Record → List ℕ → LineEnd → Type 0) → ℕ → List ℕ → Stand P → List Line → Local → List Line → Type 0
+  abbrev pub Leaves : (ℕ → Local → Record → List ℕ → LineEnd → Type 0) → ℕ → List ℕ → Stand P
+      → List Line → Local → List Line → Type 0
   Leaves says n operations s before l own =
       is_unjudged s ≡ false → (allotment : ℕ) → Spent allotment (length before) s
       → HasLeftAt says n operations allotment (phases_at (length before) s) l own

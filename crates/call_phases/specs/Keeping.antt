@@ -6,7 +6,8 @@ use Rattle.enforcer.specs.Lines.{StandsIn}
 use Rattle.call_phases.specs.Ends.{Sequential}
 use Rattle.call_phases.specs.declared.sheet.Sheet.{Sheet}
 
--- What is kept of an order stands for a sequential object in the book that is kept, where there is one.
+-- What is kept of an order stands for a sequential object in the book that is kept, where there is
+-- one.
 abbrev pub StandsBy : Sequential → Option Gathered → Option Standing → Type 0
 StandsBy object gathered standing = StandsIn object.init object.next gathered standing
 

@@ -28,7 +28,8 @@ module _ {P : Type 0} where
   abbrev pub local_at_stand : Stand P → Local
   local_at_stand s = local_with (caller_at s)
 
-  -- How many phases of the call under way were made. A call that isn't judged for want of memory has made all five.
+  -- How many phases of the call under way were made. A call that isn't judged for want of memory
+  -- has made all five.
   abbrev pub place_of : Stand P → ℕ
   place_of (Idle c) = 0
   place_of (Announced a) = 1
@@ -47,17 +48,25 @@ module _ {P : Type 0} where
   under_way op (Idle c) = []
   under_way op (Announced a) = record { operation = op; reached = Is_announced } ∷ []
   under_way op (Answered a) = record { operation = op; reached = Is_announced } ∷ []
-  under_way op (Viewed v) = record { operation = op; reached = Has_record (record { reply = reply_viewed v; view = view_viewed v }) } ∷ []
-  under_way op (Published p) = record { operation = op; reached = Has_record (record { reply = reply_published p; view = view_published p }) } ∷ []
+  under_way op (Viewed v) = record {
+    operation = op;
+    reached = Has_record (record { reply = reply_viewed v; view = view_viewed v });
+  } ∷ []
+  under_way op (Published p) = record {
+    operation = op;
+    reached = Has_record (record { reply = reply_published p; view = view_published p });
+  } ∷ []
   under_way op (Halted c) = []
-  under_way op (Unjudged u) = record { operation = op; reached = Has_seen (record_unjudged u) u.seen } ∷ []
+  under_way op (Unjudged u) =
+      record { operation = op; reached = Has_seen (record_unjudged u) u.seen } ∷ []
 
-  -- The next phase can be made, of a call with this operation: one that is announced has no object step yet, and of one that was asked
-  -- the program allows the reply.
+  -- The next phase can be made, of a call with this operation: one that is announced has no object
+  -- step yet, and of one that was asked the program allows the reply.
   abbrev pub MayGoOn : (P → ℕ → ℕ → Meaning) → Rows P → ℕ → Stand P → Type 0
   MayGoOn meaning r op (Idle c) = IsFree c
   MayGoOn meaning r op (Announced a) = (op_announced a ≡ op) × (steps_now (announced_local a) ≡ [])
-  MayGoOn meaning r op (Answered a) = (op_answered a ≡ op) × MayGet meaning (caller_answered a) (reply_answered a)
+  MayGoOn meaning r op (Answered a) = (op_answered a ≡ op)
+      × MayGet meaning (caller_answered a) (reply_answered a)
   MayGoOn meaning r op (Viewed v) = length (view_viewed v) ≡ r.callers
   MayGoOn meaning r op (Published p) = Unit {0}
   MayGoOn meaning r op (Halted c) = (stance_of c).live ≡ false

@@ -8,15 +8,23 @@ use Rattle.drv_wrapper.specs.Growth.{Grows}
 use Rattle.report_laws.proofs.Workers.{verdicts_stay}
 use Rattle.call_phases.specs.Ends.{Sequential, SaysJudged, SaysDeferred}
 
-pub judged_stays : (object : Sequential) (n : ℕ) (l m : Local) (r : Record) (cut : List ℕ) (end : LineEnd)
+pub judged_stays : (object : Sequential) (n : ℕ) (l m : Local) (r : Record) (cut : List ℕ)
+    (end : LineEnd)
     → Grows l m → SaysJudged object n l r cut end → SaysJudged object n m r cut end
 judged_stays object n l m r cut Pending grows says = absurd says
 judged_stays object n l m r cut (Unchecked r') grows says = absurd says
-judged_stays object n l m r cut (Delivered r' cut') grows says =
-    (says.0, says.1, verdicts_stay object.init object.next n l m (Delivered r' cut') grows.peeked says.2)
-judged_stays object n l m r cut (Error r' cut') grows says =
-    (says.0, says.1, verdicts_stay object.init object.next n l m (Error r' cut') grows.peeked says.2)
+judged_stays object n l m r cut (Delivered r' cut') grows says = (
+  says.0,
+  says.1,
+  verdicts_stay object.init object.next n l m (Delivered r' cut') grows.peeked says.2,
+)
+judged_stays object n l m r cut (Error r' cut') grows says = (
+  says.0,
+  says.1,
+  verdicts_stay object.init object.next n l m (Error r' cut') grows.peeked says.2,
+)
 
-pub deferred_stays : (object : Sequential) (n : ℕ) (l m : Local) (r : Record) (cut : List ℕ) (end : LineEnd)
+pub deferred_stays : (object : Sequential) (n : ℕ) (l m : Local) (r : Record) (cut : List ℕ)
+    (end : LineEnd)
     → Grows l m → SaysDeferred object n l r cut end → SaysDeferred object n m r cut end
 deferred_stays object n l m r cut end grows says = says

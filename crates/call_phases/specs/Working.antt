@@ -9,5 +9,7 @@ use Rattle.call_phases.specs.Ends.{Sequential, SaysJudged, HasLeft}
 -- clients are a lawful report.
 abbrev pub JudgingClientsHaveWorked : Type 0
 JudgingClientsHaveWorked =
-    (object : Sequential) (n : ℕ) (operations : List ℕ) (allotment : ℕ) (l : Local) (own : List Line)
-    → HasLeft (SaysJudged object) n operations allotment l own → HasWorked object.init object.next n operations allotment l own
+    (object : Sequential) (n : ℕ) (operations : List ℕ) (allotment : ℕ) (l : Local)
+    (own : List Line)
+    → HasLeft (SaysJudged object) n operations allotment l own
+    → HasWorked object.init object.next n operations allotment l own

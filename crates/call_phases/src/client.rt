@@ -15,8 +15,8 @@ use row_table::{Rows, Steps};
 use std::sync::ledger::Ledger;
 use world_core::Program;
 
-/// A caller at work: where it stands, the pass by which it asks, and its sheet, which keeps the book that this caller
-/// gathered last.
+/// A caller at work: where it stands, the pass by which it asks, and its sheet, which keeps the
+/// book that this caller gathered last.
 pub struct Client<'a, P, T, E> {
     pub stand: Stand<P>,
     pub pass: T,
@@ -35,8 +35,8 @@ impl<'a, P: Program, T, E: Ending> Client<'a, P, T, E> {
     ghost use Rattle.call_phases.specs.Finishing.{is_unjudged, KeepsAsked, IsLeftStanding, Leaves};
     ghost use Rattle.call_phases.specs.Clients.{phases_by, HasSpent, IsUnderWay, HasPass, HasRoom, IsSameClient};
 
-    /// Makes the next phase of the caller: announces its next operation, asks, takes the view, publishes, or ends
-    /// the call.
+    /// Makes the next phase of the caller: announces its next operation, asks, takes the view,
+    /// publishes, or ends the call.
     ///
     /// The caller isn't halted, and has a phase left: five for each operation.
     pub fn advance<A: Asks<Program = P, Pass = T>, L: Ledger>(
@@ -46,7 +46,8 @@ impl<'a, P: Program, T, E: Ending> Client<'a, P, T, E> {
     ) -> Client<'a, P, T, E>
         // The client's caller is one of these rows, and its lines and its local are those of the
         // phases that it has made.
-        requires course { IsUnderWay P.meaning shared.now.rows.now (E.says (E.object self.sheet.ending)) self }
+        requires course { IsUnderWay P.meaning shared.now.rows.now
+            (E.says (E.object self.sheet.ending)) self }
         // The passes serve these rows.
         requires serves { A.serves shared.now.asks.now shared.now.rows.now }
         // The client's pass fits its caller, and has counted its calls, where it counts them.
@@ -63,7 +64,8 @@ impl<'a, P: Program, T, E: Ending> Client<'a, P, T, E> {
         ensures phase { phases_by result ≡ phases_by self.entry + 1 }
         // The client's caller is still one of these rows, and its lines and its local are those of
         // the phases that it has made.
-        ensures course { IsUnderWay P.meaning shared.now.rows.now (E.says (E.object result.sheet.ending)) result }
+        ensures course { IsUnderWay P.meaning shared.now.rows.now
+            (E.says (E.object result.sheet.ending)) result }
         // The client's pass still fits its caller, and has counted its calls, where it counts them.
         ensures pass { HasPass (A.fits shared.now.asks.now) A.count result }
         // There still is a row and capacity for a line for each operation.
@@ -104,7 +106,8 @@ impl<'a, P: Program, T, E: Ending> Client<'a, P, T, E> {
     ) -> Client<'a, P, T, E>
         // The client's caller is one of these rows, and its lines and its local are those of the
         // phases that it has made.
-        requires course { IsUnderWay P.meaning shared.now.rows.now (E.says (E.object self.sheet.ending)) self }
+        requires course { IsUnderWay P.meaning shared.now.rows.now
+            (E.says (E.object self.sheet.ending)) self }
         // The passes serve these rows.
         requires serves { A.serves shared.now.asks.now shared.now.rows.now }
         // The client's pass fits its caller, and has counted its calls, where it counts them.
@@ -121,7 +124,8 @@ impl<'a, P: Program, T, E: Ending> Client<'a, P, T, E> {
         ensures spent { HasSpent (phases_by self.entry + count) result }
         // The client's caller is still one of these rows, and its lines and its local are those of
         // the phases that it has made.
-        ensures course { IsUnderWay P.meaning shared.now.rows.now (E.says (E.object result.sheet.ending)) result }
+        ensures course { IsUnderWay P.meaning shared.now.rows.now
+            (E.says (E.object result.sheet.ending)) result }
         // The client's pass still fits its caller, and has counted its calls, where it counts them.
         ensures pass { HasPass (A.fits shared.now.asks.now) A.count result }
         // There still is a row and capacity for a line for each operation.
@@ -151,7 +155,8 @@ impl<'a, P: Program, T, E: Ending> Client<'a, P, T, E> {
     pub fn finish(self, _rows: &Rows<P>) -> Finished<P, T, E>
         // The client's caller is one of these rows, and its lines and its local are those of the
         // phases that it has made.
-        requires course { IsUnderWay P.meaning _rows.now (E.says (E.object self.sheet.ending)) self }
+        requires course { IsUnderWay P.meaning _rows.now
+            (E.says (E.object self.sheet.ending)) self }
         // There is capacity for a line for each operation.
         requires room { length self.sheet.operations.now ≤ vec_capacity self.sheet.lines }
         // The caller that is left has the number and the local of the client's caller, and is of
@@ -164,19 +169,24 @@ impl<'a, P: Program, T, E: Ending> Client<'a, P, T, E> {
         // Memory is wanted exactly where the last call was left unjudged.
         ensures wants_memory { result.wants_memory ≡ is_unjudged self.entry.stand }
         // The caller has made exactly the phases of the client.
-        ensures made { HasMade self.entry.sheet.operations.now (phases_by self.entry) (local_with result.caller) }
+        ensures made { HasMade self.entry.sheet.operations.now (phases_by self.entry)
+            (local_with result.caller) }
         // A call that was announced and not asked has no object step, and to one that was asked and
         // has no view the program allows a reply.
-        ensures asked { KeepsAsked (shape_of P.meaning _rows.now).program self.entry.sheet.who (phases_by self.entry) (local_with result.caller) }
+        ensures asked { KeepsAsked (shape_of P.meaning _rows.now).program self.entry.sheet.who
+            (phases_by self.entry) (local_with result.caller) }
         // Within a call the caller is halted, and where it is live it is free for its next call.
-        ensures standing { IsLeftStanding (phases_by self.entry) (local_with result.caller) (stance_of result.caller) }
+        ensures standing { IsLeftStanding (phases_by self.entry) (local_with result.caller)
+            (stance_of result.caller) }
         // Between two calls, without an error and where memory wasn't wanted, the caller stands as
         // at the start.
         ensures free { is_unjudged self.entry.stand ≡ false → any_error result.lines.items ≡ false
             → phases_by self.entry % 5 ≡ 0 → stance_of result.caller ≡ fresh_stance }
         // Where memory wasn't wanted, the lines that are left are those of the phases that the
         // client has made.
-        ensures leaves { Leaves (E.says (E.object result.ending)) _rows.now.callers self.entry.sheet.operations.now self.entry.stand self.entry.sheet.lines.items (local_with result.caller) result.lines.items }
+        ensures leaves { Leaves (E.says (E.object result.ending)) _rows.now.callers
+            self.entry.sheet.operations.now self.entry.stand self.entry.sheet.lines.items
+            (local_with result.caller) result.lines.items }
     {
         let Client {
             stand,

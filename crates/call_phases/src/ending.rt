@@ -23,8 +23,8 @@ pub trait Ending {
     /// The sequential object that it judges by, where it judges.
     ghost object: { Self → Sequential };
 
-    /// What the end of a line says, by that object: of a caller of `n` with this local, and of the record and the
-    /// seen cut of the call.
+    /// What the end of a line says, by that object: of a caller of `n` with this local, and of the
+    /// record and the seen cut of the call.
     ghost says: { Sequential → ℕ → Local → Record → List ℕ → LineEnd → Type 0 };
 
     /// Ends a call for which a cut was seen. The caller comes no further with its calls, and is
@@ -51,7 +51,8 @@ pub trait Ending {
         // The caller is still one of these rows, with the same number.
         ensures caller { IsStill P.meaning rows.now (caller_seen seen) (caller_ended result) }
         // The caller has come no further with its calls.
-        ensures progress { progress_of (local_ended result) ≡ progress_of (local_with (caller_seen seen)) }
+        ensures progress { progress_of (local_ended result)
+            ≡ progress_of (local_with (caller_seen seen)) }
         // The caller's local has each look, peek and cut that it had before.
         ensures grows { Grows (local_with (caller_seen seen)) (local_ended result) }
         // A caller that goes on is free for its next call, and one that is halted or wants memory
@@ -61,7 +62,8 @@ pub trait Ending {
         ensures error { FitsError result }
         // What the ending says is said of the record, the seen cut and the line's end, and where
         // memory was wanted the record and the cut are handed back.
-        ensures says { SaysOf (says (object self.new) rows.now.callers) (record_seen seen) (cut_seen seen) result }
+        ensures says { SaysOf (says (object self.new) rows.now.callers) (record_seen seen)
+            (cut_seen seen) result }
         // The caller has peeked each word of the book that is gathered now, where there is one.
         ensures kept { IsGatheredBy (local_ended result) gathered.new }
         // What is kept of an order now stands for the object in the book that is gathered now.
@@ -73,5 +75,6 @@ pub trait Ending {
         ensures { object result ≡ object self.now };
 
     /// What the end of a line says stays so while the caller goes on.
-    ghost stays: { (o : Sequential) (n : ℕ) (l m : Local) (r : Record) (cut : List ℕ) (end : LineEnd) → Grows l m → says o n l r cut end → says o n m r cut end };
+    ghost stays: { (o : Sequential) (n : ℕ) (l m : Local) (r : Record) (cut : List ℕ)
+        (end : LineEnd) → Grows l m → says o n l r cut end → says o n m r cut end };
 }

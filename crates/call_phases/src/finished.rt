@@ -1,8 +1,8 @@
 use call_lines::Line;
 use row_table::Caller;
 
-/// A client that is finished: its caller, with its local as it is, its pass, its lines and its ending; and whether
-/// its last call wasn't judged for want of memory.
+/// A client that is finished: its caller, with its local as it is, its pass, its lines and its
+/// ending; and whether its last call wasn't judged for want of memory.
 pub struct Finished<P, T, E> {
     pub caller: Caller<P>,
     pub pass: T,

@@ -72,12 +72,16 @@ impl<'a, E: Ending> Sheet<'a, E> {
         steps: &mut Steps<L>,
     ) -> Stand<P>
         requires rows { IsCallerOf P.meaning rows.now (caller_published published) }
-        requires gathered { IsGatheredBy (local_with (caller_published published)) self.old.gathered }
-        requires standing { StandsBy (E.object self.old.ending) self.old.gathered self.old.standing }
+        requires gathered { IsGatheredBy (local_with (caller_published published))
+            self.old.gathered }
+        requires standing { StandsBy (E.object self.old.ending) self.old.gathered
+            self.old.standing }
         requires room { vec_len self.old.lines < vec_capacity self.old.lines }
-        ensures ends { Ends P.meaning rows.now (E.says (E.object self.new.ending)) published op self.old.lines.items self.new.lines.items result }
+        ensures ends { Ends P.meaning rows.now (E.says (E.object self.new.ending)) published op
+            self.old.lines.items self.new.lines.items result }
         ensures room { vec_capacity self.old.lines ≤ vec_capacity self.new.lines }
-        ensures same { (self.new.who ≡ self.old.who) × (self.new.operations.now ≡ self.old.operations.now) }
+        ensures same { (self.new.who ≡ self.old.who)
+            × (self.new.operations.now ≡ self.old.operations.now) }
         ensures object { E.object self.new.ending ≡ E.object self.old.ending }
         ensures kept { IsGatheredBy (local_at_stand result) self.new.gathered }
         ensures standing { StandsBy (E.object self.new.ending) self.new.gathered self.new.standing }

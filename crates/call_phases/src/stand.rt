@@ -47,8 +47,8 @@ impl<P> Stand<P> {
         matches!(self, Stand::Unjudged(_))
     }
 
-    /// The caller, with its local as it is, and how the line of its call under way ends, where it leaves one. Between
-    /// two calls it stays live, and else it is halted.
+    /// The caller, with its local as it is, and how the line of its call under way ends, where it
+    /// leaves one. Between two calls it stays live, and else it is halted.
     pub fn stop(self) -> (Caller<P>, Option<LineEnd>)
         // The caller keeps its number and its local, and is still one of its rows.
         ensures caller { IsSame (caller_at self) result.0 }

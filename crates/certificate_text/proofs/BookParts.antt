@@ -21,50 +21,100 @@ use Rattle.certificate_text.specs.CertificateRules.{CertificateDue, InBook, afte
 abbrev pub in_head : HeadDue → CertificateDue
 in_head due = after_book (after_head due)
 
-head_right : (due after : HeadDue) (words : List (List ℕ)) → HeadPasses Second (codes "book") due words after → CertificatePasses (in_head due) words (in_head after)
+head_right : (due after : HeadDue) (words : List (List ℕ))
+    → HeadPasses Second (codes "book") due words after
+    → CertificatePasses (in_head due) words (in_head after)
 head_right TitleDue after words h = (after_head after, (after, h, refl), refl)
 head_right ObjectDue after words h = (after_head after, (after, h, refl), refl)
 head_right (CallersDue kind) after words h = (after_head after, (after, h, refl), refl)
 head_right (CountsDue kind n) after words h = (after_head after, (after, h, refl), refl)
 head_right (HeadRead kind calls) after words h = absurd h
 
-head_wrong : (due : HeadDue) (bytes : List ℕ) (what : What) → IsWrong (head_rules Second (codes "book")) due (head_wanted due) bytes what → IsWrong certificate_rules (in_head due) (certificate_wanted (in_head due)) bytes what
+head_wrong : (due : HeadDue) (bytes : List ℕ) (what : What)
+    → IsWrong (head_rules Second (codes "book")) due (head_wanted due) bytes what
+    → IsWrong certificate_rules (in_head due) (certificate_wanted (in_head due)) bytes what
 head_wrong TitleDue bytes what (inl h) = inl h
-head_wrong TitleDue bytes what (inr h) = inr (record { line = h.line; rest = h.rest; whole = h.whole; test = record { fails = h.test.fails; first = h.test.first } })
+head_wrong TitleDue bytes what (inr h) = inr (record {
+  line = h.line;
+  rest = h.rest;
+  whole = h.whole;
+  test = record { fails = h.test.fails; first = h.test.first };
+})
 head_wrong ObjectDue bytes what (inl h) = inl h
-head_wrong ObjectDue bytes what (inr h) = inr (record { line = h.line; rest = h.rest; whole = h.whole; test = record { fails = h.test.fails; first = h.test.first } })
+head_wrong ObjectDue bytes what (inr h) = inr (record {
+  line = h.line;
+  rest = h.rest;
+  whole = h.whole;
+  test = record { fails = h.test.fails; first = h.test.first };
+})
 head_wrong (CallersDue kind) bytes what (inl h) = inl h
-head_wrong (CallersDue kind) bytes what (inr h) = inr (record { line = h.line; rest = h.rest; whole = h.whole; test = record { fails = h.test.fails; first = h.test.first } })
+head_wrong (CallersDue kind) bytes what (inr h) = inr (record {
+  line = h.line;
+  rest = h.rest;
+  whole = h.whole;
+  test = record { fails = h.test.fails; first = h.test.first };
+})
 head_wrong (CountsDue kind n) bytes what (inl h) = inl h
-head_wrong (CountsDue kind n) bytes what (inr h) = inr (record { line = h.line; rest = h.rest; whole = h.whole; test = record { fails = h.test.fails; first = h.test.first } })
+head_wrong (CountsDue kind n) bytes what (inr h) = inr (record {
+  line = h.line;
+  rest = h.rest;
+  whole = h.whole;
+  test = record { fails = h.test.fails; first = h.test.first };
+})
 head_wrong (HeadRead kind calls) bytes what h = absurd h
 
-pub head_goes : (due after : HeadDue) (text left : Unread) → GoesTo (head_rules Second (codes "book")) due text after left → GoesTo certificate_rules (in_head due) text (in_head after) left
-head_goes = goes_within (head_rules Second (codes "book")) certificate_rules in_head head_right head_wrong
+pub head_goes : (due after : HeadDue) (text left : Unread)
+    → GoesTo (head_rules Second (codes "book")) due text after left
+    → GoesTo certificate_rules (in_head due) text (in_head after) left
+head_goes =
+    goes_within (head_rules Second (codes "book")) certificate_rules in_head head_right head_wrong
 
-pub head_fault : (due : HeadDue) (text : Unread) (fault : TextFault) → IsFirstFault (head_rules Second (codes "book")) due text fault → IsFirstFault certificate_rules (in_head due) text fault
-head_fault = fault_within (head_rules Second (codes "book")) certificate_rules in_head head_right head_wrong
+pub head_fault : (due : HeadDue) (text : Unread) (fault : TextFault)
+    → IsFirstFault (head_rules Second (codes "book")) due text fault
+    → IsFirstFault certificate_rules (in_head due) text fault
+head_fault =
+    fault_within (head_rules Second (codes "book")) certificate_rules in_head head_right head_wrong
 
 module _ (kind : Kind) where
   -- what is due in the calls of the book
   abbrev pub at_calls : Progress → CertificateDue
   at_calls progress = InBook (InCalls kind progress.book progress.due)
 
-  calls_right : (due after : Progress) (words : List (List ℕ)) → (call_rules Second (kind_operations Second kind)).Passes due words after → CertificatePasses (at_calls due) words (at_calls after)
+  calls_right : (due after : Progress) (words : List (List ℕ))
+      → (call_rules Second (kind_operations Second kind)).Passes due words after
+      → CertificatePasses (at_calls due) words (at_calls after)
   calls_right due after words h = right_here due.book due.due h where
-    right_here : (book : List Page) (calls : List Call) → CallPasses Second (kind_operations Second kind) book calls words after → CertificatePasses (InBook (InCalls kind book calls)) words (at_calls after)
+    right_here : (book : List Page) (calls : List Call)
+        → CallPasses Second (kind_operations Second kind) book calls words after
+        → CertificatePasses (InBook (InCalls kind book calls)) words (at_calls after)
     right_here book [] h = absurd h
     right_here book (call ∷ calls) h = (in_calls kind after, (after, h, refl), refl)
 
-  calls_wrong : (due : Progress) (bytes : List ℕ) (what : What) → IsWrong (call_rules Second (kind_operations Second kind)) due (call_wanted due.due) bytes what → IsWrong certificate_rules (at_calls due) (certificate_wanted (at_calls due)) bytes what
+  calls_wrong : (due : Progress) (bytes : List ℕ) (what : What) → IsWrong
+      (call_rules Second (kind_operations Second kind)) due (call_wanted due.due) bytes what
+      → IsWrong certificate_rules (at_calls due) (certificate_wanted (at_calls due)) bytes what
   calls_wrong due bytes what h = wrong_here due.book due.due h where
-    wrong_here : (book : List Page) (calls : List Call) → IsWrong (call_rules Second (kind_operations Second kind)) (record { book = book; due = calls }) (call_wanted calls) bytes what → IsWrong certificate_rules (InBook (InCalls kind book calls)) ALine bytes what
+    wrong_here : (book : List Page) (calls : List Call)
+        → IsWrong (call_rules Second (kind_operations Second kind))
+        (record { book = book; due = calls }) (call_wanted calls) bytes what
+        → IsWrong certificate_rules (InBook (InCalls kind book calls)) ALine bytes what
     wrong_here book [] h = absurd h
     wrong_here book (call ∷ calls) (inl h) = inl h
-    wrong_here book (call ∷ calls) (inr h) = inr (record { line = h.line; rest = h.rest; whole = h.whole; test = record { fails = h.test.fails; first = h.test.first } })
+    wrong_here book (call ∷ calls) (inr h) = inr (record {
+      line = h.line;
+      rest = h.rest;
+      whole = h.whole;
+      test = record { fails = h.test.fails; first = h.test.first };
+    })
 
-  pub calls_goes : (due after : Progress) (text left : Unread) → GoesTo (call_rules Second (kind_operations Second kind)) due text after left → GoesTo certificate_rules (at_calls due) text (at_calls after) left
-  calls_goes = goes_within (call_rules Second (kind_operations Second kind)) certificate_rules at_calls calls_right calls_wrong
+  pub calls_goes : (due after : Progress) (text left : Unread)
+      → GoesTo (call_rules Second (kind_operations Second kind)) due text after left
+      → GoesTo certificate_rules (at_calls due) text (at_calls after) left
+  calls_goes = goes_within (call_rules Second (kind_operations Second kind)) certificate_rules
+      at_calls calls_right calls_wrong
 
-  pub calls_stop : (due : Progress) (text : Unread) (e : ReadFault) → StopsFor (call_rules Second (kind_operations Second kind)) due text e → StopsFor certificate_rules (at_calls due) text e
-  calls_stop = stops_within (call_rules Second (kind_operations Second kind)) certificate_rules at_calls calls_right calls_wrong
+  pub calls_stop : (due : Progress) (text : Unread) (e : ReadFault)
+      → StopsFor (call_rules Second (kind_operations Second kind)) due text e
+      → StopsFor certificate_rules (at_calls due) text e
+  calls_stop = stops_within (call_rules Second (kind_operations Second kind)) certificate_rules
+      at_calls calls_right calls_wrong

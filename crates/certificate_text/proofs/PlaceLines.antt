@@ -14,22 +14,34 @@ module _ (prefix : List (List (List ℕ))) (order : List Place) where
   abbrev pub lines_to : List Place → List (List (List ℕ))
   lines_to places = prefix ++ order_words ∷ map place_line places
 
-  pub place_written : (old new : List ℕ) (i : ℕ) (d : Place) → i < length order → old ≡ text_of (lines_to (take i order)) → new ≡ old ++ line_text (place_line (get_or order i d)) → new ≡ text_of (lines_to (take (i + 1) order))
+  pub place_written : (old new : List ℕ) (i : ℕ) (d : Place) → i < length order → old
+      ≡ text_of (lines_to (take i order)) → new ≡ old ++ line_text (place_line (get_or order i d))
+      → new ≡ text_of (lines_to (take (i + 1) order))
   place_written old new i d lt h k =
       let place : Place = get_or order i d in
       one_more [] old new (lines_to (take i order)) (place_line place) h k
-      ∙ ap text_of (append_assoc prefix (order_words ∷ map place_line (take i order)) (place_line place ∷ [])
-      ∙ ap (λ (ls : List (List (List ℕ))). prefix ++ order_words ∷ ls) (sym (map-append place_line (take i order) (place ∷ []))
+      ∙ ap text_of
+      (append_assoc prefix (order_words ∷ map place_line (take i order)) (place_line place ∷ [])
+      ∙ ap (λ (ls : List (List (List ℕ))). prefix ++ order_words ∷ ls)
+      (sym (map-append place_line (take i order) (place ∷ []))
       ∙ ap (map place_line) (sym (take_more order i d lt))))
 
-  pub end_written : (old new : List ℕ) (i : ℕ) → length order ≤ i → old ≡ text_of (lines_to (take i order)) → new ≡ old ++ line_text end_words → new ≡ text_of (prefix ++ order_lines order)
+  pub end_written : (old new : List ℕ) (i : ℕ) → length order ≤ i
+      → old ≡ text_of (lines_to (take i order)) → new ≡ old ++ line_text end_words
+      → new ≡ text_of (prefix ++ order_lines order)
   end_written old new i le h k =
       one_more [] old new (lines_to (take i order)) end_words h k
-      ∙ ap text_of (append_assoc prefix (order_words ∷ map place_line (take i order)) (end_words ∷ [])
-      ∙ ap (λ (places : List Place). prefix ++ order_words ∷ (map place_line places ++ end_words ∷ [])) (take_all i order le))
+      ∙ ap text_of
+      (append_assoc prefix (order_words ∷ map place_line (take i order)) (end_words ∷ [])
+      ∙ ap
+      (λ (places : List Place). prefix ++ order_words ∷ (map place_line places ++ end_words ∷ []))
+      (take_all i order le))
 
-  pub places_more : (i : ℕ) (d : Place) → i < length order → AllByRecursion IsPlace (take i order) → IsPlace (get_or order i d) → AllByRecursion IsPlace (take (i + 1) order)
-  places_more i d lt h k = subst (AllByRecursion IsPlace) (sym (take_more order i d lt)) (AllByRecursion-append IsPlace (take i order) (get_or order i d ∷ []) h (k, tt))
+  pub places_more : (i : ℕ) (d : Place) → i < length order → AllByRecursion IsPlace (take i order)
+      → IsPlace (get_or order i d) → AllByRecursion IsPlace (take (i + 1) order)
+  places_more i d lt h k = subst (AllByRecursion IsPlace) (sym (take_more order i d lt))
+      (AllByRecursion-append IsPlace (take i order) (get_or order i d ∷ []) h (k, tt))
 
-  pub places_all : (i : ℕ) → length order ≤ i → AllByRecursion IsPlace (take i order) → AllByRecursion IsPlace order
+  pub places_all : (i : ℕ) → length order ≤ i → AllByRecursion IsPlace (take i order)
+      → AllByRecursion IsPlace order
   places_all i le h = subst (AllByRecursion IsPlace) (take_all i order le) h

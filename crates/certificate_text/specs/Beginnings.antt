@@ -12,11 +12,13 @@ use Rattle.certificate_text.specs.CertificateRules.{IsCertificateText, IsNoCerti
 
 -- some text of a certificate begins with these bytes
 abbrev pub BeginsSomeText : List ℕ → Type 0
-BeginsSomeText prefix = (kind : Kind) × (book : List Page) × (order : List Place) × (more : List ℕ) × IsCertificateText (prefix ++ more) kind book order
+BeginsSomeText prefix = (kind : Kind) × (book : List Page) × (order : List Place) × (more : List ℕ)
+    × IsCertificateText (prefix ++ more) kind book order
 
 -- no text of a certificate begins with these bytes
 abbrev pub BeginsNoText : List ℕ → Type 0
-BeginsNoText prefix = (kind : Kind) (book : List Page) (order : List Place) (more : List ℕ) → ¬ (IsCertificateText (prefix ++ more) kind book order)
+BeginsNoText prefix = (kind : Kind) (book : List Page) (order : List Place) (more : List ℕ)
+    → ¬ (IsCertificateText (prefix ++ more) kind book order)
 
 -- After the first whole lines stands a further whole line, with which no text of a certificate goes
 -- on.
@@ -36,8 +38,9 @@ pub record GoesOn (prefix rest : List ℕ) (what : What) : Type 0 where
   pub text : IsCertificateText prefix kind book order
   pub more : rest ≢ []
 
--- A fault says where bytes leave the texts of certificates: some text begins with the lines before the fault's line, and none goes
--- on with the fault's line, or that line isn't whole, or the lines before it are a whole text.
+-- A fault says where bytes leave the texts of certificates: some text begins with the lines before
+-- the fault's line, and none goes on with the fault's line, or that line isn't whole, or the lines
+-- before it are a whole text.
 pub record LeavesTexts (bytes : List ℕ) (fault : TextFault) : Type 0 where
   pub count : ℕ
   pub prefix : List ℕ
@@ -46,5 +49,6 @@ pub record LeavesTexts (bytes : List ℕ) (fault : TextFault) : Type 0 where
   pub bytes_are : bytes ≡ prefix ++ rest
   pub lines : AreWholeLines count prefix
   pub begins : BeginsSomeText prefix
-  pub leaves : BreaksText prefix rest fault.what ⊎ (EndsEarly rest fault.what ⊎ GoesOn prefix rest fault.what)
+  pub leaves : BreaksText prefix rest fault.what
+      ⊎ (EndsEarly rest fault.what ⊎ GoesOn prefix rest fault.what)
   pub no_text : IsNoCertificateText bytes

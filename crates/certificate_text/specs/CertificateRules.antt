@@ -1,4 +1,5 @@
--- The lines of a certificate's text, one after the other: which are right, and which test the others fail.
+-- The lines of a certificate's text, one after the other: which are right, and which test the
+-- others fail.
 use Rattle.std.specs.Prelude.{◌≡◌, ◌≢◌, ℕ, ◌<◌, ◌^◌, ◌⊎◌, List, [], ◌∷◌, ◌++◌}
 use Rattle.book_base.specs.declared.call.Call.{Call}
 use Rattle.book_base.specs.declared.call.Place.{Place}
@@ -40,9 +41,11 @@ pub record IsPlaceLine (words : List (List ℕ)) (place : Place) : Type 0 where
 -- the tests of a line after the title of the order
 abbrev pub PlaceFails : List (List ℕ) → What → Type 0
 -- the line isn't the end, and doesn't begin with a caller and a number
-PlaceFails words what.Place = (words ≢ end_words) × ((call : Call) (suffix : List (List ℕ)) → IsNamed call → words ≢ place_words call ++ suffix)
+PlaceFails words what.Place = (words ≢ end_words)
+    × ((call : Call) (suffix : List (List ℕ)) → IsNamed call → words ≢ place_words call ++ suffix)
 -- the words after a caller and a number aren't exactly one reply
-PlaceFails words what.Reply = (call : Call) × (suffix : List (List ℕ)) × IsNamed call × (words ≡ place_words call ++ suffix)
+PlaceFails words what.Reply = (call : Call) × (suffix : List (List ℕ)) × IsNamed call
+    × (words ≡ place_words call ++ suffix)
     × ((reply : ℕ) → reply < 2 ^ 64 → suffix ≢ reply_word reply ∷ [])
 PlaceFails words _ = ⊥
 
@@ -50,14 +53,18 @@ PlaceFails words _ = ⊥
 
 -- the right lines of a certificate's text
 abbrev pub CertificatePasses : CertificateDue → List (List ℕ) → CertificateDue → Type 0
-CertificatePasses (InBook due) words after = (next : BookDue) × BookPasses Second due words next × (after ≡ after_book next)
-CertificatePasses (OrderDue kind book) words after = (words ≡ order_words) × (after ≡ InPlaces kind book [])
+CertificatePasses (InBook due) words after = (next : BookDue) × BookPasses Second due words next
+    × (after ≡ after_book next)
+CertificatePasses (OrderDue kind book) words after = (words ≡ order_words)
+    × (after ≡ InPlaces kind book [])
 CertificatePasses (InPlaces kind book order) words after =
     ((words ≡ end_words) × (after ≡ AllRead kind book order))
-    ⊎ ((place : Place) × IsPlaceLine words place × (after ≡ InPlaces kind book (order ++ place ∷ [])))
+    ⊎ ((place : Place) × IsPlaceLine words place
+    × (after ≡ InPlaces kind book (order ++ place ∷ [])))
 CertificatePasses (AllRead kind book order) words after = ⊥
 
--- The tests of the lines of a certificate's text: those of a book's up to its end, then the title of the order, and then the places.
+-- The tests of the lines of a certificate's text: those of a book's up to its end, then the title
+-- of the order, and then the places.
 abbrev pub CertificateFails : CertificateDue → List (List ℕ) → What → Type 0
 CertificateFails (InBook due) words name = BookFails Second due words name
 CertificateFails (OrderDue kind book) words name = (name ≡ what.Head) × (words ≢ order_words)
@@ -73,7 +80,8 @@ certificate_wanted (AllRead kind book order) = TheEnd
 
 -- the rules of a certificate's text
 abbrev pub certificate_rules : Rules CertificateDue
-certificate_rules = record { Passes = CertificatePasses; Fails = CertificateFails; wanted = certificate_wanted }
+certificate_rules =
+    record { Passes = CertificatePasses; Fails = CertificateFails; wanted = certificate_wanted }
 
 -- before the first line
 abbrev pub nothing_read : CertificateDue
@@ -81,12 +89,15 @@ nothing_read = InBook (InHead TitleDue)
 
 -- The first fault of bytes that are to be a certificate's text.
 abbrev pub IsFirstCertificateFault : List ℕ → TextFault → Type 0
-IsFirstCertificateFault bytes fault = IsFirstFault certificate_rules nothing_read (whole_text bytes) fault
+IsFirstCertificateFault bytes fault =
+    IsFirstFault certificate_rules nothing_read (whole_text bytes) fault
 
 -- The bytes are the text of this certificate: right lines from the title to the end of the bytes.
 abbrev pub IsCertificateText : List ℕ → Kind → List Page → List Place → Type 0
-IsCertificateText bytes kind book order = (left : Unread) × IsReadTo certificate_rules nothing_read (whole_text bytes) (AllRead kind book order) left
+IsCertificateText bytes kind book order = (left : Unread)
+    × IsReadTo certificate_rules nothing_read (whole_text bytes) (AllRead kind book order) left
 
 -- The bytes are the text of no certificate.
 abbrev pub IsNoCertificateText : List ℕ → Type 0
-IsNoCertificateText bytes = (kind : Kind) (book : List Page) (order : List Place) → ¬ (IsCertificateText bytes kind book order)
+IsNoCertificateText bytes = (kind : Kind) (book : List Page) (order : List Place)
+    → ¬ (IsCertificateText bytes kind book order)

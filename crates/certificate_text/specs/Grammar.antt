@@ -40,7 +40,8 @@ pub record IsPlace (place : Place) : Type 0 where
   pub reply : place.reply < 2 ^ 64
 
 -- The bytes are what is written of this book, for an object of this kind, and this list of places.
-pub record IsWrittenCertificate (bytes : List ℕ) (kind : Kind) (book : List Page) (order : List Place) : Type 0 where
+pub record IsWrittenCertificate (bytes : List ℕ) (kind : Kind) (book : List Page)
+    (order : List Place) : Type 0 where
   pub writable : IsWritable Second kind book
   pub places : AllByRecursion IsPlace order
   pub text : bytes ≡ text_of (certificate_lines kind book order)

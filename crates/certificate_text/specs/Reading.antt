@@ -28,21 +28,25 @@ IsBookRead text kind book left = Goes nothing_read text (OrderDue kind book) lef
 
 -- the text begins with the end of a book whose calls are read
 abbrev pub IsBookEnd : Unread → Unread → Type 0
-IsBookEnd text left = (kind : Kind) (book : List Page) → Goes (InBook (InCalls kind book [])) text (OrderDue kind book) left
+IsBookEnd text left = (kind : Kind) (book : List Page)
+    → Goes (InBook (InCalls kind book [])) text (OrderDue kind book) left
 
 -- the fault is the first of a text that is to begin with the end of a book whose calls are read
 abbrev pub IsNoBookEnd : Unread → TextFault → Type 0
-IsNoBookEnd text fault = (kind : Kind) (book : List Page) → IsFirstFault certificate_rules (InBook (InCalls kind book [])) text fault
+IsNoBookEnd text fault = (kind : Kind) (book : List Page)
+    → IsFirstFault certificate_rules (InBook (InCalls kind book [])) text fault
 
 -- ---- the order
 
 -- the text begins with the title of the order
 abbrev pub IsTitle : Unread → Unread → Type 0
-IsTitle text left = (kind : Kind) (book : List Page) → Goes (OrderDue kind book) text (InPlaces kind book []) left
+IsTitle text left = (kind : Kind) (book : List Page)
+    → Goes (OrderDue kind book) text (InPlaces kind book []) left
 
 -- the fault is the first of a text that is to begin with the title of the order
 abbrev pub IsNoTitle : Unread → TextFault → Type 0
-IsNoTitle text fault = (kind : Kind) (book : List Page) → IsFirstFault certificate_rules (OrderDue kind book) text fault
+IsNoTitle text fault = (kind : Kind) (book : List Page)
+    → IsFirstFault certificate_rules (OrderDue kind book) text fault
 
 -- the words after a caller and a number are exactly this reply
 abbrev pub IsOneReply : List (List ℕ) → ℕ → Type 0
@@ -55,7 +59,8 @@ SaysPlace words (Some place) = IsPlaceLine words place
 
 -- the text begins with the lines of these places and the end
 abbrev pub ArePlaces : Unread → List Place → Unread → Type 0
-ArePlaces text order left = (kind : Kind) (book : List Page) → Goes (InPlaces kind book []) text (AllRead kind book order) left
+ArePlaces text order left = (kind : Kind) (book : List Page)
+    → Goes (InPlaces kind book []) text (AllRead kind book order) left
 
 -- why the lines of places aren't read
 abbrev pub AreNoPlaces : Unread → ReadFault → Type 0
@@ -63,4 +68,5 @@ AreNoPlaces text fault = (kind : Kind) (book : List Page) → Stops (InPlaces ki
 
 -- bytes stand after the end
 abbrev pub IsRest : Unread → TextFault → Type 0
-IsRest text fault = (kind : Kind) (book : List Page) (order : List Place) → IsFirstFault certificate_rules (AllRead kind book order) text fault
+IsRest text fault = (kind : Kind) (book : List Page) (order : List Place)
+    → IsFirstFault certificate_rules (AllRead kind book order) text fault

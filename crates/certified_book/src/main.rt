@@ -1,4 +1,5 @@
-//! The program: it reads a book, and writes a certificate of it, which anyone can check without a search.
+//! The program: it reads a book, and writes a certificate of it, which anyone can check without a
+//! search.
 #![tactic(auto)]
 
 ghost use Rattle.book_text.specs.BookRules.{IsFirstBookFault};

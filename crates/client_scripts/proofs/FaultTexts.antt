@@ -42,23 +42,33 @@ CanCome (InBody kind begun calls) = AllByRecursion IsNamedCall calls
 CanCome (Turned plan) = Unit {0}
 CanCome (AtEnd plan) = Unit {0}
 
-named_from : (i k more : ℕ) → i < 2 ^ 64 → k + more < 2 ^ 64 → AllByRecursion IsNamedCall (calls_from i k more)
+named_from : (i k more : ℕ) → i < 2 ^ 64 → k + more < 2 ^ 64
+    → AllByRecursion IsNamedCall (calls_from i k more)
 named_from i k zero few small = tt
-named_from i k (suc more) few small = ((few, (omega arith, tt)), named_from i (k + 1) more few (omega arith))
+named_from i k (suc more) few small =
+    ((few, (omega arith, tt)), named_from i (k + 1) more few (omega arith))
 
-all_named : (most i : ℕ) (counts : List ℕ) → most < 2 ^ 32 → i + length counts < 2 ^ 64 → AreAtMost most counts → AllByRecursion IsNamedCall (all_calls i counts)
+all_named : (most i : ℕ) (counts : List ℕ) → most < 2 ^ 32 → i + length counts < 2 ^ 64
+    → AreAtMost most counts → AllByRecursion IsNamedCall (all_calls i counts)
 all_named most i [] few small h = tt
 all_named most i (count ∷ counts) few small h =
-    AllByRecursion-append IsNamedCall (calls_from i 0 count) (all_calls (i + 1) counts) (named_from i 0 count (omega arith) (omega (arith, h.0))) (all_named most (i + 1) counts few (omega arith) h.1)
+    AllByRecursion-append IsNamedCall (calls_from i 0 count) (all_calls (i + 1) counts)
+    (named_from i 0 count (omega arith) (omega (arith, h.0)))
+    (all_named most (i + 1) counts few (omega arith) h.1)
 
 module _ (version : Version) where
-  comes_next : (due after : ScriptDue) (words : List (List ℕ)) → CanCome due → ScriptPasses version due words after → CanCome after
-  comes_next (InHead TitleDue) after words can h = subst CanCome (sym (h.2 ∙ ap after_head h.1.1)) tt
-  comes_next (InHead ObjectDue) after words can h = subst CanCome (sym (h.2 ∙ ap after_head h.1.3)) tt
-  comes_next (InHead (CallersDue kind)) after words can h = subst CanCome (sym (h.2 ∙ ap after_head h.1.3)) (omega (arith, h.1.1.few, few_callers version))
+  comes_next : (due after : ScriptDue) (words : List (List ℕ)) → CanCome due
+      → ScriptPasses version due words after → CanCome after
+  comes_next (InHead TitleDue) after words can h =
+      subst CanCome (sym (h.2 ∙ ap after_head h.1.1)) tt
+  comes_next (InHead ObjectDue) after words can h =
+      subst CanCome (sym (h.2 ∙ ap after_head h.1.3)) tt
+  comes_next (InHead (CallersDue kind)) after words can h = subst CanCome
+      (sym (h.2 ∙ ap after_head h.1.3)) (omega (arith, h.1.1.few, few_callers version))
   comes_next (InHead (CountsDue kind n)) after words can h =
       let counts : List ℕ = h.1.0 in
-      subst CanCome (sym (h.2 ∙ ap after_head h.1.3)) (all_named (most_calls version) 0 counts (few_calls version) (omega (arith, h.1.1.count)) h.1.1.few)
+      subst CanCome (sym (h.2 ∙ ap after_head h.1.3)) (all_named (most_calls version) 0 counts
+      (few_calls version) (omega (arith, h.1.1.count)) h.1.1.few)
   comes_next (InHead (HeadRead kind calls)) after words can h = absurd can
   comes_next (InBody kind begun []) after words can (inl h) = subst CanCome (sym h.3) tt
   comes_next (InBody kind begun []) after words can (inr h) = subst CanCome (sym h.2) tt
@@ -71,20 +81,33 @@ module _ (version : Version) where
   abbrev Done : ScriptDue → Type 0
   Done due = Completes (script_rules version) AtEnd due
 
-  more : (due next : ScriptDue) (words : List (List ℕ)) → ScriptPasses version due words next → Done next → Done due
+  more : (due next : ScriptDue) (words : List (List ℕ)) → ScriptPasses version due words next
+      → Done next → Done due
   more = one_more (script_rules version) AtEnd
 
   end_comes : (plan : Plan) → Done (Turned plan)
-  end_comes plan = record { said = plan; lines = end_words ∷ []; right = (AtEnd plan, (refl, refl), refl) }
+  end_comes plan =
+      record { said = plan; lines = end_words ∷ []; right = (AtEnd plan, (refl, refl), refl) }
 
   -- the calls that are due have the operation 0, and nobody takes turns
-  body_comes : (kind : Kind) (begun : Begun) (calls : List Call) → AllByRecursion IsNamedCall calls → Done (InBody kind begun calls)
+  body_comes : (kind : Kind) (begun : Begun) (calls : List Call) → AllByRecursion IsNamedCall calls
+      → Done (InBody kind begun calls)
   body_comes kind begun [] h =
       let plan : Plan = plan_with kind begun [] in
-      more (InBody kind begun []) (Turned plan) (turns_words []) (inr ([], record { may = record { callers = tt; numbers = tt }; text = refl }, refl)) (end_comes plan)
+      more (InBody kind begun []) (Turned plan) (turns_words [])
+      (inr ([], record { may = record { callers = tt; numbers = tt }; text = refl }, refl))
+      (end_comes plan)
   body_comes kind begun (call ∷ calls) h =
       let next : ScriptDue = InBody kind (with_operation begun 0) calls in
-      more (InBody kind begun (call ∷ calls)) next (call_words kind call 0) (0, record { named = h.0; has = ltb-true 0 (word_limit version) (has_zero version); text = refl }, refl) (body_comes kind (with_operation begun 0) calls h.1)
+      more (InBody kind begun (call ∷ calls)) next (call_words kind call 0) (
+        0,
+        record {
+          named = h.0;
+          has = ltb-true 0 (word_limit version) (has_zero version);
+          text = refl;
+        },
+        refl,
+      ) (body_comes kind (with_operation begun 0) calls h.1)
 
   no_calls : (i n : ℕ) → all_calls i (replicate n 0) ≡ []
   no_calls i zero = refl
@@ -98,26 +121,42 @@ module _ (version : Version) where
   counts_come kind n =
       let counts : List ℕ = replicate n 0 in
       let next : ScriptDue = InBody kind (begin counts) (all_calls 0 counts) in
-      more (InHead (CountsDue kind n)) next (calls_words counts)
-      (HeadRead kind counts, (counts, record { count = length-replicate n 0; few = no_calls_few (most_calls version) n }, refl, refl), refl)
-      (subst (λ (calls : List Call). Done (InBody kind (begin counts) calls)) (sym (no_calls 0 n)) (body_comes kind (begin counts) [] tt))
+      more (InHead (CountsDue kind n)) next (calls_words counts) (
+        HeadRead kind counts,
+        (
+          counts,
+          record { count = length-replicate n 0; few = no_calls_few (most_calls version) n },
+          refl,
+          refl,
+        ),
+        refl,
+      )
+      (subst (λ (calls : List Call). Done (InBody kind (begin counts) calls)) (sym (no_calls 0 n))
+      (body_comes kind (begin counts) [] tt))
 
   one_caller : (v : Version) → 1 ≤ most_callers v
   one_caller First = omega arith
   one_caller Second = omega arith
 
   callers_come : (kind : Kind) → Done (InHead (CallersDue kind))
-  callers_come kind = more (InHead (CallersDue kind)) (InHead (CountsDue kind 1)) (callers_words 1) (CountsDue kind 1, (1, record { some = omega arith; few = one_caller version }, refl, refl), refl) (counts_come kind 1)
+  callers_come kind =
+      more (InHead (CallersDue kind)) (InHead (CountsDue kind 1)) (callers_words 1) (
+        CountsDue kind 1,
+        (1, record { some = omega arith; few = one_caller version }, refl, refl),
+        refl,
+      ) (counts_come kind 1)
 
   has_counter : (v : Version) → has_kind v Counter ≡ true
   has_counter First = refl
   has_counter Second = refl
 
   object_comes : Done (InHead ObjectDue)
-  object_comes = more (InHead ObjectDue) (InHead (CallersDue Counter)) (object_words Counter) (CallersDue Counter, (Counter, has_counter version, refl, refl), refl) (callers_come Counter)
+  object_comes = more (InHead ObjectDue) (InHead (CallersDue Counter)) (object_words Counter)
+      (CallersDue Counter, (Counter, has_counter version, refl, refl), refl) (callers_come Counter)
 
   completes : (due : ScriptDue) → CanCome due → Done due
-  completes (InHead TitleDue) can = more (InHead TitleDue) (InHead ObjectDue) (title_words version (codes "script")) (ObjectDue, (refl, refl), refl) object_comes
+  completes (InHead TitleDue) can = more (InHead TitleDue) (InHead ObjectDue)
+      (title_words version (codes "script")) (ObjectDue, (refl, refl), refl) object_comes
   completes (InHead ObjectDue) can = object_comes
   completes (InHead (CallersDue kind)) can = callers_come kind
   completes (InHead (CountsDue kind n)) can = counts_come kind n
@@ -128,33 +167,43 @@ module _ (version : Version) where
 
   -- ---- the names of faults
 
-  call_named : (kind : Kind) (call : Call) (words : List (List ℕ)) (name : What) → CallFails version kind call words name → (name ≢ what.Cut) × (name ≢ what.Rest)
+  call_named : (kind : Kind) (call : Call) (words : List (List ℕ)) (name : What)
+      → CallFails version kind call words name → (name ≢ what.Cut) × (name ≢ what.Rest)
   call_named kind call words what.Place h = (λ e. absurd cc, λ e. absurd cc)
   call_named kind call words what.Op h = (λ e. absurd cc, λ e. absurd cc)
   call_named kind call words _ h = absurd h
 
-  tail_named : (begun : Begun) (words : List (List ℕ)) (name : What) → TailFails begun words name → (name ≢ what.Cut) × (name ≢ what.Rest)
+  tail_named : (begun : Begun) (words : List (List ℕ)) (name : What) → TailFails begun words name
+      → (name ≢ what.Cut) × (name ≢ what.Rest)
   tail_named begun words what.Stop h = (λ e. absurd cc, λ e. absurd cc)
   tail_named begun words what.Turns h = (λ e. absurd cc, λ e. absurd cc)
   tail_named begun words _ h = absurd h
 
-  line_named : (due : ScriptDue) (words : List (List ℕ)) (name : What) → ScriptFails version due words name → (name ≢ what.Cut) × (name ≢ what.Rest)
+  line_named : (due : ScriptDue) (words : List (List ℕ)) (name : What)
+      → ScriptFails version due words name → (name ≢ what.Cut) × (name ≢ what.Rest)
   line_named (InHead TitleDue) words name h = (λ e. absurd (cc (h.0, e)), λ e. absurd (cc (h.0, e)))
-  line_named (InHead ObjectDue) words name h = (λ e. absurd (cc (h.0, e)), λ e. absurd (cc (h.0, e)))
-  line_named (InHead (CallersDue kind)) words name h = (λ e. absurd (cc (h.0, e)), λ e. absurd (cc (h.0, e)))
-  line_named (InHead (CountsDue kind n)) words name h = (λ e. absurd (cc (h.0, e)), λ e. absurd (cc (h.0, e)))
+  line_named (InHead ObjectDue) words name h =
+      (λ e. absurd (cc (h.0, e)), λ e. absurd (cc (h.0, e)))
+  line_named (InHead (CallersDue kind)) words name h =
+      (λ e. absurd (cc (h.0, e)), λ e. absurd (cc (h.0, e)))
+  line_named (InHead (CountsDue kind n)) words name h =
+      (λ e. absurd (cc (h.0, e)), λ e. absurd (cc (h.0, e)))
   line_named (InHead (HeadRead kind calls)) words name h = absurd h
   line_named (InBody kind begun []) words name h = tail_named begun words name h
   line_named (InBody kind begun (call ∷ calls)) words name h = call_named kind call words name h
   line_named (Turned plan) words name h = (λ e. absurd (cc (h.0, e)), λ e. absurd (cc (h.0, e)))
   line_named (AtEnd plan) words name h = absurd h
 
-  line_or_end : (due : ScriptDue) → CanCome due → (script_wanted due ≡ ALine) ⊎ ((plan : Plan) × (due ≡ AtEnd plan))
+  line_or_end : (due : ScriptDue) → CanCome due → (script_wanted due ≡ ALine)
+      ⊎ ((plan : Plan) × (due ≡ AtEnd plan))
   line_or_end (InHead due) can = inl refl
   line_or_end (InBody kind begun calls) can = inl refl
   line_or_end (Turned plan) can = inl refl
   line_or_end (AtEnd plan) can = inr (plan, refl)
 
 -- the first fault stands where the bytes leave the texts
-pub script_leaves_texts : (version : Version) (bytes : List ℕ) (fault : TextFault) → IsFirstScriptFault version bytes fault → LeavesAt (IsScriptText version) bytes fault
-script_leaves_texts version = leaves_texts (script_rules version) (script_sharp version) (InHead TitleDue) AtEnd same_end (λ plan. refl) CanCome tt (comes_next version) (completes version) (line_named version) (line_or_end version)
+pub script_leaves_texts : (version : Version) (bytes : List ℕ) (fault : TextFault)
+    → IsFirstScriptFault version bytes fault → LeavesAt (IsScriptText version) bytes fault
+script_leaves_texts version = leaves_texts (script_rules version) (script_sharp version)
+    (InHead TitleDue) AtEnd same_end (λ plan. refl) CanCome tt (comes_next version)
+    (completes version) (line_named version) (line_or_end version)

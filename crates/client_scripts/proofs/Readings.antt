@@ -23,38 +23,73 @@ use Rattle.client_scripts.proofs.SharpScripts.{script_sharp}
 -- ---- the head within the text of a script
 
 module _ (version : Version) where
-  head_right : (due after : HeadDue) (words : List (List ℕ)) → HeadPasses version (codes "script") due words after → ScriptPasses version (after_head due) words (after_head after)
+  head_right : (due after : HeadDue) (words : List (List ℕ))
+      → HeadPasses version (codes "script") due words after
+      → ScriptPasses version (after_head due) words (after_head after)
   head_right TitleDue after words h = (after, h, refl)
   head_right ObjectDue after words h = (after, h, refl)
   head_right (CallersDue kind) after words h = (after, h, refl)
   head_right (CountsDue kind n) after words h = (after, h, refl)
   head_right (HeadRead kind calls) after words h = absurd h
 
-  head_wrong : (due : HeadDue) (bytes : List ℕ) (what : What) → IsWrong (head_rules version (codes "script")) due (head_wanted due) bytes what → IsWrong (script_rules version) (after_head due) (script_wanted (after_head due)) bytes what
+  head_wrong : (due : HeadDue) (bytes : List ℕ) (what : What)
+      → IsWrong (head_rules version (codes "script")) due (head_wanted due) bytes what
+      → IsWrong (script_rules version) (after_head due) (script_wanted (after_head due)) bytes what
   head_wrong TitleDue bytes what (inl h) = inl h
-  head_wrong TitleDue bytes what (inr h) = inr (record { line = h.line; rest = h.rest; whole = h.whole; test = record { fails = h.test.fails; first = h.test.first } })
+  head_wrong TitleDue bytes what (inr h) = inr (record {
+    line = h.line;
+    rest = h.rest;
+    whole = h.whole;
+    test = record { fails = h.test.fails; first = h.test.first };
+  })
   head_wrong ObjectDue bytes what (inl h) = inl h
-  head_wrong ObjectDue bytes what (inr h) = inr (record { line = h.line; rest = h.rest; whole = h.whole; test = record { fails = h.test.fails; first = h.test.first } })
+  head_wrong ObjectDue bytes what (inr h) = inr (record {
+    line = h.line;
+    rest = h.rest;
+    whole = h.whole;
+    test = record { fails = h.test.fails; first = h.test.first };
+  })
   head_wrong (CallersDue kind) bytes what (inl h) = inl h
-  head_wrong (CallersDue kind) bytes what (inr h) = inr (record { line = h.line; rest = h.rest; whole = h.whole; test = record { fails = h.test.fails; first = h.test.first } })
+  head_wrong (CallersDue kind) bytes what (inr h) = inr (record {
+    line = h.line;
+    rest = h.rest;
+    whole = h.whole;
+    test = record { fails = h.test.fails; first = h.test.first };
+  })
   head_wrong (CountsDue kind n) bytes what (inl h) = inl h
-  head_wrong (CountsDue kind n) bytes what (inr h) = inr (record { line = h.line; rest = h.rest; whole = h.whole; test = record { fails = h.test.fails; first = h.test.first } })
+  head_wrong (CountsDue kind n) bytes what (inr h) = inr (record {
+    line = h.line;
+    rest = h.rest;
+    whole = h.whole;
+    test = record { fails = h.test.fails; first = h.test.first };
+  })
   head_wrong (HeadRead kind calls) bytes what h = absurd h
 
-  pub head_goes : (due after : HeadDue) (text left : Unread) → GoesTo (head_rules version (codes "script")) due text after left → GoesTo (script_rules version) (after_head due) text (after_head after) left
-  head_goes = goes_within (head_rules version (codes "script")) (script_rules version) after_head head_right head_wrong
+  pub head_goes : (due after : HeadDue) (text left : Unread)
+      → GoesTo (head_rules version (codes "script")) due text after left
+      → GoesTo (script_rules version) (after_head due) text (after_head after) left
+  head_goes = goes_within (head_rules version (codes "script"))
+      (script_rules version) after_head head_right head_wrong
 
-  pub head_fault : (due : HeadDue) (text : Unread) (fault : TextFault) → IsFirstFault (head_rules version (codes "script")) due text fault → IsFirstFault (script_rules version) (after_head due) text fault
-  head_fault = fault_within (head_rules version (codes "script")) (script_rules version) after_head head_right head_wrong
+  pub head_fault : (due : HeadDue) (text : Unread) (fault : TextFault)
+      → IsFirstFault (head_rules version (codes "script")) due text fault
+      → IsFirstFault (script_rules version) (after_head due) text fault
+  head_fault = fault_within (head_rules version (codes "script"))
+      (script_rules version) after_head head_right head_wrong
 
 -- ---- the end
 
-pub script_ends : (version : Version) (plan : Plan) (text left : Unread) → IsEnded text left → GoesTo (script_rules version) (Turned plan) text (AtEnd plan) left
-script_ends version plan text left h = goes_end (script_rules version) (Turned plan) (AtEnd plan) (refl, refl) text left h
+pub script_ends : (version : Version) (plan : Plan) (text left : Unread) → IsEnded text left
+    → GoesTo (script_rules version) (Turned plan) text (AtEnd plan) left
+script_ends version plan text left h =
+    goes_end (script_rules version) (Turned plan) (AtEnd plan) (refl, refl) text left h
 
-pub script_no_end : (version : Version) (plan : Plan) (text : Unread) (fault : TextFault) → IsNoEnd text fault → IsFirstFault (script_rules version) (Turned plan) text fault
+pub script_no_end : (version : Version) (plan : Plan) (text : Unread) (fault : TextFault)
+    → IsNoEnd text fault → IsFirstFault (script_rules version) (Turned plan) text fault
 script_no_end version plan text fault h =
-    stops_end (script_rules version) (Turned plan) (AtEnd plan) (refl, refl) text fault refl refl (λ words unlike. only_test (ScriptFails version (Turned plan) words) End (refl, unlike) (λ other k. k.0)) h
+    stops_end (script_rules version) (Turned plan) (AtEnd plan) (refl, refl) text fault refl refl
+    (λ words unlike.
+    only_test (ScriptFails version (Turned plan) words) End (refl, unlike) (λ other k. k.0)) h
 
 -- ---- one reading, or one fault
 
@@ -62,29 +97,48 @@ pub same_end : (a b : Plan) → AtEnd a ≡ AtEnd b → a ≡ b
 same_end a b e = cc
 
 -- what bytes are read as is one thing
-pub one_script : (version : Version) (bytes : List ℕ) (a b : Plan) → IsScriptText version bytes a → IsScriptText version bytes b → a ≡ b
-one_script version = readings.one_said (script_rules version) (script_sharp version) (InHead TitleDue) AtEnd same_end (λ plan. refl)
+pub one_script : (version : Version) (bytes : List ℕ) (a b : Plan) → IsScriptText version bytes a
+    → IsScriptText version bytes b → a ≡ b
+one_script version = readings.one_said (script_rules version) (script_sharp version)
+    (InHead TitleDue) AtEnd same_end (λ plan. refl)
 
 -- bytes have one first fault
-pub one_first_fault : (version : Version) (bytes : List ℕ) (a b : TextFault) → IsFirstScriptFault version bytes a → IsFirstScriptFault version bytes b → a ≡ b
-one_first_fault version = readings.one_first (script_rules version) (script_sharp version) (InHead TitleDue) AtEnd same_end (λ plan. refl)
+pub one_first_fault : (version : Version) (bytes : List ℕ) (a b : TextFault)
+    → IsFirstScriptFault version bytes a → IsFirstScriptFault version bytes b → a ≡ b
+one_first_fault version = readings.one_first (script_rules version) (script_sharp version)
+    (InHead TitleDue) AtEnd same_end (λ plan. refl)
 
 -- bytes that are read have no fault
-pub no_first_fault : (version : Version) (bytes : List ℕ) (plan : Plan) (fault : TextFault) → IsScriptText version bytes plan → IsFirstScriptFault version bytes fault → ⊥
-no_first_fault version = readings.no_first (script_rules version) (script_sharp version) (InHead TitleDue) AtEnd same_end (λ plan. refl)
+pub no_first_fault : (version : Version) (bytes : List ℕ) (plan : Plan) (fault : TextFault)
+    → IsScriptText version bytes plan → IsFirstScriptFault version bytes fault → ⊥
+no_first_fault version = readings.no_first (script_rules version) (script_sharp version)
+    (InHead TitleDue) AtEnd same_end (λ plan. refl)
 
 -- no text is a proper prefix of another
-pub no_prefix : (version : Version) (bytes more : List ℕ) (a b : Plan) → IsScriptText version bytes a → IsScriptText version (bytes ++ more) b → more ≡ []
-no_prefix version = readings.no_prefix (script_rules version) (script_sharp version) (InHead TitleDue) AtEnd same_end (λ plan. refl)
+pub no_prefix : (version : Version) (bytes more : List ℕ) (a b : Plan)
+    → IsScriptText version bytes a → IsScriptText version (bytes ++ more) b → more ≡ []
+no_prefix version = readings.no_prefix (script_rules version) (script_sharp version)
+    (InHead TitleDue) AtEnd same_end (λ plan. refl)
 
-pub only_read : (version : Version) (bytes : List ℕ) (result : Result Plan ReadFault) → IfOk result (λ script. IsScriptText version bytes script) → IfErr result (λ e. StopsFor (script_rules version) (InHead TitleDue) (whole_text bytes) e)
-    → (plan : Plan) → IsScriptText version bytes plan → MatchResult result (λ script. script ≡ plan) (λ e. e ≡ NoMemory)
-only_read version = readings.only_read (script_rules version) (script_sharp version) (InHead TitleDue) AtEnd same_end (λ plan. refl)
+pub only_read : (version : Version) (bytes : List ℕ) (result : Result Plan ReadFault)
+    → IfOk result (λ script. IsScriptText version bytes script)
+    → IfErr result (λ e. StopsFor (script_rules version) (InHead TitleDue) (whole_text bytes) e)
+    → (plan : Plan) → IsScriptText version bytes plan
+    → MatchResult result (λ script. script ≡ plan) (λ e. e ≡ NoMemory)
+only_read version = readings.only_read (script_rules version) (script_sharp version)
+    (InHead TitleDue) AtEnd same_end (λ plan. refl)
 
-pub refused_read : (version : Version) (bytes : List ℕ) (result : Result Plan ReadFault) → IfErr result (λ e. StopsFor (script_rules version) (InHead TitleDue) (whole_text bytes) e)
-    → IfErr result (λ e. (e ≡ NoMemory) ⊎ ((fault : TextFault) × (e ≡ Text fault) × IsFirstScriptFault version bytes fault × IsNoScriptText version bytes))
-refused_read version = readings.refused_read (script_rules version) (script_sharp version) (InHead TitleDue) AtEnd same_end (λ plan. refl)
+pub refused_read : (version : Version) (bytes : List ℕ) (result : Result Plan ReadFault)
+    → IfErr result (λ e. StopsFor (script_rules version) (InHead TitleDue) (whole_text bytes) e)
+    → IfErr result (λ e. (e ≡ NoMemory) ⊎ ((fault : TextFault) × (e ≡ Text fault)
+    × IsFirstScriptFault version bytes fault × IsNoScriptText version bytes))
+refused_read version = readings.refused_read (script_rules version) (script_sharp version)
+    (InHead TitleDue) AtEnd same_end (λ plan. refl)
 
-pub first_read : (version : Version) (bytes : List ℕ) (result : Result Plan ReadFault) → IfOk result (λ script. IsScriptText version bytes script) → IfErr result (λ e. StopsFor (script_rules version) (InHead TitleDue) (whole_text bytes) e)
-    → (fault : TextFault) → IsFirstScriptFault version bytes fault → MatchResult result (λ x. ⊥) (λ e. (e ≡ Text fault) ⊎ (e ≡ NoMemory))
-first_read version = readings.first_read (script_rules version) (script_sharp version) (InHead TitleDue) AtEnd same_end (λ plan. refl)
+pub first_read : (version : Version) (bytes : List ℕ) (result : Result Plan ReadFault)
+    → IfOk result (λ script. IsScriptText version bytes script)
+    → IfErr result (λ e. StopsFor (script_rules version) (InHead TitleDue) (whole_text bytes) e)
+    → (fault : TextFault) → IsFirstScriptFault version bytes fault
+    → MatchResult result (λ x. ⊥) (λ e. (e ≡ Text fault) ⊎ (e ≡ NoMemory))
+first_read version = readings.first_read (script_rules version) (script_sharp version)
+    (InHead TitleDue) AtEnd same_end (λ plan. refl)

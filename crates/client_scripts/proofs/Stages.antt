@@ -14,17 +14,36 @@ use Rattle.client_scripts.specs.Plans.{Plan}
 use Rattle.client_scripts.specs.ScriptRules.{Begun, InHead, InBody, Turned, AtEnd, begin, script_rules, IsScriptText}
 use Rattle.client_scripts.proofs.Readings.{head_goes, script_ends}
 
-module _ (version : Version) (bytes : List ℕ) (kind : Kind) (calls : List ℕ) (new a : Unread) (is : new ≡ whole_text bytes) (head : GoesTo (head_rules version (codes "script")) TitleDue new (HeadRead kind calls) a) where
-  pub to_calls : GoesTo (script_rules version) (InHead TitleDue) (whole_text bytes) (InBody kind (begin calls) (all_calls 0 calls)) a
-  to_calls = head_goes version TitleDue (HeadRead kind calls) (whole_text bytes) a (subst (λ (t : Unread). GoesTo (head_rules version (codes "script")) TitleDue t (HeadRead kind calls) a) is head)
+module _ (version : Version) (bytes : List ℕ) (kind : Kind) (calls : List ℕ) (new a : Unread)
+    (is : new ≡ whole_text bytes)
+    (head : GoesTo (head_rules version (codes "script")) TitleDue new (HeadRead kind calls) a) where
+  pub to_calls : GoesTo (script_rules version) (InHead TitleDue) (whole_text bytes)
+      (InBody kind (begin calls) (all_calls 0 calls)) a
+  to_calls =
+      head_goes version TitleDue (HeadRead kind calls) (whole_text bytes) a (subst (λ (t : Unread).
+      GoesTo (head_rules version (codes "script")) TitleDue t (HeadRead kind calls) a) is head)
 
-  module _ (begun : Begun) (b : Unread) (body : GoesTo (script_rules version) (InBody kind (begin calls) (all_calls 0 calls)) a (InBody kind begun []) b) where
-    pub to_stops : GoesTo (script_rules version) (InHead TitleDue) (whole_text bytes) (InBody kind begun []) b
-    to_stops = goes_then (script_rules version) (InHead TitleDue) (InBody kind (begin calls) (all_calls 0 calls)) (InBody kind begun []) (whole_text bytes) a b to_calls body
+  module _ (begun : Begun) (b : Unread) (body : GoesTo (script_rules version)
+      (InBody kind (begin calls) (all_calls 0 calls)) a (InBody kind begun []) b) where
+    pub to_stops : GoesTo (script_rules version) (InHead TitleDue) (whole_text bytes)
+        (InBody kind begun []) b
+    to_stops = goes_then (script_rules version) (InHead TitleDue)
+        (InBody kind (begin calls) (all_calls 0 calls)) (InBody kind begun [])
+        (whole_text bytes) a b to_calls body
 
-    module _ (plan : Plan) (d : Unread) (tail : GoesTo (script_rules version) (InBody kind begun []) b (Turned plan) d) where
-      pub to_end : GoesTo (script_rules version) (InHead TitleDue) (whole_text bytes) (Turned plan) d
-      to_end = goes_then (script_rules version) (InHead TitleDue) (InBody kind begun []) (Turned plan) (whole_text bytes) b d to_stops tail
+    module _ (plan : Plan) (d : Unread)
+        (tail : GoesTo (script_rules version) (InBody kind begun []) b (Turned plan) d) where
+      pub to_end : GoesTo (script_rules version) (InHead TitleDue) (whole_text bytes)
+          (Turned plan) d
+      to_end = goes_then (script_rules version) (InHead TitleDue) (InBody kind begun [])
+          (Turned plan) (whole_text bytes) b d to_stops tail
 
       pub to_text : (left : Unread) → IsEnded d left → IsScriptText version bytes plan
-      to_text left end = (left, record { goes = goes_then (script_rules version) (InHead TitleDue) (Turned plan) (AtEnd plan) (whole_text bytes) d left to_end (script_ends version plan d left end); through = end.whole })
+      to_text left end = (
+        left,
+        record {
+          goes = goes_then (script_rules version) (InHead TitleDue) (Turned plan) (AtEnd plan)
+              (whole_text bytes) d left to_end (script_ends version plan d left end);
+          through = end.whole;
+        },
+      )

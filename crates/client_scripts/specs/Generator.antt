@@ -21,22 +21,28 @@ by_halves k even odd = if k % 2 == 0 then even else odd
 
 -- the first, the second or the third, one after the other
 abbrev pub by_thirds : ℕ → ℕ → ℕ → ℕ → ℕ
-by_thirds k first second third = if k % 3 == 0 then first else (if k % 3 == 1 then second else third)
+by_thirds k first second third =
+    if k % 3 == 0 then first else (if k % 3 == 1 then second else third)
 
 -- the operation of a call with this number among its caller's calls, by its value
 abbrev pub generated_operation : Kind → ℕ → ℕ → ℕ
 generated_operation Queue v k = by_halves k (operation words.enq v 0) (operation words.deq 0 0)
 generated_operation Stack v k = by_halves k (operation words.push v 0) (operation words.pop 0 0)
-generated_operation Register v k = by_halves k (operation words.write v 0) (operation words.read 0 0)
+generated_operation Register v k =
+    by_halves k (operation words.write v 0) (operation words.read 0 0)
 generated_operation Counter v k = operation words.inc 0 0
-generated_operation IntSet v k = by_thirds k (operation words.add (v % 8) 0) (operation words.has (v % 8) 0) (operation words.remove (v % 8) 0)
+generated_operation IntSet v k = by_thirds k (operation words.add (v % 8) 0)
+    (operation words.has (v % 8) 0) (operation words.remove (v % 8) 0)
 generated_operation Pqueue v k = by_halves k (operation words.insert v 0) (operation words.min 0 0)
-generated_operation CasRegister v k = by_thirds k (operation words.write (v % 8) 0) (operation words.cas (v % 8) ((v + 1) % 8)) (operation words.read 0 0)
-generated_operation Map v k = by_thirds k (operation words.put (v % 8) v) (operation words.get (v % 8) 0) (operation words.del (v % 8) 0)
+generated_operation CasRegister v k = by_thirds k (operation words.write (v % 8) 0)
+    (operation words.cas (v % 8) ((v + 1) % 8)) (operation words.read 0 0)
+generated_operation Map v k = by_thirds k (operation words.put (v % 8) v)
+    (operation words.get (v % 8) 0) (operation words.del (v % 8) 0)
 
 -- the operations of a caller
 abbrev pub generated_operations : ℕ → ℕ → Kind → ℕ → List ℕ
-generated_operations number calls kind caller = map (λ k. generated_operation kind (value_of number caller k) k) (range_with_len 0 calls)
+generated_operations number calls kind caller =
+    map (λ k. generated_operation kind (value_of number caller k) k) (range_with_len 0 calls)
 
 -- The script made from a number: this many callers with this many calls each, no stop and no turns.
 abbrev pub generated : ℕ → ℕ → ℕ → Kind → Plan

@@ -10,7 +10,8 @@ use Rattle.book_text.specs.CallLines.{place_words}
 use Rattle.book_text.specs.Grammar.{end_words}
 use Rattle.client_scripts.specs.Plans.{Plan, sizes, IsPlan}
 
--- what is written of each item with its number, in order, the first of these items having this number
+-- what is written of each item with its number, in order, the first of these items having this
+-- number
 abbrev pub by_number : {X Y : Type 0} → (ℕ → X → List Y) → ℕ → List X → List Y
 by_number write i [] = []
 by_number write i (x ∷ xs) = write i x ++ by_number write (i + 1) xs
@@ -21,7 +22,8 @@ call_words kind call op = place_words call ++ operation_words kind op
 
 -- the line of a caller's call with this number
 abbrev pub call_line : Kind → ℕ → ℕ → ℕ → List (List (List ℕ))
-call_line kind caller number op = call_words kind (record { caller = caller; number = number }) op ∷ []
+call_line kind caller number op =
+    call_words kind (record { caller = caller; number = number }) op ∷ []
 
 -- the lines of a caller's calls
 abbrev pub caller_lines : Kind → ℕ → List ℕ → List (List (List ℕ))
@@ -40,12 +42,13 @@ stop_line caller (Some phases) = stop_words caller phases ∷ []
 abbrev pub turns_words : List ℕ → List (List ℕ)
 turns_words turns = codes "turns" ∷ map decimal turns
 
--- The lines of a script: the head, one line for each call by caller and then by number, one line for each stop by caller, the
--- turns, and the end.
+-- The lines of a script: the head, one line for each call by caller and then by number, one line
+-- for each stop by caller, the turns, and the end.
 abbrev pub script_lines : Version → Plan → List (List (List ℕ))
 script_lines version plan =
     head_lines version (codes "script") plan.kind (sizes plan.operations)
-    ++ (by_number (caller_lines plan.kind) 0 plan.operations ++ (by_number stop_line 0 plan.stops ++ turns_words plan.turns ∷ end_words ∷ []))
+    ++ (by_number (caller_lines plan.kind) 0 plan.operations
+    ++ (by_number stop_line 0 plan.stops ++ turns_words plan.turns ∷ end_words ∷ []))
 
 -- The bytes are what is written of this plan.
 pub record IsWrittenText (version : Version) (bytes : List ℕ) (plan : Plan) : Type 0 where

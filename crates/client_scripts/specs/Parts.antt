@@ -22,28 +22,38 @@ use Rattle.client_scripts.specs.ScriptLayout.{told, plan_in}
 -- the next line is that of this call, with this operation
 abbrev pub IsCallRead : KindWords → Call → Unread → ℕ → Unread → Type 0
 IsCallRead words call text op left =
-    (begun : Begun) (more : List Call) → GoesTo (script_rules words.version) (InBody words.kind begun (call ∷ more)) text (InBody words.kind (with_operation begun op) more) left
+    (begun : Begun) (more : List Call)
+    → GoesTo (script_rules words.version) (InBody words.kind begun (call ∷ more)) text
+    (InBody words.kind (with_operation begun op) more) left
 
 -- the next line, which is to be that of this call, has the first fault
 abbrev pub IsCallFault : KindWords → Call → Unread → TextFault → Type 0
-IsCallFault words call text fault = (begun : Begun) (more : List Call) → IsFirstFault (script_rules words.version) (InBody words.kind begun (call ∷ more)) text fault
+IsCallFault words call text fault = (begun : Begun) (more : List Call)
+    → IsFirstFault (script_rules words.version) (InBody words.kind begun (call ∷ more)) text fault
 
 -- the next lines are those of this many calls of a caller, with these operations
 abbrev pub AreCallsRead : KindWords → ℕ → ℕ → Unread → List ℕ → Unread → Type 0
 AreCallsRead words i count text ops left =
-    (begun : Begun) (more : List Call) → GoesTo (script_rules words.version) (InBody words.kind begun (calls_from i 0 count ++ more)) text (InBody words.kind (with_operations begun ops) more) left
+    (begun : Begun) (more : List Call)
+    → GoesTo (script_rules words.version) (InBody words.kind begun (calls_from i 0 count ++ more))
+    text (InBody words.kind (with_operations begun ops) more) left
 
 -- in the next lines, which are to be those of this many calls of a caller, a reader stops
 abbrev pub AreCallsStopped : KindWords → ℕ → ℕ → Unread → ReadFault → Type 0
-AreCallsStopped words i count text e = (begun : Begun) (more : List Call) → StopsFor (script_rules words.version) (InBody words.kind begun (calls_from i 0 count ++ more)) text e
+AreCallsStopped words i count text e = (begun : Begun) (more : List Call) → StopsFor
+    (script_rules words.version) (InBody words.kind begun (calls_from i 0 count ++ more)) text e
 
--- the next lines are those of all calls of these numbers, with the operations that these clients hold
+-- the next lines are those of all calls of these numbers, with the operations that these clients
+-- hold
 abbrev pub AreClientsRead : KindWords → List ℕ → Unread → List Client → Unread → Type 0
-AreClientsRead words calls text clients left = GoesTo (script_rules words.version) (InBody words.kind (begin calls) (all_calls 0 calls)) text (InBody words.kind (told clients 0) []) left
+AreClientsRead words calls text clients left =
+    GoesTo (script_rules words.version) (InBody words.kind (begin calls) (all_calls 0 calls)) text
+    (InBody words.kind (told clients 0) []) left
 
 -- in the next lines, which are to be those of all calls of these numbers, a reader stops
 abbrev pub AreClientsStopped : KindWords → List ℕ → Unread → ReadFault → Type 0
-AreClientsStopped words calls text e = StopsFor (script_rules words.version) (InBody words.kind (begin calls) (all_calls 0 calls)) text e
+AreClientsStopped words calls text e = StopsFor (script_rules words.version)
+    (InBody words.kind (begin calls) (all_calls 0 calls)) text e
 
 -- ---- stops and turns
 
@@ -54,14 +64,17 @@ SaysLine begun words (Turns turns) = IsTurnsLine (length begun.calls) words turn
 
 -- the line with this number is refused for want of memory, or for the first test that it fails
 abbrev pub IsTailLineRefused : Begun → List (List ℕ) → ℕ → ReadFault → Type 0
-IsTailLineRefused begun words number e = (e ≡ NoMemory) ⊎ ((what : What) × (e ≡ Text (record { line = number; what = what })) × IsFirstTest (TailFails begun words) what)
+IsTailLineRefused begun words number e = (e ≡ NoMemory) ⊎ ((what : What)
+    × (e ≡ Text (record { line = number; what = what })) × IsFirstTest (TailFails begun words) what)
 
 -- after the calls of these clients the next lines are stops and turns: so those clients hold the
 -- stops, and the turns are these
 abbrev pub IsTailRead : List Client → Unread → List Client → List ℕ → Unread → Type 0
 IsTailRead before text after turns left =
-    (version : Version) (kind : Kind) → GoesTo (script_rules version) (InBody kind (told before 0) []) text (Turned (plan_in kind after turns)) left
+    (version : Version) (kind : Kind) → GoesTo (script_rules version)
+    (InBody kind (told before 0) []) text (Turned (plan_in kind after turns)) left
 
 -- in the next lines, which are to be stops and turns, a reader stops
 abbrev pub IsTailStopped : List Client → Unread → ReadFault → Type 0
-IsTailStopped before text e = (version : Version) (kind : Kind) → StopsFor (script_rules version) (InBody kind (told before 0) []) text e
+IsTailStopped before text e = (version : Version) (kind : Kind)
+    → StopsFor (script_rules version) (InBody kind (told before 0) []) text e

@@ -31,12 +31,14 @@ IsCall plan call = call.number < length (operations_of plan call.caller)
 abbrev pub sizes : List (List ℕ) → List ℕ
 sizes operations = map (λ ops. length ops) operations
 
--- For callers with these numbers of calls there is a stop each, or none. A caller stops before the phases of its calls are through.
+-- For callers with these numbers of calls there is a stop each, or none. A caller stops before the
+-- phases of its calls are through.
 abbrev pub AreStops : List ℕ → List (Option ℕ) → Type 0
 AreStops [] [] = Unit {0}
 AreStops [] (stop ∷ stops) = ⊥
 AreStops (calls ∷ counts) [] = ⊥
-AreStops (calls ∷ counts) (stop ∷ stops) = IfSome stop (λ phases. phases < PHASES * calls) × AreStops counts stops
+AreStops (calls ∷ counts) (stop ∷ stops) = IfSome stop (λ phases. phases < PHASES * calls)
+    × AreStops counts stops
 
 -- A plan that texts of a version can have.
 pub record IsPlan (version : Version) (plan : Plan) : Type 0 where

@@ -16,8 +16,18 @@ stops_in clients = map (λ client. client.stop) clients
 
 -- what a script says that holds these
 abbrev pub plan_in : Kind → List Client → List ℕ → Plan
-plan_in kind clients turns = record { kind = kind; operations = operations_in clients; stops = stops_in clients; turns = turns }
+plan_in kind clients turns = record {
+  kind = kind;
+  operations = operations_in clients;
+  stops = stops_in clients;
+  turns = turns;
+}
 
 -- the lines of all calls are read, and those of the stops before this caller
 abbrev pub told : List Client → ℕ → Begun
-told clients least = record { calls = sizes (operations_in clients); operations = concat (operations_in clients); stops = stops_in clients; least = least }
+told clients least = record {
+  calls = sizes (operations_in clients);
+  operations = concat (operations_in clients);
+  stops = stops_in clients;
+  least = least;
+}

@@ -1,4 +1,5 @@
--- The lines of a script's text, one after the other: which are right, and which test the others fail.
+-- The lines of a script's text, one after the other: which are right, and which test the others
+-- fail.
 use Rattle.std.specs.Prelude.{◌≡◌, ◌≢◌, ℕ, ◌+◌, ◌*◌, ◌<◌, ◌≤◌, ◌⊎◌, List, [], ◌∷◌, ◌++◌, length, take, drop, replicate, codes, Option, Some, None, slice_index, slice_set}
 use Rattle.std.specs.List.{AllByRecursion}
 use Rattle.book_base.specs.declared.call.Call.{Call}
@@ -35,7 +36,8 @@ pub record Begun : Type 0 where
 
 -- before the lines of calls
 abbrev pub begin : List ℕ → Begun
-begin calls = record { calls = calls; operations = []; stops = replicate (length calls) None; least = 0 }
+begin calls =
+    record { calls = calls; operations = []; stops = replicate (length calls) None; least = 0 }
 
 -- with the operation of one more call
 abbrev pub with_operation : Begun → ℕ → Begun
@@ -47,7 +49,8 @@ with_operations begun ops = record begun { operations = begun.operations ++ ops 
 
 -- with one more stop
 abbrev pub with_stop : Begun → ℕ → ℕ → Begun
-with_stop begun caller phases = record begun { stops = slice_set begun.stops caller (Some phases); least = caller + 1 }
+with_stop begun caller phases =
+    record begun { stops = slice_set begun.stops caller (Some phases); least = caller + 1 }
 
 -- a list cut into parts with these numbers of items
 abbrev pub grouped : {X : Type 0} → List ℕ → List X → List (List X)
@@ -56,7 +59,12 @@ grouped (count ∷ counts) items = take count items ∷ grouped counts (drop cou
 
 -- the plan that the lines say, with these turns
 abbrev pub plan_with : Kind → Begun → List ℕ → Plan
-plan_with kind begun turns = record { kind = kind; operations = grouped begun.calls begun.operations; stops = begun.stops; turns = turns }
+plan_with kind begun turns = record {
+  kind = kind;
+  operations = grouped begun.calls begun.operations;
+  stops = begun.stops;
+  turns = turns;
+}
 
 -- ---- what is due
 
@@ -84,7 +92,8 @@ abbrev pub IsNamedCall : Call → Type 0
 IsNamedCall call = AreNumbers (call.caller ∷ call.number ∷ [])
 
 -- the line of this call gives this operation
-pub record IsCallLine (version : Version) (kind : Kind) (call : Call) (words : List (List ℕ)) (op : ℕ) : Type 0 where
+pub record IsCallLine (version : Version) (kind : Kind) (call : Call) (words : List (List ℕ))
+    (op : ℕ) : Type 0 where
   pub named : IsNamedCall call
   pub has : op < word_limit version
   pub text : words ≡ call_words kind call op
@@ -92,9 +101,12 @@ pub record IsCallLine (version : Version) (kind : Kind) (call : Call) (words : L
 -- the tests of the line of a call
 abbrev pub CallFails : Version → Kind → Call → List (List ℕ) → What → Type 0
 -- the line doesn't begin with the caller and the number that are due
-CallFails version kind call words what.Place = (suffix : List (List ℕ)) → words ≢ place_words call ++ suffix
+CallFails version kind call words what.Place = (suffix : List (List ℕ))
+    → words ≢ place_words call ++ suffix
 -- the words after them are no operation, and nothing more
-CallFails version kind call words what.Op = (suffix : List (List ℕ)) × (words ≡ place_words call ++ suffix) × ((op : ℕ) → op < word_limit version → suffix ≢ operation_words kind op)
+CallFails version kind call words what.Op = (suffix : List (List ℕ))
+    × (words ≡ place_words call ++ suffix)
+    × ((op : ℕ) → op < word_limit version → suffix ≢ operation_words kind op)
 CallFails version kind call words _ = ⊥
 
 -- ---- the lines of stops and of turns
@@ -128,24 +140,30 @@ BeginsAsStop words suffix = words ≡ codes "stop" ∷ suffix
 -- the right lines after the calls: a stop, or the turns
 abbrev pub TailPasses : Kind → Begun → List (List ℕ) → ScriptDue → Type 0
 TailPasses kind begun words after =
-    ((caller : ℕ) × (phases : ℕ) × IsStopLine begun words caller phases × (after ≡ InBody kind (with_stop begun caller phases) []))
-    ⊎ ((turns : List ℕ) × IsTurnsLine (length begun.calls) words turns × (after ≡ Turned (plan_with kind begun turns)))
+    ((caller : ℕ) × (phases : ℕ) × IsStopLine begun words caller phases
+    × (after ≡ InBody kind (with_stop begun caller phases) []))
+    ⊎ ((turns : List ℕ) × IsTurnsLine (length begun.calls) words turns
+    × (after ≡ Turned (plan_with kind begun turns)))
 
 -- the tests of the lines after the calls
 abbrev pub TailFails : Begun → List (List ℕ) → What → Type 0
 -- the line begins with the word 'stop', and is no line of a stop
-TailFails begun words what.Stop = (suffix : List (List ℕ)) × BeginsAsStop words suffix × ((caller phases : ℕ) → ¬ (IsStopLine begun words caller phases))
+TailFails begun words what.Stop = (suffix : List (List ℕ)) × BeginsAsStop words suffix
+    × ((caller phases : ℕ) → ¬ (IsStopLine begun words caller phases))
 -- the line doesn't begin with the word 'stop', and is no line of turns
-TailFails begun words what.Turns = ((suffix : List (List ℕ)) → ¬ (BeginsAsStop words suffix)) × ((turns : List ℕ) → ¬ (IsTurnsLine (length begun.calls) words turns))
+TailFails begun words what.Turns = ((suffix : List (List ℕ)) → ¬ (BeginsAsStop words suffix))
+    × ((turns : List ℕ) → ¬ (IsTurnsLine (length begun.calls) words turns))
 TailFails begun words _ = ⊥
 
 -- ---- the rules
 
 -- the right lines of a script's text
 abbrev pub ScriptPasses : Version → ScriptDue → List (List ℕ) → ScriptDue → Type 0
-ScriptPasses version (InHead due) words after = (next : HeadDue) × HeadPasses version (codes "script") due words next × (after ≡ after_head next)
+ScriptPasses version (InHead due) words after = (next : HeadDue)
+    × HeadPasses version (codes "script") due words next × (after ≡ after_head next)
 ScriptPasses version (InBody kind begun []) words after = TailPasses kind begun words after
-ScriptPasses version (InBody kind begun (call ∷ calls)) words after = (op : ℕ) × IsCallLine version kind call words op × (after ≡ InBody kind (with_operation begun op) calls)
+ScriptPasses version (InBody kind begun (call ∷ calls)) words after = (op : ℕ)
+    × IsCallLine version kind call words op × (after ≡ InBody kind (with_operation begun op) calls)
 ScriptPasses version (Turned plan) words after = (words ≡ end_words) × (after ≡ AtEnd plan)
 ScriptPasses version (AtEnd plan) words after = ⊥
 
@@ -153,7 +171,8 @@ ScriptPasses version (AtEnd plan) words after = ⊥
 abbrev pub ScriptFails : Version → ScriptDue → List (List ℕ) → What → Type 0
 ScriptFails version (InHead due) words name = HeadFails version (codes "script") due words name
 ScriptFails version (InBody kind begun []) words name = TailFails begun words name
-ScriptFails version (InBody kind begun (call ∷ calls)) words name = CallFails version kind call words name
+ScriptFails version (InBody kind begun (call ∷ calls)) words name =
+    CallFails version kind call words name
 ScriptFails version (Turned plan) words name = (name ≡ what.End) × (words ≢ end_words)
 ScriptFails version (AtEnd plan) words name = ⊥
 
@@ -166,15 +185,19 @@ script_wanted (AtEnd plan) = TheEnd
 
 -- the rules of a script's text
 abbrev pub script_rules : Version → Rules ScriptDue
-script_rules version = record { Passes = ScriptPasses version; Fails = ScriptFails version; wanted = script_wanted }
+script_rules version =
+    record { Passes = ScriptPasses version; Fails = ScriptFails version; wanted = script_wanted }
 
 -- The first fault of bytes that are to be a script's text.
 abbrev pub IsFirstScriptFault : Version → List ℕ → TextFault → Type 0
-IsFirstScriptFault version bytes fault = IsFirstFault (script_rules version) (InHead TitleDue) (whole_text bytes) fault
+IsFirstScriptFault version bytes fault =
+    IsFirstFault (script_rules version) (InHead TitleDue) (whole_text bytes) fault
 
--- The bytes are the text of the script that says this: right lines from the title to the end of the bytes.
+-- The bytes are the text of the script that says this: right lines from the title to the end of the
+-- bytes.
 abbrev pub IsScriptText : Version → List ℕ → Plan → Type 0
-IsScriptText version bytes plan = (left : Unread) × IsReadTo (script_rules version) (InHead TitleDue) (whole_text bytes) (AtEnd plan) left
+IsScriptText version bytes plan = (left : Unread)
+    × IsReadTo (script_rules version) (InHead TitleDue) (whole_text bytes) (AtEnd plan) left
 
 -- The bytes are the text of no script.
 abbrev pub IsNoScriptText : Version → List ℕ → Type 0

@@ -11,7 +11,8 @@ use book_base::{NoMemory, OpWord, join};
 use seq_objects::Kind;
 use std::alloc::Global;
 
-/// The script made from a number: this many callers with this many calls each, no stop and no turns.
+/// The script made from a number: this many callers with this many calls each, no stop and no
+/// turns.
 ///
 /// Operation `k` of caller `i` is decided by the kind, and its value is
 /// `(number mod 2^20) * 4096 + i * 256 + k`.

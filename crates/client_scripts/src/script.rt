@@ -16,8 +16,9 @@ pub(crate) struct Client {
 
 /// What the callers of a concurrent object are to do.
 ///
-/// Clauses see it as a plan: the kind of the object, the operations of each caller's calls, the stop
-/// of each caller, and the list of turns. At all times it is one that texts of version 2 can have.
+/// Clauses see it as a plan: the kind of the object, the operations of each caller's calls, the
+/// stop of each caller, and the list of turns. At all times it is one that texts of version 2 can
+/// have.
 #[derive(Debug, Drop)]
 pub struct Script {
     kind: Kind,

@@ -31,7 +31,8 @@ pub(crate) fn read_tail_line(
     least: u32,
 ) -> Result<TailLine, ReadFault>
     requires { length clients.now ≤ MAX_CALLERS }
-    ensures found { IfOk result (λ tail. SaysLine (told clients.now least) (words_of line.now) tail) }
+    ensures found { IfOk result
+        (λ tail. SaysLine (told clients.now least) (words_of line.now) tail) }
     ensures refused { IfErr result
         (IsTailLineRefused (told clients.now least) (words_of line.now) number) }
 {
@@ -64,7 +65,8 @@ fn read_stop(words: &mut Words, clients: &[Client], least: u32) -> Option<(u32, 
     requires { length clients.now ≤ MAX_CALLERS }
     ensures found { IfSome result (λ (caller, phases). IsStop (told clients.now least) caller phases
         × (words.old ≡ decimal caller ∷ decimal phases ∷ [])) }
-    ensures none { IfNone result ((caller phases : ℕ) → IsStop (told clients.now least) caller phases
+    ensures none { IfNone result
+        ((caller phases : ℕ) → IsStop (told clients.now least) caller phases
         → words.old ≢ decimal caller ∷ decimal phases ∷ []) }
 {
     let caller = next_number(words, u64::MAX)?;

@@ -21,11 +21,14 @@ use Rattle.collect_scan.proofs.Seen.{round_lends}
 
 -- A scan that isn't done has taken fewer words than the bound.
 module _ (n me : ℕ) (taken : List ℕ) (low : me < n) (steady : IsSteady n me taken) where
-  few_rounds : (k : ℕ) (c : Course) (words : List ℕ) → course_after n taken k ≡ c → is_done (wanted_by c words) ≡ false → k * n ≤ length taken → k ≤ n + 1
-  few_rounds k Collects words is goes fits = omega (arith, collects_few n me taken low steady k fits is)
+  few_rounds : (k : ℕ) (c : Course) (words : List ℕ) → course_after n taken k ≡ c
+      → is_done (wanted_by c words) ≡ false → k * n ≤ length taken → k ≤ n + 1
+  few_rounds k Collects words is goes fits =
+      omega (arith, collects_few n me taken low steady k fits is)
   few_rounds zero (Borrows j row) words is goes fits = omega arith
   few_rounds (suc k) (Borrows j row) words is goes fits =
-      let lends = round_lends (round n taken 0) (last_of n taken k) (round n taken k) (course_after n taken k) j row is in
+      let lends = round_lends (round n taken 0) (last_of n taken k) (round n taken k)
+      (course_after n taken k) j row is in
       omega (arith, collects_few n me taken low steady k (omega arith) lends.was)
   few_rounds k (Ends cut) words is goes fits = absurd cc
 
@@ -34,10 +37,12 @@ module _ (n me : ℕ) (taken : List ℕ) (low : me < n) (steady : IsSteady n me 
       let some : 0 < n = omega (arith, low) in
       let fits : rounds n taken * n ≤ length taken = omega arith in
       let ends : length taken < rounds n taken * n + n = omega arith in
-      let few : rounds n taken ≤ n + 1 = few_rounds (rounds n taken) (course n taken) (open_round n taken) refl goes fits in
+      let few : rounds n taken ≤ n + 1 =
+      few_rounds (rounds n taken) (course n taken) (open_round n taken) refl goes fits in
       omega (arith, ends, mul-le (rounds n taken) n (n + 1) n few (omega arith))
 
-pub scanning_few : (s : Shape) (i : ℕ) (l : Local) (scan : Scan) → IsLocalOf s i l → l.scan ≡ Some scan → is_done (wanted s.callers scan.taken) ≡ false
+pub scanning_few : (s : Shape) (i : ℕ) (l : Local) (scan : Scan) → IsLocalOf s i l
+    → l.scan ≡ Some scan → is_done (wanted s.callers scan.taken) ≡ false
     → length scan.taken < most_words s.callers
 scanning_few s i l scan (locals, t, low, is) under goes =
     let bounded = scans_are_bounded s locals i scan t low (ap (λ (m : Local). m.scan) is ∙ under) in
@@ -52,7 +57,8 @@ given_served l For_nothing cut = refl
 -- What the caller is given where the scan is done.
 given_done : (l : Local) (s : Scan) (cut : List ℕ) → given_now (went_on l s (Done cut)) ≡ Some cut
 given_done l s cut =
-    given_served (record l { scan = None; cuts = l.cuts ++ given_by s cut ∷ [] }) (purpose_of l.phase l.staged s) cut ∙ last_given-push l.cuts (given_by s cut)
+    given_served (record l { scan = None; cuts = l.cuts ++ given_by s cut ∷ [] })
+    (purpose_of l.phase l.staged s) cut ∙ last_given-push l.cuts (given_by s cut)
 
 -- Where nothing is given the scan goes on, and else it is done with that cut.
 goes_by : (l : Local) (s : Scan) (w : Want) → given_now (went_on l s w) ≡ None → is_done w ≡ false
@@ -60,12 +66,15 @@ goes_by l s (Look j) h = refl
 goes_by l s (Peek j row entry) h = refl
 goes_by l s (Done cut) h = let never : Some cut ≡ None = sym (given_done l s cut) ∙ h in absurd cc
 
-done_by : (l : Local) (s : Scan) (w : Want) (cut : List ℕ) → given_now (went_on l s w) ≡ Some cut → w ≡ Done cut
+done_by : (l : Local) (s : Scan) (w : Want) (cut : List ℕ) → given_now (went_on l s w) ≡ Some cut
+    → w ≡ Done cut
 done_by l s (Look j) cut h = absurd cc
 done_by l s (Peek j row entry) cut h = absurd cc
-done_by l s (Done other) cut h = let same : Some other ≡ Some cut = sym (given_done l s other) ∙ h in cc
+done_by l s (Done other) cut h = let same : Some other ≡ Some cut =
+    sym (given_done l s other) ∙ h in cc
 
-stays_by : (l : Local) (s : Scan) (w : Want) → is_done w ≡ false → went_on l s w ≡ record l { scan = Some s }
+stays_by : (l : Local) (s : Scan) (w : Want) → is_done w ≡ false
+    → went_on l s w ≡ record l { scan = Some s }
 stays_by l s (Look j) h = refl
 stays_by l s (Peek j row entry) h = refl
 stays_by l s (Done cut) h = absurd cc
@@ -77,26 +86,40 @@ module _ (n : ℕ) (before : Local) (region : Region) (opening : Opening) (taken
   abbrev scan : Scan
   scan = scan_with before region opening taken
 
-  pub stood_goes : given_now (local_stood n before region opening taken) ≡ None → is_done (wanted n taken) ≡ false
+  pub stood_goes : given_now (local_stood n before region opening taken) ≡ None
+      → is_done (wanted n taken) ≡ false
   stood_goes h = goes_by here scan (wanted n taken) h
 
-  pub stood_stays : is_done (wanted n taken) ≡ false → local_stood n before region opening taken ≡ here
+  pub stood_stays : is_done (wanted n taken) ≡ false
+      → local_stood n before region opening taken ≡ here
   stood_stays goes = stays_by here scan (wanted n taken) goes
 
-  pub stood_ticked : (cut : List ℕ) (now : Local) (first last : ℕ) → given_now (local_stood n before region opening taken) ≡ Some cut → length taken ≤ most_words n
-      → now ≡ local_stood n before region opening taken → last ≡ first + length taken → HasTicked n region opening cut before now first last
+  pub stood_ticked : (cut : List ℕ) (now : Local) (first last : ℕ)
+      → given_now (local_stood n before region opening taken) ≡ Some cut
+      → length taken ≤ most_words n
+      → now ≡ local_stood n before region opening taken → last ≡ first + length taken
+      → HasTicked n region opening cut before now first last
   stood_ticked cut now first last h few is ticks =
       let done : wanted n taken ≡ Done cut = done_by here scan (wanted n taken) cut h in
-      record { scanned = record { taken = taken; done = done; few = few; is = is ∙ ap (went_on here scan) done }; ticks = ticks }
+      record {
+        scanned =
+            record { taken = taken; done = done; few = few; is = is ∙ ap (went_on here scan) done };
+        ticks = ticks;
+      }
 
-  pub stood_scanned : (cut : List ℕ) (now : Local) → given_now (local_stood n before region opening taken) ≡ Some cut → length taken ≤ most_words n
+  pub stood_scanned : (cut : List ℕ) (now : Local)
+      → given_now (local_stood n before region opening taken) ≡ Some cut
+      → length taken ≤ most_words n
       → now ≡ local_stood n before region opening taken → HasScanned n region opening cut before now
   stood_scanned cut now h few is = (stood_ticked cut now 0 (0 + length taken) h few is refl).scanned
 
-pub turned_by : (n : ℕ) (before : Local) (region : Region) (opening : Opening) (taken : List ℕ) (x : ℕ) (r : Option (List ℕ)) (now : Local)
-    → r ≡ given_now (local_stood n before region opening (taken ++ x ∷ [])) → length (taken ++ x ∷ []) ≤ most_words n
+pub turned_by : (n : ℕ) (before : Local) (region : Region) (opening : Opening) (taken : List ℕ)
+    (x : ℕ) (r : Option (List ℕ)) (now : Local)
+    → r ≡ given_now (local_stood n before region opening (taken ++ x ∷ []))
+    → length (taken ++ x ∷ []) ≤ most_words n
     → (is_done (wanted n (taken ++ x ∷ [])) ≡ false → length (taken ++ x ∷ []) < most_words n)
-    → now ≡ local_stood n before region opening (taken ++ x ∷ []) → HasTurned n region opening taken r before now
+    → now ≡ local_stood n before region opening (taken ++ x ∷ [])
+    → HasTurned n region opening taken r before now
 turned_by n before region opening taken x None now e few less is =
     let goes = stood_goes n before region opening (taken ++ x ∷ []) (sym e) in
     (x, is ∙ stood_stays n before region opening (taken ++ x ∷ []) goes, less goes)

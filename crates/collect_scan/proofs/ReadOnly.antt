@@ -47,7 +47,8 @@ opened_cuts l region Begins_scan = refl
 opened_cuts l region (Begins_view reply) = refl
 
 -- The local as its scan ends, before the cut serves its purpose.
-module _ (n : ℕ) (region : Region) (opening : Opening) (cut : List ℕ) (before after : Local) (h : HasScanned n region opening cut before after) where
+module _ (n : ℕ) (region : Region) (opening : Opening) (cut : List ℕ) (before after : Local)
+    (h : HasScanned n region opening cut before after) where
   abbrev pub here : Local
   here = local_in_scan n before region opening h.taken
 
@@ -66,7 +67,9 @@ scans_add_their_cut n region opening cut before after h =
     let l : Local = ended n region opening cut before after h in
     let p : Purpose = purpose n region opening cut before after h in
     record {
-      cuts = ap (λ (m : Local). m.cuts) is ∙ served_cuts l p cut ∙ ap (λ (gs : List Given). gs ++ given_with before region cut ∷ []) (opened_cuts before region opening);
+      cuts = ap (λ (m : Local). m.cuts) is ∙ served_cuts l p cut
+          ∙ ap (λ (gs : List Given). gs ++ given_with before region cut ∷ [])
+          (opened_cuts before region opening);
       none = ap (λ (m : Local). m.scan) is ∙ served_scan l p cut;
       looks = (found_by n region h.taken).looks;
       looked = ap (λ (m : Local). m.looked) is ∙ served_looked l p cut;
@@ -76,13 +79,19 @@ scans_add_their_cut n region opening cut before after h =
 
 pub scans_leave_work : ScansLeaveWork
 scans_leave_work n region opening cut before after h =
-    ap work_of (after_is n region opening cut before after h) ∙ served_work (ended n region opening cut before after h) (purpose n region opening cut before after h) cut
+    ap work_of (after_is n region opening cut before after h) ∙ served_work
+    (ended n region opening cut before after h) (purpose n region opening cut before after h) cut
 
 pub given_rows_are_known : GivenRowsAreKnown
 given_rows_are_known n l p j k given is below =
-    let known : Given → Bool = λ (g : Given). is_same_region g.region given.region && nat_lt k (slice_index g.cut j) in
-    let here : known given ≡ true = and_from (is_same_region given.region given.region) (nat_lt k (slice_index given.cut j)) (same_region_self given.region) (lt-ltb k (slice_index given.cut j) below) in
+    let known : Given → Bool =
+    λ (g : Given). is_same_region g.region given.region && nat_lt k (slice_index g.cut j) in
+    let here : known given ≡ true =
+    and_from (is_same_region given.region given.region) (nat_lt k (slice_index given.cut j))
+    (same_region_self given.region) (lt-ltb k (slice_index given.cut j) below) in
     or_right _ _
     (or_left _ _
-    (list_any_at (λ (g : Given). is_same_region g.region given.region && nat_lt k (slice_index g.cut j)) l.cuts p given (slice_get_within l.cuts p given is)
+    (list_any_at
+    (λ (g : Given). is_same_region g.region given.region && nat_lt k (slice_index g.cut j)) l.cuts p
+    given (slice_get_within l.cuts p given is)
     (ap known (get_or_from_slice_get l.cuts p given given is) ∙ here)))

@@ -1,4 +1,5 @@
--- A scan that borrows from a row knows of it: it has looked at a count of that caller above the row.
+-- A scan that borrows from a row knows of it: it has looked at a count of that caller above the
+-- row.
 use Rattle.std.proofs.Common.{◌≡◌, ◌⊎◌, ℕ, zero, suc, ◌+◌, ◌-◌, ◌*◌, ◌<◌, ◌≤◌, Bool, true, false, ◌&&◌, ◌==◌, nat_lt, if◌then◌else◌, List, [], ◌∷◌, ◌++◌, length, take, Option, Some, None, slice_index, refl, sym, ap, ◌∙◌, subst, arith, inl, inr, IsTrue, length-append, length-drop, eq-eqb}
 use Rattle.std.specs.List.{list_any}
 use Rattle.std.proofs.Math.Nat.{zero-div}
@@ -24,7 +25,8 @@ abbrev HasLook : List Looked → Looked → Type 0
 HasLook [] look = ⊥
 HasLook (l ∷ looks) look = (l ≡ look) ⊎ HasLook looks look
 
-looks_stay : (n : ℕ) (region : Region) (w : Want) (x : ℕ) (f : Found) (look : Looked) → HasLook f.looks look → HasLook (found_with n region w x f).looks look
+looks_stay : (n : ℕ) (region : Region) (w : Want) (x : ℕ) (f : Found) (look : Looked)
+    → HasLook f.looks look → HasLook (found_with n region w x f).looks look
 looks_stay n region (Look j) x f look h = inr h
 looks_stay n region (Peek j row entry) x f look h = h
 looks_stay n region (Done cut) x f look h = h
@@ -38,11 +40,13 @@ record HasLooked (looks : List Looked) (region : Region) (j k : ℕ) : Type 0 wh
   above : k < count
   there : HasLook looks (look_at region j count)
 
--- While a scan collects, it has looked at each count of the round under way; and where it borrows from a row, it has looked at a
--- count above that.
+-- While a scan collects, it has looked at each count of the round under way; and where it borrows
+-- from a row, it has looked at a count above that.
 record HasSeen (n : ℕ) (region : Region) (taken : List ℕ) : Type 0 where
-  words : course n taken ≡ Collects → (t : ℕ) → t < length (open_round n taken) → HasLook (found_by n region taken).looks (look_at region t (slice_index (open_round n taken) t))
-  row : (j k : ℕ) → course n taken ≡ Borrows j k → HasLooked (found_by n region taken).looks region j k
+  words : course n taken ≡ Collects → (t : ℕ) → t < length (open_round n taken) → HasLook
+      (found_by n region taken).looks (look_at region t (slice_index (open_round n taken) t))
+  row : (j k : ℕ) → course n taken ≡ Borrows j k
+      → HasLooked (found_by n region taken).looks region j k
 
 -- The caller from which a collect makes a scan borrow, and the row.
 pub record IsLent (latest : List ℕ) (j k : ℕ) : Type 0 where
@@ -55,45 +59,62 @@ record Moves_from (i : ℕ) (latest : List ℕ) (j : ℕ) : Type 0 where
   below : at < length latest
   more : 0 < slice_index latest at
 
-moves_from : (i : ℕ) (first latest : List ℕ) (j : ℕ) → mover_from i first latest ≡ Some j → Moves_from i latest j
+moves_from : (i : ℕ) (first latest : List ℕ) (j : ℕ) → mover_from i first latest ≡ Some j
+    → Moves_from i latest j
 moves_from i [] latest j h = absurd cc
 moves_from i (a ∷ first) [] j h = absurd cc
 moves_from i (a ∷ first) (b ∷ latest) j h = elim (cases_Bool (nat_lt (a + 1) b)) [
   | inl moved ↦
-      let here : Some i ≡ Some j = sym (ap (λ (c : Bool). if c then Some i else mover_from (suc i) first latest) moved) ∙ h in
+      let here : Some i ≡ Some j =
+      sym (ap (λ (c : Bool). if c then Some i else mover_from (suc i) first latest) moved) ∙ h in
       let same : i ≡ j = cc in
       let up : a + 1 < b = ltb-true (a + 1) b moved in
       record { at = 0; is = omega (arith, same); below = omega arith; more = omega (arith, up) }
   | inr stays ↦
-      let rest = moves_from (suc i) first latest j (sym (ap (λ (c : Bool). if c then Some i else mover_from (suc i) first latest) stays) ∙ h) in
-      record { at = suc rest.at; is = omega (arith, rest.is); below = omega (arith, rest.below); more = rest.more }
+      let rest = moves_from (suc i) first latest j
+      (sym (ap (λ (c : Bool). if c then Some i else mover_from (suc i) first latest) stays) ∙ h) in
+      record {
+        at = suc rest.at;
+        is = omega (arith, rest.is);
+        below = omega (arith, rest.below);
+        more = rest.more;
+      }
 ]
 
-lent_is : (first latest : List ℕ) (m : Option ℕ) (j k : ℕ) → mover first latest ≡ m → lent_by latest m ≡ Borrows j k → IsLent latest j k
+lent_is : (first latest : List ℕ) (m : Option ℕ) (j k : ℕ) → mover first latest ≡ m
+    → lent_by latest m ≡ Borrows j k → IsLent latest j k
 lent_is first latest None j k is h = absurd cc
 lent_is first latest (Some i) j k is h =
     let m = moves_from 0 first latest i is in
     let caller : i ≡ j = cc in
     let row : slice_index latest i - 1 ≡ k = cc in
     let at : i ≡ m.at = omega (arith, m.is) in
-    let more : 0 < slice_index latest i = subst (λ (t : ℕ). 0 < slice_index latest t) (sym at) m.more in
-    subst (λ (t : ℕ). IsLent latest t k) caller (record { caller = omega (arith, at, m.below); above = omega (arith, more, row) })
+    let more : 0 < slice_index latest i =
+    subst (λ (t : ℕ). 0 < slice_index latest t) (sym at) m.more in
+    subst (λ (t : ℕ). IsLent latest t k) caller
+    (record { caller = omega (arith, at, m.below); above = omega (arith, more, row) })
 
-lent_unless : (b : Bool) (first latest : List ℕ) (j k : ℕ) → (if b then Ends latest else lent_by latest (mover first latest)) ≡ Borrows j k → IsLent latest j k
+lent_unless : (b : Bool) (first latest : List ℕ) (j k : ℕ)
+    → (if b then Ends latest else lent_by latest (mover first latest)) ≡ Borrows j k
+    → IsLent latest j k
 lent_unless true first latest j k h = absurd cc
 lent_unless false first latest j k h = lent_is first latest (mover first latest) j k refl h
 
-collect_lends : (first : List ℕ) (last : Option (List ℕ)) (latest : List ℕ) (j k : ℕ) → course_by first last latest ≡ Borrows j k → IsLent latest j k
+collect_lends : (first : List ℕ) (last : Option (List ℕ)) (latest : List ℕ) (j k : ℕ)
+    → course_by first last latest ≡ Borrows j k → IsLent latest j k
 collect_lends first None latest j k h = absurd cc
-collect_lends first (Some before) latest j k h = lent_unless (is_same_cut before latest) first latest j k h
+collect_lends first (Some before) latest j k h =
+    lent_unless (is_same_cut before latest) first latest j k h
 
 -- A round that makes the scan borrow was a collect.
 pub record Lends (latest : List ℕ) (c : Course) (j k : ℕ) : Type 0 where
   pub was : c ≡ Collects
   pub lent : IsLent latest j k
 
-pub round_lends : (first : List ℕ) (last : Option (List ℕ)) (latest : List ℕ) (c : Course) (j k : ℕ) → course_on first last latest c ≡ Borrows j k → Lends latest c j k
-round_lends first last latest Collects j k h = record { was = refl; lent = collect_lends first last latest j k h }
+pub round_lends : (first : List ℕ) (last : Option (List ℕ)) (latest : List ℕ) (c : Course) (j k : ℕ)
+    → course_on first last latest c ≡ Borrows j k → Lends latest c j k
+round_lends first last latest Collects j k h =
+    record { was = refl; lent = collect_lends first last latest j k h }
 round_lends first last latest (Borrows i row) j k h = absurd cc
 round_lends first last latest (Ends cut) j k h = absurd cc
 
@@ -106,39 +127,55 @@ module _ (n : ℕ) (region : Region) (some : 0 < n) where
     more = taken ++ x ∷ []
 
     -- what the scan has looked at, with the word
-    stays : (look : Looked) → HasLook (found_by n region taken).looks look → HasLook (found_by n region more).looks look
+    stays : (look : Looked) → HasLook (found_by n region taken).looks look
+        → HasLook (found_by n region more).looks look
     stays look old =
-        subst (λ (f : Found). HasLook f.looks look) (sym (found_more n region taken x)) (looks_stay n region (wanted n taken) x (found_by n region taken) look old)
+        subst (λ (f : Found). HasLook f.looks look) (sym (found_more n region taken x))
+        (looks_stay n region (wanted n taken) x (found_by n region taken) look old)
 
-    looks_now : course n taken ≡ Collects → HasLook (found_by n region more).looks (look_at region (length latest) x)
+    looks_now : course n taken ≡ Collects
+        → HasLook (found_by n region more).looks (look_at region (length latest) x)
     looks_now going =
         subst (λ (f : Found). HasLook f.looks (look_at region (length latest) x))
-        (ap (λ (w : Want). found_with n region w x (found_by n region taken)) (sym (ap (λ (c : Course). wanted_by c latest) going)) ∙ sym (found_more n region taken x))
+        (ap (λ (w : Want). found_with n region w x (found_by n region taken))
+        (sym (ap (λ (c : Course). wanted_by c latest) going)) ∙ sym (found_more n region taken x))
         (inl refl)
 
-    words_now : course n taken ≡ Collects → (t : ℕ) → t < length (latest ++ x ∷ []) → HasLook (found_by n region more).looks (look_at region t (slice_index (latest ++ x ∷ []) t))
+    words_now : course n taken ≡ Collects → (t : ℕ) → t < length (latest ++ x ∷ []) → HasLook
+        (found_by n region more).looks (look_at region t (slice_index (latest ++ x ∷ []) t))
     words_now going t below = elim (cases_lt t (length latest)) [
       | inl old ↦
-          subst (λ (y : ℕ). HasLook (found_by n region more).looks (look_at region t y)) (sym (get_or_append_left latest (x ∷ []) 0 t old))
+          subst (λ (y : ℕ). HasLook (found_by n region more).looks (look_at region t y))
+          (sym (get_or_append_left latest (x ∷ []) 0 t old))
           (stays (look_at region t (slice_index latest t)) (h.words going t old))
       | inr past ↦
-          let here : t ≡ length latest = omega (arith, length-append latest (x ∷ []), past, below) in
+          let here : t ≡ length latest =
+          omega (arith, length-append latest (x ∷ []), past, below) in
           subst (λ (p : ℕ × ℕ). HasLook (found_by n region more).looks (look_at region p.0 p.1))
           (λ i. (sym here i, sym (get_or_push latest x 0 t (sym here)) i)) (looks_now going)
     ]
 
-    row_now : (j k : ℕ) → HasLooked (found_by n region taken).looks region j k → HasLooked (found_by n region more).looks region j k
-    row_now j k old = record { count = old.count; above = old.above; there = stays (look_at region j old.count) old.there }
+    row_now : (j k : ℕ) → HasLooked (found_by n region taken).looks region j k
+        → HasLooked (found_by n region more).looks region j k
+    row_now j k old = record {
+      count = old.count;
+      above = old.above;
+      there = stays (look_at region j old.count) old.there;
+    }
 
     seen_more : length latest + 1 < n → HasSeen n region more
     seen_more lacks =
         let k : rounds n more ≡ rounds n taken = rounds_more n taken x some lacks in
-        let same : course n more ≡ course n taken = ap (course_after n more) k ∙ course_kept n taken x some (rounds n taken) (omega arith) in
-        let longer : open_round n more ≡ latest ++ x ∷ [] = open_more n taken x some (rounds n more) k in
+        let same : course n more ≡ course n taken =
+        ap (course_after n more) k ∙ course_kept n taken x some (rounds n taken) (omega arith) in
+        let longer : open_round n more ≡ latest ++ x ∷ [] =
+        open_more n taken x some (rounds n more) k in
         record {
           words = λ going t below.
-              subst (λ (ws : List ℕ). HasLook (found_by n region more).looks (look_at region t (slice_index ws t))) (sym longer)
-              (words_now (sym same ∙ going) t (subst (λ (ws : List ℕ). t < length ws) longer below));
+              subst (λ (ws : List ℕ). HasLook (found_by n region more).looks
+              (look_at region t (slice_index ws t))) (sym longer)
+              (words_now (sym same ∙ going) t
+              (subst (λ (ws : List ℕ). t < length ws) longer below));
           row = λ j row is. row_now j row (h.row j row (sym same ∙ is));
         }
 
@@ -146,45 +183,60 @@ module _ (n : ℕ) (region : Region) (some : 0 < n) where
     seen_whole fills =
         let k : rounds n more ≡ suc (rounds n taken) = rounds_whole n taken x some fills in
         let none : open_round n more ≡ [] = open_whole n taken x some fills in
-        let now = ap (course_after n more) k ∙ course_filled n taken x some fills (rounds n taken) refl in
+        let now =
+        ap (course_after n more) k ∙ course_filled n taken x some fills (rounds n taken) refl in
         record {
           words = λ going t below. absurd (omega (arith, below, ap length none));
           row = λ j row is.
-              let l = round_lends (unwrap_or (first_of n taken (rounds n taken)) (latest ++ x ∷ [])) (last_of n taken (rounds n taken)) (latest ++ x ∷ []) (course n taken) j row (sym now ∙ is) in
-              record { count = slice_index (latest ++ x ∷ []) j; above = l.lent.above; there = words_now l.was j l.lent.caller };
+              let l = round_lends (unwrap_or (first_of n taken (rounds n taken)) (latest ++ x ∷ []))
+              (last_of n taken (rounds n taken)) (latest ++ x ∷ []) (course n taken) j row
+              (sym now ∙ is) in
+              record {
+                count = slice_index (latest ++ x ∷ []) j;
+                above = l.lent.above;
+                there = words_now l.was j l.lent.caller;
+              };
         }
 
     seen_next : HasSeen n region more
     seen_next = elim (cases_lt (length latest + 1) n) [
       | inl lacks ↦ seen_more lacks
-      | inr fills ↦ seen_whole (let lacks : length latest < n = open_lacks n taken x some in omega (arith, lacks, fills))
+      | inr fills ↦ seen_whole
+          (let lacks : length latest < n = open_lacks n taken x some in omega (arith, lacks, fills))
     ]
 
   seen_none : HasSeen n region []
   seen_none =
       record {
-        words = λ going t below. absurd (omega (arith, below, length-drop (rounds n [] * n) (let none : List ℕ = [] in none)));
-        row = λ j k is. let never : Collects ≡ Borrows j k = sym (ap (course_after n []) (zero-div n)) ∙ is in absurd cc;
+        words = λ going t below. absurd
+            (omega (arith, below, length-drop (rounds n [] * n) (let none : List ℕ = [] in none)));
+        row = λ j k is. let never : Collects ≡ Borrows j k =
+            sym (ap (course_after n []) (zero-div n)) ∙ is in absurd cc;
       }
 
   seen_up_to : (taken : List ℕ) (p : ℕ) → p ≤ length taken → HasSeen n region (take p taken)
   seen_up_to taken zero le = seen_none
   seen_up_to taken (suc p) le =
-      subst (HasSeen n region) (sym (take-suc taken p 0 (omega arith))) (seen_next (take p taken) (slice_index taken p) (seen_up_to taken p (omega arith)))
+      subst (HasSeen n region) (sym (take-suc taken p 0 (omega arith)))
+      (seen_next (take p taken) (slice_index taken p) (seen_up_to taken p (omega arith)))
 
   seen_all : (taken : List ℕ) → HasSeen n region taken
-  seen_all taken = subst (HasSeen n region) (take_all (length taken) taken (omega arith)) (seen_up_to taken (length taken) (omega arith))
+  seen_all taken = subst (HasSeen n region) (take_all (length taken) taken (omega arith))
+      (seen_up_to taken (length taken) (omega arith))
 
 -- a peek that is wanted is into the row that the scan borrows from
-peek_borrows : (c : Course) (words : List ℕ) (j k entry : ℕ) → wanted_by c words ≡ Peek j k entry → c ≡ Borrows j k
+peek_borrows : (c : Course) (words : List ℕ) (j k entry : ℕ) → wanted_by c words ≡ Peek j k entry
+    → c ≡ Borrows j k
 peek_borrows Collects words j k entry h = absurd cc
 peek_borrows (Borrows i row) words j k entry h = cc
 peek_borrows (Ends cut) words j k entry h = absurd cc
 
 abbrev is_above : Region → ℕ → ℕ → Looked → Bool
-is_above region j k look = is_same_region look.region region && (look.caller == j && nat_lt k look.count)
+is_above region j k look =
+    is_same_region look.region region && (look.caller == j && nat_lt k look.count)
 
-looked_above : (looks before : List Looked) (region : Region) (j k count : ℕ) → k < count → HasLook looks (look_at region j count)
+looked_above : (looks before : List Looked) (region : Region) (j k count : ℕ) → k < count
+    → HasLook looks (look_at region j count)
     → list_any (is_above region j k) (looks ++ before) ≡ true
 looked_above [] before region j k count above h = absurd h
 looked_above (l ∷ looks) before region j k count above (inl here) =
@@ -193,11 +245,15 @@ looked_above (l ∷ looks) before region j k count above (inl here) =
     ∙ and_from (is_same_region region region) (j == j && nat_lt k count) (same_region_self region)
     (and_from (j == j) (nat_lt k count) (eq-eqb j j refl) (lt-ltb k count above)))
 looked_above (l ∷ looks) before region j k count above (inr later) =
-    or_right (is_above region j k l) (list_any (is_above region j k) (looks ++ before)) (looked_above looks before region j k count above later)
+    or_right (is_above region j k l) (list_any (is_above region j k) (looks ++ before))
+    (looked_above looks before region j k count above later)
 
 -- a scan knows the row that it wants to peek
-pub peek_known : (n : ℕ) (before : Local) (region : Region) (opening : Opening) (taken : List ℕ) (j k entry : ℕ) → 0 < n → wanted n taken ≡ Peek j k entry
+pub peek_known : (n : ℕ) (before : Local) (region : Region) (opening : Opening) (taken : List ℕ)
+    (j k entry : ℕ) → 0 < n → wanted n taken ≡ Peek j k entry
     → IsTrue (knows_row n (local_in_scan n before region opening taken) region j k)
 peek_known n before region opening taken j k entry some is =
-    let s = (seen_all n region some taken).row j k (peek_borrows (course n taken) (open_round n taken) j k entry is) in
-    or_left _ _ (looked_above (found_by n region taken).looks before.looked region j k s.count s.above s.there)
+    let s = (seen_all n region some taken).row j k
+    (peek_borrows (course n taken) (open_round n taken) j k entry is) in
+    or_left _ _
+    (looked_above (found_by n region taken).looks before.looked region j k s.count s.above s.there)

@@ -24,52 +24,75 @@ use Rattle.collect_scan.proofs.Going.{Begins, Plainly, With_reply}
 use Rattle.collect_scan.proofs.Ending.{scanning_few, stood_goes, stood_stays, turned_by}
 
 -- a look of a caller that means to scan begins a scan
-pub begins_with : (region : Region) (reply : Option ℕ) → Begins (opening_in (opening_with (Some region) reply))
+pub begins_with : (region : Region) (reply : Option ℕ)
+    → Begins (opening_in (opening_with (Some region) reply))
 begins_with N None = Plainly
 begins_with N (Some reply) = With_reply reply
 begins_with M reply = Plainly
 
 -- what a caller tells of its scan
-pub wants_is : (n m : ℕ) (l before : Local) (region : Region) (opening : Opening) (taken : List ℕ) (r : Option Want) (v w : Want) → r ≡ wanted_next m l.scan → r ≡ Some v → v ≡ w
+pub wants_is : (n m : ℕ) (l before : Local) (region : Region) (opening : Opening) (taken : List ℕ)
+    (r : Option Want) (v w : Want) → r ≡ wanted_next m l.scan → r ≡ Some v → v ≡ w
     → m ≡ n → l ≡ local_in_scan n before region opening taken → wanted n taken ≡ w
 wants_is n m l before region opening taken r v w tells some is same here =
-    let told : Some (wanted n taken) ≡ Some v = (λ i. wanted_next (sym same i) (sym here i).scan) ∙ sym tells ∙ some in
+    let told : Some (wanted n taken) ≡ Some v =
+    (λ i. wanted_next (sym same i) (sym here i).scan) ∙ sym tells ∙ some in
     same_Some (wanted n taken) v told ∙ is
 
-same_taken : (n : ℕ) (l a b : Local) (q r : Region) (o p : Opening) (s t : List ℕ) → l ≡ local_in_scan n a q o s → l ≡ local_in_scan n b r p t → s ≡ t
+same_taken : (n : ℕ) (l a b : Local) (q r : Region) (o p : Opening) (s t : List ℕ)
+    → l ≡ local_in_scan n a q o s → l ≡ local_in_scan n b r p t → s ≡ t
 same_taken n l a b q r o p s t first second =
-    let e : Some (scan_with a q o s) ≡ Some (scan_with b r p t) = sym (ap (λ (m : Local). m.scan) first) ∙ ap (λ (m : Local). m.scan) second in
+    let e : Some (scan_with a q o s) ≡ Some (scan_with b r p t) =
+    sym (ap (λ (m : Local). m.scan) first) ∙ ap (λ (m : Local). m.scan) second in
     ap (λ (c : Scan). c.taken) (same_Some (scan_with a q o s) (scan_with b r p t) e)
 
 module _ (s : Shape) (i : ℕ) (region : Region) where
   -- a scan under way that isn't done has taken fewer words than the bound
-  pub scanning_short : (l : Local) → IsLocalOf s i l → IsScanning s.callers region l → (before : Local) (opening : Opening) (taken : List ℕ)
-      → l ≡ local_in_scan s.callers before region opening taken → length taken < most_words s.callers
+  pub scanning_short : (l : Local) → IsLocalOf s i l → IsScanning s.callers region l
+      → (before : Local) (opening : Opening) (taken : List ℕ)
+      → l ≡ local_in_scan s.callers before region opening taken
+      → length taken < most_words s.callers
   scanning_short l is h before opening taken here =
-      let same : taken ≡ h.taken = same_taken s.callers l before h.before region region opening h.opening taken h.taken here h.is in
-      let goes : is_done (wanted s.callers taken) ≡ false = ap (λ (ws : List ℕ). is_done (wanted s.callers ws)) same ∙ h.goes in
-      scanning_few s i l (scan_with before region opening taken) is (ap (λ (m : Local). m.scan) here) goes
+      let same : taken ≡ h.taken = same_taken s.callers l before h.before region region opening
+      h.opening taken h.taken here h.is in
+      let goes : is_done (wanted s.callers taken) ≡ false =
+      ap (λ (ws : List ℕ). is_done (wanted s.callers ws)) same ∙ h.goes in
+      scanning_few s i l (scan_with before region opening taken) is
+      (ap (λ (m : Local). m.scan) here) goes
 
-  module _ (now before : Local) (opening : Opening) (more : List ℕ) (is : IsLocalOf s i now) (stood : now ≡ local_stood s.callers before region opening more) where
+  module _ (now before : Local) (opening : Opening) (more : List ℕ) (is : IsLocalOf s i now)
+      (stood : now ≡ local_stood s.callers before region opening more) where
     pub still_short : is_done (wanted s.callers more) ≡ false → length more < most_words s.callers
     still_short goes =
         scanning_few s i now (scan_with before region opening more) is
-        (ap (λ (m : Local). m.scan) (stood ∙ stood_stays s.callers before region opening more goes)) goes
+        (ap (λ (m : Local). m.scan) (stood ∙ stood_stays s.callers before region opening more goes))
+        goes
 
     -- where nothing is given the scan goes on
     pub scans_on : given_now now ≡ None → IsScanning s.callers region now
     scans_on none =
-        let goes = stood_goes s.callers before region opening more (sym (ap given_now stood) ∙ none) in
-        record { before = before; opening = opening; taken = more; is = stood ∙ stood_stays s.callers before region opening more goes; goes = goes }
+        let goes =
+        stood_goes s.callers before region opening more (sym (ap given_now stood) ∙ none) in
+        record {
+          before = before;
+          opening = opening;
+          taken = more;
+          is = stood ∙ stood_stays s.callers before region opening more goes;
+          goes = goes;
+        }
 
-  pub has_turned : (now before : Local) (opening : Opening) (taken : List ℕ) (x : ℕ) (r : Option (List ℕ)) → IsLocalOf s i now
-      → now ≡ local_stood s.callers before region opening (taken ++ x ∷ []) → r ≡ given_now now → length taken < most_words s.callers
+  pub has_turned : (now before : Local) (opening : Opening) (taken : List ℕ) (x : ℕ)
+      (r : Option (List ℕ)) → IsLocalOf s i now
+      → now ≡ local_stood s.callers before region opening (taken ++ x ∷ []) → r ≡ given_now now
+      → length taken < most_words s.callers
       → HasTurned s.callers region opening taken r before now
   has_turned now before opening taken x r is stood gives few =
-      turned_by s.callers before region opening taken x r now (gives ∙ ap given_now stood) (omega (arith, few, length-append taken (x ∷ [])))
+      turned_by s.callers before region opening taken x r now (gives ∙ ap given_now stood)
+      (omega (arith, few, length-append taken (x ∷ [])))
       (still_short now before opening (taken ++ x ∷ []) is stood) stood
 
-pub scanned_wide : (n : ℕ) (region : Region) (opening : Opening) (cut : List ℕ) (before now : Local) → 0 < n → HasScanned n region opening cut before now → length cut ≡ n
+pub scanned_wide : (n : ℕ) (region : Region) (opening : Opening) (cut : List ℕ) (before now : Local)
+    → 0 < n → HasScanned n region opening cut before now → length cut ≡ n
 scanned_wide n region opening cut before now some h =
     let round = ended_round n h.taken some cut h.done in
     ap length round.is ∙ round_length n h.taken round.number round.whole
@@ -85,26 +108,44 @@ served_none l For_view cut = refl
 served_none l For_seen cut = refl
 served_none l For_nothing cut = refl
 
-left_by : (n : ℕ) (l : Local) (s : Scan) (w : Want) → words_left n (went_on l s w).scan ≤ most_words n + 1 - length s.taken
+left_by : (n : ℕ) (l : Local) (s : Scan) (w : Want)
+    → words_left n (went_on l s w).scan ≤ most_words n + 1 - length s.taken
 left_by n l s (Look j) = omega arith
 left_by n l s (Peek j row entry) = omega arith
 left_by n l s (Done cut) =
-    omega (arith, ap (words_left n) (served_none (record l { scan = None; cuts = l.cuts ++ given_by s cut ∷ [] }) (purpose_of l.phase l.staged s) cut))
+    omega (
+      arith,
+      ap (words_left n)
+          (served_none (record l { scan = None; cuts = l.cuts ++ given_by s cut ∷ [] })
+          (purpose_of l.phase l.staged s) cut),
+    )
 
-pub left_fewer : (n : ℕ) (old now before : Local) (region : Region) (opening : Opening) (taken : List ℕ) (x : ℕ) → old ≡ local_in_scan n before region opening taken
-    → length taken < most_words n → now ≡ local_stood n before region opening (taken ++ x ∷ []) → words_left n now.scan < words_left n old.scan
+pub left_fewer : (n : ℕ) (old now before : Local) (region : Region) (opening : Opening)
+    (taken : List ℕ) (x : ℕ) → old ≡ local_in_scan n before region opening taken
+    → length taken < most_words n → now ≡ local_stood n before region opening (taken ++ x ∷ [])
+    → words_left n now.scan < words_left n old.scan
 left_fewer n old now before region opening taken x is few stood =
-    let had : words_left n old.scan ≡ most_words n + 1 - length taken = ap (λ (l : Local). words_left n l.scan) is in
-    let has : words_left n now.scan ≡ words_left n (local_stood n before region opening (taken ++ x ∷ [])).scan = ap (λ (l : Local). words_left n l.scan) stood in
-    let most = left_by n (local_in_scan n before region opening (taken ++ x ∷ [])) (scan_with before region opening (taken ++ x ∷ [])) (wanted n (taken ++ x ∷ [])) in
+    let had : words_left n old.scan ≡ most_words n + 1 - length taken =
+    ap (λ (l : Local). words_left n l.scan) is in
+    let has : words_left n now.scan
+    ≡ words_left n (local_stood n before region opening (taken ++ x ∷ [])).scan =
+    ap (λ (l : Local). words_left n l.scan) stood in
+    let most = left_by n (local_in_scan n before region opening (taken ++ x ∷ []))
+    (scan_with before region opening (taken ++ x ∷ [])) (wanted n (taken ++ x ∷ [])) in
     omega (arith, had, has, most, few, length-append taken (x ∷ []))
 
-module _ {P : Type 0} (meaning : P → ℕ → ℕ → Meaning) (r : Rows P) (c : Caller P) (s : driver.Scan P) (region : Region) where
-  pub may_turn : has_begun s ≡ true → region_of s ≡ region → scanner_of s ≡ who_of c → (stance_of c).begins ≡ None → IsScanning r.callers region (local_with c) → MayTurn meaning r c s
+module _ {P : Type 0} (meaning : P → ℕ → ℕ → Meaning) (r : Rows P) (c : Caller P)
+    (s : driver.Scan P) (region : Region) where
+  pub may_turn : has_begun s ≡ true → region_of s ≡ region → scanner_of s ≡ who_of c
+      → (stance_of c).begins ≡ None → IsScanning r.callers region (local_with c)
+      → MayTurn meaning r c s
   may_turn begun same who plain h =
       record {
         who = who;
         may =
             subst (λ (b : Bool). MayTurnAs b meaning r c (region_of s)) (sym begun)
-            (record { plain = plain; scanning = subst (λ (q : Region). IsScanning r.callers q (local_with c)) (sym same) h });
+            (record {
+              plain = plain;
+              scanning = subst (λ (q : Region). IsScanning r.callers q (local_with c)) (sym same) h;
+            });
       }

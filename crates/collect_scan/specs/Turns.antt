@@ -14,8 +14,8 @@ use Rattle.row_table.specs.Callers.{shape_of, who_of, local_with, stance_of}
 use Rattle.collect_scan.specs.declared.turns.Scan.{Scan}
 use Rattle.collect_scan.specs.Scanned.{local_in_scan, most_words, HasScanned}
 
--- How a caller stands after it began a scan of a region: nothing is to begin any more, and a reply that it kept for a scan of N
--- is handed over.
+-- How a caller stands after it began a scan of a region: nothing is to begin any more, and a reply
+-- that it kept for a scan of N is handed over.
 abbrev pub stance_scanned : Stance → Region → Stance
 stance_scanned s region = looked (record s { begins = Some region })
 
@@ -24,7 +24,8 @@ abbrev pub stance_turned : Bool → Stance → Region → Stance
 stance_turned false s region = stance_scanned s region
 stance_turned true s region = s
 
--- A scan of this region that isn't done is under way on this local, and since it began its caller has made no other step.
+-- A scan of this region that isn't done is under way on this local, and since it began its caller
+-- has made no other step.
 pub record IsScanning (n : ℕ) (region : Region) (l : Local) : Type 0 where
   pub before : Local
   pub opening : event.Opening
@@ -32,11 +33,13 @@ pub record IsScanning (n : ℕ) (region : Region) (l : Local) : Type 0 where
   pub is : l ≡ local_in_scan n before region opening taken
   pub goes : is_done (wanted n taken) ≡ false
 
--- What a turn leaves of a scan that began so on a local and had taken these words: it has taken one more and wants a further one;
--- or it has ended with this cut.
-abbrev pub HasTurned : ℕ → Region → event.Opening → List ℕ → Option (List ℕ) → Local → Local → Type 0
+-- What a turn leaves of a scan that began so on a local and had taken these words: it has taken one
+-- more and wants a further one; or it has ended with this cut.
+abbrev pub HasTurned : ℕ → Region → event.Opening → List ℕ → Option (List ℕ) → Local
+    → Local → Type 0
 HasTurned n region opening taken None before now =
-    (x : ℕ) × (now ≡ local_in_scan n before region opening (taken ++ x ∷ [])) × (length (taken ++ x ∷ []) < most_words n)
+    (x : ℕ) × (now ≡ local_in_scan n before region opening (taken ++ x ∷ []))
+    × (length (taken ++ x ∷ []) < most_words n)
 HasTurned n region opening taken (Some cut) before now = HasScanned n region opening cut before now
 
 module _ {P : Type 0} where
@@ -52,27 +55,32 @@ module _ {P : Type 0} where
   abbrev pub has_begun : Scan P → Bool
   has_begun s = s.begun
 
-  -- What the first look of a scan of this region begins: the view's scan, where the region is N and the caller keeps a reply.
+  -- What the first look of a scan of this region begins: the view's scan, where the region is N and
+  -- the caller keeps a reply.
   abbrev pub opening_at : Caller P → Region → event.Opening
   opening_at c region = opening_in (opening_with (Some region) (stance_of c).reply)
 
-  -- The caller may begin a scan of this region: the view's scan isn't under way, and the program allows a reply that it begins
-  -- with.
-  pub record MayScan (meaning : P → ℕ → ℕ → Meaning) (r : Rows P) (c : Caller P) (region : Region) : Type 0 where
+  -- The caller may begin a scan of this region: the view's scan isn't under way, and the program
+  -- allows a reply that it begins with.
+  pub record MayScan (meaning : P → ℕ → ℕ → Meaning) (r : Rows P) (c : Caller P)
+      (region : Region) : Type 0 where
     pub free : event.is_view_under_way (local_with c).scan ≡ false
-    pub begins : IsTrue (event.may_begin (shape_of meaning r) (who_of c) (local_with c) region first_caller (opening_at c region))
+    pub begins : IsTrue (event.may_begin (shape_of meaning r) (who_of c)
+        (local_with c) region first_caller (opening_at c region))
 
   -- The caller may go on with its scan of this region, which isn't done.
   pub record MayGoOn (r : Rows P) (c : Caller P) (region : Region) : Type 0 where
     pub plain : (stance_of c).begins ≡ None
     pub scanning : IsScanning r.callers region (local_with c)
 
-  -- The next turn may be made: the first where the caller may begin the scan, and a later one where it may go on with it.
+  -- The next turn may be made: the first where the caller may begin the scan, and a later one where
+  -- it may go on with it.
   abbrev pub MayTurnAs : Bool → (P → ℕ → ℕ → Meaning) → Rows P → Caller P → Region → Type 0
   MayTurnAs false meaning r c region = MayScan meaning r c region
   MayTurnAs true meaning r c region = MayGoOn r c region
 
   -- The scan is this caller's, which may make its next turn.
-  pub record MayTurn (meaning : P → ℕ → ℕ → Meaning) (r : Rows P) (c : Caller P) (s : Scan P) : Type 0 where
+  pub record MayTurn (meaning : P → ℕ → ℕ → Meaning) (r : Rows P) (c : Caller P)
+      (s : Scan P) : Type 0 where
     pub who : scanner_of s ≡ who_of c
     pub may : MayTurnAs (has_begun s) meaning r c (region_of s)

@@ -11,8 +11,8 @@ ghost use Rattle.collect_scan.specs.Turns.{MayScan, opening_at};
 use row_table::{Caller, Rows};
 use world_core::{Program, Region};
 
-/// The cut of a scan is the last of those that its caller was given. The scan leaves the caller's calls as
-/// they are, but that the view's scan hands over the reply.
+/// The cut of a scan is the last of those that its caller was given. The scan leaves the caller's
+/// calls as they are, but that the view's scan hands over the reply.
 pub fn scans_add_one_cut()
     // A scan adds its cut to the cuts that its caller was given, as the last of them.
     ensures cut { ScansAddTheirCut }
@@ -21,8 +21,8 @@ pub fn scans_add_one_cut()
     ensures work { ScansLeaveWork }
 {}
 
-/// No count of a cut is above the cap; and a cut that embeds, is a view or is a seen cut has the caller's own
-/// count for the caller.
+/// No count of a cut is above the cap; and a cut that embeds, is a view or is a seen cut has the
+/// caller's own count for the caller.
 pub fn cuts_are_of_counts()
     // No count of a scan's cut is above the cap.
     ensures few { CutsAreFew }
@@ -31,8 +31,8 @@ pub fn cuts_are_of_counts()
     ensures own { OwnEntriesAreCounts }
 {}
 
-/// The cuts of a caller rise: a cut contains each earlier one of its region, and each count of it that the
-/// caller had looked at before the scan.
+/// The cuts of a caller rise: a cut contains each earlier one of its region, and each count of it
+/// that the caller had looked at before the scan.
 pub fn cuts_rise()
     // A scan's cut contains each cut of its region that the caller was given before the scan.
     ensures given { CutsHoldGiven }
@@ -45,8 +45,8 @@ pub fn given_rows_are_known()
     ensures { GivenRowsAreKnown }
 {}
 
-/// The view's scan is under way in the phase of the view alone, so that no other phase keeps a scan from
-/// beginning.
+/// The view's scan is under way in the phase of the view alone, so that no other phase keeps a scan
+/// from beginning.
 pub fn view_scans_have_phase()
     ensures { ViewScansHavePhase }
 {}

@@ -1,4 +1,5 @@
-//! The scan of a region by one caller of the table, with the cuts that rows embed: no memory, no lock, few steps.
+//! The scan of a region by one caller of the table, with the cuts that rows embed: no memory, no
+//! lock, few steps.
 #![tactic(auto)]
 
 pub mod laws;

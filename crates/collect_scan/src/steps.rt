@@ -20,7 +20,8 @@ pub fn set_out<P: Program, L: Ledger>(
     requires begins { MayScan P.meaning rows.now caller.old region }
     ensures caller { IsStill P.meaning rows.now caller.old caller.new }
     ensures stance { stance_of caller.new ≡ stance_scanned (stance_of caller.old) region }
-    ensures taken { (x : ℕ) × (local_with caller.new ≡ local_stood rows.now.callers (local_with caller.old) region (opening_at caller.old region) (x ∷ [])) }
+    ensures taken { (x : ℕ) × (local_with caller.new ≡ local_stood rows.now.callers
+        (local_with caller.old) region (opening_at caller.old region) (x ∷ [])) }
     ensures tick { steps.new ≡ steps.old + 1 }
 {
     caller.begin_scan(region);
@@ -38,7 +39,10 @@ pub fn go_on<P: Program, L: Ledger>(
     requires goes { MayGoOn rows.now caller.old region }
     ensures caller { IsStill P.meaning rows.now caller.old caller.new }
     ensures stance { stance_of caller.new ≡ stance_of caller.old }
-    ensures taken { (before : Local) (opening : Opening) (taken : List ℕ) → local_with caller.old ≡ local_in_scan rows.now.callers before region opening taken → (x : ℕ) × (local_with caller.new ≡ local_stood rows.now.callers before region opening (taken ++ x ∷ [])) }
+    ensures taken { (before : Local) (opening : Opening) (taken : List ℕ)
+        → local_with caller.old ≡ local_in_scan rows.now.callers before region opening taken
+        → (x : ℕ) × (local_with caller.new
+        ≡ local_stood rows.now.callers before region opening (taken ++ x ∷ [])) }
     ensures tick { steps.new ≡ steps.old + 1 }
 {
     match caller.wants() {

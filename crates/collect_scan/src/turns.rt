@@ -40,9 +40,9 @@ impl<P: Program> Scan<P> {
         }
     }
 
-    /// Makes the one step that the scan wants, and answers its cut where it is done with that. The first turn
-    /// begins the scan. Between turns the caller makes no other step, and where the scan is done there is no
-    /// further turn. A scan of `n` callers has at most `n * (n + 1) + n` turns.
+    /// Makes the one step that the scan wants, and answers its cut where it is done with that. The
+    /// first turn begins the scan. Between turns the caller makes no other step, and where the scan
+    /// is done there is no further turn. A scan of `n` callers has at most `n * (n + 1) + n` turns.
     pub fn turn<L: Ledger>(
         &mut self,
         rows: &Rows<P>,
@@ -57,15 +57,23 @@ impl<P: Program> Scan<P> {
         ensures caller { IsStill P.meaning rows.now caller.old caller.new }
         // The first turn begins the scan in the caller's stance, and each later turn leaves the
         // stance.
-        ensures stance { stance_of caller.new ≡ stance_turned (has_begun self.old) (stance_of caller.old) (region_of self.old) }
+        ensures stance { stance_of caller.new
+            ≡ stance_turned (has_begun self.old) (stance_of caller.old) (region_of self.old) }
         // The scan keeps its caller and its region, and has made its first turn.
-        ensures scan { (scanner_of self.new ≡ scanner_of self.old) × (region_of self.new ≡ region_of self.old) × (has_begun self.new ≡ true) }
+        ensures scan { (scanner_of self.new ≡ scanner_of self.old)
+            × (region_of self.new ≡ region_of self.old) × (has_begun self.new ≡ true) }
         // The first turn takes one word, or ends the scan with the answered cut, from the local
         // before.
-        ensures first { has_begun self.old ≡ false → HasTurned rows.now.callers (region_of self.old) (opening_at caller.old (region_of self.old)) [] result (local_with caller.old) (local_with caller.new) }
+        ensures first { has_begun self.old ≡ false → HasTurned rows.now.callers (region_of self.old)
+            (opening_at caller.old (region_of self.old)) [] result (local_with caller.old)
+            (local_with caller.new) }
         // A later turn takes one word more than the scan had taken, or ends the scan with the
         // answered cut.
-        ensures later { (before : Local) (opening : Opening) (taken : List ℕ) → has_begun self.old ≡ true → local_with caller.old ≡ local_in_scan rows.now.callers before (region_of self.old) opening taken → HasTurned rows.now.callers (region_of self.old) opening taken result before (local_with caller.new) }
+        ensures later { (before : Local) (opening : Opening) (taken : List ℕ)
+            → has_begun self.old ≡ true → local_with caller.old
+            ≡ local_in_scan rows.now.callers before (region_of self.old) opening taken
+            → HasTurned rows.now.callers (region_of self.old) opening taken result before
+            (local_with caller.new) }
         // Where no cut is answered, the caller may make the scan's next turn.
         ensures goes_on { result ≡ None → MayTurn P.meaning rows.now caller.new self.new }
         // The counter of steps has risen by 1.

@@ -10,12 +10,13 @@ use row_table::{Caller, Rows, Steps};
 use std::sync::ledger::Ledger;
 use world_core::{Program, Region};
 
-/// Scans a region, and answers the cut: the counts of the region at one moment of the scan. So it contains each
-/// count of the region that the caller had looked at before.
+/// Scans a region, and answers the cut: the counts of the region at one moment of the scan. So it
+/// contains each count of the region that the caller had looked at before.
 ///
-/// Two equal collects end it. Where a caller has moved twice since the first collect, it ends with the cut
-/// that this caller's latest counted row embeds (Afek and others 1993). So a scan of `n` callers makes at
-/// most `n + 1` collects, which is `n * (n + 1)` looks, and at most `n` peeks, whatever the others do.
+/// Two equal collects end it. Where a caller has moved twice since the first collect, it ends with
+/// the cut that this caller's latest counted row embeds (Afek and others 1993). So a scan of `n`
+/// callers makes at most `n + 1` collects, which is `n * (n + 1)` looks, and at most `n` peeks,
+/// whatever the others do.
 ///
 /// A scan of N is the view's where the caller keeps a reply of the object. It takes no memory.
 pub fn scan<P: Program, L: Ledger>(
@@ -35,7 +36,8 @@ pub fn scan<P: Program, L: Ledger>(
     ensures stance { stance_of caller.new ≡ stance_scanned (stance_of caller.old) region }
     // The caller's local is the one before after one scan of the region, with no other event, which
     // ended with the answered cut.
-    ensures scanned { HasScanned rows.now.callers region (opening_at caller.old region) result (local_with caller.old) (local_with caller.new) }
+    ensures scanned { HasScanned rows.now.callers region (opening_at caller.old region) result
+        (local_with caller.old) (local_with caller.new) }
     // The counter of steps has risen once for each word that this scan took.
     ensures exact { HasTicked rows.now.callers region (opening_at caller.old region) result
         (local_with caller.old) (local_with caller.new) steps.old steps.new }
@@ -45,7 +47,8 @@ pub fn scan<P: Program, L: Ledger>(
     // The answered cut has one count for each caller.
     ensures wide { length result ≡ rows.now.callers }
     // The counter of steps has risen by at most n * (n + 1) + n for n callers.
-    ensures ticks { (steps.old ≤ steps.new) × (steps.new ≤ steps.old + most_words rows.now.callers) }
+    ensures ticks { (steps.old ≤ steps.new)
+        × (steps.new ≤ steps.old + most_words rows.now.callers) }
 {
     set_out(rows, caller, region, steps);
     loop {

@@ -1,4 +1,5 @@
--- What a call of an object of one word replies, whichever object it is: bad where its operation makes no step, else the reply of its step.
+-- What a call of an object of one word replies, whichever object it is: bad where its operation
+-- makes no step, else the reply of its step.
 use Rattle.std.proofs.Common.{◌≡◌, ◌∙◌, ℕ, true, false, [], ◌∷◌, sym, refl, subst}
 use Rattle.book_base.specs.declared.TheConstants.{BAD}
 use Rattle.world_core.specs.Shape.{Meaning}
@@ -17,24 +18,31 @@ use Rattle.core_objects.proofs.OneWordCalls.{no_steps, no_progress_made, one_ste
 abbrev pub meaning_by : {P : Type 0} → (P → OneWord) → P → ℕ → ℕ → Meaning
 meaning_by o program n cap = one_word_program (o program)
 
-module _ {P : Type 0} (o : P → OneWord) (r : Rows P) (a : Announced P) (here : IsCallerOf (meaning_by o) r (caller_announced a)) (none : steps_now (announced_local a) ≡ []) where
+module _ {P : Type 0} (o : P → OneWord) (r : Rows P) (a : Announced P)
+    (here : IsCallerOf (meaning_by o) r (caller_announced a))
+    (none : steps_now (announced_local a) ≡ []) where
   -- a call whose operation makes no step replies bad
-  pub replies_bad : (o r.program).makes_step (op_announced a) ≡ false → HasReplied (meaning_by o) r a a BAD
+  pub replies_bad : (o r.program).makes_step (op_announced a) ≡ false
+      → HasReplied (meaning_by o) r a a BAD
   replies_bad unknown =
       let l : Local = announced_local a in
-      let own : (o (caller_announced a).program).makes_step (op_announced a) ≡ false = subst (λ (p : P). (o p).makes_step (op_announced a) ≡ false) (sym here.program) unknown in
+      let own : (o (caller_announced a).program).makes_step (op_announced a) ≡ false =
+      subst (λ (p : P). (o p).makes_step (op_announced a) ≡ false) (sym here.program) unknown in
       record {
         steps = [];
         still = (here, refl);
         operation = refl;
         local = no_steps l none;
         progress = no_progress_made l;
-        allowed = allows_bad (o (caller_announced a).program) l (op_announced a) a.asked.operation own;
+        allowed =
+            allows_bad (o (caller_announced a).program) l (op_announced a) a.asked.operation own;
       }
 
   -- and one whose operation makes a step the reply of this step
-  pub replies_by_step : (b : Announced P) (step : Object_step) (reply : ℕ) → HasStepped (meaning_by o) r a b step → (o r.program).makes_step (op_announced a) ≡ true
-      → reply ≡ (o r.program).replies (op_announced a) step.old → HasReplied (meaning_by o) r a b reply
+  pub replies_by_step : (b : Announced P) (step : Object_step) (reply : ℕ)
+      → HasStepped (meaning_by o) r a b step → (o r.program).makes_step (op_announced a) ≡ true
+      → reply ≡ (o r.program).replies (op_announced a) step.old
+      → HasReplied (meaning_by o) r a b reply
   replies_by_step b step reply done known told =
       let l : Local = announced_local a in
       let local = done.event ∙ one_step l step none in
@@ -46,8 +54,10 @@ module _ {P : Type 0} (o : P → OneWord) (r : Rows P) (a : Announced P) (here :
         local = local;
         progress = done.progress;
         allowed =
-            allows_reply (o (caller_announced b).program) l (announced_local b) (op_announced a) reply step a.asked.operation local
-            (has_steps (one_word_shape r.callers r.cap (o r.program)) (who_of (caller_announced a)) l (op_announced a) here.seat.local a.asked)
+            allows_reply (o (caller_announced b).program) l (announced_local b)
+            (op_announced a) reply step a.asked.operation local
+            (has_steps (one_word_shape r.callers r.cap (o r.program))
+            (who_of (caller_announced a)) l (op_announced a) here.seat.local a.asked)
             (subst (λ (p : P). (o p).makes_step (op_announced a) ≡ true) own known)
             (subst (λ (p : P). reply ≡ (o p).replies (op_announced a) step.old) own told);
       }

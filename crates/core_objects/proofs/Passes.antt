@@ -13,7 +13,8 @@ pub record AreDealt (n cap k : ℕ) (passes : List OneWordPass) : Type 0 where
 pub none_dealt : (n cap : ℕ) → AreDealt n cap 0 []
 none_dealt n cap = record { count = refl; are = λ i pass at. absurd (none-some pass at) }
 
-pub one_dealt : (n cap k : ℕ) (passes : List OneWordPass) → AreDealt n cap k passes → AreDealt n cap (k + 1) (passes ++ pass_of k n cap ∷ [])
+pub one_dealt : (n cap k : ℕ) (passes : List OneWordPass) → AreDealt n cap k passes
+    → AreDealt n cap (k + 1) (passes ++ pass_of k n cap ∷ [])
 one_dealt n cap k passes h =
     record {
       count = length-append passes (pass_of k n cap ∷ []) ∙ ap (λ (m : ℕ). m + 1) h.count;

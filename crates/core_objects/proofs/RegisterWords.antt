@@ -7,8 +7,11 @@ use Rattle.seq_objects.specs.Words.{Entry, is_operation_of, is_known_word, entry
 use Rattle.seq_objects.specs.Words as words
 
 -- the read, whose code is 2
-pub read_is : (op : ℕ) → op ≡ 2 * 2 ^ 32 → (is_operation_of op words.write ≡ false) × (is_operation_of op words.read ≡ true)
-read_is op same = subst (λ (x : ℕ). (is_operation_of x words.write ≡ false) × (is_operation_of x words.read ≡ true)) (sym same) (refl, refl)
+pub read_is : (op : ℕ) → op ≡ 2 * 2 ^ 32 → (is_operation_of op words.write ≡ false)
+    × (is_operation_of op words.read ≡ true)
+read_is op same = subst
+    (λ (x : ℕ). (is_operation_of x words.write ≡ false) × (is_operation_of x words.read ≡ true))
+    (sym same) (refl, refl)
 
 is_read : (op : ℕ) → is_operation_of op words.read ≡ true → op ≡ 2 * 2 ^ 32
 is_read op h =
@@ -38,15 +41,18 @@ is_write op h =
       small = omega (arith, code, extra);
     }
 
-known_by : (e f : Entry) (a b : Bool) → is_some (if a then Some e else (if b then Some f else None)) ≡ a || b
+known_by : (e f : Entry) (a b : Bool)
+    → is_some (if a then Some e else (if b then Some f else None)) ≡ a || b
 known_by e f true b = refl
 known_by e f false true = refl
 known_by e f false false = refl
 
 -- the register knows the writes and the read
-pub known_is : (op : ℕ) → is_known_word kinds.Register op ≡ (is_operation_of op words.write || is_operation_of op words.read)
+pub known_is : (op : ℕ) → is_known_word kinds.Register op
+    ≡ (is_operation_of op words.write || is_operation_of op words.read)
 unfolding is_known_word entry_of entries
-known_is op = known_by words.write words.read (is_operation_of op words.write) (is_operation_of op words.read)
+known_is op =
+    known_by words.write words.read (is_operation_of op words.write) (is_operation_of op words.read)
 
 -- so a known word that isn't the read is a write
 pub writes : (op : ℕ) → op ≢ 2 * 2 ^ 32 → is_known_word kinds.Register op ≡ true → IsWrite op
@@ -54,5 +60,6 @@ writes op other known =
     elim (cases_Bool (is_operation_of op words.write)) [
       | inl write ↦ is_write op write
       | inr none ↦
-          absurd (other (is_read op (sym (ap (λ b. b || is_operation_of op words.read) none) ∙ sym (known_is op) ∙ known)))
+          absurd (other (is_read op
+          (sym (ap (λ b. b || is_operation_of op words.read) none) ∙ sym (known_is op) ∙ known)))
     ]

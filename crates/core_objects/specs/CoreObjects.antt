@@ -22,7 +22,8 @@ after_steps steps progress = record progress { steps = progress.steps ++ steps }
 
 -- The passes are one for each of n callers, in order, and each fits its caller, this n and this
 -- cap, and no object steps.
-pub record ArePassesFor {A : Type 0} (fits : A → ℕ → ℕ → ℕ → List Object_step → Type 0) (n cap : ℕ) (passes : List A) : Type 0 where
+pub record ArePassesFor {A : Type 0} (fits : A → ℕ → ℕ → ℕ → List Object_step → Type 0) (n cap : ℕ)
+    (passes : List A) : Type 0 where
   pub count : length passes ≡ n
   pub fit : (i : ℕ) (pass : A) → slice_get passes i ≡ Some pass → fits pass i n cap []
 
@@ -32,11 +33,14 @@ module _ {P : Type 0} where
     pub program_is : r.program ≡ program
     pub objects : r.objects ≡ (meaning program r.callers r.cap).objects
 
-  -- The announced call b is a after some object steps of its caller, and no other event, and its program now allows it this reply.
-  pub record HasReplied (meaning : P → ℕ → ℕ → Meaning) (r : Rows P) (a b : Announced P) (reply : ℕ) : Type 0 where
+  -- The announced call b is a after some object steps of its caller, and no other event, and its
+  -- program now allows it this reply.
+  pub record HasReplied (meaning : P → ℕ → ℕ → Meaning) (r : Rows P) (a b : Announced P)
+      (reply : ℕ) : Type 0 where
     pub steps : List Object_step
     pub still : IsStill meaning r (caller_announced a) (caller_announced b)
     pub operation : op_announced b ≡ op_announced a
     pub local : announced_local b ≡ with_steps (announced_local a) steps
-    pub progress : progress_of (announced_local b) ≡ after_steps steps (progress_of (announced_local a))
+    pub progress : progress_of (announced_local b)
+        ≡ after_steps steps (progress_of (announced_local a))
     pub allowed : MayGet meaning (caller_announced b) reply

@@ -1,4 +1,5 @@
--- A call of a log under way: which object steps it has made, and what its caller knows of the log by its steps.
+-- A call of a log under way: which object steps it has made, and what its caller knows of the log
+-- by its steps.
 use Rattle.std.specs.Prelude.{◌≡◌, ℕ, ◌+◌, ◌*◌, ◌<◌, ◌≤◌, List, ◌++◌, Option, Some, None, length, slice_get}
 use Rattle.book_base.specs.OperationWord.{low_of, high_of}
 use Rattle.world_core.specs.Shape.{Meaning}
@@ -16,7 +17,8 @@ use Rattle.core_objects.specs.CoreObjects.{with_steps, after_steps}
 -- nothing of the places after them.
 pub record KnowsTickets (total : ℕ) (tickets : List ℕ) (steps : List Object_step) : Type 0 where
   pub few : length tickets ≤ total
-  pub filled : (q ticket : ℕ) → slice_get tickets q ≡ Some ticket → (known (ticket_place total q) steps ≡ Some ticket) × (0 < ticket)
+  pub filled : (q ticket : ℕ) → slice_get tickets q ≡ Some ticket
+      → (known (ticket_place total q) steps ≡ Some ticket) × (0 < ticket)
   pub free : (q : ℕ) → length tickets ≤ q → known (ticket_place total q) steps ≡ None
 
 -- The operations are those of the first tickets of a log, as some steps show.
@@ -41,21 +43,28 @@ module _ {P : Type 0} where
     pub steps : List Object_step
     pub still : IsStill meaning r (caller_announced a) (caller_announced b)
     pub operation : op_announced b ≡ op_announced a
-    pub local : announced_local b ≡ with_steps (announced_local a) (steps_now (announced_local a) ++ steps)
-    pub progress : progress_of (announced_local b) ≡ after_steps steps (progress_of (announced_local a))
+    pub local : announced_local b
+        ≡ with_steps (announced_local a) (steps_now (announced_local a) ++ steps)
+    pub progress : progress_of (announced_local b)
+        ≡ after_steps steps (progress_of (announced_local a))
 
   -- The announced call has stored both words of its operation.
   pub record HasStored (r : Rows P) (a : Announced P) : Type 0 where
-    pub low_now : known (low_place (number_on r a)) (steps_now (announced_local a)) ≡ Some (low_of (op_announced a))
-    pub high_now : known (high_place (number_on r a)) (steps_now (announced_local a)) ≡ Some (high_of (op_announced a))
-    pub low : known (low_place (number_on r a)) (all_steps_of (announced_local a)) ≡ Some (low_of (op_announced a))
-    pub high : known (high_place (number_on r a)) (all_steps_of (announced_local a)) ≡ Some (high_of (op_announced a))
+    pub low_now : known (low_place (number_on r a)) (steps_now (announced_local a))
+        ≡ Some (low_of (op_announced a))
+    pub high_now : known (high_place (number_on r a)) (steps_now (announced_local a))
+        ≡ Some (high_of (op_announced a))
+    pub low : known (low_place (number_on r a)) (all_steps_of (announced_local a))
+        ≡ Some (low_of (op_announced a))
+    pub high : known (high_place (number_on r a)) (all_steps_of (announced_local a))
+        ≡ Some (high_of (op_announced a))
 
   -- The place in the log at which the announced call has placed its ticket, if it has.
   abbrev pub place_on : Rows P → Announced P → Option ℕ
   place_on r a = placed_at (places_on r) (ticket_of (number_on r a)) (steps_now (announced_local a))
 
-  -- The caller of the announced call knows these first tickets of the log; and the operations of these first tickets.
+  -- The caller of the announced call knows these first tickets of the log; and the operations of
+  -- these first tickets.
   abbrev pub KnowsPlaces : Rows P → Announced P → List ℕ → Type 0
   KnowsPlaces r a tickets = KnowsTickets (places_on r) tickets (all_steps_of (announced_local a))
 
@@ -70,15 +79,18 @@ module _ {P : Type 0} where
     pub placed : place_on r a ≡ Some place
     pub ticket : slice_get tickets place ≡ Some (ticket_of (number_on r a))
 
-  -- The announced call has placed its ticket after that of the call with this number, of which its caller knows.
+  -- The announced call has placed its ticket after that of the call with this number, of which its
+  -- caller knows.
   pub record MayLoad (r : Rows P) (a : Announced P) (named : ℕ) : Type 0 where
     pub own : ℕ
     pub placed : place_on r a ≡ Some own
     pub place : ℕ
     pub before : place < own
     pub low : place < places_on r
-    pub ticket : known (ticket_place (places_on r) place) (all_steps_of (announced_local a)) ≡ Some (ticket_of named)
+    pub ticket : known (ticket_place (places_on r) place) (all_steps_of (announced_local a))
+        ≡ Some (ticket_of named)
 
   -- The caller of the announced call knows the operation of the call with this number.
   abbrev pub KnowsOperation : Announced P → ℕ → ℕ → Type 0
-  KnowsOperation a named operation = known_operation (Some (ticket_of named)) (all_steps_of (announced_local a)) ≡ Some operation
+  KnowsOperation a named operation =
+      known_operation (Some (ticket_of named)) (all_steps_of (announced_local a)) ≡ Some operation

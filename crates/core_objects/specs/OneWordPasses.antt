@@ -7,6 +7,7 @@ use Rattle.core_objects.specs.declared.one_word_pass.OneWordPass.{OneWordPass}
 abbrev pub pass_of : ℕ → ℕ → ℕ → OneWordPass
 pass_of caller n cap = record { caller = caller; callers = n; cap = cap }
 
--- A pass fits a caller, an n and a cap where it is the pass of these, whatever object steps the caller has made.
+-- A pass fits a caller, an n and a cap where it is the pass of these, whatever object steps the
+-- caller has made.
 abbrev pub FitsOneWord : OneWordPass → ℕ → ℕ → ℕ → List Object_step → Type 0
 FitsOneWord pass caller n cap steps = pass ≡ pass_of caller n cap

@@ -17,8 +17,8 @@ const WRITE_0: OpWord = 1 << 32;
 
 const READ: OpWord = 2 << 32;
 
-/// The program of the cell: a write makes one store of its value into the one object word, a read makes one load,
-/// and nothing else makes a step.
+/// The program of the cell: a write makes one store of its value into the one object word, a read
+/// makes one load, and nothing else makes a step.
 #[derive(Clone, Copy, Debug, PartialEq, Eq)]
 pub struct CellProgram;
 

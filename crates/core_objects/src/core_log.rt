@@ -15,8 +15,9 @@ use row_table::Rows;
 use std::alloc::Global;
 use world_core::{InWorld, Program};
 
-/// The program of the log of a sequential object: a call stores its operation, places its ticket in the log,
-/// loads the operations of the tickets below it, and gets the reply of the object after these.
+/// The program of the log of a sequential object: a call stores its operation, places its ticket in
+/// the log, loads the operations of the tickets below it, and gets the reply of the object after
+/// these.
 #[derive(Clone, Copy)]
 pub struct LogProgram<S> {
     /// The sequential object.
@@ -35,11 +36,13 @@ impl<S: SeqObject + Copy> Program for LogProgram<S> {
 
 impl<S: SeqObject + Copy> InWorld for LogProgram<S> {}
 
-/// The object history of every run of the log of a sequential object is linearizable for this object, whatever the
-/// callers and the cap.
+/// The object history of every run of the log of a sequential object is linearizable for this
+/// object, whatever the callers and the cap.
 pub fn runs_of_log<S: SeqObject + Copy>(_program: &LogProgram<S>)
-    ensures { (n cap : ℕ) (steps : List Step) → IsRun (shape_with (⟦<LogProgram<S> as Program>⟧.meaning _program.now) n cap) steps
-        → IsLinearizable (S.init _program.now.object) (S.next _program.now.object) (history_of (shape_with (⟦<LogProgram<S> as Program>⟧.meaning _program.now) n cap) steps) }
+    ensures { (n cap : ℕ) (steps : List Step)
+        → IsRun (shape_with (⟦<LogProgram<S> as Program>⟧.meaning _program.now) n cap) steps
+        → IsLinearizable (S.init _program.now.object) (S.next _program.now.object)
+        (history_of (shape_with (⟦<LogProgram<S> as Program>⟧.meaning _program.now) n cap) steps) }
 {}
 
 /// The log of a sequential object, as an object inside the world.
@@ -49,8 +52,8 @@ pub struct CoreLog<S> {
 }
 
 impl<S: SeqObject + Copy> CoreLog<S> {
-    /// The log of an object, and a pass for each of `n` callers with `cap` calls each, in order. It takes all the
-    /// memory that their calls need.
+    /// The log of an object, and a pass for each of `n` callers with `cap` calls each, in order. It
+    /// takes all the memory that their calls need.
     pub fn open(
         alloc: Global,
         object: S,
@@ -69,7 +72,8 @@ impl<S: SeqObject + Copy> CoreLog<S> {
         ensures object { IfOk result (λ r. object_of r.0 ≡ object) }
         // There is one pass for each caller, in order, which fits the caller, the number of callers
         // and the cap, and knows no entry.
-        ensures passes { IfOk result (λ r. ArePassesFor (FitsLog (S.init (object_of r.0)) (S.next (object_of r.0))) n cap r.1.items) }
+        ensures passes { IfOk result (λ r. ArePassesFor
+            (FitsLog (S.init (object_of r.0)) (S.next (object_of r.0))) n cap r.1.items) }
     {
         let passes = log_passes_for(alloc, &object, n, cap)?;
         Ok((CoreLog { object }, passes))
@@ -79,10 +83,13 @@ impl<S: SeqObject + Copy> CoreLog<S> {
     // ones of it. It makes only the operations after these, and then this one.
     fn reply_after(&self, state: &mut State, log: &[OpWord], made: usize, op: OpWord) -> u64
         requires made { made ≤ length log.now }
-        requires state { state.old.words ≡ list_of (S.next self.now.object) (S.init self.now.object) (take made log.now) }
+        requires state { state.old.words ≡ list_of (S.next self.now.object) (S.init self.now.object)
+            (take made log.now) }
         requires room { length log.now + 1 < state.old.room }
-        ensures reply { result ≡ (S.next self.now.object (list_of (S.next self.now.object) (S.init self.now.object) log.now) op).1 }
-        ensures state { state.new.words ≡ list_of (S.next self.now.object) (S.init self.now.object) (log.now ++ op ∷ []) }
+        ensures reply { result ≡ (S.next self.now.object
+            (list_of (S.next self.now.object) (S.init self.now.object) log.now) op).1 }
+        ensures state { state.new.words ≡ list_of (S.next self.now.object) (S.init self.now.object)
+            (log.now ++ op ∷ []) }
         ensures room { state.new.room ≡ state.old.room }
     {
         for place in made..log.len() {

@@ -13,11 +13,11 @@ use drv_wrapper::{Announced, Answered};
 use row_table::Rows;
 use world_core::InWorld;
 
-/// An object inside the world: its callers make its steps on object words of the table, as its program allows,
-/// each in the midst of an announced call of its own.
+/// An object inside the world: its callers make its steps on object words of the table, as its
+/// program allows, each in the midst of an announced call of its own.
 ///
-/// The object history of every run of its program is linearizable for its sequential object, whatever the
-/// callers and the cap (Herlihy and Wing 1990).
+/// The object history of every run of its program is linearizable for its sequential object,
+/// whatever the callers and the cap (Herlihy and Wing 1990).
 pub trait CoreObject {
     /// The sequential object whose replies it gives.
     type S: SeqObject;
@@ -34,8 +34,8 @@ pub trait CoreObject {
     /// The program of this one, with which the rows are opened.
     ghost program_of: { Self → Self.P };
 
-    /// The pass is this object's for a caller, for `n` callers and a cap, and knows what these object steps of
-    /// all the caller's calls show.
+    /// The pass is this object's for a caller, for `n` callers and a cap, and knows what these
+    /// object steps of all the caller's calls show.
     ghost fits: { Self → Self.Pass → ℕ → ℕ → ℕ → List Object_step → Type 0 };
 
     /// The sequential object.
@@ -46,8 +46,8 @@ pub trait CoreObject {
     fn program(&self) -> Self::P
         ensures { result ≡ program_of self.now };
 
-    /// Makes the announced call, by object steps of its caller, and answers the reply that the program then
-    /// allows. It takes no memory.
+    /// Makes the announced call, by object steps of its caller, and answers the reply that the
+    /// program then allows. It takes no memory.
     fn reply(
         &self,
         rows: &Rows<Self::P>,
@@ -61,13 +61,17 @@ pub trait CoreObject {
         // The announced call has made no object step.
         requires first { steps_now (announced_local announced.old) ≡ [] }
         // The pass fits the caller and all object steps that it has made.
-        requires fits { fits self.now pass.old (who_announced announced.old) rows.now.callers rows.now.cap (all_steps_of (announced_local announced.old)) }
+        requires fits { fits self.now pass.old (who_announced announced.old) rows.now.callers
+            rows.now.cap (all_steps_of (announced_local announced.old)) }
         // The caller has made some object steps and no other event, its program now allows it this
         // reply, and the pass fits it still.
-        ensures made { (made : HasReplied Self.P.meaning rows.now announced.old announced.new result)
-            × fits self.now pass.new (who_announced announced.old) rows.now.callers rows.now.cap (all_steps_of (announced_local announced.old) ++ made.steps) };
+        ensures made { (made : HasReplied Self.P.meaning rows.now announced.old
+            announced.new result)
+            × fits self.now pass.new (who_announced announced.old) rows.now.callers rows.now.cap
+            (all_steps_of (announced_local announced.old) ++ made.steps) };
 
-    /// Makes the announced call, which has no object step yet, and keeps its reply. It takes no memory.
+    /// Makes the announced call, which has no object step yet, and keeps its reply. It takes no
+    /// memory.
     final fn ask(
         &self,
         rows: &Rows<Self::P>,
@@ -81,17 +85,22 @@ pub trait CoreObject {
         // The announced call has made no object step.
         requires first { steps_now (announced_local announced) ≡ [] }
         // The pass fits the caller and all object steps that it has made.
-        requires fits { fits self.now pass.old (who_announced announced) rows.now.callers rows.now.cap (all_steps_of (announced_local announced)) }
+        requires fits { fits self.now pass.old (who_announced announced) rows.now.callers
+            rows.now.cap (all_steps_of (announced_local announced)) }
         // The caller is still one of these rows, with the same number.
-        ensures caller { IsStill Self.P.meaning rows.now (caller_announced announced) (caller_answered result) }
+        ensures caller { IsStill Self.P.meaning rows.now (caller_announced announced)
+            (caller_answered result) }
         // The answered call has the announced operation.
         ensures operation { op_answered result ≡ op_announced announced }
         // The program allows the caller the reply, by its local.
         ensures allowed { MayGet Self.P.meaning (caller_answered result) (reply_answered result) }
         // The caller has made some object steps and no other event, and the pass fits it still.
-        ensures made { (steps : List Object_step) × (answered_local result ≡ with_steps (announced_local announced) steps)
-            × (progress_of (answered_local result) ≡ after_steps steps (progress_of (announced_local announced)))
-            × fits self.now pass.new (who_announced announced) rows.now.callers rows.now.cap (all_steps_of (announced_local announced) ++ steps) }
+        ensures made { (steps : List Object_step)
+            × (answered_local result ≡ with_steps (announced_local announced) steps)
+            × (progress_of (answered_local result)
+            ≡ after_steps steps (progress_of (announced_local announced)))
+            × fits self.now pass.new (who_announced announced) rows.now.callers rows.now.cap
+            (all_steps_of (announced_local announced) ++ steps) }
     {
         let mut announced = announced;
         let reply = self.reply(rows, &mut announced, pass);
@@ -99,12 +108,18 @@ pub trait CoreObject {
     }
 
     /// The object history of every run of its program is linearizable for its sequential object.
-    ghost linearizes: { (object : Self) (n cap : ℕ) (steps : List Step) → IsRun (shape_with (Self.P.meaning (program_of object)) n cap) steps
-        → IsLinearizable (Self.S.init (sequential_of object)) (Self.S.next (sequential_of object)) (history_of (shape_with (Self.P.meaning (program_of object)) n cap) steps) };
+    ghost linearizes: { (object : Self) (n cap : ℕ) (steps : List Step)
+        → IsRun (shape_with (Self.P.meaning (program_of object)) n cap) steps
+        → IsLinearizable (Self.S.init (sequential_of object)) (Self.S.next (sequential_of object))
+        (history_of (shape_with (Self.P.meaning (program_of object)) n cap) steps) };
 }
 
-/// The object history of every run of a core object's program is linearizable for its sequential object.
+/// The object history of every run of a core object's program is linearizable for its sequential
+/// object.
 pub fn runs_of<O: CoreObject>(_object: &O)
-    ensures { (n cap : ℕ) (steps : List Step) → IsRun (shape_with (O.P.meaning (O.program_of _object.now)) n cap) steps
-        → IsLinearizable (O.S.init (O.sequential_of _object.now)) (O.S.next (O.sequential_of _object.now)) (history_of (shape_with (O.P.meaning (O.program_of _object.now)) n cap) steps) }
+    ensures { (n cap : ℕ) (steps : List Step)
+        → IsRun (shape_with (O.P.meaning (O.program_of _object.now)) n cap) steps
+        → IsLinearizable (O.S.init (O.sequential_of _object.now))
+        (O.S.next (O.sequential_of _object.now))
+        (history_of (shape_with (O.P.meaning (O.program_of _object.now)) n cap) steps) }
 {}

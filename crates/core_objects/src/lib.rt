@@ -1,4 +1,5 @@
-//! Objects inside the world: their steps are events on object words of the table, and every run of them is linearizable.
+//! Objects inside the world: their steps are events on object words of the table, and every run of
+//! them is linearizable.
 #![tactic(auto)]
 
 mod cell;

@@ -6,8 +6,8 @@ ghost use Rattle.core_objects.specs.LogPasses.{FitsLog};
 use book_base::{MAX_CALLERS, MAX_CALLS, NoMemory, OpWord, SeqObject, State};
 use std::alloc::Global;
 
-/// What one caller holds to ask the log: whose it is, for how many callers and calls, and what the caller knows of
-/// the log.
+/// What one caller holds to ask the log: whose it is, for how many callers and calls, and what the
+/// caller knows of the log.
 #[derive(Drop)]
 pub struct CorePass {
     pub(crate) caller: u32,
@@ -30,7 +30,8 @@ fn pass_for<S: SeqObject>(
 ) -> Result<CorePass, NoMemory>
     requires few_callers { n ≤ MAX_CALLERS }
     requires few_calls { cap ≤ MAX_CALLS }
-    ensures { IfOk result (λ pass. FitsLog (S.init object.now) (S.next object.now) pass caller n cap []) }
+    ensures { IfOk result
+        (λ pass. FitsLog (S.init object.now) (S.next object.now) pass caller n cap []) }
 {
     let places = u64::from(n) * cap;
     let tickets = Vec::with_capacity(alloc, places as usize)?;
@@ -56,7 +57,8 @@ pub(crate) fn log_passes_for<S: SeqObject>(
 ) -> Result<Vec<CorePass>, NoMemory>
     requires few_callers { n ≤ MAX_CALLERS }
     requires few_calls { cap ≤ MAX_CALLS }
-    ensures { IfOk result (λ passes. ArePassesFor (FitsLog (S.init object.now) (S.next object.now)) n cap passes.items) }
+    ensures { IfOk result (λ passes.
+        ArePassesFor (FitsLog (S.init object.now) (S.next object.now)) n cap passes.items) }
 {
     let mut passes = Vec::with_capacity(alloc, n as usize)?;
     for caller in 0..n {

@@ -20,21 +20,24 @@ pub(crate) fn store_operation<S: SeqObject + Copy>(
     number: u64,
 )
     requires words { HasLogWords rows.now }
-    requires caller { IsCallerOf ⟦<LogProgram<S> as Program>⟧.meaning rows.now (caller_announced announced.old) }
+    requires caller { IsCallerOf ⟦<LogProgram<S> as Program>⟧.meaning rows.now
+        (caller_announced announced.old) }
     requires number { number ≡ number_on rows.now announced.old }
     requires first { steps_now (announced_local announced.old) ≡ [] }
-    ensures made { HasMade ⟦<LogProgram<S> as Program>⟧.meaning rows.now announced.old announced.new }
+    ensures made { HasMade ⟦<LogProgram<S> as Program>⟧.meaning rows.now announced.old
+        announced.new }
     ensures stored { HasStored rows.now announced.new }
     ensures unplaced { place_on rows.now announced.new ≡ None }
-    ensures tickets { (tickets : List ℕ) → KnowsPlaces rows.now announced.old tickets → KnowsPlaces rows.now announced.new tickets }
+    ensures tickets { (tickets : List ℕ) → KnowsPlaces rows.now announced.old tickets
+        → KnowsPlaces rows.now announced.new tickets }
 {
     let op = announced.op();
     announced.object_store(rows, 2 * number, low(op));
     announced.object_store(rows, 2 * number + 1, high(op));
 }
 
-// Exchanges 0 for the ticket of the call at the first place that isn't known to be filled. It answers the ticket
-// that stands there then.
+// Exchanges 0 for the ticket of the call at the first place that isn't known to be filled. It
+// answers the ticket that stands there then.
 fn try_place<S: SeqObject + Copy>(
     rows: &Rows<LogProgram<S>>,
     announced: &mut Announced<LogProgram<S>>,
@@ -43,14 +46,16 @@ fn try_place<S: SeqObject + Copy>(
     number: u64,
 ) -> u64
     requires words { HasLogWords rows.now }
-    requires caller { IsCallerOf ⟦<LogProgram<S> as Program>⟧.meaning rows.now (caller_announced announced.old) }
+    requires caller { IsCallerOf ⟦<LogProgram<S> as Program>⟧.meaning rows.now
+        (caller_announced announced.old) }
     requires places { places ≡ places_on rows.now }
     requires number { number ≡ number_on rows.now announced.old }
     requires stored { HasStored rows.now announced.old }
     requires unplaced { place_on rows.now announced.old ≡ None }
     requires tickets { KnowsPlaces rows.now announced.old tickets.now }
     requires place { length tickets.now < places }
-    ensures stepped { (found : ℕ) × HasStepped ⟦<LogProgram<S> as Program>⟧.meaning rows.now announced.old announced.new
+    ensures stepped { (found : ℕ)
+        × HasStepped ⟦<LogProgram<S> as Program>⟧.meaning rows.now announced.old announced.new
         (record { place = ticket_place places (length tickets.now); old = found; new = result }) }
     ensures filled { 0 < result }
 {
@@ -61,8 +66,8 @@ fn try_place<S: SeqObject + Copy>(
     }
 }
 
-// Places the ticket of the call in the log, place by place from the first that isn't known to be filled. The
-// tickets that are there, up to its own, come to those that are known.
+// Places the ticket of the call in the log, place by place from the first that isn't known to be
+// filled. The tickets that are there, up to its own, come to those that are known.
 pub(crate) fn place_ticket<S: SeqObject + Copy>(
     rows: &Rows<LogProgram<S>>,
     announced: &mut Announced<LogProgram<S>>,
@@ -71,14 +76,16 @@ pub(crate) fn place_ticket<S: SeqObject + Copy>(
     number: u64,
 )
     requires words { HasLogWords rows.now }
-    requires caller { IsCallerOf ⟦<LogProgram<S> as Program>⟧.meaning rows.now (caller_announced announced.old) }
+    requires caller { IsCallerOf ⟦<LogProgram<S> as Program>⟧.meaning rows.now
+        (caller_announced announced.old) }
     requires places { places ≡ places_on rows.now }
     requires number { number ≡ number_on rows.now announced.old }
     requires stored { HasStored rows.now announced.old }
     requires unplaced { place_on rows.now announced.old ≡ None }
     requires tickets { KnowsPlaces rows.now announced.old tickets.old.items }
     requires capacity { places ≤ vec_capacity tickets.old }
-    ensures made { HasMade ⟦<LogProgram<S> as Program>⟧.meaning rows.now announced.old announced.new }
+    ensures made { HasMade ⟦<LogProgram<S> as Program>⟧.meaning rows.now announced.old
+        announced.new }
     ensures stored { HasStored rows.now announced.new }
     ensures placed { HasPlaced rows.now announced.new tickets.new.items }
     ensures tickets { KnowsPlaces rows.now announced.new tickets.new.items }
@@ -103,10 +110,13 @@ fn load_operation<S: SeqObject + Copy>(
     named: u64,
 ) -> OpWord
     requires words { HasLogWords rows.now }
-    requires caller { IsCallerOf ⟦<LogProgram<S> as Program>⟧.meaning rows.now (caller_announced announced.old) }
+    requires caller { IsCallerOf ⟦<LogProgram<S> as Program>⟧.meaning rows.now
+        (caller_announced announced.old) }
     requires named { MayLoad rows.now announced.old named }
-    ensures made { HasMade ⟦<LogProgram<S> as Program>⟧.meaning rows.now announced.old announced.new }
-    ensures tickets { (tickets : List ℕ) → KnowsPlaces rows.now announced.old tickets → KnowsPlaces rows.now announced.new tickets }
+    ensures made { HasMade ⟦<LogProgram<S> as Program>⟧.meaning rows.now announced.old
+        announced.new }
+    ensures tickets { (tickets : List ℕ) → KnowsPlaces rows.now announced.old tickets
+        → KnowsPlaces rows.now announced.new tickets }
     ensures operation { KnowsOperation announced.new named result }
 {
     let low = announced.object_load(rows, 2 * named);
@@ -122,13 +132,15 @@ pub(crate) fn load_operations<S: SeqObject + Copy>(
     log: &mut Vec<OpWord>,
 )
     requires words { HasLogWords rows.now }
-    requires caller { IsCallerOf ⟦<LogProgram<S> as Program>⟧.meaning rows.now (caller_announced announced.old) }
+    requires caller { IsCallerOf ⟦<LogProgram<S> as Program>⟧.meaning rows.now
+        (caller_announced announced.old) }
     requires tickets { KnowsPlaces rows.now announced.old tickets.now }
     requires placed { HasPlaced rows.now announced.old tickets.now }
     requires log { KnowsLog rows.now announced.old log.old.items }
     requires fewer { length log.old.items < length tickets.now }
     requires capacity { places_on rows.now ≤ vec_capacity log.old }
-    ensures made { HasMade ⟦<LogProgram<S> as Program>⟧.meaning rows.now announced.old announced.new }
+    ensures made { HasMade ⟦<LogProgram<S> as Program>⟧.meaning rows.now announced.old
+        announced.new }
     ensures tickets { KnowsPlaces rows.now announced.new tickets.now }
     ensures log { KnowsLog rows.now announced.new log.new.items }
     ensures before { take (length log.old.items) log.new.items ≡ log.old.items }

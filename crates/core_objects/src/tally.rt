@@ -14,8 +14,8 @@ use seq_objects::{Counter, value_reply};
 use std::alloc::Global;
 use world_core::{InWorld, Program};
 
-/// The program of the tally: an increment makes one addition of 1 on the one object word, and nothing else makes
-/// a step.
+/// The program of the tally: an increment makes one addition of 1 on the one object word, and
+/// nothing else makes a step.
 #[derive(Clone, Copy, Debug, PartialEq, Eq)]
 pub struct TallyProgram;
 

@@ -29,21 +29,26 @@ use Rattle.run_report.specs.Reporting.{IsReportOf}
 use Rattle.core_runs.specs.LoggedReports.{phases_in, calls_of_lines, ReportsOfLogsAreLogged, ReportsOfTalliesAreFormed, ReportsOfCellsAreFormed}
 
 -- calls that are in one log are so under another count of callers and another name
-logged_as : (answer : List Entry → ℕ) (n m : ℕ) (phases : ℕ → ℕ) (calls others : ℕ → List Made) → m ≡ n → ((i : ℕ) → calls i ≡ others i)
+logged_as : (answer : List Entry → ℕ) (n m : ℕ) (phases : ℕ → ℕ) (calls others : ℕ → List Made)
+    → m ≡ n → ((i : ℕ) → calls i ≡ others i)
     → IsLoggedBy answer n phases calls → IsLoggedBy answer m phases others
 logged_as answer n m phases calls others same are h =
     record {
       log = h.log;
       callers = subst (λ (k : ℕ). All (λ (e : Entry). e.caller < k) h.log) (sym same) h.callers;
-      entries = λ i low. h.entries i (omega (arith, low, same)) ∙ ap (λ (cs : List Made). take (asked (phases i)) (operations_of cs)) (are i);
+      entries = λ i low. h.entries i (omega (arith, low, same))
+          ∙ ap (λ (cs : List Made). take (asked (phases i)) (operations_of cs)) (are i);
       replies = λ i low. h.replies i (omega (arith, low, same)) ∙ ap answers_in (are i);
     }
 
-formed_as : (form : ℕ → ℕ → Type 0) (n m : ℕ) (calls others : ℕ → List Made) → m ≡ n → ((i : ℕ) → calls i ≡ others i) → AreFormed form n calls → AreFormed form m others
+formed_as : (form : ℕ → ℕ → Type 0) (n m : ℕ) (calls others : ℕ → List Made) → m ≡ n
+    → ((i : ℕ) → calls i ≡ others i) → AreFormed form n calls → AreFormed form m others
 formed_as form n m calls others same are h i low =
-    subst (λ (cs : List Made). All (λ (pair : ℕ × ℕ). form pair.0 pair.1) (answers_in cs)) (are i) (h i (omega (arith, low, same)))
+    subst (λ (cs : List Made). All (λ (pair : ℕ × ℕ). form pair.0 pair.1) (answers_in cs)) (are i)
+    (h i (omega (arith, low, same)))
 
-module _ (first : List ℕ) (step : List ℕ → ℕ → List ℕ × ℕ) (s : Shape) (locals : List Local) (plan : Plan) (allotments : List ℕ) (findings : Findings)
+module _ (first : List ℕ) (step : List ℕ → ℕ → List ℕ × ℕ) (s : Shape) (locals : List Local)
+    (plan : Plan) (allotments : List ℕ) (findings : Findings)
     (is : IsReportOf first step s locals plan allotments findings) where
   -- the calls of the locals are those of the lines
   calls_are : (i : ℕ) → calls_in (local_at locals i) ≡ calls_of_lines findings i
@@ -52,49 +57,73 @@ module _ (first : List ℕ) (step : List ℕ → ℕ → List ℕ × ℕ) (s : S
       ∙ ap (λ (all : List (List Made)). slice_index_or all i []) (sym is.lines.calls)
       ∙ get_or-map (λ (own : List Line). map made_of own) findings.lines i []
 
-  have_made : HaveMadePhases s (operations_at plan.operations) (phases_in allotments findings) locals
+  have_made : HaveMadePhases s (operations_at plan.operations)
+      (phases_in allotments findings) locals
   have_made = record { together = is.together; made = is.made }
 
 pub reports_of_logs_are_logged : ReportsOfLogsAreLogged
 reports_of_logs_are_logged init next first step n cap locals plan allotments findings is =
     let s : Shape = log_shape init next n cap in
-    logged_as (last_reply next init) n (length findings.lines) (phases_in allotments findings) (λ i. calls_in (local_at locals i)) (calls_of_lines findings) is.lawful.callers
+    logged_as (last_reply next init) n (length findings.lines) (phases_in allotments findings)
+    (λ i. calls_in (local_at locals i)) (calls_of_lines findings) is.lawful.callers
     (calls_are first step s locals plan allotments findings is)
-    (runs_of_logs_are_logged init next n cap (operations_at plan.operations) (phases_in allotments findings) locals (have_made first step s locals plan allotments findings is) is.asked)
+    (runs_of_logs_are_logged init next n cap (operations_at plan.operations)
+    (phases_in allotments findings) locals
+    (have_made first step s locals plan allotments findings is) is.asked)
 
 pub reports_of_tallies_are_formed : ReportsOfTalliesAreFormed
 reports_of_tallies_are_formed first step n cap locals plan allotments findings is =
     let s : Shape = one_word_shape n cap tally in
-    formed_as IsTallyReply n (length findings.lines) (λ i. calls_in (local_at locals i)) (calls_of_lines findings) is.lawful.callers
+    formed_as IsTallyReply n (length findings.lines) (λ i. calls_in (local_at locals i))
+    (calls_of_lines findings) is.lawful.callers
     (calls_are first step s locals plan allotments findings is)
-    (runs_of_tallies_are_formed n cap (operations_at plan.operations) (phases_in allotments findings) locals (have_made first step s locals plan allotments findings is))
+    (runs_of_tallies_are_formed n cap (operations_at plan.operations)
+    (phases_in allotments findings) locals
+    (have_made first step s locals plan allotments findings is))
 
 pub reports_of_cells_are_formed : ReportsOfCellsAreFormed
 reports_of_cells_are_formed first step n cap locals plan allotments findings is =
     let s : Shape = one_word_shape n cap cell in
-    formed_as IsCellReply n (length findings.lines) (λ i. calls_in (local_at locals i)) (calls_of_lines findings) is.lawful.callers
+    formed_as IsCellReply n (length findings.lines) (λ i. calls_in (local_at locals i))
+    (calls_of_lines findings) is.lawful.callers
     (calls_are first step s locals plan allotments findings is)
-    (runs_of_cells_are_formed n cap (operations_at plan.operations) (phases_in allotments findings) locals (have_made first step s locals plan allotments findings is))
+    (runs_of_cells_are_formed n cap (operations_at plan.operations) (phases_in allotments findings)
+    locals (have_made first step s locals plan allotments findings is))
 
 -- A report of callers on rows that were opened with a program is one of the world of that program.
-module _ {P : Type 0} (meaning : P → ℕ → ℕ → Meaning) (program : P) (r : Rows P) (opened : AreOpenedWith meaning program r) (first : List ℕ) (step : List ℕ → ℕ → List ℕ × ℕ)
-    (locals : List Local) (plan : Plan) (allotments : List ℕ) (findings : Findings) (is : IsReportOf first step (shape_of meaning r) locals plan allotments findings) where
-  pub on_opened_rows : IsReportOf first step (shape_with (meaning program) r.callers r.cap) locals plan allotments findings
-  on_opened_rows = subst (λ (p : P). IsReportOf first step (shape_with (meaning p) r.callers r.cap) locals plan allotments findings) opened.program_is is
+module _ {P : Type 0} (meaning : P → ℕ → ℕ → Meaning) (program : P) (r : Rows P)
+    (opened : AreOpenedWith meaning program r) (first : List ℕ) (step : List ℕ → ℕ → List ℕ × ℕ)
+    (locals : List Local) (plan : Plan) (allotments : List ℕ) (findings : Findings)
+    (is : IsReportOf first step (shape_of meaning r) locals plan allotments findings) where
+  pub on_opened_rows : IsReportOf first step
+      (shape_with (meaning program) r.callers r.cap) locals plan allotments findings
+  on_opened_rows = subst (λ (p : P). IsReportOf first step
+      (shape_with (meaning p) r.callers r.cap) locals plan allotments findings) opened.program_is is
 
   -- so what the laws say of it holds by what the program means
-  pub opened_log_is_logged : (init : List ℕ) (next : List ℕ → ℕ → List ℕ × ℕ) → ((n cap : ℕ) → meaning program n cap ≡ log_program init next n cap)
-      → IsLoggedBy (last_reply next init) (length findings.lines) (phases_in allotments findings) (calls_of_lines findings)
+  pub opened_log_is_logged : (init : List ℕ) (next : List ℕ → ℕ → List ℕ × ℕ)
+      → ((n cap : ℕ) → meaning program n cap ≡ log_program init next n cap)
+      → IsLoggedBy (last_reply next init) (length findings.lines) (phases_in allotments findings)
+      (calls_of_lines findings)
   opened_log_is_logged init next means =
-      reports_of_logs_are_logged init next first step r.callers r.cap locals plan allotments findings
-      (subst (λ (m : Meaning). IsReportOf first step (record { callers = r.callers; cap = r.cap; program = m }) locals plan allotments findings) (means r.callers r.cap) on_opened_rows)
+      reports_of_logs_are_logged init next first step r.callers r.cap locals plan
+      allotments findings
+      (subst (λ (m : Meaning). IsReportOf first step
+      (record { callers = r.callers; cap = r.cap; program = m }) locals plan allotments findings)
+      (means r.callers r.cap) on_opened_rows)
 
-  pub opened_tally_is_formed : ((n cap : ℕ) → meaning program n cap ≡ one_word_program tally) → AreFormed IsTallyReply (length findings.lines) (calls_of_lines findings)
+  pub opened_tally_is_formed : ((n cap : ℕ) → meaning program n cap ≡ one_word_program tally)
+      → AreFormed IsTallyReply (length findings.lines) (calls_of_lines findings)
   opened_tally_is_formed means =
       reports_of_tallies_are_formed first step r.callers r.cap locals plan allotments findings
-      (subst (λ (m : Meaning). IsReportOf first step (record { callers = r.callers; cap = r.cap; program = m }) locals plan allotments findings) (means r.callers r.cap) on_opened_rows)
+      (subst (λ (m : Meaning). IsReportOf first step
+      (record { callers = r.callers; cap = r.cap; program = m }) locals plan allotments findings)
+      (means r.callers r.cap) on_opened_rows)
 
-  pub opened_cell_is_formed : ((n cap : ℕ) → meaning program n cap ≡ one_word_program cell) → AreFormed IsCellReply (length findings.lines) (calls_of_lines findings)
+  pub opened_cell_is_formed : ((n cap : ℕ) → meaning program n cap ≡ one_word_program cell)
+      → AreFormed IsCellReply (length findings.lines) (calls_of_lines findings)
   opened_cell_is_formed means =
       reports_of_cells_are_formed first step r.callers r.cap locals plan allotments findings
-      (subst (λ (m : Meaning). IsReportOf first step (record { callers = r.callers; cap = r.cap; program = m }) locals plan allotments findings) (means r.callers r.cap) on_opened_rows)
+      (subst (λ (m : Meaning). IsReportOf first step
+      (record { callers = r.callers; cap = r.cap; program = m }) locals plan allotments findings)
+      (means r.callers r.cap) on_opened_rows)

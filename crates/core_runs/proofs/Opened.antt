@@ -8,17 +8,24 @@ use Rattle.core_objects.specs.CoreObjects.{shape_with, AreOpenedWith, ArePassesF
 
 module _ {P : Type 0} (r : Rows P) (n cap : ℕ) (callers : r.callers ≡ n) (most : r.cap ≡ cap) where
   -- rows that were opened with a program were opened with the object's, where it is the same
-  pub opened_with : (meaning : P → ℕ → ℕ → Meaning) (p q : P) → r.program ≡ p → r.objects ≡ (meaning p n cap).objects → p ≡ q → AreOpenedWith meaning q r
+  pub opened_with : (meaning : P → ℕ → ℕ → Meaning) (p q : P) → r.program ≡ p
+      → r.objects ≡ (meaning p n cap).objects → p ≡ q → AreOpenedWith meaning q r
   opened_with meaning p q program objects same = record {
     program_is = program ∙ same;
-    objects = objects ∙ ap (λ (x : P). (meaning x n cap).objects) same ∙ ap (λ (k : ℕ). (meaning q k cap).objects) (sym callers) ∙ ap (λ (k : ℕ). (meaning q r.callers k).objects) (sym most);
+    objects = objects ∙ ap (λ (x : P). (meaning x n cap).objects) same
+        ∙ ap (λ (k : ℕ). (meaning q k cap).objects) (sym callers)
+        ∙ ap (λ (k : ℕ). (meaning q r.callers k).objects) (sym most);
   }
 
   -- passes for as many callers and this cap are passes for these rows
-  pub passes_for_rows : {T : Type 0} (fits : T → ℕ → ℕ → ℕ → List Object_step → Type 0) (passes : List T) → ArePassesFor fits n cap passes → ArePassesFor fits r.callers r.cap passes
+  pub passes_for_rows : {T : Type 0} (fits : T → ℕ → ℕ → ℕ → List Object_step → Type 0)
+      (passes : List T) → ArePassesFor fits n cap passes → ArePassesFor fits r.callers r.cap passes
   passes_for_rows fits passes h =
-      subst (λ (k : ℕ). ArePassesFor fits k r.cap passes) (sym callers) (subst (λ (k : ℕ). ArePassesFor fits n k passes) (sym most) h)
+      subst (λ (k : ℕ). ArePassesFor fits k r.cap passes) (sym callers)
+      (subst (λ (k : ℕ). ArePassesFor fits n k passes) (sym most) h)
 
   -- the shape of their world, by the program that they were opened with
-  pub shape_opened_with : (meaning : P → ℕ → ℕ → Meaning) (program : P) → r.program ≡ program → shape_of meaning r ≡ shape_with (meaning program) n cap
-  shape_opened_with meaning program own = λ i. record { callers = callers i; cap = most i; program = meaning (own i) (callers i) (most i) }
+  pub shape_opened_with : (meaning : P → ℕ → ℕ → Meaning) (program : P) → r.program ≡ program
+      → shape_of meaning r ≡ shape_with (meaning program) n cap
+  shape_opened_with meaning program own = λ i.
+      record { callers = callers i; cap = most i; program = meaning (own i) (callers i) (most i) }

@@ -10,6 +10,7 @@ use Rattle.call_phases.specs.Asking.{Fits}
 abbrev pub fits_inside : {T : Type 0} → (T → ℕ → ℕ → ℕ → List Object_step → Type 0) → Fits T
 fits_inside fits n cap pass who steps = fits pass who n cap steps
 
--- An object inside the world serves just the callers of the rows on which it makes its steps, which were opened with its program.
+-- An object inside the world serves just the callers of the rows on which it makes its steps, which
+-- were opened with its program.
 abbrev pub Serves : {P : Type 0} → (P → ℕ → ℕ → Meaning) → P → Rows P → Rows P → Type 0
 Serves meaning program own r = (own ≡ r) × AreOpenedWith meaning program own

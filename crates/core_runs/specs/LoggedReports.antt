@@ -21,23 +21,29 @@ phases_in allotments findings i = phases_of (slice_index allotments i) (lines_at
 abbrev pub calls_of_lines : Findings → ℕ → List Made
 calls_of_lines findings i = map made_of (lines_at findings.lines i)
 
--- The calls of a report over the log of a sequential object are in one log, and its answers are that object's, whatever the calls are
--- judged by.
+-- The calls of a report over the log of a sequential object are in one log, and its answers are
+-- that object's, whatever the calls are judged by.
 abbrev pub ReportsOfLogsAreLogged : Type 0
 ReportsOfLogsAreLogged =
-    (init : List ℕ) (next : List ℕ → ℕ → List ℕ × ℕ) (first : List ℕ) (step : List ℕ → ℕ → List ℕ × ℕ) (n cap : ℕ) (locals : List Local) (plan : Plan) (allotments : List ℕ) (findings : Findings)
+    (init : List ℕ) (next : List ℕ → ℕ → List ℕ × ℕ) (first : List ℕ)
+    (step : List ℕ → ℕ → List ℕ × ℕ) (n cap : ℕ) (locals : List Local) (plan : Plan)
+    (allotments : List ℕ) (findings : Findings)
     → IsReportOf first step (log_shape init next n cap) locals plan allotments findings
-    → IsLoggedBy (last_reply next init) (length findings.lines) (phases_in allotments findings) (calls_of_lines findings)
+    → IsLoggedBy (last_reply next init) (length findings.lines) (phases_in allotments findings)
+    (calls_of_lines findings)
 
--- The reply of each answered call of a report over a tally has a tally's form, and over a cell a cell's.
+-- The reply of each answered call of a report over a tally has a tally's form, and over a cell a
+-- cell's.
 abbrev pub ReportsOfTalliesAreFormed : Type 0
 ReportsOfTalliesAreFormed =
-    (first : List ℕ) (step : List ℕ → ℕ → List ℕ × ℕ) (n cap : ℕ) (locals : List Local) (plan : Plan) (allotments : List ℕ) (findings : Findings)
+    (first : List ℕ) (step : List ℕ → ℕ → List ℕ × ℕ) (n cap : ℕ) (locals : List Local)
+    (plan : Plan) (allotments : List ℕ) (findings : Findings)
     → IsReportOf first step (one_word_shape n cap tally) locals plan allotments findings
     → AreFormed IsTallyReply (length findings.lines) (calls_of_lines findings)
 
 abbrev pub ReportsOfCellsAreFormed : Type 0
 ReportsOfCellsAreFormed =
-    (first : List ℕ) (step : List ℕ → ℕ → List ℕ × ℕ) (n cap : ℕ) (locals : List Local) (plan : Plan) (allotments : List ℕ) (findings : Findings)
+    (first : List ℕ) (step : List ℕ → ℕ → List ℕ × ℕ) (n cap : ℕ) (locals : List Local)
+    (plan : Plan) (allotments : List ℕ) (findings : Findings)
     → IsReportOf first step (one_word_shape n cap cell) locals plan allotments findings
     → AreFormed IsCellReply (length findings.lines) (calls_of_lines findings)

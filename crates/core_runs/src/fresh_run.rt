@@ -21,12 +21,12 @@ use row_table::Rows;
 use std::alloc::Global;
 use std::thread::Threads;
 
-/// Runs all callers of a script over an object inside the world, each in a thread of its own where one can be had,
-/// and answers their report, which is lawful and has no error line. The table of rows is opened for the run, with
-/// this cap: how many calls each caller may make.
+/// Runs all callers of a script over an object inside the world, each in a thread of its own where
+/// one can be had, and answers their report, which is lawful and has no error line. The table of
+/// rows is opened for the run, with this cap: how many calls each caller may make.
 ///
-/// Each caller has its pass, with which nothing was asked yet. Want of memory is answered before the first call,
-/// or where a judgement wanted it.
+/// Each caller has its pass, with which nothing was asked yet. Want of memory is answered before
+/// the first call, or where a judgement wanted it.
 pub fn run_core_fresh<R: Threads + Sync, O: CoreObject + Sync>(
     rt: &R,
     alloc: Global,
@@ -47,7 +47,8 @@ where
     requires calls { AreAtMost cap (sizes script.now.operations) }
     // There is one pass for each caller of the script, in order, which fits the caller, the number
     // of callers, the cap, and no object steps.
-    requires passes { ArePassesFor (O.fits object.now) (length script.now.operations) cap passes.old.items }
+    requires passes { ArePassesFor (O.fits object.now)
+        (length script.now.operations) cap passes.old.items }
     // A report is of the script's kind, and its lines are those of the locals of some reachable
     // world of the object's program; they are lawful, and each caller has made just the phases that
     // its lines tell of.

@@ -12,8 +12,8 @@ use core_objects::CoreObject;
 use drv_wrapper::{Announced, Answered};
 use row_table::Rows;
 
-/// An object inside the world, with the rows on which its callers make its steps: each caller asks it by its own
-/// pass.
+/// An object inside the world, with the rows on which its callers make its steps: each caller asks
+/// it by its own pass.
 #[derive(Drop)]
 pub struct InsideObject<'a, O: CoreObject> {
     pub object: &'a O,
@@ -31,15 +31,21 @@ impl<O: CoreObject> Asks for InsideObject<'_, O> {
 
     fn ask(&self, announced: Announced<O::P>, pass: &mut O::Pass) -> Answered<O::P>
         // The caller is one of some table of rows that this object serves, opened with its program.
-        requires table { (r : TheRows O.P) × Serves O.P.meaning (O.program_of self.now.object.now) self.now.rows.now r × IsCallerOf O.P.meaning r (caller_announced announced) }
+        requires table { (r : TheRows O.P)
+            × Serves O.P.meaning (O.program_of self.now.object.now) self.now.rows.now r
+            × IsCallerOf O.P.meaning r (caller_announced announced) }
         // The announced call has made no object step.
         requires first { steps_now (announced_local announced) ≡ [] }
         // The pass fits the caller of the announced call.
-        requires fits { FitsCaller (fits_inside (O.fits self.now.object.now)) pass.old (caller_announced announced) }
+        requires fits { FitsCaller (fits_inside (O.fits self.now.object.now)) pass.old
+            (caller_announced announced) }
         // The answered call is of the same caller.
         ensures who { who_of (caller_answered result) ≡ who_announced announced }
         // The caller is still one of each table that it was one of, and that this object serves.
-        ensures rows { (r : TheRows O.P) → Serves O.P.meaning (O.program_of self.now.object.now) self.now.rows.now r → IsCallerOf O.P.meaning r (caller_announced announced) → IsCallerOf O.P.meaning r (caller_answered result) }
+        ensures rows { (r : TheRows O.P)
+            → Serves O.P.meaning (O.program_of self.now.object.now) self.now.rows.now r
+            → IsCallerOf O.P.meaning r (caller_announced announced)
+            → IsCallerOf O.P.meaning r (caller_answered result) }
         // The answered call has the announced operation.
         ensures operation { op_answered result ≡ op_announced announced }
         // The program allows the caller the reply, by its local.
@@ -49,7 +55,8 @@ impl<O: CoreObject> Asks for InsideObject<'_, O> {
         // The caller's local has each look, peek and cut that it had before.
         ensures grows { Grows (announced_local announced) (answered_local result) }
         // The pass fits the caller of the answered call.
-        ensures fits { FitsCaller (fits_inside (O.fits self.now.object.now)) pass.new (caller_answered result) }
+        ensures fits { FitsCaller (fits_inside (O.fits self.now.object.now)) pass.new
+            (caller_answered result) }
     {
         self.object.ask(self.rows, announced, pass)
     }

@@ -1,9 +1,10 @@
-//! What a report says of the object inside the world that answered its callers. Each law is the contract of a
-//! function with nothing in it.
+//! What a report says of the object inside the world that answered its callers. Each law is the
+//! contract of a function with nothing in it.
 
 ghost use Rattle.core_runs.specs.LoggedReports.{ReportsOfLogsAreLogged, ReportsOfTalliesAreFormed, ReportsOfCellsAreFormed};
 
-/// The calls of a report over the log of a sequential object are in one log, from which all of them were answered.
+/// The calls of a report over the log of a sequential object are in one log, from which all of them
+/// were answered.
 pub fn reports_of_logs_are_logged()
     ensures { ReportsOfLogsAreLogged }
 {}

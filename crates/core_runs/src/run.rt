@@ -19,15 +19,17 @@ use run_report::run_asked;
 use std::alloc::Global;
 use std::thread::Threads;
 
-/// Runs all callers of a script, each in a thread of its own where one can be had: each asks an object inside the
-/// world by its pass, with the object's steps as events of the same world, and judges each of its calls by the
-/// sequential object. The answer is their report, which is lawful, and no line of which is an error, since every
-/// run of the object's program is linearizable (Herlihy and Wing 1990).
+/// Runs all callers of a script, each in a thread of its own where one can be had: each asks an
+/// object inside the world by its pass, with the object's steps as events of the same world, and
+/// judges each of its calls by the sequential object. The answer is their report, which is lawful,
+/// and no line of which is an error, since every run of the object's program is linearizable
+/// (Herlihy and Wing 1990).
 ///
-/// Whatever the answer, the bench holds all callers again, the passes are in their order and fit the object steps
-/// that their callers have made, and each caller has made a prefix of its phases: all of them where a
-/// report is answered, and there each caller that stopped between two calls, or made all of them, stands free for
-/// its next call. Want of memory is answered before the first call, or where a judgement wanted it.
+/// Whatever the answer, the bench holds all callers again, the passes are in their order and fit
+/// the object steps that their callers have made, and each caller has made a prefix of its phases:
+/// all of them where a report is answered, and there each caller that stopped between two calls, or
+/// made all of them, stands free for its next call. Want of memory is answered before the first
+/// call, or where a judgement wanted it.
 pub fn run_core<R: Threads + Sync, O: CoreObject + Sync>(
     rt: &R,
     alloc: Global,
@@ -48,7 +50,8 @@ where
     requires begins { MayBegin O.P.meaning script.now 0 rows.now bench.old }
     // There is one pass for each caller of the rows, in order, which fits the caller, the number of
     // callers, the cap, and no object steps.
-    requires passes { ArePassesFor (O.fits object.now) rows.now.callers rows.now.cap passes.old.items }
+    requires passes { ArePassesFor (O.fits object.now) rows.now.callers rows.now.cap
+        passes.old.items }
     // For every answer.
     // The bench is still one of these rows, and holds all their callers.
     ensures bench { IsBenchOf O.P.meaning rows.now bench.new × HoldsAll bench.new }
@@ -58,14 +61,16 @@ where
     // that it has made, and has made a prefix of its phases: at most as many as the script gives
     // it.
     ensures back { (i : ℕ) → i < length script.now.operations → IsBackOn O.P.meaning rows.now
-        (fits_inside (O.fits object.now)) (λ pass. None) script.now.operations (run_allotments script.now)
+        (fits_inside (O.fits object.now)) (λ pass. None) script.now.operations
+        (run_allotments script.now)
         bench.new passes.new.items i }
     // Where a report is answered.
     // The report is of the script's kind, and its lines are those of the locals on the bench, which
     // are of one reachable world; they are lawful, and each caller has made just the phases that
     // its lines tell of.
     ensures report { IfOk result (λ report. IsReportOf (O.S.init (O.sequential_of object.now))
-        (O.S.next (O.sequential_of object.now)) (shape_of O.P.meaning rows.now) (locals_on bench.new) script.now
+        (O.S.next (O.sequential_of object.now)) (shape_of O.P.meaning rows.now)
+        (locals_on bench.new) script.now
         (run_allotments script.now) report) }
     // By a report, each caller whose lines have no error and tell that it stopped between two
     // calls, or made all of them, stands free for its next call.

@@ -8,16 +8,21 @@ use Rattle.drv_wrapper.specs.Growth.{Grows}
 
 Contains-suffix : {X : Type 0} (more xs : List X) (x : X) → Contains xs x → Contains (more ++ xs) x
 Contains-suffix [] xs x h = h
-Contains-suffix (y ∷ more) xs x h = let (k, low, is) = Contains-suffix more xs x h in (suc k, omega arith, is)
+Contains-suffix (y ∷ more) xs x h = let (k, low, is) = Contains-suffix more xs x h in
+    (suc k, omega arith, is)
 
 -- new counts and words stand in front, new cuts at the end
-pub grows_by : (l m : Local) (looks : List Looked) (peeks : List Peeked) (cuts : List Given) → m.looked ≡ looks ++ l.looked → m.peeked ≡ peeks ++ l.peeked → m.cuts ≡ l.cuts ++ cuts
+pub grows_by : (l m : Local) (looks : List Looked) (peeks : List Peeked) (cuts : List Given)
+    → m.looked ≡ looks ++ l.looked → m.peeked ≡ peeks ++ l.peeked → m.cuts ≡ l.cuts ++ cuts
     → Grows l m
 grows_by l m looks peeks cuts looked peeked given =
     record {
-      looked = λ x h. subst (λ (xs : List Looked). Contains xs x) (sym looked) (Contains-suffix looks l.looked x h);
-      peeked = λ x h. subst (λ (xs : List Peeked). Contains xs x) (sym peeked) (Contains-suffix peeks l.peeked x h);
-      cuts = λ place x h. subst (λ (xs : List Given). slice_get xs place ≡ Some x) (sym given) (slice_get-append_within l.cuts cuts place (slice_get_within l.cuts place x h) ∙ h);
+      looked = λ x h. subst (λ (xs : List Looked). Contains xs x) (sym looked)
+          (Contains-suffix looks l.looked x h);
+      peeked = λ x h. subst (λ (xs : List Peeked). Contains xs x) (sym peeked)
+          (Contains-suffix peeks l.peeked x h);
+      cuts = λ place x h. subst (λ (xs : List Given). slice_get xs place ≡ Some x) (sym given)
+          (slice_get-append_within l.cuts cuts place (slice_get_within l.cuts place x h) ∙ h);
     }
 
 pub grows_on : (l m k : Local) → Grows l m → Grows m k → Grows l k

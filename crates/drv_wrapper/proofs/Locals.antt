@@ -9,8 +9,11 @@ use Rattle.world_laws.proofs.Locals.{locals_have_phases}
 use Rattle.collect_scan.proofs.Owning.{view_scans_have_phase}
 
 pub local_has_phase : (s : Shape) (i : ℕ) (l : Local) → IsLocalOf s i l → HasPhase l
-local_has_phase s i l (locals, together, low, is) = subst HasPhase is ((locals_have_phases s locals together).1 i low)
+local_has_phase s i l (locals, together, low, is) =
+    subst HasPhase is ((locals_have_phases s locals together).1 i low)
 
 -- while announcing the view's scan isn't under way
-pub announcing_is_free : (s : Shape) (i : ℕ) (l : Local) → IsLocalOf s i l → l.phase ≡ Announcing → is_view_under_way l.scan ≡ false
-announcing_is_free s i l h phase = view_scans_have_phase s i l h (λ viewing. let e : Announcing ≡ Viewing = sym phase ∙ viewing in absurd cc)
+pub announcing_is_free : (s : Shape) (i : ℕ) (l : Local) → IsLocalOf s i l → l.phase ≡ Announcing
+    → is_view_under_way l.scan ≡ false
+announcing_is_free s i l h phase = view_scans_have_phase s i l h
+    (λ viewing. let e : Announcing ≡ Viewing = sym phase ∙ viewing in absurd cc)

@@ -34,11 +34,13 @@ pub record Announces (n op : ℕ) (l m : Local) : Type 0 where
 pub record Views (n op reply : ℕ) (view : List ℕ) (l m : Local) : Type 0 where
   pub events : HasViewed n reply view l m
   pub recorded : IsRecorded op reply view m
-  pub progress : progress_of m ≡ after_viewing (record { reply = reply; view = view }) (progress_of l)
+  pub progress : progress_of m
+      ≡ after_viewing (record { reply = reply; view = view }) (progress_of l)
   pub grows : Grows l m
 
 -- an announcement, whose scan leaves the local so
-announced_row : (n op : ℕ) (l : Local) (cut : List ℕ) (looks : List Looked) (peeks : List Peeked) → HasPhase l → l.phase ≡ Announcing
+announced_row : (n op : ℕ) (l : Local) (cut : List ℕ) (looks : List Looked) (peeks : List Peeked)
+    → HasPhase l → l.phase ≡ Announcing
     → HasScanned n N Begins_scan cut l (scanned_for_row N cut looks peeks l) → HoldsLooks N cut l
     → Announces n op l (local_announced n op (scanned_for_row N cut looks peeks l))
 announced_row n op l cut looks peeks has phase scan looked =
@@ -46,7 +48,16 @@ announced_row n op l cut looks peeks has phase scan looked =
     let m : Local = local_announced n op (scanned_for_row N cut looks peeks l) in
     let counted : l.announced ≡ l.published = omega (arith, has.announced, calls) in
     record {
-      events = record { cut = cut; scanned = scanned_for_row N cut looks peeks l; scan = scan; is = refl; embedded = refl; given = refl; looked = looked; object_steps = refl };
+      events = record {
+        cut = cut;
+        scanned = scanned_for_row N cut looks peeks l;
+        scan = scan;
+        is = refl;
+        embedded = refl;
+        given = refl;
+        looked = looked;
+        object_steps = refl;
+      };
       asked =
           record {
             asking = refl;
@@ -56,17 +67,23 @@ announced_row n op l cut looks peeks has phase scan looked =
             scan = refl;
           };
       progress = operations_are_calls l m op has phase (announced_account l m op refl refl);
-      grows = grows_by l m looks peeks (record { region = N; cut = cut; since = length l.looked } ∷ []) refl refl refl;
+      grows = grows_by l m looks peeks
+          (record { region = N; cut = cut; since = length l.looked } ∷ []) refl refl refl;
     }
 
 -- of a caller in a reachable world, by how it stood before the scan
-pub announces : (s : Shape) (who op : ℕ) (cut : List ℕ) (stance : Stance) (l scanned m : Local) → IsLocalOf s who l → IsIdle l → stance ≡ ready
-    → HasScanned s.callers N (opening_in (opening_with (Some N) stance.reply)) cut l scanned → HoldsLooks N cut l → m ≡ local_announced s.callers op scanned → Announces s.callers op l m
+pub announces : (s : Shape) (who op : ℕ) (cut : List ℕ) (stance : Stance) (l scanned m : Local)
+    → IsLocalOf s who l → IsIdle l → stance ≡ ready
+    → HasScanned s.callers N (opening_in (opening_with (Some N) stance.reply)) cut l scanned
+    → HoldsLooks N cut l → m ≡ local_announced s.callers op scanned → Announces s.callers op l m
 announces s who op cut stance l scanned m here idle stands scan looked is =
-    let so : HasScanned s.callers N Begins_scan cut l scanned = subst (λ (x : Stance). HasScanned s.callers N (opening_in (opening_with (Some N) x.reply)) cut l scanned) stands scan in
-    let (looks, peeks, leaves) = row_scanned s.callers N cut l scanned (ap (λ (p : Phase). is_staging p N) idle.announcing) idle.unstaged so in
+    let so : HasScanned s.callers N Begins_scan cut l scanned = subst (λ (x : Stance). HasScanned
+    s.callers N (opening_in (opening_with (Some N) x.reply)) cut l scanned) stands scan in
+    let (looks, peeks, leaves) = row_scanned s.callers N cut l scanned
+    (ap (λ (p : Phase). is_staging p N) idle.announcing) idle.unstaged so in
     subst (Announces s.callers op l) (sym (is ∙ ap (local_announced s.callers op) leaves))
-    (announced_row s.callers op l cut looks peeks (local_has_phase s who l here) idle.announcing (subst (HasScanned s.callers N Begins_scan cut l) leaves so) looked)
+    (announced_row s.callers op l cut looks peeks (local_has_phase s who l here) idle.announcing
+    (subst (HasScanned s.callers N Begins_scan cut l) leaves so) looked)
 
 -- the phase is ask where the test says so
 pub asking_is : (p : Phase) → is_asking p ≡ true → p ≡ Asking
@@ -80,7 +97,8 @@ asking_is Judging e = absurd cc
 abbrev with_reply : ℕ → Local → Local
 with_reply reply l = record l { replies = l.replies ++ reply ∷ []; phase = Viewing }
 
-replied_phase : (l : Local) (reply : ℕ) → HasPhase l → l.phase ≡ Asking → HasPhase (with_reply reply l)
+replied_phase : (l : Local) (reply : ℕ) → HasPhase l → l.phase ≡ Asking
+    → HasPhase (with_reply reply l)
 replied_phase l reply has phase =
     let calls : unpublished_calls l.phase ≡ 1 = ap unpublished_calls phase in
     let replies : unpublished_replies l.phase ≡ 0 = ap unpublished_replies phase in
@@ -98,8 +116,10 @@ replied_phase l reply has phase =
     }
 
 -- a view, whose scan leaves the local so
-recorded_view : (n op reply : ℕ) (view : List ℕ) (l : Local) (looks : List Looked) (peeks : List Peeked) → HasPhase l → IsAsked op l
-    → HasScanned n N (Begins_view reply) view l (scanned_for_view reply view looks peeks l) → HoldsLooks N view l
+recorded_view : (n op reply : ℕ) (view : List ℕ) (l : Local) (looks : List Looked)
+    (peeks : List Peeked) → HasPhase l → IsAsked op l
+    → HasScanned n N (Begins_view reply) view l (scanned_for_view reply view looks peeks l)
+    → HoldsLooks N view l
     → Views n op reply view l (scanned_for_view reply view looks peeks l)
 recorded_view n op reply view l looks peeks has asked scan looked =
     let phase : l.phase ≡ Asking = asking_is l.phase asked.asking in
@@ -110,7 +130,14 @@ recorded_view n op reply view l looks peeks has asked scan looked =
     let has_replies : length l.replies ≡ l.published = omega (arith, has.replies, replies) in
     let has_views : length l.views ≡ l.published = omega (arith, has.views, views) in
     record {
-      events = record { scan = scan; replies = refl; views = refl; given = refl; looked = looked; object_steps = refl };
+      events = record {
+        scan = scan;
+        replies = refl;
+        views = refl;
+        given = refl;
+        looked = looked;
+        object_steps = refl;
+      };
       recorded =
           record {
             publishing = refl;
@@ -122,15 +149,23 @@ recorded_view n op reply view l looks peeks has asked scan looked =
           };
       progress =
           views_make_records replied_to m view (replied_phase l reply has phase) refl refl
-          ∙ (λ i. after_viewing (record { reply = get_or_push l.replies reply 0 l.published has_replies i; view = view }) (replies_are_no_records l replied_to reply has phase refl i));
-      grows = grows_by l m looks peeks (record { region = N; cut = view; since = length l.looked } ∷ []) refl refl refl;
+          ∙ (λ i. after_viewing
+          (record { reply = get_or_push l.replies reply 0 l.published has_replies i; view = view })
+          (replies_are_no_records l replied_to reply has phase refl i));
+      grows = grows_by l m looks peeks
+          (record { region = N; cut = view; since = length l.looked } ∷ []) refl refl refl;
     }
 
 -- of a caller in a reachable world, by how it stood before the scan
-pub views : (s : Shape) (who op reply : ℕ) (view : List ℕ) (stance : Stance) (l m : Local) → IsLocalOf s who l → IsAsked op l → stance ≡ replied reply
-    → HasScanned s.callers N (opening_in (opening_with (Some N) stance.reply)) view l m → HoldsLooks N view l → Views s.callers op reply view l m
+pub views : (s : Shape) (who op reply : ℕ) (view : List ℕ) (stance : Stance) (l m : Local)
+    → IsLocalOf s who l → IsAsked op l → stance ≡ replied reply
+    → HasScanned s.callers N (opening_in (opening_with (Some N) stance.reply)) view l m
+    → HoldsLooks N view l → Views s.callers op reply view l m
 views s who op reply view stance l m here asked stands scan looked =
-    let so : HasScanned s.callers N (Begins_view reply) view l m = subst (λ (x : Stance). HasScanned s.callers N (opening_in (opening_with (Some N) x.reply)) view l m) stands scan in
+    let so : HasScanned s.callers N (Begins_view reply) view l m = subst
+    (λ (x : Stance). HasScanned s.callers N (opening_in (opening_with (Some N) x.reply)) view l m)
+    stands scan in
     let (looks, peeks, leaves) = view_scanned s.callers reply view l m so in
     subst (Views s.callers op reply view l) (sym leaves)
-    (recorded_view s.callers op reply view l looks peeks (local_has_phase s who l here) asked (subst (HasScanned s.callers N (Begins_view reply) view l) leaves so) looked)
+    (recorded_view s.callers op reply view l looks peeks (local_has_phase s who l here) asked
+    (subst (HasScanned s.callers N (Begins_view reply) view l) leaves so) looked)

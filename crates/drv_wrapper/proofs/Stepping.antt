@@ -15,8 +15,10 @@ use Rattle.drv_wrapper.proofs.Locals.{local_has_phase}
 use Rattle.drv_wrapper.proofs.Phases.{asking_is}
 
 -- an object step of an announced call, and no other event
-pub has_stepped : {P : Type 0} (meaning : P → ℕ → ℕ → Meaning) (r : Rows P) (a b : Announced P) (step : Object_step) → IsCallerOf meaning r (caller_announced a)
-    → IsStill meaning r (caller_announced a) (caller_announced b) → op_announced b ≡ op_announced a → HasDone r (caller_announced a) (caller_announced b) (Object step)
+pub has_stepped : {P : Type 0} (meaning : P → ℕ → ℕ → Meaning) (r : Rows P) (a b : Announced P)
+    (step : Object_step) → IsCallerOf meaning r (caller_announced a)
+    → IsStill meaning r (caller_announced a) (caller_announced b) → op_announced b ≡ op_announced a
+    → HasDone r (caller_announced a) (caller_announced b) (Object step)
     → HasStepped meaning r a b step
 has_stepped meaning r a b step caller still operation event =
     let l : Local = announced_local a in
@@ -27,6 +29,9 @@ has_stepped meaning r a b step caller still operation event =
       steps = ap (λ (m : Local). m.object_steps) event;
       progress =
           ap progress_of event
-          ∙ object_steps_count r.callers l step (local_has_phase (shape_of meaning r) (who_announced a) l caller.seat.local) (asking_is l.phase a.asked.asking);
-      grows = subst (Grows l) (sym event) (record { looked = λ x h. h; peeked = λ x h. h; cuts = λ place given h. h });
+          ∙ object_steps_count r.callers l step
+          (local_has_phase (shape_of meaning r) (who_announced a) l caller.seat.local)
+          (asking_is l.phase a.asked.asking);
+      grows = subst (Grows l) (sym event)
+          (record { looked = λ x h. h; peeked = λ x h. h; cuts = λ place given h. h });
     }

@@ -7,4 +7,5 @@ use Rattle.world_core.specs.Local.{Local, Given, Looked, Peeked}
 pub record Grows (l m : Local) : Type 0 where
   pub looked : (x : Looked) → Contains l.looked x → Contains m.looked x
   pub peeked : (x : Peeked) → Contains l.peeked x → Contains m.peeked x
-  pub cuts : (place : ℕ) (given : Given) → slice_get l.cuts place ≡ Some given → slice_get m.cuts place ≡ Some given
+  pub cuts : (place : ℕ) (given : Given) → slice_get l.cuts place ≡ Some given
+      → slice_get m.cuts place ≡ Some given

@@ -11,12 +11,16 @@ use Rattle.drv_wrapper.specs.declared.announced.Announced.{Announced}
 use Rattle.drv_wrapper.specs.States.{caller_announced, number_announced, op_announced, announced_local}
 use Rattle.drv_wrapper.specs.Growth.{Grows}
 
--- The announced call b is a after this object step of its caller, and no other event: the step is one of this call, the last of all
--- steps of its caller, and the caller has come no further with its calls.
-pub record HasStepped {P : Type 0} (meaning : P → ℕ → ℕ → Meaning) (r : Rows P) (a b : Announced P) (step : Object_step) : Type 0 where
+-- The announced call b is a after this object step of its caller, and no other event: the step is
+-- one of this call, the last of all steps of its caller, and the caller has come no further with
+-- its calls.
+pub record HasStepped {P : Type 0} (meaning : P → ℕ → ℕ → Meaning) (r : Rows P) (a b : Announced P)
+    (step : Object_step) : Type 0 where
   pub still : IsStill meaning r (caller_announced a) (caller_announced b)
   pub operation : op_announced b ≡ op_announced a
   pub event : HasDone r (caller_announced a) (caller_announced b) (Object step)
-  pub steps : (announced_local b).object_steps ≡ with_step (announced_local a).object_steps (number_announced a) step
-  pub progress : progress_of (announced_local b) ≡ after_stepping step (progress_of (announced_local a))
+  pub steps : (announced_local b).object_steps
+      ≡ with_step (announced_local a).object_steps (number_announced a) step
+  pub progress : progress_of (announced_local b)
+      ≡ after_stepping step (progress_of (announced_local a))
   pub grows : Grows (announced_local a) (announced_local b)

@@ -9,8 +9,8 @@ use world_core::Outside;
 
 /// A call that is announced: its operation stands in the table, and the object is not asked yet.
 ///
-/// It goes on by [`ask`](crate::ask), or ends by `stop`. One that is let go stays announced, and its caller makes no
-/// more steps.
+/// It goes on by [`ask`](crate::ask), or ends by `stop`. One that is let go stays announced, and
+/// its caller makes no more steps.
 #[derive(Drop)]
 pub struct Announced<P = Outside> {
     pub(crate) caller: Caller<P>,
@@ -44,7 +44,8 @@ impl<P> Announced<P> {
         self.caller.made() - 1
     }
 
-    /// The caller, halted, with its local as it is: the call stays announced, and nobody answers it.
+    /// The caller, halted, with its local as it is: the call stays announced, and nobody answers
+    /// it.
     pub fn stop(self) -> Caller<P>
         // The caller has its number and its local, makes no calls, and is still one of its rows.
         ensures { IsStopped (caller_announced self) result }

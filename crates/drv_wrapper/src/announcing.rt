@@ -17,8 +17,9 @@ use row_table::{Caller, Rows, Steps};
 use std::sync::ledger::Ledger;
 use world_core::{Program, Region};
 
-/// Announces a call of a caller: scans N, stages the operation with the cut of this scan in the caller's row of
-/// N, and raises the caller's count there. From then on every view that is taken holds the call.
+/// Announces a call of a caller: scans N, stages the operation with the cut of this scan in the
+/// caller's row of N, and raises the caller's count there. From then on every view that is taken
+/// holds the call.
 ///
 /// The caller is live and idle, and has a call left. It ticks at most as often as one scan.
 pub fn announce<P: Program, L: Ledger>(
@@ -41,14 +42,17 @@ pub fn announce<P: Program, L: Ledger>(
     ensures operation { op_announced result ≡ op }
     // The caller's local is the one before after a scan of N and the row of this operation, with no
     // other event.
-    ensures announced { HasAnnounced rows.now.callers op (local_with caller) (announced_local result) }
+    ensures announced { HasAnnounced rows.now.callers op (local_with caller)
+        (announced_local result) }
     // The caller's calls are those before with the announced one at the end, and its published
     // records are those before.
-    ensures progress { progress_of (announced_local result) ≡ after_announcing op (progress_of (local_with caller)) }
+    ensures progress { progress_of (announced_local result)
+        ≡ after_announcing op (progress_of (local_with caller)) }
     // The caller's local has each look, peek and cut that it had before.
     ensures grows { Grows (local_with caller) (announced_local result) }
     // The counter of steps has risen by at most the most words that a scan takes.
-    ensures ticks { (steps.old ≤ steps.new) × (steps.new ≤ steps.old + most_words rows.now.callers) }
+    ensures ticks { (steps.old ≤ steps.new)
+        × (steps.new ≤ steps.old + most_words rows.now.callers) }
 {
     let cut = scan(rows, &mut caller, Region::N, steps);
     announce_row(rows, &mut caller, op, &cut);

@@ -7,10 +7,11 @@ use book_base::OpWord;
 use row_table::Caller;
 use world_core::Outside;
 
-/// A call that the object has answered: the caller keeps the reply, with which the scan of its view begins.
+/// A call that the object has answered: the caller keeps the reply, with which the scan of its view
+/// begins.
 ///
-/// It goes on by [`view`](crate::view), or ends by `stop`. One that is let go stays announced, and its caller makes
-/// no more steps.
+/// It goes on by [`view`](crate::view), or ends by `stop`. One that is let go stays announced, and
+/// its caller makes no more steps.
 #[derive(Drop)]
 pub struct Answered<P = Outside> {
     pub(crate) caller: Caller<P>,
@@ -31,8 +32,8 @@ impl<P> Answered<P> {
         self.reply
     }
 
-    /// The caller, halted, with its local as it is: the call stays announced, and its reply is in no word of the
-    /// table.
+    /// The caller, halted, with its local as it is: the call stays announced, and its reply is in
+    /// no word of the table.
     pub fn stop(self) -> Caller<P>
         // The caller has its number and its local, makes no calls, and is still one of its rows.
         ensures { IsStopped (caller_answered self) result }

@@ -19,8 +19,8 @@ use row_table::{Caller, Rows, Steps};
 use std::sync::ledger::Ledger;
 use world_core::{Outside, Program};
 
-/// Announces a call, asks the object, and takes the view, with the conditions of these three. It ticks at most
-/// as often as two scans.
+/// Announces a call, asks the object, and takes the view, with the conditions of these three. It
+/// ticks at most as often as two scans.
 pub fn apply<B: BlackBox, L: Ledger>(
     caller: Caller,
     rows: &Rows,
@@ -50,9 +50,11 @@ pub fn apply<B: BlackBox, L: Ledger>(
     // The view has one count for each caller.
     ensures wide { length (view_viewed result) ≡ rows.now.callers }
     // The caller's calls are those before with this one at the end, which has its reply and view.
-    ensures progress { progress_of (viewed_local result) ≡ after_viewing (record_viewed result) (after_announcing op (progress_of (local_with caller))) }
+    ensures progress { progress_of (viewed_local result) ≡ after_viewing (record_viewed result)
+        (after_announcing op (progress_of (local_with caller))) }
     // The call has made no object step.
-    ensures steps { (viewed_local result).object_steps ≡ (local_with caller).object_steps ++ [] ∷ [] }
+    ensures steps { (viewed_local result).object_steps
+        ≡ (local_with caller).object_steps ++ [] ∷ [] }
     // The caller's local has each look, peek and cut that it had before.
     ensures grows { Grows (local_with caller) (viewed_local result) }
     // The pass is still one of this object's.
@@ -60,12 +62,15 @@ pub fn apply<B: BlackBox, L: Ledger>(
     // The pass has made one call more.
     ensures made { B.Pass.made pass.new ≡ B.Pass.made pass.old + 1 }
     // The pass keeps its caller and how many calls it may make.
-    ensures same { (B.Pass.caller pass.new ≡ B.Pass.caller pass.old) × (B.Pass.cap pass.new ≡ B.Pass.cap pass.old) }
+    ensures same { (B.Pass.caller pass.new ≡ B.Pass.caller pass.old)
+        × (B.Pass.cap pass.new ≡ B.Pass.cap pass.old) }
     // A pass that tells its calls tells one more, with this operation and the object's reply; one
     // that tells none still tells none.
-    ensures told { B.Pass.told pass.new ≡ told_after op (reply_viewed result) (B.Pass.told pass.old) }
+    ensures told { B.Pass.told pass.new
+        ≡ told_after op (reply_viewed result) (B.Pass.told pass.old) }
     // The counter of steps has risen by at most twice the most words that a scan takes.
-    ensures ticks { (steps.old ≤ steps.new) × (steps.new ≤ steps.old + (most_words rows.now.callers + most_words rows.now.callers)) }
+    ensures ticks { (steps.old ≤ steps.new)
+        × (steps.new ≤ steps.old + (most_words rows.now.callers + most_words rows.now.callers)) }
 {
     let announced = announce(caller, rows, op, steps);
     let answered = ask(announced, object, pass);

@@ -20,10 +20,12 @@ pub fn ask<B: BlackBox>(announced: Announced, object: &B, pass: &mut B::Pass) ->
     // The pass has made one call more.
     ensures made { B.Pass.made pass.new ≡ B.Pass.made pass.old + 1 }
     // The pass keeps its caller and how many calls it may make.
-    ensures same { (B.Pass.caller pass.new ≡ B.Pass.caller pass.old) × (B.Pass.cap pass.new ≡ B.Pass.cap pass.old) }
+    ensures same { (B.Pass.caller pass.new ≡ B.Pass.caller pass.old)
+        × (B.Pass.cap pass.new ≡ B.Pass.cap pass.old) }
     // A pass that tells its calls tells one more, with this operation and the object's reply; one
     // that tells none still tells none.
-    ensures told { B.Pass.told pass.new ≡ told_after (op_announced announced) (reply_answered result) (B.Pass.told pass.old) }
+    ensures told { B.Pass.told pass.new
+        ≡ told_after (op_announced announced) (reply_answered result) (B.Pass.told pass.old) }
     // The caller keeps its number and its local, and is still one of its rows.
     ensures caller { IsSame (caller_announced announced) (caller_answered result) }
     // The answered call has the operation of the announced one.

@@ -1,4 +1,5 @@
-//! The wrapper of Castañeda and Rodríguez (2023): a call is announced, the object is asked, and a view is taken.
+//! The wrapper of Castañeda and Rodríguez (2023): a call is announced, the object is asked, and a
+//! view is taken.
 #![tactic(auto)]
 
 mod announced;

@@ -1,10 +1,11 @@
 ghost use Rattle.std.specs.Prelude.{◌≡◌, ℕ, List, Option, None};
 
-/// What one caller holds to call an object: whose it is, how many calls it made, and how many it may make.
+/// What one caller holds to call an object: whose it is, how many calls it made, and how many it
+/// may make.
 ///
-/// A pass may tell the list of its calls, each as an operation and a reply. Then the list has one pair more after
-/// each call, and who runs the object learns what it was asked and what it answered. A pass that leaves `told`
-/// out tells nothing.
+/// A pass may tell the list of its calls, each as an operation and a reply. Then the list has one
+/// pair more after each call, and who runs the object learns what it was asked and what it
+/// answered. A pass that leaves `told` out tells nothing.
 pub trait ObjectPass {
     /// The number of the caller whose pass it is.
     ghost caller: { Self → ℕ };

@@ -12,13 +12,13 @@ use crate::answered::Answered;
 use row_table::Rows;
 use world_core::InWorld;
 
-/// The steps of an object that is inside the world: they are made by its callers, each in the midst of an
-/// announced call of its own.
+/// The steps of an object that is inside the world: they are made by its callers, each in the midst
+/// of an announced call of its own.
 impl<P: InWorld> Announced<P> {
     /// Loads an object word, which is one object step that leaves the word as it is.
     ///
-    /// Like the three calls below it, it has the condition that the program allows the step for every word
-    /// that may be found.
+    /// Like the three calls below it, it has the condition that the program allows the step for
+    /// every word that may be found.
     pub fn object_load(&mut self, rows: &Rows<P>, place: u64) -> u64
         // The caller is one of these rows.
         requires rows { IsCallerOf P.meaning rows.now (caller_announced self.old) }
@@ -28,7 +28,8 @@ impl<P: InWorld> Announced<P> {
         requires program { MayStep P.meaning rows.now (caller_announced self.old) place (λ x. x) }
         // The announced call has made one object step more, which found the answered word and left
         // it there.
-        ensures { HasStepped P.meaning rows.now self.old self.new (record { place = place; old = result; new = result }) }
+        ensures { HasStepped P.meaning rows.now self.old self.new
+            (record { place = place; old = result; new = result }) }
     {
         rows.object_load(&mut self.caller, place)
     }
@@ -41,15 +42,18 @@ impl<P: InWorld> Announced<P> {
         requires place { place < rows.now.objects }
         // The program allows the caller a step that stores this word over whichever word it finds
         // there.
-        requires program { MayStep P.meaning rows.now (caller_announced self.old) place (λ _. word) }
+        requires program { MayStep P.meaning rows.now (caller_announced self.old) place
+            (λ _. word) }
         // The announced call has made one object step more, which found some word and left the
         // stored one.
-        ensures { (x : ℕ) × (x < 2 ^ 64) × HasStepped P.meaning rows.now self.old self.new (record { place = place; old = x; new = word }) }
+        ensures { (x : ℕ) × (x < 2 ^ 64) × HasStepped P.meaning rows.now self.old self.new
+            (record { place = place; old = x; new = word }) }
     {
         rows.object_store(&mut self.caller, place, word);
     }
 
-    /// Adds to an object word, modulo 2^64, which is one object step. It answers the word that it found.
+    /// Adds to an object word, modulo 2^64, which is one object step. It answers the word that it
+    /// found.
     pub fn object_add(&mut self, rows: &Rows<P>, place: u64, add: u64) -> u64
         // The caller is one of these rows.
         requires rows { IsCallerOf P.meaning rows.now (caller_announced self.old) }
@@ -57,16 +61,18 @@ impl<P: InWorld> Announced<P> {
         requires place { place < rows.now.objects }
         // The program allows the caller a step that adds this number, modulo 2^64, to whichever
         // word it finds there.
-        requires program { MayStep P.meaning rows.now (caller_announced self.old) place (λ x. (x + add) % 2 ^ 64) }
+        requires program { MayStep P.meaning rows.now (caller_announced self.old) place
+            (λ x. (x + add) % 2 ^ 64) }
         // The announced call has made one object step more, which found the answered word and left
         // the sum modulo 2^64.
-        ensures { HasStepped P.meaning rows.now self.old self.new (record { place = place; old = result; new = (result + add) % 2 ^ 64 }) }
+        ensures { HasStepped P.meaning rows.now self.old self.new
+            (record { place = place; old = result; new = (result + add) % 2 ^ 64 }) }
     {
         rows.object_add(&mut self.caller, place, add)
     }
 
-    /// Puts `new` into an object word where it finds `old` there, which is one object step. It answers the word
-    /// that it found: Ok exactly where that was `old`.
+    /// Puts `new` into an object word where it finds `old` there, which is one object step. It
+    /// answers the word that it found: Ok exactly where that was `old`.
     pub fn object_exchange(
         &mut self,
         rows: &Rows<P>,
@@ -80,10 +86,15 @@ impl<P: InWorld> Announced<P> {
         requires place { place < rows.now.objects }
         // The program allows the caller a step that puts `new` over `old`, and leaves each other
         // word.
-        requires program { MayStep P.meaning rows.now (caller_announced self.old) place (λ x. either (x == old) new x) }
+        requires program { MayStep P.meaning rows.now (caller_announced self.old) place
+            (λ x. either (x == old) new x) }
         // The announced call has made one object step more, which found the answered word, and left
         // `new` exactly where that was `old`.
-        ensures stepped { HasStepped P.meaning rows.now self.old self.new (record { place = place; old = found_by result; new = either (found_by result == old) new (found_by result) }) }
+        ensures stepped { HasStepped P.meaning rows.now self.old self.new (record {
+          place = place;
+          old = found_by result;
+          new = either (found_by result == old) new (found_by result);
+        }) }
         // An answer Ok has the word `old`.
         ensures won { IfOk result (λ x. x ≡ old) }
         // An answer Err has a word other than `old`.
@@ -92,8 +103,8 @@ impl<P: InWorld> Announced<P> {
         rows.object_exchange(&mut self.caller, place, old, new)
     }
 
-    /// Keeps a reply that the caller found by its object steps, and that the program allows it by its local. It is
-    /// allowed still as [`view`](crate::view) hands it over.
+    /// Keeps a reply that the caller found by its object steps, and that the program allows it by
+    /// its local. It is allowed still as [`view`](crate::view) hands it over.
     pub fn answer(self, reply: u64) -> Answered<P>
         // The program allows the caller this reply, by its local.
         requires allowed { MayGet P.meaning (caller_announced self) reply }

@@ -14,12 +14,13 @@ use row_table::{Rows, Steps};
 use std::sync::ledger::Ledger;
 use world_core::{Program, Region};
 
-/// Takes the view of a call that the object has answered: the cut of a scan of N that begins with the reply. So
-/// the view holds every call that was announced before the object had answered, the caller's own among them, and
-/// none that is announced after the scan (Castañeda and Rodríguez 2023).
+/// Takes the view of a call that the object has answered: the cut of a scan of N that begins with
+/// the reply. So the view holds every call that was announced before the object had answered, the
+/// caller's own among them, and none that is announced after the scan (Castañeda and Rodríguez
+/// 2023).
 ///
-/// The program allows the reply: one whose object is outside the world allows every reply. It ticks at most as
-/// often as one scan.
+/// The program allows the reply: one whose object is outside the world allows every reply. It ticks
+/// at most as often as one scan.
 pub fn view<P: Program, L: Ledger>(
     answered: Answered<P>,
     rows: &Rows<P>,
@@ -32,19 +33,23 @@ pub fn view<P: Program, L: Ledger>(
     // The caller is still one of these rows, with the same number.
     ensures caller { IsStill P.meaning rows.now (caller_answered answered) (caller_viewed result) }
     // The viewed call has the operation and the reply of the answered one.
-    ensures call { (op_viewed result ≡ op_answered answered) × (reply_viewed result ≡ reply_answered answered) }
+    ensures call { (op_viewed result ≡ op_answered answered)
+        × (reply_viewed result ≡ reply_answered answered) }
     // The view has one count for each caller.
     ensures wide { length (view_viewed result) ≡ rows.now.callers }
     // The caller's local is the one before after a scan of N that began with the reply and gave the
     // view, with no other event.
-    ensures viewed { HasViewed rows.now.callers (reply_viewed result) (view_viewed result) (answered_local answered) (viewed_local result) }
+    ensures viewed { HasViewed rows.now.callers (reply_viewed result) (view_viewed result)
+        (answered_local answered) (viewed_local result) }
     // The caller's last call has its record, of the reply and the view, and its progress is as
     // before besides.
-    ensures progress { progress_of (viewed_local result) ≡ after_viewing (record_viewed result) (progress_of (answered_local answered)) }
+    ensures progress { progress_of (viewed_local result)
+        ≡ after_viewing (record_viewed result) (progress_of (answered_local answered)) }
     // The caller's local has each look, peek and cut that it had before.
     ensures grows { Grows (answered_local answered) (viewed_local result) }
     // The counter of steps has risen by at most the most words that a scan takes.
-    ensures ticks { (steps.old ≤ steps.new) × (steps.new ≤ steps.old + most_words rows.now.callers) }
+    ensures ticks { (steps.old ≤ steps.new)
+        × (steps.new ≤ steps.old + most_words rows.now.callers) }
 {
     let Answered {
         mut caller,

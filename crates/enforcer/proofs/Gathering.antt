@@ -17,11 +17,15 @@ none_is None e = refl
 none_is (Some scan) e = absurd cc
 
 -- a seen cut is one that a scan of M gave
-pub seen_is_given : (s : Shape) (i reply : ℕ) (view cut : List ℕ) (l : Local) → IsLocalOf s i l → HasSeen reply view cut l → IsGivenIn l.cuts M cut
+pub seen_is_given : (s : Shape) (i reply : ℕ) (view cut : List ℕ) (l : Local) → IsLocalOf s i l
+    → HasSeen reply view cut l → IsGivenIn l.cuts M cut
 seen_is_given s i reply view cut l (locals, together, low, is) saw =
     let has = local_has_phase s i l (locals, together, low, is) in
-    let seen : unseen_records l.phase ≡ 0 = ap unseen_records (announcing_is l.phase saw.announcing) in
-    let below : last_published l < length l.seen = omega (arith, has.seen, seen, saw.published.some) in
-    let given = subst (λ (m : Local). last_published l < length m.seen → IsGivenIn m.cuts M (slice_index_or m.seen (last_published l) [])) is
+    let seen : unseen_records l.phase ≡ 0 =
+    ap unseen_records (announcing_is l.phase saw.announcing) in
+    let below : last_published l < length l.seen =
+    omega (arith, has.seen, seen, saw.published.some) in
+    let given = subst (λ (m : Local). last_published l < length m.seen
+    → IsGivenIn m.cuts M (slice_index_or m.seen (last_published l) [])) is
     (λ within. seen_cuts_are_given s locals i (last_published l) together low within) below in
     subst (IsGivenIn l.cuts M) saw.seen_is given

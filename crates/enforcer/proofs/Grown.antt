@@ -18,36 +18,51 @@ use Rattle.frontier_check.proofs.Resuming.{standing_stays}
 use Rattle.enforcer.specs.Lines.{StandsIn, IsHeldIn}
 
 -- the books at two cuts of a book
-grown_at : (book : List Page) (early late : List ℕ) (a b : List Page) → IsWithin early late → IsBookAt book early a → IsBookAt book late b → HasGrown a b
+grown_at : (book : List Page) (early late : List ℕ) (a b : List Page) → IsWithin early late
+    → IsBookAt book early a → IsBookAt book late b → HasGrown a b
 grown_at book early late a b within first second = record {
   callers = second.callers ∙ sym first.callers;
   operations = λ call op e.
-      let there : IsCall a call = slice_get_within (page_of a call.caller).operations call.number op e in
+      let there : IsCall a call =
+      slice_get_within (page_of a call.caller).operations call.number op e in
       let held : IsHeldBySomeView book early call = (first.calls call).0 there in
-      let low : Holds late held.0 = (let early_one : Holds early held.0 = held.2 in omega (arith, early_one, within held.0.caller)) in
+      let low : Holds late held.0 = (let early_one : Holds early held.0 = held.2 in
+      omega (arith, early_one, within held.0.caller)) in
       let on : IsCall b call = (second.calls call).1 (held.0, held.1, low, held.3, held.4) in
       second.operations call on ∙ (sym (first.operations call there) ∙ e);
   records = λ call r e.
       let known = record_from_part book early a first call r e in
-      let low : Holds late call = (let early_one : Holds early call = known.0 in omega (arith, early_one, within call.caller)) in
+      let low : Holds late call = (let early_one : Holds early call = known.0 in
+      omega (arith, early_one, within call.caller)) in
       record_of-part book late b second call low ∙ known.1;
 }
 
--- A caller's kept book has grown to the one that it has gathered at a cut that holds the kept one's.
-grown : (s : Shape) (i : ℕ) (l : Local) (early late : List ℕ) (a b : List Page) → IsLocalOf s i l → IsGathered s.callers l early a → IsGathered s.callers l late b → IsWithin early late → HasGrown a b
+-- A caller's kept book has grown to the one that it has gathered at a cut that holds the kept
+-- one's.
+grown : (s : Shape) (i : ℕ) (l : Local) (early late : List ℕ) (a b : List Page) → IsLocalOf s i l
+    → IsGathered s.callers l early a → IsGathered s.callers l late b → IsWithin early late
+    → HasGrown a b
 grown s i l early late a b (locals, together, low, is) first second within =
     let valid = books_are_valid s locals together in
-    let at : (cut : List ℕ) (book : List Page) → IsGathered s.callers l cut book → IsBookAt (book_in locals) cut book =
-    λ cut book g. subst (λ (x : List Page). IsBookAt (book_in locals) cut x) (sym (is_book_of_all s i l cut book low g locals together is)) (book_at_is_the_book_at (book_in locals) cut valid) in
+    let at : (cut : List ℕ) (book : List Page) → IsGathered s.callers l cut book
+    → IsBookAt (book_in locals) cut book =
+    λ cut book g. subst (λ (x : List Page). IsBookAt (book_in locals) cut x)
+    (sym (is_book_of_all s i l cut book low g locals together is))
+    (book_at_is_the_book_at (book_in locals) cut valid) in
     grown_at (book_in locals) early late a b within (at early a first) (at late b second)
 
 -- So what stood in the kept book, and was taken along, stands in the new one.
-pub stands_on : (init : List ℕ) (next : List ℕ → ℕ → List ℕ × ℕ) (s : Shape) (i n : ℕ) (l : Local) (kept : Option Gathered) (standing taken : Option Standing) (cut : List ℕ) (book : List Page)
-    → n ≡ s.callers → IsLocalOf s i l → IsGatheredBy l kept → IsGathered s.callers l cut book → StandsIn init next kept standing → IfSome taken (λ x. standing ≡ Some x)
+pub stands_on : (init : List ℕ) (next : List ℕ → ℕ → List ℕ × ℕ) (s : Shape) (i n : ℕ) (l : Local)
+    (kept : Option Gathered) (standing taken : Option Standing) (cut : List ℕ) (book : List Page)
+    → n ≡ s.callers → IsLocalOf s i l → IsGatheredBy l kept → IsGathered s.callers l cut book
+    → StandsIn init next kept standing → IfSome taken (λ x. standing ≡ Some x)
     → IfSome taken (λ _. IsHeldIn n kept cut) → IfSome taken (IsStandingFor init next book)
 stands_on init next s i n l kept standing None cut book same local by now stands is held = tt
-stands_on init next s i n l None standing (Some x) cut book same local by now stands is held = absurd held
+stands_on init next s i n l None standing (Some x) cut book same local by now stands is held =
+    absurd held
 stands_on init next s i n l (Some g) standing (Some x) cut book same local by now stands is held =
-    let before : IsGathered s.callers l g.cut g.book = subst (λ (k : ℕ). IsGathered k l g.cut g.book) (held.0 ∙ same) by in
-    standing_stays init next g.book book x (grown s i l g.cut cut g.book book local before now held.1)
+    let before : IsGathered s.callers l g.cut g.book =
+    subst (λ (k : ℕ). IsGathered k l g.cut g.book) (held.0 ∙ same) by in
+    standing_stays init next g.book book x
+    (grown s i l g.cut cut g.book book local before now held.1)
     (subst (λ (o : Option Standing). StandsIn init next (Some g) o) is stands)

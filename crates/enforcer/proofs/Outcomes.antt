@@ -7,10 +7,15 @@ use Rattle.enforcer.specs.declared.outcome.Outcome.TheVariants.{Delivered, Illeg
 use Rattle.enforcer.specs.Enforced.{OutcomesAreVerdicts, ErrorsAreFinal}
 
 pub outcomes_are_verdicts : OutcomesAreVerdicts
-outcomes_are_verdicts init next n l (Delivered reply view seen order) (book, gathered, legal) = (book, gathered, (order.items, legal))
-outcomes_are_verdicts init next n l (Illegal reply view seen carried) (book, gathered, (same, none)) = (book, gathered, none)
+outcomes_are_verdicts init next n l (Delivered reply view seen order) (book, gathered, legal) =
+    (book, gathered, (order.items, legal))
+outcomes_are_verdicts init next n l (Illegal reply view seen carried)
+    (book, gathered, (same, none)) = (book, gathered, none)
 
 pub errors_are_final : ErrorsAreFinal
-errors_are_final init next s locals lower (Delivered reply view seen order) together within none legal =
-    absurd (none (smaller_has_one init next (book_in locals) lower seen (books_are_valid s locals together) within (order.items, legal)))
-errors_are_final init next s locals lower (Illegal reply view seen carried) together within none right = refl
+errors_are_final init next s locals lower
+    (Delivered reply view seen order) together within none legal =
+    absurd (none (smaller_has_one init next (book_in locals) lower seen
+    (books_are_valid s locals together) within (order.items, legal)))
+errors_are_final init next s locals lower
+    (Illegal reply view seen carried) together within none right = refl

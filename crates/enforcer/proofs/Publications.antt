@@ -28,13 +28,21 @@ pub record Readies (n reply : ℕ) (view cut : List ℕ) (l m : Local) : Type 0 
   pub progress : progress_of (local_after n m Publish) ≡ after_publishing (progress_of l)
   pub grows : Grows l (local_after n m Publish)
 
-readied : (n op reply : ℕ) (view cut : List ℕ) (l : Local) (looks : List Looked) (peeks : List Peeked) → length view ≡ n → length cut ≡ n → l.phase ≡ Publishing
+readied : (n op reply : ℕ) (view cut : List ℕ) (l : Local) (looks : List Looked)
+    (peeks : List Peeked) → length view ≡ n → length cut ≡ n → l.phase ≡ Publishing
     → IsRecorded op reply view l → Readies n reply view cut l (scanned_for_row M cut looks peeks l)
 readied n op reply view cut l looks peeks view_wide wide phase recorded =
     let m : Local = local_after n (scanned_for_row M cut looks peeks l) Publish in
     let number : l.published ≡ (l.published + 1) - 1 = omega arith in
     record {
-      may = record { phase = phase; reply_is = recorded.reply_is; view_is = recorded.view_is; view_wide = view_wide; embeds = refl; wide = wide };
+      may = record {
+        phase = phase;
+        reply_is = recorded.reply_is;
+        view_is = recorded.view_is;
+        view_wide = view_wide;
+        embeds = refl;
+        wide = wide;
+      };
       published =
           record {
             judging = refl;
@@ -43,37 +51,50 @@ readied n op reply view cut l looks peeks view_wide wide phase recorded =
                 record {
                   some = omega arith;
                   reply_is = ap (slice_index l.replies) (sym number) ∙ recorded.reply_is;
-                  view_is = ap (λ (k : ℕ). slice_index_or l.views k []) (sym number) ∙ recorded.view_is;
+                  view_is =
+                      ap (λ (k : ℕ). slice_index_or l.views k []) (sym number) ∙ recorded.view_is;
                 };
           };
       progress = publications_count l m refl;
-      grows = grows_by l m looks peeks (record { region = M; cut = cut; since = length l.looked } ∷ []) refl refl refl;
+      grows = grows_by l m looks peeks
+          (record { region = M; cut = cut; since = length l.looked } ∷ []) refl refl refl;
     }
 
-readies : (n op reply : ℕ) (view cut : List ℕ) (l m : Local) → length view ≡ n → length cut ≡ n → IsRecorded op reply view l
+readies : (n op reply : ℕ) (view cut : List ℕ) (l m : Local) → length view ≡ n → length cut ≡ n
+    → IsRecorded op reply view l
     → HasScanned n M Begins_scan cut l m → Readies n reply view cut l m
 readies n op reply view cut l m view_wide wide recorded h =
     let phase = publishing_is l.phase recorded.publishing in
-    let (looks, peeks, is) = row_scanned n M cut l m (ap (λ (p : Phase). is_staging p M) phase) (unstaged_is l.staged recorded.unstaged) h in
-    subst (Readies n reply view cut l) (sym is) (readied n op reply view cut l looks peeks view_wide wide phase recorded)
+    let (looks, peeks, is) = row_scanned n M cut l m (ap (λ (p : Phase). is_staging p M) phase)
+    (unstaged_is l.staged recorded.unstaged) h in
+    subst (Readies n reply view cut l) (sym is)
+    (readied n op reply view cut l looks peeks view_wide wide phase recorded)
 
 -- of a call that was viewed so, whose caller k has the local l
-pub readies_of : (s : Shape) (op reply : ℕ) (view : List ℕ) (said : ℕ) (shown cut : List ℕ) (stance : Stance) (l k m : Local) → said ≡ reply → shown ≡ view → k ≡ l
-    → length view ≡ s.callers → length cut ≡ s.callers → IsRecorded op reply view l → HasScanned s.callers M (opening_in (opening_with (Some M) stance.reply)) cut k m
+pub readies_of : (s : Shape) (op reply : ℕ) (view : List ℕ) (said : ℕ) (shown cut : List ℕ)
+    (stance : Stance) (l k m : Local) → said ≡ reply → shown ≡ view → k ≡ l
+    → length view ≡ s.callers → length cut ≡ s.callers → IsRecorded op reply view l
+    → HasScanned s.callers M (opening_in (opening_with (Some M) stance.reply)) cut k m
     → Readies s.callers said shown cut l m
-readies_of s op reply view said shown cut stance l k m same_reply same_view same view_wide wide recorded h =
+readies_of s op reply view said shown cut stance l k m same_reply same_view same view_wide wide
+    recorded h =
     subst (λ (x : ℕ). Readies s.callers x shown cut l m) (sym same_reply)
     (subst (λ (v : List ℕ). Readies s.callers reply v cut l m) (sym same_view)
-    (readies s.callers op reply view cut l m view_wide wide recorded (subst (λ (x : Local). HasScanned s.callers M Begins_scan cut x m) same h)))
+    (readies s.callers op reply view cut l m view_wide wide recorded
+    (subst (λ (x : Local). HasScanned s.callers M Begins_scan cut x m) same h)))
 
 -- of a scan that its caller made with this local, for the row that was published then
-pub publication : (n op reply : ℕ) (view cut : List ℕ) (l k scanned m : Local) → k ≡ l → IsRecorded op reply view l → HasScanned n M Begins_scan cut k scanned → HoldsLooks M cut k
+pub publication : (n op reply : ℕ) (view cut : List ℕ) (l k scanned m : Local) → k ≡ l
+    → IsRecorded op reply view l → HasScanned n M Begins_scan cut k scanned → HoldsLooks M cut k
     → m ≡ local_after n scanned Publish → IsPublication n l m
 publication n op reply view cut l k scanned m same recorded scan looked is =
-    let h : HasScanned n M Begins_scan cut l scanned = subst (λ (x : Local). HasScanned n M Begins_scan cut x scanned) same scan in
+    let h : HasScanned n M Begins_scan cut l scanned =
+    subst (λ (x : Local). HasScanned n M Begins_scan cut x scanned) same scan in
     let phase = publishing_is l.phase recorded.publishing in
-    let (looks, peeks, leaves) = row_scanned n M cut l scanned (ap (λ (p : Phase). is_staging p M) phase) (unstaged_is l.staged recorded.unstaged) h in
-    let row : m ≡ local_after n (scanned_for_row M cut looks peeks l) Publish = is ∙ ap (λ (x : Local). local_after n x Publish) leaves in
+    let (looks, peeks, leaves) = row_scanned n M cut l scanned
+    (ap (λ (p : Phase). is_staging p M) phase) (unstaged_is l.staged recorded.unstaged) h in
+    let row : m ≡ local_after n (scanned_for_row M cut looks peeks l) Publish =
+    is ∙ ap (λ (x : Local). local_after n x Publish) leaves in
     record {
       cut = cut;
       scanned = scanned;

@@ -32,13 +32,18 @@ scanned_for_seen cut looks peeks l =
       peeked = peeks ++ l.peeked;
     }
 
-seen_scanned : (n : ℕ) (cut : List ℕ) (l m : Local) → l.phase ≡ Judging → HasScanned n M Begins_scan cut l m
+seen_scanned : (n : ℕ) (cut : List ℕ) (l m : Local) → l.phase ≡ Judging
+    → HasScanned n M Begins_scan cut l m
     → (looks : List Looked) × (peeks : List Peeked) × (m ≡ scanned_for_seen cut looks peeks l)
 seen_scanned n cut l m phase h =
     let found : Found = found_by n M h.taken in
     let scan : Scan = scan_with l M Begins_scan h.taken in
-    let ended : Local = record (local_in_scan n l M Begins_scan h.taken) { scan = None; cuts = l.cuts ++ record { region = M; cut = cut; since = length l.looked } ∷ [] } in
-    let purpose : purpose_of l.phase l.staged scan ≡ For_seen = ap (λ (p : Phase). purpose_of p l.staged scan) phase in
+    let ended : Local = record (local_in_scan n l M Begins_scan h.taken) {
+      scan = None;
+      cuts = l.cuts ++ record { region = M; cut = cut; since = length l.looked } ∷ [];
+    } in
+    let purpose : purpose_of l.phase l.staged scan ≡ For_seen =
+    ap (λ (p : Phase). purpose_of p l.staged scan) phase in
     (found.looks, found.peeks, h.is ∙ ap (λ (p : Purpose). served ended p cut) purpose)
 
 -- What seeing a cut leaves.
@@ -51,43 +56,62 @@ pub record Sees (who reply : ℕ) (view cut : List ℕ) (l m : Local) : Type 0 w
 -- a scan of M while judging serves the seen cut
 serves : (l : Local) → l.phase ≡ Judging → purpose_with l M Begins_scan ≢ For_nothing
 serves l phase none =
-    let e : For_seen ≡ For_nothing = sym (ap (λ (p : Phase). purpose_of p l.staged (scan_with l M Begins_scan [])) phase) ∙ none in absurd cc
+    let e : For_seen ≡ For_nothing =
+    sym (ap (λ (p : Phase). purpose_of p l.staged (scan_with l M Begins_scan [])) phase) ∙ none in
+    absurd cc
 
 -- the last of some cuts is the one that was given last
-last_is : (cuts : List Given) (cut : List ℕ) (since : ℕ) → last_of_M (cuts ++ record { region = M; cut = cut; since = since } ∷ []) ≡ Some cut
+last_is : (cuts : List Given) (cut : List ℕ) (since : ℕ)
+    → last_of_M (cuts ++ record { region = M; cut = cut; since = since } ∷ []) ≡ Some cut
 last_is [] cut since = refl
 last_is (given ∷ []) cut since = refl
 last_is (given ∷ later ∷ cuts) cut since = last_is (later ∷ cuts) cut since
 
-seen_leaves : (reply : ℕ) (view cut : List ℕ) (l : Local) (looks : List Looked) (peeks : List Peeked) → HasPhase l → IsPublishing reply view l
+seen_leaves : (reply : ℕ) (view cut : List ℕ) (l : Local) (looks : List Looked)
+    (peeks : List Peeked) → HasPhase l → IsPublishing reply view l
     → HasSeen reply view cut (scanned_for_seen cut looks peeks l)
 seen_leaves reply view cut l looks peeks has publishing =
-    let unseen : unseen_records l.phase ≡ 1 = ap unseen_records (judging_is l.phase publishing.judging) in
+    let unseen : unseen_records l.phase ≡ 1 =
+    ap unseen_records (judging_is l.phase publishing.judging) in
     record {
       announcing = refl;
       unstaged = publishing.unstaged;
       free = refl;
-      published = record { some = publishing.published.some; reply_is = publishing.published.reply_is; view_is = publishing.published.view_is };
+      published = record {
+        some = publishing.published.some;
+        reply_is = publishing.published.reply_is;
+        view_is = publishing.published.view_is;
+      };
       last = last_is l.cuts cut (length l.looked);
       seen_is = get_or_push l.seen cut [] (l.published - 1) (omega (arith, has.seen, unseen));
     }
 
-pub sees : (s : Shape) (who now reply : ℕ) (view cut : List ℕ) (l m : Local) → IsLocalOf s who l → IsLocalOf s now m → IsPublishing reply view l
+pub sees : (s : Shape) (who now reply : ℕ) (view cut : List ℕ) (l m : Local) → IsLocalOf s who l
+    → IsLocalOf s now m → IsPublishing reply view l
     → HasScanned s.callers M Begins_scan cut l m → Sees now reply view cut l m
 sees s who now reply view cut l m here there publishing h =
     let phase = judging_is l.phase publishing.judging in
     let has = local_has_phase s who l here in
     let (looks, peeks, is) = seen_scanned s.callers cut l m phase h in
     record {
-      saw = subst (HasSeen reply view cut) (sym is) (seen_leaves reply view cut l looks peeks has publishing);
+      saw = subst (HasSeen reply view cut) (sym is)
+          (seen_leaves reply view cut l looks peeks has publishing);
       own = own_entries_are_counts s now M Begins_scan cut l m there h (serves l phase);
       progress =
           ap progress_of is
-          ∙ seen_cuts_are_of_the_last_call l (scanned_for_seen cut looks peeks l) cut has phase refl;
-      grows = subst (Grows l) (sym is) (grows_by l (scanned_for_seen cut looks peeks l) looks peeks (record { region = M; cut = cut; since = length l.looked } ∷ []) refl refl refl);
+          ∙ seen_cuts_are_of_the_last_call l
+          (scanned_for_seen cut looks peeks l) cut has phase refl;
+      grows = subst (Grows l) (sym is) (grows_by l (scanned_for_seen cut looks peeks l) looks peeks
+          (record { region = M; cut = cut; since = length l.looked } ∷ []) refl refl refl);
     }
 
-pub sight : (n reply : ℕ) (view cut : List ℕ) (l m : Local) → IsPublishing reply view l → HasScanned n M Begins_scan cut l m → HoldsLooks M cut l → IsSight n cut l m
+pub sight : (n reply : ℕ) (view cut : List ℕ) (l m : Local) → IsPublishing reply view l
+    → HasScanned n M Begins_scan cut l m → HoldsLooks M cut l → IsSight n cut l m
 sight n reply view cut l m publishing h looked =
     let (looks, peeks, is) = seen_scanned n cut l m (judging_is l.phase publishing.judging) h in
-    record { scan = h; given = ap (λ (x : Local). x.cuts) is; looked = looked; seen = ap (λ (x : Local). x.seen) is }
+    record {
+      scan = h;
+      given = ap (λ (x : Local). x.cuts) is;
+      looked = looked;
+      seen = ap (λ (x : Local). x.seen) is;
+    }

@@ -37,12 +37,17 @@ unstaged_is [] e = refl
 unstaged_is (w ∷ staged) e = absurd cc
 
 -- the view's scan is under way neither while publishing nor while judging
-pub publishing_is_free : (s : Shape) (i : ℕ) (l : Local) → IsLocalOf s i l → l.phase ≡ Publishing → is_view_under_way l.scan ≡ false
-publishing_is_free s i l h phase = view_scans_have_phase s i l h (λ viewing. let e : Publishing ≡ Viewing = sym phase ∙ viewing in absurd cc)
+pub publishing_is_free : (s : Shape) (i : ℕ) (l : Local) → IsLocalOf s i l → l.phase ≡ Publishing
+    → is_view_under_way l.scan ≡ false
+publishing_is_free s i l h phase = view_scans_have_phase s i l h
+    (λ viewing. let e : Publishing ≡ Viewing = sym phase ∙ viewing in absurd cc)
 
-pub judging_is_free : (s : Shape) (i : ℕ) (l : Local) → IsLocalOf s i l → l.phase ≡ Judging → is_view_under_way l.scan ≡ false
-judging_is_free s i l h phase = view_scans_have_phase s i l h (λ viewing. let e : Judging ≡ Viewing = sym phase ∙ viewing in absurd cc)
+pub judging_is_free : (s : Shape) (i : ℕ) (l : Local) → IsLocalOf s i l → l.phase ≡ Judging
+    → is_view_under_way l.scan ≡ false
+judging_is_free s i l h phase = view_scans_have_phase s i l h
+    (λ viewing. let e : Judging ≡ Viewing = sym phase ∙ viewing in absurd cc)
 
 -- a scan of M may begin where the view's isn't under way
-pub may_scan : (s : Shape) (i : ℕ) (l : Local) → is_view_under_way l.scan ≡ false → may_begin s i l M 0 Begins_scan ≡ true
+pub may_scan : (s : Shape) (i : ℕ) (l : Local) → is_view_under_way l.scan ≡ false
+    → may_begin s i l M 0 Begins_scan ≡ true
 may_scan s i l free = ap not free

@@ -13,24 +13,29 @@ use Rattle.drv_wrapper.proofs.Growing.{grows_by, grows_on}
 use Rattle.enforcer.specs.Enforced.{after_call}
 
 -- what holds of a result by what holds of it
-pub ok_by : {A B : Type 0} (r : Result A B) (P Q S T : A → Type 0) → ((x : A) → P x → Q x → S x → T x) → IfOk r P → IfOk r Q → IfOk r S → IfOk r T
+pub ok_by : {A B : Type 0} (r : Result A B) (P Q S T : A → Type 0)
+    → ((x : A) → P x → Q x → S x → T x) → IfOk r P → IfOk r Q → IfOk r S → IfOk r T
 ok_by (Ok x) P Q S T f p q s = f x p q s
 ok_by (Err e) P Q S T f p q s = tt
 
-pub err_by : {A B : Type 0} (r : Result A B) (P Q T : B → Type 0) → ((x : B) → P x → Q x → T x) → IfErr r P → IfErr r Q → IfErr r T
+pub err_by : {A B : Type 0} (r : Result A B) (P Q T : B → Type 0) → ((x : B) → P x → Q x → T x)
+    → IfErr r P → IfErr r Q → IfErr r T
 err_by (Ok x) P Q T f p q = tt
 err_by (Err e) P Q T f p q = f e p q
 
-pub ok_from : {A B : Type 0} (r : Result A B) (P T : A → Type 0) → ((x : A) → P x → T x) → IfOk r P → IfOk r T
+pub ok_from : {A B : Type 0} (r : Result A B) (P T : A → Type 0) → ((x : A) → P x → T x)
+    → IfOk r P → IfOk r T
 ok_from (Ok x) P T f p = f x p
 ok_from (Err e) P T f p = tt
 
-pub err_from : {A B : Type 0} (r : Result A B) (P T : B → Type 0) → ((x : B) → P x → T x) → IfErr r P → IfErr r T
+pub err_from : {A B : Type 0} (r : Result A B) (P T : B → Type 0) → ((x : B) → P x → T x)
+    → IfErr r P → IfErr r T
 err_from (Ok x) P T f p = tt
 err_from (Err e) P T f p = f e p
 
 -- peeks leave a caller's calls
-peeks_leave : (l m : Local) (before after : ℕ) → HasOnlyPeeked l m before after → progress_of m ≡ progress_of l
+peeks_leave : (l m : Local) (before after : ℕ) → HasOnlyPeeked l m before after
+    → progress_of m ≡ progress_of l
 peeks_leave l m before after h = ap progress_of h.local
 
 unchanged : (cuts : List Given) → cuts ≡ cuts ++ []
@@ -38,29 +43,43 @@ unchanged [] = refl
 unchanged (given ∷ cuts) = ap (λ (more : List Given). given ∷ more) (unchanged cuts)
 
 pub peeks_grow : (l m : Local) (before after : ℕ) → HasOnlyPeeked l m before after → Grows l m
-peeks_grow l m before after h = subst (Grows l) (sym h.local) (grows_by l (with_peeked l h.more) [] h.more [] refl refl (unchanged l.cuts))
+peeks_grow l m before after h = subst (Grows l) (sym h.local)
+    (grows_by l (with_peeked l h.more) [] h.more [] refl refl (unchanged l.cuts))
 
--- A call step by step: of a caller with the local l, that had viewed with v, published with p, seen with s, and peeked with m.
-pub whole_call : (op : ℕ) (viewed r told : Record) (seen cut : List ℕ) (l v p s m : Local) (before after : ℕ)
-    → progress_of v ≡ after_viewing viewed (after_announcing op (progress_of l)) → progress_of p ≡ after_publishing (progress_of v) → progress_of s ≡ after_seeing seen (progress_of p)
-    → HasOnlyPeeked s m before after → viewed ≡ r → told ≡ r → cut ≡ seen → progress_of m ≡ after_call op told cut (progress_of l)
-whole_call op viewed r told seen cut l v p s m before after views publishes sees peeks same tells saw =
+-- A call step by step: of a caller with the local l, that had viewed with v, published with p, seen
+-- with s, and peeked with m.
+pub whole_call : (op : ℕ) (viewed r told : Record) (seen cut : List ℕ) (l v p s m : Local)
+    (before after : ℕ)
+    → progress_of v ≡ after_viewing viewed (after_announcing op (progress_of l)) → progress_of p
+    ≡ after_publishing (progress_of v) → progress_of s ≡ after_seeing seen (progress_of p)
+    → HasOnlyPeeked s m before after → viewed ≡ r → told ≡ r → cut ≡ seen
+    → progress_of m ≡ after_call op told cut (progress_of l)
+whole_call op viewed r told seen cut l v p s m before after views publishes sees peeks
+    same tells saw =
     peeks_leave s m before after peeks
     ∙ sees
-    ∙ ap (after_seeing seen) (publishes ∙ ap after_publishing (views ∙ ap (λ (x : Record). after_viewing x (after_announcing op (progress_of l))) (same ∙ sym tells)))
+    ∙ ap (after_seeing seen) (publishes ∙ ap after_publishing (views ∙ ap
+    (λ (x : Record). after_viewing x (after_announcing op (progress_of l))) (same ∙ sym tells)))
     ∙ ap (λ (x : List ℕ). after_call op told x (progress_of l)) (sym saw)
 
-pub grows_through : (l v p s m : Local) (before after : ℕ) → Grows l v → Grows v p → Grows p s → HasOnlyPeeked s m before after → Grows l m
-grows_through l v p s m before after one two three peeks = grows_on l v m one (grows_on v p m two (grows_on p s m three (peeks_grow s m before after peeks)))
+pub grows_through : (l v p s m : Local) (before after : ℕ) → Grows l v → Grows v p → Grows p s
+    → HasOnlyPeeked s m before after → Grows l m
+grows_through l v p s m before after one two three peeks = grows_on l v m one
+    (grows_on v p m two (grows_on p s m three (peeks_grow s m before after peeks)))
 
 -- the counter never falls through four parts of a call
 pub ticks_through : (a b c d e : ℕ) → a ≤ b → b ≤ c → c ≤ d → d ≤ e → a ≤ e
 ticks_through a b c d e one two three four = omega (arith, one, two, three, four)
 
--- four scans, two of the first part and one of each of the next two, tick together at most four times as often as one may
-pub ticks_of_scans : (m a b c d : ℕ) → (a ≤ b) × (b ≤ a + (m + m)) → (b ≤ c) × (c ≤ b + m) → (c ≤ d) × (d ≤ c + m) → (a ≤ d) × (d ≤ a + 4 * m)
-ticks_of_scans m a b c d two one more = (omega (arith, two.0, one.0, more.0), omega (arith, two.1, one.1, more.1))
+-- four scans, two of the first part and one of each of the next two, tick together at most four
+-- times as often as one may
+pub ticks_of_scans : (m a b c d : ℕ) → (a ≤ b) × (b ≤ a + (m + m)) → (b ≤ c) × (c ≤ b + m) → (c ≤ d)
+    × (d ≤ c + m) → (a ≤ d) × (d ≤ a + 4 * m)
+ticks_of_scans m a b c d two one more =
+    (omega (arith, two.0, one.0, more.0), omega (arith, two.1, one.1, more.1))
 
 -- what a caller has gathered stays so through the parts of a call that come before the judgement
-pub gathered_through : (l v p s : Local) (gathered : Option Gathered) → Grows l v → Grows v p → Grows p s → IsGatheredBy l gathered → IsGatheredBy s gathered
-gathered_through l v p s gathered one two three = gathered_by_stays l s gathered (grows_on l v s one (grows_on v p s two three)).peeked
+pub gathered_through : (l v p s : Local) (gathered : Option Gathered) → Grows l v → Grows v p
+    → Grows p s → IsGatheredBy l gathered → IsGatheredBy s gathered
+gathered_through l v p s gathered one two three =
+    gathered_by_stays l s gathered (grows_on l v s one (grows_on v p s two three)).peeked

@@ -23,12 +23,14 @@ abbrev pub cut_judged : Judged → List ℕ
 cut_judged (Delivered reply view seen) = seen
 cut_judged (Illegal reply view seen book) = seen
 
--- How its caller stands: ready for its next call where the reply is delivered, and halted where the call is an error.
+-- How its caller stands: ready for its next call where the reply is delivered, and halted where the
+-- call is an error.
 abbrev pub stance_judged : Judged → Stance
 stance_judged (Delivered reply view seen) = ready
 stance_judged (Illegal reply view seen book) = record ready { live = false }
 
--- The outcome that a judgement is with the order of what stands. A reply that is delivered where nothing stands is none.
+-- The outcome that a judgement is with the order of what stands. A reply that is delivered where
+-- nothing stands is none.
 abbrev pub outcome_of : Judged → Option Standing → Option Outcome
 outcome_of (Delivered reply view seen) None = None
 outcome_of (Delivered reply view seen) (Some s) = Some (outcome.Delivered reply view seen s.order)
@@ -38,10 +40,11 @@ outcome_of (Illegal reply view seen book) standing = Some (outcome.Illegal reply
 abbrev pub IsOutcome : Judged → Option Standing → (Outcome → Type 0) → Type 0
 IsOutcome judged standing holds = IsSomeAnd (outcome_of judged standing) holds
 
--- After a reply that is delivered to one of n callers its book is kept, at the seen cut; an error takes its book along, and none is
--- kept.
+-- After a reply that is delivered to one of n callers its book is kept, at the seen cut; an error
+-- takes its book along, and none is kept.
 abbrev pub IsKeptAfter : ℕ → Judged → Option Gathered → Type 0
-IsKeptAfter n (Delivered reply view seen) gathered = IsSomeAnd gathered (λ g. (length g.book ≡ n) × (g.cut ≡ seen))
+IsKeptAfter n (Delivered reply view seen) gathered =
+    IsSomeAnd gathered (λ g. (length g.book ≡ n) × (g.cut ≡ seen))
 IsKeptAfter n (Illegal reply view seen book) gathered = gathered ≡ None
 
 -- The book that was judged, with its cut: the one that is kept, or the one that an error carries.
@@ -56,9 +59,11 @@ reply_after (Err u) = u.reply
 
 -- The counter ticks once for each word of the judged book that the book kept before lacks.
 abbrev pub TicksForJudged : ℕ → Option Gathered → Judged → Option Gathered → ℕ → ℕ → Type 0
-TicksForJudged n kept judged gathered before after = IfSome (judged_book judged gathered) (λ g. TicksForNew n kept g before after)
+TicksForJudged n kept judged gathered before after =
+    IfSome (judged_book judged gathered) (λ g. TicksForNew n kept g before after)
 
 -- The counter ticks at most as often as four scans may, and then for the judged book.
 abbrev pub TicksForCallAfter : ℕ → Option Gathered → Judged → Option Gathered → ℕ → ℕ → Type 0
 TicksForCallAfter n kept judged gathered before after =
-    (scanned : ℕ) × (before ≤ scanned) × (scanned ≤ before + 4 * most_words n) × TicksForJudged n kept judged gathered scanned after
+    (scanned : ℕ) × (before ≤ scanned) × (scanned ≤ before + 4 * most_words n)
+    × TicksForJudged n kept judged gathered scanned after

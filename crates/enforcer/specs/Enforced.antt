@@ -18,9 +18,11 @@ use Rattle.enforcer.specs.declared.outcome.Unjudged.{Unjudged}
 use Rattle.enforcer.specs.Judged.{record_in, cut_in, end_of, is_illegal, IsRightFor, IsRightByPeeks}
 use Rattle.enforcer.specs.Kept.{TicksForNewAfter}
 
--- How far a caller has come after a whole call: one call more, with this operation, this record and this seen cut, and published.
+-- How far a caller has come after a whole call: one call more, with this operation, this record and
+-- this seen cut, and published.
 abbrev pub after_call : ℕ → Record → List ℕ → Progress → Progress
-after_call op r cut progress = after_seeing cut (after_publishing (after_viewing r (after_announcing op progress)))
+after_call op r cut progress =
+    after_seeing cut (after_publishing (after_viewing r (after_announcing op progress)))
 
 -- The record of a call that wasn't judged; and the reply that came of a call, judged or not.
 abbrev pub record_unjudged : {P : Type 0} → Unjudged P → Record
@@ -30,21 +32,25 @@ abbrev pub reply_of : {P : Type 0} → Result (Caller P × Outcome) (Unjudged P)
 reply_of (Ok r) = (record_in r.1).reply
 reply_of (Err u) = u.reply
 
--- The counter ticks at most as often as four scans may, and then once for each word of the call's book that is new, as against the
--- book that was kept before.
+-- The counter ticks at most as often as four scans may, and then once for each word of the call's
+-- book that is new, as against the book that was kept before.
 abbrev pub TicksForWholeCall : ℕ → Option Gathered → Outcome → Option Gathered → ℕ → ℕ → Type 0
 TicksForWholeCall n kept outcome gathered before after =
-    (scanned : ℕ) × (before ≤ scanned) × (scanned ≤ before + 4 * most_words n) × TicksForNewAfter n kept outcome gathered scanned after
+    (scanned : ℕ) × (before ≤ scanned) × (scanned ≤ before + 4 * most_words n)
+    × TicksForNewAfter n kept outcome gathered scanned after
 
 -- An outcome that is right by what its caller peeked is the verdict at the end of the call's line.
 abbrev pub OutcomesAreVerdicts : Type 0
 OutcomesAreVerdicts =
-    (init : List ℕ) (next : List ℕ → ℕ → List ℕ × ℕ) (n : ℕ) (l : Local) (outcome : Outcome) → IsRightByPeeks init next n l outcome → IsJudgedBy init next n l (end_of outcome)
+    (init : List ℕ) (next : List ℕ → ℕ → List ℕ × ℕ) (n : ℕ) (l : Local) (outcome : Outcome)
+    → IsRightByPeeks init next n l outcome → IsJudgedBy init next n l (end_of outcome)
 
--- An error is final: where the book of all callers' calls has no legal order at a cut, an outcome that is right at a greater cut is an
--- error.
+-- An error is final: where the book of all callers' calls has no legal order at a cut, an outcome
+-- that is right at a greater cut is an error.
 abbrev pub ErrorsAreFinal : Type 0
 ErrorsAreFinal =
-    (init : List ℕ) (next : List ℕ → ℕ → List ℕ × ℕ) (s : Shape) (locals : List Local) (lower : List ℕ) (outcome : Outcome) → AreTogether s locals
-    → IsWithin lower (cut_in outcome) → ¬ HasLegalOrder init next (book_at lower (book_in locals)) → IsRightFor init next (book_at (cut_in outcome) (book_in locals)) outcome
+    (init : List ℕ) (next : List ℕ → ℕ → List ℕ × ℕ) (s : Shape) (locals : List Local)
+    (lower : List ℕ) (outcome : Outcome) → AreTogether s locals
+    → IsWithin lower (cut_in outcome) → ¬ HasLegalOrder init next (book_at lower (book_in locals))
+    → IsRightFor init next (book_at (cut_in outcome) (book_in locals)) outcome
     → is_illegal outcome ≡ true

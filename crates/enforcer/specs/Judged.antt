@@ -37,29 +37,41 @@ is_illegal (Illegal reply view seen book) = true
 
 -- How the line of the call ends.
 abbrev pub end_of : Outcome → LineEnd
-end_of (Delivered reply view seen order) = line.Delivered (record { reply = reply; view = view }) seen
+end_of (Delivered reply view seen order) =
+    line.Delivered (record { reply = reply; view = view }) seen
 end_of (Illegal reply view seen book) = line.Error (record { reply = reply; view = view }) seen
 
--- How its caller stands: ready for its next call where the reply is delivered, and halted where the call is an error.
+-- How its caller stands: ready for its next call where the reply is delivered, and halted where the
+-- call is an error.
 abbrev pub stance_after : Outcome → Stance
 stance_after (Delivered reply view seen order) = ready
 stance_after (Illegal reply view seen book) = record ready { live = false }
 
--- The outcome is right for a book: what is delivered has a legal order of it, which the outcome carries; and an error carries the
--- book, which has none.
-abbrev pub IsRightFor : (init : List ℕ) → (next : List ℕ → ℕ → List ℕ × ℕ) → List Page → Outcome → Type 0
-IsRightFor init next book (Delivered reply view seen order) = IsLegalOrder init next book order.items
-IsRightFor init next book (Illegal reply view seen carried) = (carried ≡ book) × ¬ HasLegalOrder init next book
+-- The outcome is right for a book: what is delivered has a legal order of it, which the outcome
+-- carries; and an error carries the book, which has none.
+abbrev pub IsRightFor : (init : List ℕ) → (next : List ℕ → ℕ → List ℕ × ℕ) → List Page
+    → Outcome → Type 0
+IsRightFor init next book (Delivered reply view seen order) =
+    IsLegalOrder init next book order.items
+IsRightFor init next book (Illegal reply view seen carried) = (carried ≡ book)
+    × ¬ HasLegalOrder init next book
 
 -- It is right for a book at the seen cut, each word of which this caller of n has peeked.
-abbrev pub IsRightByPeeks : (init : List ℕ) → (next : List ℕ → ℕ → List ℕ × ℕ) → ℕ → Local → Outcome → Type 0
-IsRightByPeeks init next n l outcome = (book : List Page) × IsGathered n l (cut_in outcome) book × IsRightFor init next book outcome
+abbrev pub IsRightByPeeks : (init : List ℕ) → (next : List ℕ → ℕ → List ℕ × ℕ) → ℕ → Local
+    → Outcome → Type 0
+IsRightByPeeks init next n l outcome = (book : List Page) × IsGathered n l (cut_in outcome) book
+    × IsRightFor init next book outcome
 
--- It is right for the book at the seen cut of all callers' calls, in whatever reachable world has this local at caller i.
-abbrev pub IsRightInWorlds : (init : List ℕ) → (next : List ℕ → ℕ → List ℕ × ℕ) → Shape → ℕ → Local → Outcome → Type 0
+-- It is right for the book at the seen cut of all callers' calls, in whatever reachable world has
+-- this local at caller i.
+abbrev pub IsRightInWorlds : (init : List ℕ) → (next : List ℕ → ℕ → List ℕ × ℕ) → Shape → ℕ → Local
+    → Outcome → Type 0
 IsRightInWorlds init next s i l outcome =
-    (locals : List Local) → AreTogether s locals → local_at locals i ≡ l → IsRightFor init next (book_at (cut_in outcome) (book_in locals)) outcome
+    (locals : List Local) → AreTogether s locals → local_at locals i ≡ l
+    → IsRightFor init next (book_at (cut_in outcome) (book_in locals)) outcome
 
 -- The same of the caller of some rows.
-abbrev pub IsRightOf : {P : Type 0} → (init : List ℕ) → (next : List ℕ → ℕ → List ℕ × ℕ) → (P → ℕ → ℕ → Meaning) → Rows P → Caller P → Outcome → Type 0
-IsRightOf init next meaning r c outcome = IsRightInWorlds init next (shape_of meaning r) (who_of c) (local_with c) outcome
+abbrev pub IsRightOf : {P : Type 0} → (init : List ℕ) → (next : List ℕ → ℕ → List ℕ × ℕ)
+    → (P → ℕ → ℕ → Meaning) → Rows P → Caller P → Outcome → Type 0
+IsRightOf init next meaning r c outcome =
+    IsRightInWorlds init next (shape_of meaning r) (who_of c) (local_with c) outcome

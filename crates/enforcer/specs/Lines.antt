@@ -10,8 +10,10 @@ use Rattle.row_table.specs.declared.stance.Stance.{Stance}
 use Rattle.row_gather.specs.declared.gathered.Gathered.{Gathered}
 use Rattle.drv_wrapper.specs.Stands.{ready}
 
--- Where a book is kept, what is kept of an order stands for an object in that book, or in one from which it has grown.
-abbrev pub StandsIn : (init : List ℕ) → (next : List ℕ → ℕ → List ℕ × ℕ) → Option Gathered → Option Standing → Type 0
+-- Where a book is kept, what is kept of an order stands for an object in that book, or in one from
+-- which it has grown.
+abbrev pub StandsIn : (init : List ℕ) → (next : List ℕ → ℕ → List ℕ × ℕ) → Option Gathered
+    → Option Standing → Type 0
 StandsIn init next gathered None = Unit {0}
 StandsIn init next None (Some s) = Unit {0}
 StandsIn init next (Some g) (Some s) = IsStandingFor init next g.book s
@@ -29,7 +31,9 @@ abbrev pub stance_after : LineEnd → Stance
 stance_after (Error r cut) = record ready { live = false }
 stance_after _ = ready
 
--- After a reply that is delivered to one of n callers its book is kept, at the seen cut; after an error none is.
+-- After a reply that is delivered to one of n callers its book is kept, at the seen cut; after an
+-- error none is.
 abbrev pub IsKeptAfterLine : ℕ → LineEnd → Option Gathered → Type 0
-IsKeptAfterLine n (Delivered r cut) gathered = IsSomeAnd gathered (λ g. (length g.book ≡ n) × (g.cut ≡ cut))
+IsKeptAfterLine n (Delivered r cut) gathered =
+    IsSomeAnd gathered (λ g. (length g.book ≡ n) × (g.cut ≡ cut))
 IsKeptAfterLine n _ gathered = gathered ≡ None

@@ -32,7 +32,8 @@ pub record IsPublishing (reply : ℕ) (view : List ℕ) (l : Local) : Type 0 whe
   pub unstaged : is_unstaged l.staged ≡ true
   pub published : HasPublished reply view l
 
--- The cut that a scan gave, where it was a scan of M; and that of the last scan to end, where that was one of M.
+-- The cut that a scan gave, where it was a scan of M; and that of the last scan to end, where that
+-- was one of M.
 abbrev pub cut_of_M : Region → List ℕ → Option (List ℕ)
 cut_of_M N cut = None
 cut_of_M M cut = Some cut
@@ -42,7 +43,8 @@ last_of_M [] = None
 last_of_M (given ∷ []) = cut_of_M given.region given.cut
 last_of_M (given ∷ later ∷ cuts) = last_of_M (later ∷ cuts)
 
--- It has published this record, has seen this cut since, by the last scan that it made, and is idle, with no scan under way.
+-- It has published this record, has seen this cut since, by the last scan that it made, and is
+-- idle, with no scan under way.
 pub record HasSeen (reply : ℕ) (view cut : List ℕ) (l : Local) : Type 0 where
   pub announcing : is_announcing l.phase ≡ true
   pub unstaged : is_unstaged l.staged ≡ true

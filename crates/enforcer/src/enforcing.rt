@@ -24,14 +24,16 @@ use std::alloc::Global;
 use std::sync::ledger::Ledger;
 use world_core::{Outside, Program};
 
-/// Makes one call of an object, which checks itself: the reply comes back only where all replies that are published
-/// by then, of all callers and this one among them, are those that a sequential object gives in one order.
+/// Makes one call of an object, which checks itself: the reply comes back only where all replies
+/// that are published by then, of all callers and this one among them, are those that a sequential
+/// object gives in one order.
 ///
-/// The call is announced, the object is asked, the view is taken, and the record, reply and view, is published; then
-/// the cut of what is published is seen, and the book at that cut is judged.
+/// The call is announced, the object is asked, the view is taken, and the record, reply and view,
+/// is published; then the cut of what is published is seen, and the book at that cut is judged.
 ///
-/// This is the call to make instead of the object's own. Two callers of a queue, one after the other, over an
-/// object `Replies` and its `RepliesPass` that are written as on the page of [`BlackBox`]:
+/// This is the call to make instead of the object's own. Two callers of a queue, one after the
+/// other, over an object `Replies` and its `RepliesPass` that are written as on the page of
+/// [`BlackBox`]:
 ///
 /// ```text
 /// // What a caller found, and whether it is live afterwards.
@@ -106,50 +108,56 @@ use world_core::{Outside, Program};
 /// }
 /// ```
 ///
-/// Where the object replies `done` and `=5`, the second outcome is `Delivered` with the order `enq 5`, `deq`. Where
-/// it replies `none` to both, the first outcome is `Illegal` already: no queue answers an `enq` so.
+/// Where the object replies `done` and `=5`, the second outcome is `Delivered` with the order `enq
+/// 5`, `deq`. Where it replies `none` to both, the first outcome is `Illegal` already: no queue
+/// answers an `enq` so.
 ///
 /// What you hand in:
 ///
-/// - `rows` and `caller`: the table that all callers share, and one of its callers, live and idle, with a call left.
-///   The caller is spent, and comes back with each answer.
+/// - `rows` and `caller`: the table that all callers share, and one of its callers, live and idle,
+///   with a call left. The caller is spent, and comes back with each answer.
 /// - `op`: the operation, as a word that the sequential object reads.
-/// - `sequential`: the object that says which replies are right (`SeqObject` in `book_base`). A verdict is about
-///   this one, so all callers hand in the same.
-/// - `object` and `pass`: the object under test, and this caller's own pass of it, with a call left. One call is
-///   made with it, neither more nor fewer, whatever becomes of the judgement.
-/// - `gathered`: the book that this caller gathered last, and `None` before its first call. The book of a call is
-///   grown from it, so that only words that are new are peeked: the cut that a caller sees later holds what it
-///   gathered before. After `Delivered` it is the book that was judged: hand it to the same caller's next call. After
-///   `Illegal`, which takes its book along, and after `Unjudged` it is `None`. Like the guide it never changes a
-///   verdict, so `None` is always good; but then the words of all calls before are peeked again.
-/// - `guide`: the last order that was found, after whose places the search for the next one begins. It costs or
-///   saves time alone, and never changes a verdict, so a new one is always good. The sequential object is asked for each
-///   of these places again; [`enforce_after`](crate::enforce_after) asks for those that are new.
-/// - `steps`: the counter that ticks with each word of the table that is looked at or peeked: those of four scans, and
-///   those of the book that are new.
+/// - `sequential`: the object that says which replies are right (`SeqObject` in `book_base`). A
+///   verdict is about this one, so all callers hand in the same.
+/// - `object` and `pass`: the object under test, and this caller's own pass of it, with a call
+///   left. One call is made with it, neither more nor fewer, whatever becomes of the judgement.
+/// - `gathered`: the book that this caller gathered last, and `None` before its first call. The
+///   book of a call is grown from it, so that only words that are new are peeked: the cut that a
+///   caller sees later holds what it gathered before. After `Delivered` it is the book that was
+///   judged: hand it to the same caller's next call. After `Illegal`, which takes its book along,
+///   and after `Unjudged` it is `None`. Like the guide it never changes a verdict, so `None` is
+///   always good; but then the words of all calls before are peeked again.
+/// - `guide`: the last order that was found, after whose places the search for the next one begins.
+///   It costs or saves time alone, and never changes a verdict, so a new one is always good. The
+///   sequential object is asked for each of these places again;
+///   [`enforce_after`](crate::enforce_after) asks for those that are new.
+/// - `steps`: the counter that ticks with each word of the table that is looked at or peeked: those
+///   of four scans, and those of the book that are new.
 ///
-/// Each caller keeps one pass, one gathered book, one guide and one counter of its own, and makes its calls from its
-/// own thread. On one thread, as above, guide and counter may be shared, but never the pass or the gathered book. No
-/// call takes a lock or waits for another caller, and a caller that stops in the midst of its call holds up nobody.
+/// Each caller keeps one pass, one gathered book, one guide and one counter of its own, and makes
+/// its calls from its own thread. On one thread, as above, guide and counter may be shared, but
+/// never the pass or the gathered book. No call takes a lock or waits for another caller, and a
+/// caller that stops in the midst of its call holds up nobody.
 ///
 /// What you may conclude from an answer:
 ///
-/// - `Delivered`: the order is a legal one of the book at the seen cut. The book has every record that is published
-///   below the cut, with this call's record, the last of its caller's; so the order explains this reply and each one
-///   that was delivered with a seen cut within this one. A call that a view shows to have come before another does
-///   so in the order too. The caller is live and idle. The object may still be wrong: where calls overlap, a wrong
-///   reply may be a right one in the wider intervals from announcement to view, and then it isn't found.
-/// - `Illegal`: no order explains the book at the seen cut, which the outcome carries. It is evidence against the
-///   object that needs no trust in this run: written as text, `selfcheck verify` answers the same to anyone. No run
-///   whose object calls are linearizable has such an outcome. The caller is halted.
-/// - [`Unjudged`]: memory was refused while the book was gathered or judged. It says nothing about the object. The
-///   reply is in the answer, unchecked, the record stays published, so that the judgements of the other callers
-///   hold it, and the caller is halted.
+/// - `Delivered`: the order is a legal one of the book at the seen cut. The book has every record
+///   that is published below the cut, with this call's record, the last of its caller's; so the
+///   order explains this reply and each one that was delivered with a seen cut within this one. A
+///   call that a view shows to have come before another does so in the order too. The caller is
+///   live and idle. The object may still be wrong: where calls overlap, a wrong reply may be a
+///   right one in the wider intervals from announcement to view, and then it isn't found.
+/// - `Illegal`: no order explains the book at the seen cut, which the outcome carries. It is
+///   evidence against the object that needs no trust in this run: written as text, `selfcheck
+///   verify` answers the same to anyone. No run whose object calls are linearizable has such an
+///   outcome. The caller is halted.
+/// - [`Unjudged`]: memory was refused while the book was gathered or judged. It says nothing about
+///   the object. The reply is in the answer, unchecked, the record stays published, so that the
+///   judgements of the other callers hold it, and the caller is halted.
 ///
 /// An error is final: every judgement at a cut that contains an illegal one is an error too
-/// ([`errors_are_final`](crate::laws::errors_are_final)). Callers whose calls begin afterwards are all halted, each
-/// at its next call (Castañeda and Rodríguez 2023).
+/// ([`errors_are_final`](crate::laws::errors_are_final)). Callers whose calls begin afterwards are
+/// all halted, each at its next call (Castañeda and Rodríguez 2023).
 pub fn enforce<S: SeqObject, B: BlackBox, L: Ledger>(
     alloc: Global,
     rows: &Rows,
@@ -187,7 +195,8 @@ pub fn enforce<S: SeqObject, B: BlackBox, L: Ledger>(
     ensures stands { IfOk result (λ r. stance_of r.0 ≡ stance_after r.1) }
     // With an outcome the caller has made one call more than before, with this operation and the
     // record and the seen cut of the outcome, and has published one record more.
-    ensures progress { IfOk result (λ r. progress_of (local_with r.0) ≡ after_call op (record_in r.1) (cut_in r.1) (progress_of (local_with caller))) }
+    ensures progress { IfOk result (λ r. progress_of (local_with r.0)
+        ≡ after_call op (record_in r.1) (cut_in r.1) (progress_of (local_with caller))) }
     // The view and the seen cut of an outcome have one count for each caller.
     ensures wide { IfOk result (λ r. AreWide rows.now.callers (record_in r.1).view (cut_in r.1)) }
     // The seen cut of an outcome holds each record that the caller has published, and no more of
@@ -198,11 +207,13 @@ pub fn enforce<S: SeqObject, B: BlackBox, L: Ledger>(
     // An outcome is right for a book at its seen cut each of whose words the caller has peeked: the
     // order that it carries is a legal one of that book; or it carries the book, which has no legal
     // order.
-    ensures gathered { IfOk result (λ r. IsRightByPeeks (S.init sequential.now) (S.next sequential.now) rows.now.callers (local_with r.0) r.1) }
+    ensures gathered { IfOk result (λ r. IsRightByPeeks (S.init sequential.now)
+        (S.next sequential.now) rows.now.callers (local_with r.0) r.1) }
     // In whichever reachable world has this local at the caller, the outcome is right for the book
     // at the seen cut of all callers' calls: its order is a legal one of that book; or it carries
     // that book, which has no legal order.
-    ensures verdict { IfOk result (λ r. IsRightOf (S.init sequential.now) (S.next sequential.now) ⟦<Outside as Program>⟧.meaning rows.now r.0 r.1) }
+    ensures verdict { IfOk result (λ r. IsRightOf (S.init sequential.now)
+        (S.next sequential.now) ⟦<Outside as Program>⟧.meaning rows.now r.0 r.1) }
     // With an outcome the caller has peeked each word of the book that is now kept, where there is
     // one, and that book is one at its cut.
     ensures kept { IfOk result (λ r. IsGatheredBy (local_with r.0) gathered.new) }
@@ -215,12 +226,15 @@ pub fn enforce<S: SeqObject, B: BlackBox, L: Ledger>(
     ensures new_words { IfOk result (λ r.
         TicksForWholeCall rows.now.callers gathered.old r.1 gathered.new steps.old steps.new) }
     // The caller of an unjudged call is still one of these rows, with the same number.
-    ensures unjudged_caller { IfErr result (λ u. IsStill ⟦<Outside as Program>⟧.meaning rows.now caller u.caller) }
+    ensures unjudged_caller { IfErr result
+        (λ u. IsStill ⟦<Outside as Program>⟧.meaning rows.now caller u.caller) }
     // The caller of an unjudged call is halted.
-    ensures unjudged_stands { IfErr result (λ u. stance_of u.caller ≡ record ready { live = false }) }
+    ensures unjudged_stands { IfErr result
+        (λ u. stance_of u.caller ≡ record ready { live = false }) }
     // The caller of an unjudged call has made one call more than before, with this operation and
     // the record and the seen cut of the answer, and has published one record more.
-    ensures unjudged_progress { IfErr result (λ u. progress_of (local_with u.caller) ≡ after_call op (record_unjudged u) u.seen (progress_of (local_with caller))) }
+    ensures unjudged_progress { IfErr result (λ u. progress_of (local_with u.caller)
+        ≡ after_call op (record_unjudged u) u.seen (progress_of (local_with caller))) }
     // The view and the seen cut of an unjudged call have one count for each caller.
     ensures unjudged_wide { IfErr result (λ u. AreWide rows.now.callers u.view u.seen) }
     // The seen cut of an unjudged call holds each record that its caller has published, and no more
@@ -235,7 +249,8 @@ pub fn enforce<S: SeqObject, B: BlackBox, L: Ledger>(
     // The pass has made one call more.
     ensures made { B.Pass.made pass.new ≡ B.Pass.made pass.old + 1 }
     // The pass keeps its caller and how many calls it may make.
-    ensures same { (B.Pass.caller pass.new ≡ B.Pass.caller pass.old) × (B.Pass.cap pass.new ≡ B.Pass.cap pass.old) }
+    ensures same { (B.Pass.caller pass.new ≡ B.Pass.caller pass.old)
+        × (B.Pass.cap pass.new ≡ B.Pass.cap pass.old) }
     // A pass that tells its calls tells one more, with this operation and the reply of the call,
     // judged or not; one that tells none still tells none.
     ensures told { B.Pass.told pass.new ≡ told_after op (reply_of result) (B.Pass.told pass.old) }

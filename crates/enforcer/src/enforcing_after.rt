@@ -26,14 +26,16 @@ use std::alloc::Global;
 use std::sync::ledger::Ledger;
 use world_core::{Outside, Program};
 
-/// Makes one call of an object, which checks itself, as [`enforce`](crate::enforce) does, for a caller that keeps what
-/// stands of the last order: a call mostly costs what is new, where `enforce` steps through all places of the last order.
+/// Makes one call of an object, which checks itself, as [`enforce`](crate::enforce) does, for a
+/// caller that keeps what stands of the last order: a call mostly costs what is new, where
+/// `enforce` steps through all places of the last order.
 ///
 /// What is handed in and what may be concluded from an answer is as told there, but for two things:
 ///
-/// - `standing` takes the place of the guide: what stands of an order in the book that is kept in `gathered`, for this
-///   sequential object. Both are `None` before the caller's first call. Whoever hands in what the last call of this caller
-///   left, with the same sequential object, meets the condition `stands`; so does `None`, for either.
+/// - `standing` takes the place of the guide: what stands of an order in the book that is kept in
+///   `gathered`, for this sequential object. Both are `None` before the caller's first call.
+///   Whoever hands in what the last call of this caller left, with the same sequential object,
+///   meets the condition `stands`; so does `None`, for either.
 /// - [`Judged`] has no order: after `Delivered` it is the one in `standing`, and costs no copy.
 pub fn enforce_after<S: SeqObject, B: BlackBox, L: Ledger>(
     alloc: Global,
@@ -64,9 +66,10 @@ pub fn enforce_after<S: SeqObject, B: BlackBox, L: Ledger>(
     // The caller has peeked each word of the book that is kept, where there is one, and that book
     // is one at its cut.
     requires gathered { IsGatheredBy (local_with caller) gathered.old }
-    // Where a book is kept, what is kept of an order stands, for the sequential object, in that book
-    // or in one from which it has grown.
-    requires stands { StandsIn (S.init sequential.now) (S.next sequential.now) gathered.old standing.old }
+    // Where a book is kept, what is kept of an order stands, for the sequential object, in that
+    // book or in one from which it has grown.
+    requires stands { StandsIn (S.init sequential.now)
+        (S.next sequential.now) gathered.old standing.old }
     // With a judgement the caller is still one of these rows, with the same number.
     ensures caller { IfOk result (λ r. IsStill ⟦<Outside as Program>⟧.meaning rows.now caller r.0) }
     // With a judgement the caller is idle.
@@ -75,9 +78,11 @@ pub fn enforce_after<S: SeqObject, B: BlackBox, L: Ledger>(
     ensures stance { IfOk result (λ r. stance_of r.0 ≡ stance_judged r.1) }
     // With a judgement the caller has made one call more than before, with this operation and the
     // record and the seen cut of the judgement, and has published one record more.
-    ensures progress { IfOk result (λ r. progress_of (local_with r.0) ≡ after_call op (record_judged r.1) (cut_judged r.1) (progress_of (local_with caller))) }
+    ensures progress { IfOk result (λ r. progress_of (local_with r.0)
+        ≡ after_call op (record_judged r.1) (cut_judged r.1) (progress_of (local_with caller))) }
     // The view and the seen cut of a judgement have one count for each caller.
-    ensures wide { IfOk result (λ r. AreWide rows.now.callers (record_judged r.1).view (cut_judged r.1)) }
+    ensures wide { IfOk result
+        (λ r. AreWide rows.now.callers (record_judged r.1).view (cut_judged r.1)) }
     // The seen cut of a judgement holds each record that the caller has published, and no more of
     // it.
     ensures own { IfOk result (λ r. HoldsOwn (cut_judged r.1) r.0) }
@@ -89,9 +94,10 @@ pub fn enforce_after<S: SeqObject, B: BlackBox, L: Ledger>(
     ensures gathered { IfOk result (λ r. IsOutcome r.1 standing.new
         (IsRightByPeeks (S.init sequential.now) (S.next sequential.now) rows.now.callers
         (local_with r.0))) }
-    // In whichever reachable world has this local at the caller, a judgement is, with the order that
-    // stands now, an outcome that is right for the book at the seen cut of all callers' calls: that
-    // order is a legal one of the book; or the judgement carries the book, which has no legal order.
+    // In whichever reachable world has this local at the caller, a judgement is, with the order
+    // that stands now, an outcome that is right for the book at the seen cut of all callers' calls:
+    // that order is a legal one of the book; or the judgement carries the book, which has no legal
+    // order.
     ensures verdict { IfOk result (λ r. IsOutcome r.1 standing.new
         (IsRightOf (S.init sequential.now) (S.next sequential.now)
         ⟦<Outside as Program>⟧.meaning rows.now r.0)) }
@@ -103,19 +109,23 @@ pub fn enforce_after<S: SeqObject, B: BlackBox, L: Ledger>(
     ensures kept_book { IfOk result (λ r. IsKeptAfter rows.now.callers r.1 gathered.new) }
     // Where a book is now kept, what is kept of an order stands, for the sequential object, in that
     // book or in one from which it has grown.
-    ensures stands { StandsIn (S.init sequential.now) (S.next sequential.now) gathered.new standing.new }
+    ensures stands { StandsIn (S.init sequential.now)
+        (S.next sequential.now) gathered.new standing.new }
     // With a judgement the counter of steps has risen by at most four times the most words that a
     // scan takes, and then once for each word of the judged book that the book kept before lacks,
     // where that is of as many callers and its cut is within the seen one.
     ensures new_words { IfOk result (λ r.
         TicksForCallAfter rows.now.callers gathered.old r.1 gathered.new steps.old steps.new) }
     // The caller of an unjudged call is still one of these rows, with the same number.
-    ensures unjudged_caller { IfErr result (λ u. IsStill ⟦<Outside as Program>⟧.meaning rows.now caller u.caller) }
+    ensures unjudged_caller { IfErr result
+        (λ u. IsStill ⟦<Outside as Program>⟧.meaning rows.now caller u.caller) }
     // The caller of an unjudged call is halted.
-    ensures unjudged_stands { IfErr result (λ u. stance_of u.caller ≡ record ready { live = false }) }
+    ensures unjudged_stands { IfErr result
+        (λ u. stance_of u.caller ≡ record ready { live = false }) }
     // The caller of an unjudged call has made one call more than before, with this operation and
     // the record and the seen cut of the answer, and has published one record more.
-    ensures unjudged_progress { IfErr result (λ u. progress_of (local_with u.caller) ≡ after_call op (record_unjudged u) u.seen (progress_of (local_with caller))) }
+    ensures unjudged_progress { IfErr result (λ u. progress_of (local_with u.caller)
+        ≡ after_call op (record_unjudged u) u.seen (progress_of (local_with caller))) }
     // The view and the seen cut of an unjudged call have one count for each caller.
     ensures unjudged_wide { IfErr result (λ u. AreWide rows.now.callers u.view u.seen) }
     // The seen cut of an unjudged call holds each record that its caller has published, and no more
@@ -130,10 +140,12 @@ pub fn enforce_after<S: SeqObject, B: BlackBox, L: Ledger>(
     // The pass has made one call more.
     ensures made { B.Pass.made pass.new ≡ B.Pass.made pass.old + 1 }
     // The pass keeps its caller and how many calls it may make.
-    ensures same { (B.Pass.caller pass.new ≡ B.Pass.caller pass.old) × (B.Pass.cap pass.new ≡ B.Pass.cap pass.old) }
+    ensures same { (B.Pass.caller pass.new ≡ B.Pass.caller pass.old)
+        × (B.Pass.cap pass.new ≡ B.Pass.cap pass.old) }
     // A pass that tells its calls tells one more, with this operation and the reply of the call,
     // judged or not; one that tells none still tells none.
-    ensures told { B.Pass.told pass.new ≡ told_after op (reply_after result) (B.Pass.told pass.old) }
+    ensures told { B.Pass.told pass.new
+        ≡ told_after op (reply_after result) (B.Pass.told pass.old) }
     // The counter of steps has not fallen.
     ensures ticks { steps.old ≤ steps.new }
 {

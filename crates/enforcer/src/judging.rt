@@ -23,13 +23,13 @@ use std::alloc::Global;
 use std::sync::ledger::Ledger;
 use world_core::Program;
 
-/// The book at the seen cut of a call, with that cut: the records that were published by then, of all callers, and
-/// the calls that some of their views hold.
+/// The book at the seen cut of a call, with that cut: the records that were published by then, of
+/// all callers, and the calls that some of their views hold.
 ///
-/// What the caller has gathered before, where it hands that in, is grown to it, and only what is new is peeked, where
-/// the seen cut contains that of the kept book, as a later one of the same caller does.
-/// After want of memory the caller may have peeked a part of the new words, what it handed in is gone, and all else
-/// is as it was.
+/// What the caller has gathered before, where it hands that in, is grown to it, and only what is
+/// new is peeked, where the seen cut contains that of the kept book, as a later one of the same
+/// caller does. After want of memory the caller may have peeked a part of the new words, what it
+/// handed in is gone, and all else is as it was.
 pub fn gather<P: Program, L: Ledger>(
     alloc: Global,
     rows: &Rows<P>,
@@ -45,7 +45,8 @@ pub fn gather<P: Program, L: Ledger>(
     // The caller is still one of these rows, with the same number.
     ensures caller { IsStill P.meaning rows.now (caller_seen seen.old) (caller_seen seen.new) }
     // The seen call keeps its reply and its view.
-    ensures record { (reply_seen seen.new ≡ reply_seen seen.old) × (view_seen seen.new ≡ view_seen seen.old) }
+    ensures record { (reply_seen seen.new ≡ reply_seen seen.old)
+        × (view_seen seen.new ≡ view_seen seen.old) }
     // The seen call keeps its cut.
     ensures cut { cut_seen seen.new ≡ cut_seen seen.old }
     // The caller has made peeks alone, and the counter of steps has risen by 1 for each of them.
@@ -54,7 +55,8 @@ pub fn gather<P: Program, L: Ledger>(
     ensures at { IfOk result (λ g. g.cut ≡ cut_seen seen.new) }
     // The caller has peeked each word of the book, which is one at the seen cut.
     ensures gathered { IfOk result (λ g.
-        IsGathered rows.now.callers (local_with (caller_seen seen.new)) (cut_seen seen.new) g.book) }
+        IsGathered rows.now.callers (local_with (caller_seen seen.new))
+        (cut_seen seen.new) g.book) }
     // In whichever reachable world has this local at the caller, the book is the one at the seen
     // cut of all callers' calls.
     ensures exact { IfOk result (λ g.
@@ -81,17 +83,20 @@ fn decide<P: Program, S: SeqObject, L: Ledger>(
     requires rows { IsCallerOf P.meaning rows.now (caller_seen seen.old) }
     requires gathered { IsGatheredBy (local_with (caller_seen seen.old)) gathered }
     ensures caller { IsStill P.meaning rows.now (caller_seen seen.old) (caller_seen seen.new) }
-    ensures record { (reply_seen seen.new ≡ reply_seen seen.old) × (view_seen seen.new ≡ view_seen seen.old) }
+    ensures record { (reply_seen seen.new ≡ reply_seen seen.old)
+        × (view_seen seen.new ≡ view_seen seen.old) }
     ensures cut { cut_seen seen.new ≡ cut_seen seen.old }
     ensures peeks { OnlyPeeks (caller_seen seen.old) (caller_seen seen.new) steps.old steps.new }
     ensures at { IfOk result (λ r. r.0.cut ≡ cut_seen seen.new) }
     ensures gathered { IfOk result (λ r.
-        IsGathered rows.now.callers (local_with (caller_seen seen.new)) (cut_seen seen.new) r.0.book) }
+        IsGathered rows.now.callers (local_with (caller_seen seen.new))
+        (cut_seen seen.new) r.0.book) }
     ensures exact { IfOk result (λ r.
         IsTheBookAt P.meaning rows.now (caller_seen seen.new) (cut_seen seen.new) r.0.book) }
     ensures ticks { IfOk result (λ r.
         TicksForNew rows.now.callers gathered r.0 steps.old steps.new) }
-    ensures verdict { IfOk result (λ r. IsRight (S.init object.now) (S.next object.now) r.0.book r.1) }
+    ensures verdict { IfOk result
+        (λ r. IsRight (S.init object.now) (S.next object.now) r.0.book r.1) }
 {
     let gathered = gather(alloc, rows, seen, gathered, steps)?;
     let verdict = check_from(alloc, object, &gathered.book, guide)?;
@@ -108,15 +113,16 @@ pub(crate) fn halted<P: Program>(rows: &Rows<P>, caller: Caller<P>) -> Caller<P>
     caller.halt()
 }
 
-/// Judges a call by the book at its seen cut: delivers the reply with a legal order of the book, where it has one,
-/// and else answers the error with that book (Castañeda and Rodríguez 2023).
+/// Judges a call by the book at its seen cut: delivers the reply with a legal order of the book,
+/// where it has one, and else answers the error with that book (Castañeda and Rodríguez 2023).
 ///
-/// After `Delivered` the caller is live and idle, and after `Illegal` it is halted. `Unjudged` comes for want of
-/// memory alone. The guide keeps the last order that was found; it costs or saves time, and never changes a verdict.
+/// After `Delivered` the caller is live and idle, and after `Illegal` it is halted. `Unjudged`
+/// comes for want of memory alone. The guide keeps the last order that was found; it costs or saves
+/// time, and never changes a verdict.
 ///
-/// `gathered` is what this caller has gathered before, or `None`: the book is grown from it, and only what is new is
-/// peeked. After `Delivered` it is the book that was judged, for the caller's next call, and else it is `None`: an
-/// error takes its book along.
+/// `gathered` is what this caller has gathered before, or `None`: the book is grown from it, and
+/// only what is new is peeked. After `Delivered` it is the book that was judged, for the caller's
+/// next call, and else it is `None`: an error takes its book along.
 pub fn judge<P: Program, S: SeqObject, L: Ledger>(
     alloc: Global,
     object: &S,
@@ -141,7 +147,8 @@ pub fn judge<P: Program, S: SeqObject, L: Ledger>(
     // With `Delivered` the caller is ready for its next call, and with `Illegal` it is halted.
     ensures stands { IfOk result (λ r. stance_of r.0 ≡ stance_after r.1) }
     // The reply and the view of an outcome are those of the seen call.
-    ensures record { IfOk result (λ r. record_in r.1 ≡ record { reply = reply_seen seen; view = view_seen seen }) }
+    ensures record { IfOk result
+        (λ r. record_in r.1 ≡ record { reply = reply_seen seen; view = view_seen seen }) }
     // The seen cut of an outcome is that of the seen call.
     ensures cut { IfOk result (λ r. cut_in r.1 ≡ cut_seen seen) }
     // The seen cut of an outcome holds each record that the caller has published, and no more of
@@ -150,11 +157,13 @@ pub fn judge<P: Program, S: SeqObject, L: Ledger>(
     // An outcome is right for a book at its seen cut each of whose words the caller has peeked: the
     // order that it carries is a legal one of that book; or it carries the book, which has no legal
     // order.
-    ensures gathered { IfOk result (λ r. IsRightByPeeks (S.init object.now) (S.next object.now) rows.now.callers (local_with r.0) r.1) }
+    ensures gathered { IfOk result (λ r. IsRightByPeeks (S.init object.now)
+        (S.next object.now) rows.now.callers (local_with r.0) r.1) }
     // In whichever reachable world has this local at the caller, the outcome is right for the book
     // at the seen cut of all callers' calls: its order is a legal one of that book; or it carries
     // that book, which has no legal order.
-    ensures verdict { IfOk result (λ r. IsRightOf (S.init object.now) (S.next object.now) P.meaning rows.now r.0 r.1) }
+    ensures verdict { IfOk result
+        (λ r. IsRightOf (S.init object.now) (S.next object.now) P.meaning rows.now r.0 r.1) }
     // With an outcome the caller has peeked each word of the book that is now kept, where there is
     // one, and that book is one at its cut.
     ensures kept { IfOk result (λ r. IsGatheredBy (local_with r.0) gathered.new) }
@@ -166,14 +175,18 @@ pub fn judge<P: Program, S: SeqObject, L: Ledger>(
     ensures new_words { IfOk result (λ r.
         TicksForNewAfter rows.now.callers gathered.old r.1 gathered.new steps.old steps.new) }
     // The caller of an unjudged call is still one of these rows, with the same number.
-    ensures unjudged_caller { IfErr result (λ u. IsStill P.meaning rows.now (caller_seen seen) u.caller) }
+    ensures unjudged_caller { IfErr result
+        (λ u. IsStill P.meaning rows.now (caller_seen seen) u.caller) }
     // The caller of an unjudged call has made peeks alone, and the counter of steps has risen by 1
     // for each of them.
-    ensures unjudged_peeks { IfErr result (λ u. OnlyPeeks (caller_seen seen) u.caller steps.old steps.new) }
+    ensures unjudged_peeks { IfErr result
+        (λ u. OnlyPeeks (caller_seen seen) u.caller steps.old steps.new) }
     // The caller of an unjudged call is halted.
-    ensures unjudged_stands { IfErr result (λ u. stance_of u.caller ≡ record ready { live = false }) }
+    ensures unjudged_stands { IfErr result
+        (λ u. stance_of u.caller ≡ record ready { live = false }) }
     // The reply, the view and the cut of an unjudged call are those of the seen call.
-    ensures unjudged_record { IfErr result (λ u. (u.reply ≡ reply_seen seen) × (u.view ≡ view_seen seen) × (u.seen ≡ cut_seen seen)) }
+    ensures unjudged_record { IfErr result
+        (λ u. (u.reply ≡ reply_seen seen) × (u.view ≡ view_seen seen) × (u.seen ≡ cut_seen seen)) }
     // The seen cut of an unjudged call holds each record that its caller has published, and no more
     // of it.
     ensures unjudged_own { IfErr result (λ u. HoldsOwn u.seen u.caller) }

@@ -23,17 +23,19 @@ use std::alloc::Global;
 use std::sync::ledger::Ledger;
 use world_core::Program;
 
-/// Judges a call as [`judge`](crate::judge) does, for a caller that keeps what stands of the last order: the search goes
-/// on after the places that the new records leave standing, and the order that it finds stands in their place (Castañeda
-/// and Rodríguez 2023).
+/// Judges a call as [`judge`](crate::judge) does, for a caller that keeps what stands of the last
+/// order: the search goes on after the places that the new records leave standing, and the order
+/// that it finds stands in their place (Castañeda and Rodríguez 2023).
 ///
-/// `gathered` is what this caller has gathered before, and `standing` what stands of an order in that book, for this
-/// object; both are `None` before the caller's first call. So a call mostly costs what is new; no clause says how long a
-/// search takes. After `Delivered` both are those for the caller's next call, and `standing` has the order. Otherwise
-/// `gathered` is `None`, and what stands counts for nothing.
+/// `gathered` is what this caller has gathered before, and `standing` what stands of an order in
+/// that book, for this object; both are `None` before the caller's first call. So a call mostly
+/// costs what is new; no clause says how long a search takes. After `Delivered` both are those for
+/// the caller's next call, and `standing` has the order. Otherwise `gathered` is `None`, and what
+/// stands counts for nothing.
 ///
-/// What is kept for one object says nothing of another one, and no value tells which object it was kept for: so the
-/// condition `stands` does. [`judge`](crate::judge) has no such condition, and asks the object for each place again.
+/// What is kept for one object says nothing of another one, and no value tells which object it was
+/// kept for: so the condition `stands` does. [`judge`](crate::judge) has no such condition, and
+/// asks the object for each place again.
 pub fn judge_after<P: Program, S: SeqObject, L: Ledger>(
     alloc: Global,
     object: &S,
@@ -61,7 +63,8 @@ pub fn judge_after<P: Program, S: SeqObject, L: Ledger>(
     // With `Delivered` the caller is ready for its next call, and with `Illegal` it is halted.
     ensures stance { IfOk result (λ r. stance_of r.0 ≡ stance_judged r.1) }
     // The reply and the view of a judgement are those of the seen call.
-    ensures record { IfOk result (λ r. record_judged r.1 ≡ record { reply = reply_seen seen; view = view_seen seen }) }
+    ensures record { IfOk result
+        (λ r. record_judged r.1 ≡ record { reply = reply_seen seen; view = view_seen seen }) }
     // The seen cut of a judgement is that of the seen call.
     ensures cut { IfOk result (λ r. cut_judged r.1 ≡ cut_seen seen) }
     // The seen cut of a judgement holds each record that the caller has published, and no more of
@@ -71,10 +74,12 @@ pub fn judge_after<P: Program, S: SeqObject, L: Ledger>(
     // seen cut each of whose words the caller has peeked: that order is a legal one of the book; or
     // the judgement carries the book, which has no legal order.
     ensures gathered { IfOk result (λ r. IsOutcome r.1 standing.new
-        (IsRightByPeeks (S.init object.now) (S.next object.now) rows.now.callers (local_with r.0))) }
-    // In whichever reachable world has this local at the caller, a judgement is, with the order that
-    // stands now, an outcome that is right for the book at the seen cut of all callers' calls: that
-    // order is a legal one of the book; or the judgement carries the book, which has no legal order.
+        (IsRightByPeeks (S.init object.now) (S.next object.now) rows.now.callers
+        (local_with r.0))) }
+    // In whichever reachable world has this local at the caller, a judgement is, with the order
+    // that stands now, an outcome that is right for the book at the seen cut of all callers' calls:
+    // that order is a legal one of the book; or the judgement carries the book, which has no legal
+    // order.
     ensures verdict { IfOk result (λ r. IsOutcome r.1 standing.new
         (IsRightOf (S.init object.now) (S.next object.now) P.meaning rows.now r.0)) }
     // With a judgement the caller has peeked each word of the book that is now kept, where there is
@@ -83,22 +88,27 @@ pub fn judge_after<P: Program, S: SeqObject, L: Ledger>(
     // After `Delivered` a book of as many callers as the rows have is kept, at the seen cut, and
     // after `Illegal` none is.
     ensures kept_book { IfOk result (λ r. IsKeptAfter rows.now.callers r.1 gathered.new) }
-    // Where a book is now kept, what is kept of an order stands, for this object, in that book or in
-    // one from which it has grown.
+    // Where a book is now kept, what is kept of an order stands, for this object, in that book or
+    // in one from which it has grown.
     ensures stands { StandsIn (S.init object.now) (S.next object.now) gathered.new standing.new }
-    // With a judgement the counter of steps has risen once for each word of the judged book that the
-    // book kept before lacks, where that is of as many callers and its cut is within the seen one.
+    // With a judgement the counter of steps has risen once for each word of the judged book that
+    // the book kept before lacks, where that is of as many callers and its cut is within the seen
+    // one.
     ensures new_words { IfOk result (λ r.
         TicksForJudged rows.now.callers gathered.old r.1 gathered.new steps.old steps.new) }
     // The caller of an unjudged call is still one of these rows, with the same number.
-    ensures unjudged_caller { IfErr result (λ u. IsStill P.meaning rows.now (caller_seen seen) u.caller) }
+    ensures unjudged_caller { IfErr result
+        (λ u. IsStill P.meaning rows.now (caller_seen seen) u.caller) }
     // The caller of an unjudged call has made peeks alone, and the counter of steps has risen by 1
     // for each of them.
-    ensures unjudged_peeks { IfErr result (λ u. OnlyPeeks (caller_seen seen) u.caller steps.old steps.new) }
+    ensures unjudged_peeks { IfErr result
+        (λ u. OnlyPeeks (caller_seen seen) u.caller steps.old steps.new) }
     // The caller of an unjudged call is halted.
-    ensures unjudged_stands { IfErr result (λ u. stance_of u.caller ≡ record ready { live = false }) }
+    ensures unjudged_stands { IfErr result
+        (λ u. stance_of u.caller ≡ record ready { live = false }) }
     // The reply, the view and the cut of an unjudged call are those of the seen call.
-    ensures unjudged_record { IfErr result (λ u. (u.reply ≡ reply_seen seen) × (u.view ≡ view_seen seen) × (u.seen ≡ cut_seen seen)) }
+    ensures unjudged_record { IfErr result
+        (λ u. (u.reply ≡ reply_seen seen) × (u.view ≡ view_seen seen) × (u.seen ≡ cut_seen seen)) }
     // The seen cut of an unjudged call holds each record that its caller has published, and no more
     // of it.
     ensures unjudged_own { IfErr result (λ u. HoldsOwn u.seen u.caller) }

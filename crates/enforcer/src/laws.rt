@@ -8,8 +8,8 @@ pub fn outcomes_are_verdicts()
     ensures { OutcomesAreVerdicts }
 {}
 
-/// An error is final: a judgement at a cut that contains an illegal one is an error (Castañeda and Rodríguez
-/// 2023).
+/// An error is final: a judgement at a cut that contains an illegal one is an error (Castañeda and
+/// Rodríguez 2023).
 #[tactic(auto, using(crate::proofs::Outcomes::errors_are_final))]
 pub fn errors_are_final()
     ensures { ErrorsAreFinal }

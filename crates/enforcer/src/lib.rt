@@ -1,4 +1,5 @@
-//! The enforcer of Castañeda and Rodríguez (2023): a record is published, a cut is seen, and the book at it judged.
+//! The enforcer of Castañeda and Rodríguez (2023): a record is published, a cut is seen, and the
+//! book at it judged.
 #![tactic(auto)]
 
 mod enforcing;

@@ -66,12 +66,14 @@ pub(crate) fn decide_after<P: Program, S: SeqObject, L: Ledger>(
     requires gathered { IsGatheredBy (local_with (caller_seen seen.old)) gathered }
     requires stands { StandsIn (S.init object.now) (S.next object.now) gathered standing }
     ensures caller { IsStill P.meaning rows.now (caller_seen seen.old) (caller_seen seen.new) }
-    ensures record { (reply_seen seen.new ≡ reply_seen seen.old) × (view_seen seen.new ≡ view_seen seen.old) }
+    ensures record { (reply_seen seen.new ≡ reply_seen seen.old)
+        × (view_seen seen.new ≡ view_seen seen.old) }
     ensures cut { cut_seen seen.new ≡ cut_seen seen.old }
     ensures peeks { OnlyPeeks (caller_seen seen.old) (caller_seen seen.new) steps.old steps.new }
     ensures at { IfOk result (λ r. r.0.cut ≡ cut_seen seen.new) }
     ensures gathered { IfOk result (λ r.
-        IsGathered rows.now.callers (local_with (caller_seen seen.new)) (cut_seen seen.new) r.0.book) }
+        IsGathered rows.now.callers (local_with (caller_seen seen.new))
+        (cut_seen seen.new) r.0.book) }
     ensures exact { IfOk result (λ r.
         IsTheBookAt P.meaning rows.now (caller_seen seen.new) (cut_seen seen.new) r.0.book) }
     ensures ticks { IfOk result (λ r.
@@ -89,11 +91,11 @@ pub(crate) fn decide_after<P: Program, S: SeqObject, L: Ledger>(
     Ok((found, after))
 }
 
-/// Judges a call as [`judge`](crate::judge) does, for a caller that keeps the line of the call and not the order: answers
-/// how the line ends (Castañeda and Rodríguez 2023).
+/// Judges a call as [`judge`](crate::judge) does, for a caller that keeps the line of the call and
+/// not the order: answers how the line ends (Castañeda and Rodríguez 2023).
 ///
-/// After `Delivered` the caller is live and idle, and after `Error` it is halted. `Unjudged` comes for want of memory
-/// alone.
+/// After `Delivered` the caller is live and idle, and after `Error` it is halted. `Unjudged` comes
+/// for want of memory alone.
 ///
 /// `gathered` is what this caller has gathered before, and `standing` what stands of an order in
 /// that book, for this object; both are `None` before the caller's first call. The book is grown,
@@ -129,7 +131,8 @@ pub fn judge_line<P: Program, S: SeqObject, L: Ledger>(
     // With `Error` the caller is halted, and with any other end it is ready for its next call.
     ensures stance { IfOk result (λ r. stance_of r.0 ≡ stance_after r.1) }
     // The line ends with `Delivered` or with `Error`, with the record and the cut of the seen call.
-    ensures end { IfOk result (λ r. IsVerdictOn (record { reply = reply_seen seen; view = view_seen seen }) (cut_seen seen) r.1) }
+    ensures end { IfOk result (λ r. IsVerdictOn
+        (record { reply = reply_seen seen; view = view_seen seen }) (cut_seen seen) r.1) }
     // With an end of the line the seen cut holds each record that the caller has published, and no
     // more of it.
     ensures own { IfOk result (λ r. HoldsOwn (cut_seen seen) r.0) }
@@ -151,14 +154,18 @@ pub fn judge_line<P: Program, S: SeqObject, L: Ledger>(
     ensures new_words { IfOk result (λ r. IfSome gathered.new (λ g.
         TicksForNew rows.now.callers gathered.old g steps.old steps.new)) }
     // The caller of an unjudged call is still one of these rows, with the same number.
-    ensures unjudged_caller { IfErr result (λ u. IsStill P.meaning rows.now (caller_seen seen) u.caller) }
+    ensures unjudged_caller { IfErr result
+        (λ u. IsStill P.meaning rows.now (caller_seen seen) u.caller) }
     // The caller of an unjudged call has made peeks alone, and the counter of steps has risen by 1
     // for each of them.
-    ensures unjudged_peeks { IfErr result (λ u. OnlyPeeks (caller_seen seen) u.caller steps.old steps.new) }
+    ensures unjudged_peeks { IfErr result
+        (λ u. OnlyPeeks (caller_seen seen) u.caller steps.old steps.new) }
     // The caller of an unjudged call is halted.
-    ensures unjudged_stands { IfErr result (λ u. stance_of u.caller ≡ record ready { live = false }) }
+    ensures unjudged_stands { IfErr result
+        (λ u. stance_of u.caller ≡ record ready { live = false }) }
     // The reply, the view and the cut of an unjudged call are those of the seen call.
-    ensures unjudged_record { IfErr result (λ u. (u.reply ≡ reply_seen seen) × (u.view ≡ view_seen seen) × (u.seen ≡ cut_seen seen)) }
+    ensures unjudged_record { IfErr result
+        (λ u. (u.reply ≡ reply_seen seen) × (u.view ≡ view_seen seen) × (u.seen ≡ cut_seen seen)) }
     // The seen cut of an unjudged call holds each record that its caller has published, and no more
     // of it.
     ensures unjudged_own { IfErr result (λ u. HoldsOwn u.seen u.caller) }

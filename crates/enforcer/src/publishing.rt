@@ -16,9 +16,10 @@ use row_table::{Rows, Steps};
 use std::sync::ledger::Ledger;
 use world_core::{Program, Region};
 
-/// Publishes the record of a call: scans M, stages reply and view with the cut of this scan in the caller's row of
-/// M, and raises the caller's count there. The scan begins after the view was taken, and its cut contains each count
-/// of M that the caller had looked at. From then on every cut that is seen holds the record.
+/// Publishes the record of a call: scans M, stages reply and view with the cut of this scan in the
+/// caller's row of M, and raises the caller's count there. The scan begins after the view was
+/// taken, and its cut contains each count of M that the caller had looked at. From then on every
+/// cut that is seen holds the record.
 ///
 /// It ticks at most as often as one scan, and takes no memory.
 pub fn publish<P: Program, L: Ledger>(
@@ -33,17 +34,22 @@ pub fn publish<P: Program, L: Ledger>(
     // The caller is still one of these rows, with the same number.
     ensures caller { IsStill P.meaning rows.now (caller_viewed viewed) (caller_published result) }
     // The published call has the reply and the view of the viewed one.
-    ensures record { (reply_published result ≡ reply_viewed viewed) × (view_published result ≡ view_viewed viewed) }
+    ensures record { (reply_published result ≡ reply_viewed viewed)
+        × (view_published result ≡ view_viewed viewed) }
     // The caller's local is the one before after a scan of M and the publication of the row that
     // was staged, with no other event but stages; the row embeds the cut of that scan, which
     // contains each count of M that the caller had looked at before.
-    ensures published { IsPublication rows.now.callers (local_with (caller_viewed viewed)) (local_with (caller_published result)) }
+    ensures published { IsPublication rows.now.callers (local_with (caller_viewed viewed))
+        (local_with (caller_published result)) }
     // The caller has published one record more, and its progress is as before besides.
-    ensures progress { progress_of (local_with (caller_published result)) ≡ after_publishing (progress_of (local_with (caller_viewed viewed))) }
+    ensures progress { progress_of (local_with (caller_published result))
+        ≡ after_publishing (progress_of (local_with (caller_viewed viewed))) }
     // The caller's local has each look, peek and cut that it had before.
-    ensures grows { Grows (local_with (caller_viewed viewed)) (local_with (caller_published result)) }
+    ensures grows { Grows (local_with (caller_viewed viewed))
+        (local_with (caller_published result)) }
     // The counter of steps has risen by at most the most words that a scan takes.
-    ensures ticks { (steps.old ≤ steps.new) × (steps.new ≤ steps.old + most_words rows.now.callers) }
+    ensures ticks { (steps.old ≤ steps.new)
+        × (steps.new ≤ steps.old + most_words rows.now.callers) }
 {
     let reply = viewed.reply();
     let view = viewed.view();

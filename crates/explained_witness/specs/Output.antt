@@ -16,7 +16,8 @@ pub record BreaksNone (bytes : List ℕ) : Type 0 where
   pub told : IsGiven bytes kind book
   pub none : (broken : BrokenRule) → Breaks kind book broken → ⊥
 
--- The bytes give a book that breaks a rule and so has no legal order, and the text says which rule it breaks, and by which calls.
+-- The bytes give a book that breaks a rule and so has no legal order, and the text says which rule
+-- it breaks, and by which calls.
 pub record IsExplained (bytes text : List ℕ) : Type 0 where
   pub kind : Kind
   pub book : List Page

@@ -1,4 +1,5 @@
-//! The program: it reads a book, or the whole output of a run, and writes which rule of its kind the book breaks.
+//! The program: it reads a book, or the whole output of a run, and writes which rule of its kind
+//! the book breaks.
 #![tactic(auto)]
 
 ghost use Rattle.explained_witness.specs.Output.{IsExplained, SaysNoneBroken};

@@ -8,10 +8,12 @@ use Rattle.faulty_machines.specs.Calls.{is_put, earlier, last_call, unless, repl
 abbrev pub waits_after : ℕ → Option ℕ
 waits_after op = if is_put op then Some op else None
 
--- What waits of a caller after some calls, where this waits before them: the caller's last call, if that is a put.
+-- What waits of a caller after some calls, where this waits before them: the caller's last call, if
+-- that is a put.
 abbrev pub waiting_from : ℕ → Option ℕ → List Entry → Option ℕ
 waiting_from i waits [] = waits
-waiting_from i waits (e ∷ log) = waiting_from i (if e.caller == i then waits_after e.op else waits) log
+waiting_from i waits (e ∷ log) =
+    waiting_from i (if e.caller == i then waits_after e.op else waits) log
 
 -- What waits of a caller after some calls: the caller's last call, if that is a put.
 abbrev pub waiting_of : ℕ → List Entry → Option ℕ
@@ -35,7 +37,8 @@ late_changes before (e ∷ log) = late_change before e ++ late_changes (before +
 -- The reply to a call after some others: it is lawful at the list that their changes leave, and
 -- then the waiting one of its caller.
 abbrev pub late_reply_after : (List ℕ → ℕ → List ℕ × ℕ) → List ℕ → List Entry → Entry → ℕ
-late_reply_after next init before e = reply_after next init (late_changes [] before ++ waiting_call e.caller (waiting_of e.caller before)) e.op
+late_reply_after next init before e = reply_after next init
+    (late_changes [] before ++ waiting_call e.caller (waiting_of e.caller before)) e.op
 
 -- The reply to the last call of a log.
 abbrev pub late_reply : (List ℕ → ℕ → List ℕ × ℕ) → List ℕ → List Entry → ℕ
@@ -44,7 +47,11 @@ late_reply next init log = late_reply_after next init (earlier log) (last_call l
 -- A call makes its changes after those of the others, what waits of its caller afterwards is the
 -- call itself where it is a put, and it is answered before its own change.
 pub record PutsWait : Type 0 where
-  pub changes : (before : List Entry) (e : Entry) → late_changes [] (before ++ e ∷ []) ≡ late_changes [] before ++ late_change before e
-  pub own : (before : List Entry) (e : Entry) → waiting_of e.caller (before ++ e ∷ []) ≡ waits_after e.op
-  pub other : (i : ℕ) (before : List Entry) (e : Entry) → e.caller ≢ i → waiting_of i (before ++ e ∷ []) ≡ waiting_of i before
-  pub reply : (next : List ℕ → ℕ → List ℕ × ℕ) (init : List ℕ) (before : List Entry) (e : Entry) → late_reply next init (before ++ e ∷ []) ≡ late_reply_after next init before e
+  pub changes : (before : List Entry) (e : Entry)
+      → late_changes [] (before ++ e ∷ []) ≡ late_changes [] before ++ late_change before e
+  pub own : (before : List Entry) (e : Entry)
+      → waiting_of e.caller (before ++ e ∷ []) ≡ waits_after e.op
+  pub other : (i : ℕ) (before : List Entry) (e : Entry) → e.caller ≢ i
+      → waiting_of i (before ++ e ∷ []) ≡ waiting_of i before
+  pub reply : (next : List ℕ → ℕ → List ℕ × ℕ) (init : List ℕ) (before : List Entry) (e : Entry)
+      → late_reply next init (before ++ e ∷ []) ≡ late_reply_after next init before e

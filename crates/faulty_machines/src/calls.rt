@@ -21,7 +21,9 @@ pub(crate) fn is_take(op: OpWord) -> bool
 /// Makes an operation, unless it is left out.
 pub(crate) fn make_unless<S: SeqObject>(left: bool, object: &S, state: &mut State, op: OpWord)
     requires { length state.old.words < state.old.room }
-    ensures { state.new ≡ record state.old { words = if left then state.old.words else (S.next object.now state.old.words op).0 } }
+    ensures { state.new ≡ record state.old {
+      words = if left then state.old.words else (S.next object.now state.old.words op).0;
+    } }
 {
     if !left {
         object.step(state, op);

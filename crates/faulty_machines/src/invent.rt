@@ -7,7 +7,8 @@ use book_base::{SeqObject, State};
 use lawful_objects::{Entry, Machine, Scratch};
 use seq_objects::value_reply;
 
-/// The machine that invents: the third call of each caller changes the list lawfully and is answered 99.
+/// The machine that invents: the third call of each caller changes the list lawfully and is
+/// answered 99.
 #[derive(Clone, Copy, Debug)]
 pub struct Invent<S: SeqObject> {
     pub object: S,
@@ -24,7 +25,9 @@ impl<S: SeqObject> Invent<S> {
     // Makes the calls of a log.
     fn replay(&self, log: &[Entry], state: &mut State)
         requires { length state.old.words + length log.now ≤ state.old.room }
-        ensures list { state.new ≡ record state.old { words = list_after (S.next self.now.object) state.old.words log.now } }
+        ensures list { state.new ≡ record state.old {
+          words = list_after (S.next self.now.object) state.old.words log.now;
+        } }
         ensures few { length state.new.words ≤ length state.old.words + length log.now }
     {
         for entry in log {

@@ -9,8 +9,8 @@ use crate::calls;
 use book_base::{OpWord, SeqObject};
 use lawful_objects::{Entry, Machine, Scratch};
 
-/// The machine that is late: a put gets its lawful reply, and its change waits for the next call of its
-/// caller, which makes it first.
+/// The machine that is late: a put gets its lawful reply, and its change waits for the next call of
+/// its caller, which makes it first.
 #[derive(Clone, Copy, Debug)]
 pub struct Late<S: SeqObject> {
     pub object: S,
@@ -21,9 +21,13 @@ impl<S: SeqObject> Late<S> {
     fn make_waiting(&self, caller: usize, scratch: &mut Scratch)
         requires caller { caller < vec_len scratch.old.waiting }
         requires room { length scratch.old.state.words < scratch.old.state.room }
-        ensures list { scratch.new.state.words ≡ list_after (S.next self.now.object) scratch.old.state.words (waiting_call caller (slice_index_or scratch.old.waiting.items caller None)) }
-        ensures waiting { scratch.new.waiting.items ≡ slice_set scratch.old.waiting.items caller None }
-        ensures count { length scratch.new.state.words + waiting_count scratch.new.waiting.items ≤ length scratch.old.state.words + waiting_count scratch.old.waiting.items }
+        ensures list { scratch.new.state.words ≡ list_after
+            (S.next self.now.object) scratch.old.state.words
+            (waiting_call caller (slice_index_or scratch.old.waiting.items caller None)) }
+        ensures waiting { scratch.new.waiting.items
+            ≡ slice_set scratch.old.waiting.items caller None }
+        ensures count { length scratch.new.state.words + waiting_count scratch.new.waiting.items
+            ≤ length scratch.old.state.words + waiting_count scratch.old.waiting.items }
         ensures room { KeepsRoom scratch.old scratch.new }
     {
         if let Some(op) = scratch.waiting[caller].take() {
@@ -31,13 +35,20 @@ impl<S: SeqObject> Late<S> {
         }
     }
 
-    // Makes the changes of a call: the one that waits of its caller, and its own unless it is a put, which waits.
+    // Makes the changes of a call: the one that waits of its caller, and its own unless it is a
+    // put, which waits.
     fn turn(&self, entry: &Entry, scratch: &mut Scratch)
         requires caller { entry.now.caller < vec_len scratch.old.waiting }
-        requires room { length scratch.old.state.words + waiting_count scratch.old.waiting.items < scratch.old.state.room }
-        ensures list { scratch.new.state.words ≡ list_after (S.next self.now.object) (list_after (S.next self.now.object) scratch.old.state.words (waiting_call entry.now.caller (slice_index_or scratch.old.waiting.items entry.now.caller None))) (unless (is_put entry.now.op) entry.now) }
-        ensures waiting { scratch.new.waiting.items ≡ slice_set scratch.old.waiting.items entry.now.caller (waits_after entry.now.op) }
-        ensures count { length scratch.new.state.words + waiting_count scratch.new.waiting.items ≤ length scratch.old.state.words + waiting_count scratch.old.waiting.items + 1 }
+        requires room { length scratch.old.state.words + waiting_count scratch.old.waiting.items
+            < scratch.old.state.room }
+        ensures list { scratch.new.state.words ≡ list_after (S.next self.now.object)
+            (list_after (S.next self.now.object) scratch.old.state.words (waiting_call
+            entry.now.caller (slice_index_or scratch.old.waiting.items entry.now.caller None)))
+            (unless (is_put entry.now.op) entry.now) }
+        ensures waiting { scratch.new.waiting.items
+            ≡ slice_set scratch.old.waiting.items entry.now.caller (waits_after entry.now.op) }
+        ensures count { length scratch.new.state.words + waiting_count scratch.new.waiting.items
+            ≤ length scratch.old.state.words + waiting_count scratch.old.waiting.items + 1 }
         ensures room { KeepsRoom scratch.old scratch.new }
     {
         let caller = entry.caller as usize;
@@ -56,9 +67,12 @@ impl<S: SeqObject> Late<S> {
         requires callers { All (λ e. e.caller < vec_len scratch.old.waiting) log.now }
         requires none { waiting_count scratch.old.waiting.items ≡ 0 }
         requires room { length scratch.old.state.words + length log.now ≤ scratch.old.state.room }
-        ensures list { scratch.new.state.words ≡ list_after (S.next self.now.object) scratch.old.state.words (late_changes [] log.now) }
-        ensures waiting { (i : ℕ) → i < vec_len scratch.old.waiting → slice_index_or scratch.new.waiting.items i None ≡ waiting_of i log.now }
-        ensures count { length scratch.new.state.words + waiting_count scratch.new.waiting.items ≤ length scratch.old.state.words + length log.now }
+        ensures list { scratch.new.state.words ≡ list_after
+            (S.next self.now.object) scratch.old.state.words (late_changes [] log.now) }
+        ensures waiting { (i : ℕ) → i < vec_len scratch.old.waiting
+            → slice_index_or scratch.new.waiting.items i None ≡ waiting_of i log.now }
+        ensures count { length scratch.new.state.words + waiting_count scratch.new.waiting.items
+            ≤ length scratch.old.state.words + length log.now }
         ensures room { KeepsRoom scratch.old scratch.new }
     {
         for entry in log {

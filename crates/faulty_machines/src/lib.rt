@@ -1,4 +1,5 @@
-//! Faulty machines over the log object: they lose, repeat, delay or invent, each in a way of its own.
+//! Faulty machines over the log object: they lose, repeat, delay or invent, each in a way of its
+//! own.
 #![tactic(auto)]
 
 mod calls;

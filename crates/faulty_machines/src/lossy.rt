@@ -16,7 +16,11 @@ impl<S: SeqObject> Lossy<S> {
     // Makes the calls of a log, but each second put.
     fn replay(&self, log: &[Entry], state: &mut State)
         requires { length state.old.words + length log.now ≤ state.old.room }
-        ensures list { state.new ≡ record state.old { words = list_after (S.next self.now.object) state.old.words (without_second_puts false log.now) } }
+        ensures list { state.new ≡ record state.old {
+          words =
+              list_after (S.next self.now.object) state.old.words
+              (without_second_puts false log.now);
+        } }
         ensures few { length state.new.words ≤ length state.old.words + length log.now }
     {
         let mut second = false;

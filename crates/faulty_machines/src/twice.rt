@@ -16,7 +16,9 @@ impl<S: SeqObject> Twice<S> {
     // Makes the calls of a log that are no takes.
     fn replay(&self, log: &[Entry], state: &mut State)
         requires { length state.old.words + length log.now ≤ state.old.room }
-        ensures list { state.new ≡ record state.old { words = list_after (S.next self.now.object) state.old.words (without_takes log.now) } }
+        ensures list { state.new ≡ record state.old {
+          words = list_after (S.next self.now.object) state.old.words (without_takes log.now);
+        } }
         ensures few { length state.new.words ≤ length state.old.words + length log.now }
     {
         for entry in log {

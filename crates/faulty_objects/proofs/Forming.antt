@@ -13,14 +13,19 @@ use Rattle.shared_words.specs.Histories.{Access, access, IsLawful, IsAfterAccess
 use Rattle.faulty_objects.specs.Forms.{IsSplit, IsTorn, SplitsAreFormed, dequeue, item_index, empty_places, IsEnqueued, IsDequeued, IsOnePass, IsQueueReply, OnePassesAreFormed, up, IsMissed, IsMeeting, IsMeetingReply, MeetingsAreFormed, other_caller, LastLoadsTellReplies}
 
 -- what follows of each call holds of each pair
-formed : (call : ℕ → ℕ → List Deed → List Deed → Type 0) (form : ℕ → ℕ → Type 0) → ((op reply : ℕ) (before after : List Deed) → call op reply before after → form op reply)
-    → (pairs : List (ℕ × ℕ)) (before after : List Deed) → AreCalls call pairs before after → All (λ (pair : ℕ × ℕ). form pair.0 pair.1) pairs
+formed : (call : ℕ → ℕ → List Deed → List Deed → Type 0) (form : ℕ → ℕ → Type 0)
+    → ((op reply : ℕ) (before after : List Deed) → call op reply before after → form op reply)
+    → (pairs : List (ℕ × ℕ)) (before after : List Deed) → AreCalls call pairs before after
+    → All (λ (pair : ℕ × ℕ). form pair.0 pair.1) pairs
 formed call form gives [] before after calls = All-nil (λ (pair : ℕ × ℕ). form pair.0 pair.1)
 formed call form gives (pair ∷ pairs) before after calls =
-    All-cons (λ (p : ℕ × ℕ). form p.0 p.1) pair pairs (gives pair.0 pair.1 before calls.0 calls.1) (formed call form gives pairs calls.0 after calls.2)
+    All-cons (λ (p : ℕ × ℕ). form p.0 p.1) pair pairs (gives pair.0 pair.1 before calls.0 calls.1)
+    (formed call form gives pairs calls.0 after calls.2)
 
 -- a load, and then a store of one more, are a split increment
-pub loaded_and_stored : (op reply found word : ℕ) (before between after : List Deed) → op ≡ increment → between ≡ before ++ Loaded 0 found ∷ [] → after ≡ between ++ Stored 0 word ∷ [] → word ≡ (found + 1) % 2 ^ 64 → reply ≡ reply_value found
+pub loaded_and_stored : (op reply found word : ℕ) (before between after : List Deed)
+    → op ≡ increment → between ≡ before ++ Loaded 0 found ∷ [] → after
+    ≡ between ++ Stored 0 word ∷ [] → word ≡ (found + 1) % 2 ^ 64 → reply ≡ reply_value found
     → IsSplit op reply before after
 loaded_and_stored op reply found word before between after is loaded stored more replied =
     record {
@@ -36,8 +41,10 @@ loaded_and_stored op reply found word before between after is loaded stored more
     }
 
 -- the reply to a split increment
-pub torn_reply : (who who' found word reply : ℕ) (before between after : List Access) → IsLawful cell_may between → IsAfterAccess who (Loaded 0 found) before between → who' ≡ who
-    → IsAfterAccess who' (Stored 0 word) between after → word ≡ (found + 1) % 2 ^ 64 → reply ≡ reply_value found → IsTorn who reply after
+pub torn_reply : (who who' found word reply : ℕ) (before between after : List Access)
+    → IsLawful cell_may between → IsAfterAccess who (Loaded 0 found) before between → who' ≡ who
+    → IsAfterAccess who' (Stored 0 word) between after → word ≡ (found + 1) % 2 ^ 64
+    → reply ≡ reply_value found → IsTorn who reply after
 torn_reply who who' found word reply before between after lawful loaded same stored more told =
     let all = before ++ loaded.between in
     record {
@@ -48,12 +55,14 @@ torn_reply who who' found word reply before between after lawful loaded same sto
       ends =
           stored.history
           ∙ (λ i. (loaded.history i ++ stored.between) ++ access (same i) (Stored 0 (more i)) ∷ [])
-          ∙ ap (λ (l : List Access). l ++ access who (Stored 0 ((found + 1) % 2 ^ 64)) ∷ []) (append_assoc all (access who (Loaded 0 found) ∷ []) stored.between);
+          ∙ ap (λ (l : List Access). l ++ access who (Stored 0 ((found + 1) % 2 ^ 64)) ∷ [])
+          (append_assoc all (access who (Loaded 0 found) ∷ []) stored.between);
       told = told;
     }
 
 -- the form of one reply
-pub split_form : (op reply : ℕ) (before after : List Deed) → IsSplit op reply before after → IsTallyReply op reply
+pub split_form : (op reply : ℕ) (before after : List Deed) → IsSplit op reply before after
+    → IsTallyReply op reply
 split_form op reply before after call =
     record {
       counts = λ is. let c = call.counts is in (c.0, c.2);
@@ -64,12 +73,15 @@ pub splits_are_formed : SplitsAreFormed
 splits_are_formed = formed IsSplit IsTallyReply split_form
 
 -- the form of a one-pass queue's reply
-took : (places reply : ℕ) (before after : List Deed) (call : IsDequeued places reply before after) → ((eqb call.found 0 ≡ true) × (call.found ≡ 0)) ⊎ ((eqb call.found 0 ≡ false) × (call.found ≢ 0))
+took : (places reply : ℕ) (before after : List Deed) (call : IsDequeued places reply before after)
+    → ((eqb call.found 0 ≡ true) × (call.found ≡ 0))
+    ⊎ ((eqb call.found 0 ≡ false) × (call.found ≢ 0))
     → (reply ≡ reply_none) ⊎ ((value : ℕ) × (reply ≡ reply_value value))
 took places reply before after call (inl h) = inl (call.all_empty h.1).2
 took places reply before after call (inr h) = inr (call.found - 1, (call.item h.1).2)
 
-pub one_pass_form : (places op reply : ℕ) (before after : List Deed) → IsOnePass places op reply before after → IsQueueReply op reply
+pub one_pass_form : (places op reply : ℕ) (before after : List Deed)
+    → IsOnePass places op reply before after → IsQueueReply op reply
 one_pass_form places op reply before after call =
     record {
       puts = λ value low is. (call.puts value low is).1;
@@ -81,15 +93,19 @@ pub one_passes_are_formed : OnePassesAreFormed
 one_passes_are_formed places = formed (IsOnePass places) IsQueueReply (one_pass_form places)
 
 -- an enqueue of what its word asks for
-pub enqueued_is_made : (places op value : ℕ) (before after : List Deed) → 2 ^ 32 ≤ op → op ≢ dequeue → op ≤ 2 ^ 33 → value ≡ op - 2 ^ 32 → IsEnqueued places value before after → IsOnePass places op reply_done before after
+pub enqueued_is_made : (places op value : ℕ) (before after : List Deed) → 2 ^ 32 ≤ op → op ≢ dequeue
+    → op ≤ 2 ^ 33 → value ≡ op - 2 ^ 32 → IsEnqueued places value before after
+    → IsOnePass places op reply_done before after
 enqueued_is_made places op value before after from no_take to is call =
     record {
-      puts = λ v low same. let value_is : value ≡ v = omega arith in (subst (λ (k : ℕ). IsEnqueued places k before after) value_is call, refl);
+      puts = λ v low same. let value_is : value ≡ v = omega arith in
+          (subst (λ (k : ℕ). IsEnqueued places k before after) value_is call, refl);
       takes = λ same. absurd (no_take same);
       other = λ no_put no_take'. absurd (no_put (op - 2 ^ 32) (omega arith) (omega arith));
     }
 
-pub dequeued_is_made : (places op reply : ℕ) (before after : List Deed) → op ≡ dequeue → IsDequeued places reply before after → IsOnePass places op reply before after
+pub dequeued_is_made : (places op reply : ℕ) (before after : List Deed) → op ≡ dequeue
+    → IsDequeued places reply before after → IsOnePass places op reply before after
 dequeued_is_made places op reply before after is call =
     record {
       puts = λ v low same. absurd (omega arith);
@@ -98,8 +114,11 @@ dequeued_is_made places op reply before after is call =
     }
 
 -- a place that was found empty, and one that had an item
-pub place_passed : (count place : ℕ) (before begun between after : List Deed) (counter found : ℕ) → begun ≡ before ++ Loaded 0 counter ∷ [] → between ≡ begun ++ empty_places count → place ≡ item_index count
-    → after ≡ between ++ Swapped place 0 found ∷ [] → found ≡ 0 → after ≡ begun ++ empty_places (count + 1)
+pub place_passed : (count place : ℕ) (before begun between after : List Deed) (counter found : ℕ)
+    → begun ≡ before ++ Loaded 0 counter ∷ [] → between ≡ begun ++ empty_places count
+    → place ≡ item_index count
+    → after ≡ between ++ Swapped place 0 found ∷ [] → found ≡ 0
+    → after ≡ begun ++ empty_places (count + 1)
 place_passed count place before begun between after counter found loaded so_far at swapped none =
     let up : suc count ≡ count + 1 = omega arith in
     swapped
@@ -107,20 +126,31 @@ place_passed count place before begun between after counter found loaded so_far 
     ∙ append_assoc begun (empty_places count) (Swapped (item_index count) 0 0 ∷ [])
     ∙ ap (λ (k : ℕ). begun ++ empty_places k) up
 
-pub all_passed : (places counter count : ℕ) (before begun after : List Deed) → begun ≡ before ++ Loaded 0 counter ∷ [] → after ≡ begun ++ empty_places count → count ≡ min counter places → IsDequeued places reply_none before after
+pub all_passed : (places counter count : ℕ) (before begun after : List Deed)
+    → begun ≡ before ++ Loaded 0 counter ∷ [] → after ≡ begun ++ empty_places count
+    → count ≡ min counter places → IsDequeued places reply_none before after
 all_passed places counter count before begun after loaded so_far all =
     record {
       counter = counter;
       count = count;
       found = 0;
       within = omega arith;
-      all_empty = λ _. (all, so_far ∙ ap (λ (d : List Deed). d ++ empty_places count) loaded ∙ append_assoc before (Loaded 0 counter ∷ []) (empty_places count), refl);
+      all_empty = λ _. (
+        all,
+        so_far ∙ ap (λ (d : List Deed). d ++ empty_places count) loaded
+            ∙ append_assoc before (Loaded 0 counter ∷ []) (empty_places count),
+        refl,
+      );
       item = λ some. absurd (some refl);
     }
 
-pub item_found : (places counter count place found reply : ℕ) (before begun between after : List Deed) → begun ≡ before ++ Loaded 0 counter ∷ [] → between ≡ begun ++ empty_places count → place ≡ item_index count
-    → after ≡ between ++ Swapped place 0 found ∷ [] → found ≢ 0 → count < min counter places → reply ≡ reply_value (found - 1) → IsDequeued places reply before after
-item_found places counter count place found reply before begun between after loaded so_far at swapped some low replied =
+pub item_found : (places counter count place found reply : ℕ)
+    (before begun between after : List Deed) → begun ≡ before ++ Loaded 0 counter ∷ [] → between
+    ≡ begun ++ empty_places count → place ≡ item_index count
+    → after ≡ between ++ Swapped place 0 found ∷ [] → found ≢ 0 → count < min counter places
+    → reply ≡ reply_value (found - 1) → IsDequeued places reply before after
+item_found places counter count place found reply before begun between after loaded so_far at
+    swapped some low replied =
     record {
       counter = counter;
       count = count;
@@ -130,28 +160,41 @@ item_found places counter count place found reply before begun between after loa
       item = λ _. (
         low,
         swapped
-            ∙ (λ i. (so_far ∙ ap (λ (d : List Deed). d ++ empty_places count) loaded) i ++ Swapped (at i) 0 found ∷ [])
-            ∙ append_assoc (before ++ Loaded 0 counter ∷ []) (empty_places count) (Swapped (item_index count) 0 found ∷ [])
-            ∙ append_assoc before (Loaded 0 counter ∷ []) (empty_places count ++ Swapped (item_index count) 0 found ∷ []),
+            ∙ (λ i. (so_far ∙ ap (λ (d : List Deed). d ++ empty_places count) loaded) i
+            ++ Swapped (at i) 0 found ∷ [])
+            ∙ append_assoc (before ++ Loaded 0 counter ∷ []) (empty_places count)
+            (Swapped (item_index count) 0 found ∷ [])
+            ∙ append_assoc before (Loaded 0 counter ∷ [])
+            (empty_places count ++ Swapped (item_index count) 0 found ∷ []),
         replied,
       );
     }
 
 -- an addition to the counter, and then a store, or none where there is no place
-pub enqueued : (places place index word value : ℕ) (before between after : List Deed) → place < places → between ≡ before ++ Added 0 1 place ∷ [] → index ≡ item_index place → word ≡ value + 1 → after ≡ between ++ Stored index word ∷ []
+pub enqueued : (places place index word value : ℕ) (before between after : List Deed)
+    → place < places → between ≡ before ++ Added 0 1 place ∷ [] → index ≡ item_index place
+    → word ≡ value + 1 → after ≡ between ++ Stored index word ∷ []
     → IsEnqueued places value before after
 enqueued places place index word value before between after low added at is stored =
     record {
       place = place;
-      stored = λ _. stored ∙ (λ i. added i ++ Stored (at i) (is i) ∷ []) ∙ append_assoc before (Added 0 1 place ∷ []) (Stored (item_index place) (value + 1) ∷ []);
+      stored = λ _. stored ∙ (λ i. added i ++ Stored (at i) (is i) ∷ [])
+          ∙ append_assoc before (Added 0 1 place ∷ []) (Stored (item_index place) (value + 1) ∷ []);
       beyond = λ past. absurd (omega arith);
     }
 
 -- no load, and one more that missed the flag
 pub none_missed : (flag : ℕ) (deeds : List Deed) → IsMissed flag 0 deeds deeds
-none_missed flag deeds = record { found = []; many = refl; each = All-nil (λ (word : ℕ). word ≢ up); loaded = sym (append-nil deeds) }
+none_missed flag deeds = record {
+  found = [];
+  many = refl;
+  each = All-nil (λ (word : ℕ). word ≢ up);
+  loaded = sym (append-nil deeds);
+}
 
-pub one_missed : (flag count found : ℕ) (before between after : List Deed) → IsMissed flag count before between → after ≡ between ++ Loaded flag found ∷ [] → found ≢ up → IsMissed flag (count + 1) before after
+pub one_missed : (flag count found : ℕ) (before between after : List Deed)
+    → IsMissed flag count before between → after ≡ between ++ Loaded flag found ∷ [] → found ≢ up
+    → IsMissed flag (count + 1) before after
 one_missed flag count found before between after so_far loaded isnt =
     record {
       found = so_far.found ++ found ∷ [];
@@ -161,15 +204,21 @@ one_missed flag count found before between after so_far loaded isnt =
           loaded
           ∙ ap (λ (d : List Deed). d ++ Loaded flag found ∷ []) so_far.loaded
           ∙ append_assoc before (map (Loaded flag) so_far.found) (Loaded flag found ∷ [])
-          ∙ ap (λ (d : List Deed). before ++ d) (sym (map-append (Loaded flag) so_far.found (found ∷ [])));
+          ∙ ap (λ (d : List Deed). before ++ d)
+          (sym (map-append (Loaded flag) so_far.found (found ∷ [])));
     }
 
 -- the form of a meeting's reply
-pub meeting_form : (caller reply : ℕ) (before after : List Deed) → IsMeeting caller reply before after → IsMeetingReply reply
-meeting_form caller reply before after call = elim call.waited [ inl seen ↦ inl seen.1 | inr missed ↦ inr missed.1 ]
+pub meeting_form : (caller reply : ℕ) (before after : List Deed)
+    → IsMeeting caller reply before after → IsMeetingReply reply
+meeting_form caller reply before after call = elim call.waited [
+  | inl seen ↦ inl seen.1
+  | inr missed ↦ inr missed.1
+]
 
 pub meetings_are_formed : MeetingsAreFormed
-meetings_are_formed caller = formed (λ _. IsMeeting caller) (λ _. IsMeetingReply) (λ _. meeting_form caller)
+meetings_are_formed caller =
+    formed (λ _. IsMeeting caller) (λ _. IsMeetingReply) (λ _. meeting_form caller)
 
 -- the last of a list that has one
 last_of : (x : ℕ) (xs : List ℕ) → (prefix : List ℕ) × (last : ℕ) × (x ∷ xs ≡ prefix ++ last ∷ [])
@@ -177,8 +226,10 @@ last_of x [] = ([], x, refl)
 last_of x (y ∷ ys) = let h = last_of y ys in (x ∷ h.0, h.1, ap (λ (l : List ℕ). x ∷ l) h.2)
 
 -- the last of some loads that missed a flag
-last_missed : (flag : ℕ) (words : List ℕ) (before after : List Deed) → 0 < length words → All (λ (word : ℕ). word ≢ up) words → after ≡ before ++ map (Loaded flag) words
-    → (between : List Deed) × (found : ℕ) × (found ≢ up) × (after ≡ between ++ Loaded flag found ∷ [])
+last_missed : (flag : ℕ) (words : List ℕ) (before after : List Deed) → 0 < length words
+    → All (λ (word : ℕ). word ≢ up) words → after ≡ before ++ map (Loaded flag) words
+    → (between : List Deed) × (found : ℕ) × (found ≢ up)
+    × (after ≡ between ++ Loaded flag found ∷ [])
 last_missed flag [] before after some each loaded = absurd (omega arith)
 last_missed flag (x ∷ xs) before after some each loaded =
     let l = last_of x xs in (
@@ -199,6 +250,11 @@ last_loads_tell_replies caller reply before after call =
     elim call.waited [
       | inl seen ↦ (seen.0.between, up, seen.0.seen, (λ _. refl, λ _. seen.1))
       | inr missed ↦
-          let m = last_missed (other_caller caller) missed.0.found call.between after (omega (arith, missed.0.many)) missed.0.each missed.0.loaded in
-          (m.0, m.1, m.3, (λ done. absurd (done_is_not_bad reply missed.1 done), λ is. absurd (m.2 is)))
+          let m = last_missed (other_caller caller) missed.0.found call.between after
+          (omega (arith, missed.0.many)) missed.0.each missed.0.loaded in (
+            m.0,
+            m.1,
+            m.3,
+            (λ done. absurd (done_is_not_bad reply missed.1 done), λ is. absurd (m.2 is)),
+          )
     ]

@@ -6,24 +6,30 @@ use Rattle.lawful_objects.specs.Forms.{operation, increment, IsTallyReply, IsLas
 use Rattle.shared_words.specs.Deeds.{Deed, Added, Stored, Loaded, Swapped, AreCalls}
 use Rattle.shared_words.specs.Histories.{Access, access, word_at, IsLawful}
 
--- A call of a split tally: an increment loads the word, and then stores one more than it found, in two steps; its reply is the word
--- found. All else makes no step, and the reply is bad.
+-- A call of a split tally: an increment loads the word, and then stores one more than it found, in
+-- two steps; its reply is the word found. All else makes no step, and the reply is bad.
 pub record IsSplit (op reply : ℕ) (before after : List Deed) : Type 0 where
-  pub counts : op ≡ increment → (found : ℕ) × (after ≡ before ++ Loaded 0 found ∷ Stored 0 ((found + 1) % 2 ^ 64) ∷ []) × (reply ≡ reply_value found)
+  pub counts : op ≡ increment → (found : ℕ)
+      × (after ≡ before ++ Loaded 0 found ∷ Stored 0 ((found + 1) % 2 ^ 64) ∷ [])
+      × (reply ≡ reply_value found)
   pub other : op ≢ increment → (after ≡ before) × (reply ≡ BAD)
 
--- A history that ends with a split increment of a caller, with the reply to it: the word that the last store before its load stored.
+-- A history that ends with a split increment of a caller, with the reply to it: the word that the
+-- last store before its load stored.
 pub record IsTorn (who reply : ℕ) (history : List Access) : Type 0 where
   pub before : List Access
   pub between : List Access
   pub word : ℕ
   pub last : IsLastStored word before
-  pub ends : history ≡ (before ++ access who (Loaded 0 word) ∷ between) ++ access who (Stored 0 ((word + 1) % 2 ^ 64)) ∷ []
+  pub ends : history ≡ (before ++ access who (Loaded 0 word) ∷ between)
+      ++ access who (Stored 0 ((word + 1) % 2 ^ 64)) ∷ []
   pub told : reply ≡ reply_value word
 
--- The pairs of a split tally's calls have the form of a tally's: a value exactly to the increment, and else bad.
+-- The pairs of a split tally's calls have the form of a tally's: a value exactly to the increment,
+-- and else bad.
 abbrev pub SplitsAreFormed : Type 0
-SplitsAreFormed = (pairs : List (ℕ × ℕ)) (before after : List Deed) → AreCalls IsSplit pairs before after → All (λ pair. IsTallyReply pair.0 pair.1) pairs
+SplitsAreFormed = (pairs : List (ℕ × ℕ)) (before after : List Deed)
+    → AreCalls IsSplit pairs before after → All (λ pair. IsTallyReply pair.0 pair.1) pairs
 
 -- The operation word of a queue's enqueue of a value.
 abbrev pub enqueue : ℕ → ℕ
@@ -41,7 +47,8 @@ IsNoEnqueue op = (value : ℕ) → value < 2 ^ 32 → op ≢ enqueue value
 abbrev pub item_index : ℕ → ℕ
 item_index place = 1 + place
 
--- Callers of a one-pass queue add 1 to the counter, load it, store items in places, and swap what is in a place for nothing.
+-- Callers of a one-pass queue add 1 to the counter, load it, store items in places, and swap what
+-- is in a place for nothing.
 abbrev pub queue_may : ℕ → Deed → Type 0
 queue_may caller deed =
     ((found : ℕ) × (deed ≡ Added 0 1 found))
@@ -54,29 +61,36 @@ abbrev pub empty_places : ℕ → List Deed
 empty_places zero = []
 empty_places (suc count) = empty_places count ++ Swapped (item_index count) 0 0 ∷ []
 
--- An enqueue takes a place by one addition to the counter, and stores one more than its value there, if there are this many places.
+-- An enqueue takes a place by one addition to the counter, and stores one more than its value
+-- there, if there are this many places.
 pub record IsEnqueued (places value : ℕ) (before after : List Deed) : Type 0 where
   pub place : ℕ
-  pub stored : place < places → after ≡ before ++ Added 0 1 place ∷ Stored (item_index place) (value + 1) ∷ []
+  pub stored : place < places
+      → after ≡ before ++ Added 0 1 place ∷ Stored (item_index place) (value + 1) ∷ []
   pub beyond : places ≤ place → after ≡ before ++ Added 0 1 place ∷ []
 
--- A dequeue loads the counter once, and goes over the places below it: all are empty, and there is none; or the first one that isn't
--- empty gives one less than its word.
+-- A dequeue loads the counter once, and goes over the places below it: all are empty, and there is
+-- none; or the first one that isn't empty gives one less than its word.
 pub record IsDequeued (places reply : ℕ) (before after : List Deed) : Type 0 where
   pub counter : ℕ
   pub count : ℕ
   pub found : ℕ
   pub within : count ≤ min counter places
-  pub all_empty : found ≡ 0 → (count ≡ min counter places) × (after ≡ before ++ Loaded 0 counter ∷ empty_places count) × (reply ≡ reply_none)
-  pub item : found ≢ 0 → (count < min counter places) × (after ≡ before ++ Loaded 0 counter ∷ (empty_places count ++ Swapped (item_index count) 0 found ∷ [])) × (reply ≡ reply_value (found - 1))
+  pub all_empty : found ≡ 0 → (count ≡ min counter places)
+      × (after ≡ before ++ Loaded 0 counter ∷ empty_places count) × (reply ≡ reply_none)
+  pub item : found ≢ 0 → (count < min counter places) × (after ≡ before ++ Loaded 0 counter
+      ∷ (empty_places count ++ Swapped (item_index count) 0 found ∷ []))
+      × (reply ≡ reply_value (found - 1))
 
 -- A call of a one-pass queue with this many places.
 pub record IsOnePass (places op reply : ℕ) (before after : List Deed) : Type 0 where
-  pub puts : (value : ℕ) → value < 2 ^ 32 → op ≡ enqueue value → IsEnqueued places value before after × (reply ≡ reply_done)
+  pub puts : (value : ℕ) → value < 2 ^ 32 → op ≡ enqueue value
+      → IsEnqueued places value before after × (reply ≡ reply_done)
   pub takes : op ≡ dequeue → IsDequeued places reply before after
   pub other : IsNoEnqueue op → op ≢ dequeue → (after ≡ before) × (reply ≡ BAD)
 
--- The form of its reply: done exactly to an enqueue, a value or none exactly to the dequeue, and else bad.
+-- The form of its reply: done exactly to an enqueue, a value or none exactly to the dequeue, and
+-- else bad.
 pub record IsQueueReply (op reply : ℕ) : Type 0 where
   pub puts : (value : ℕ) → value < 2 ^ 32 → op ≡ enqueue value → reply ≡ reply_done
   pub takes : op ≡ dequeue → (reply ≡ reply_none) ⊎ ((value : ℕ) × (reply ≡ reply_value value))
@@ -84,7 +98,9 @@ pub record IsQueueReply (op reply : ℕ) : Type 0 where
 
 -- The pairs of its calls have this form.
 abbrev pub OnePassesAreFormed : Type 0
-OnePassesAreFormed = (places : ℕ) (pairs : List (ℕ × ℕ)) (before after : List Deed) → AreCalls (IsOnePass places) pairs before after → All (λ pair. IsQueueReply pair.0 pair.1) pairs
+OnePassesAreFormed = (places : ℕ) (pairs : List (ℕ × ℕ)) (before after : List Deed)
+    → AreCalls (IsOnePass places) pairs before after
+    → All (λ pair. IsQueueReply pair.0 pair.1) pairs
 
 -- The flag of a caller at a meeting is up.
 abbrev pub up : ℕ
@@ -92,7 +108,8 @@ up = 1
 
 -- Callers of a meeting raise their own flags, and load any.
 abbrev pub meeting_may : ℕ → Deed → Type 0
-meeting_may caller deed = (deed ≡ Stored caller up) ⊎ ((place found : ℕ) × (deed ≡ Loaded place found))
+meeting_may caller deed = (deed ≡ Stored caller up)
+    ⊎ ((place found : ℕ) × (deed ≡ Loaded place found))
 
 -- The caller of a flag has raised it.
 pub record HasRaised (flag : ℕ) (history : List Access) : Type 0 where
@@ -102,7 +119,8 @@ pub record HasRaised (flag : ℕ) (history : List Access) : Type 0 where
 
 -- A flag is up only after its caller has raised it.
 abbrev pub FlagsAreRaised : Type 0
-FlagsAreRaised = (flag : ℕ) (history : List Access) → IsLawful meeting_may history → word_at flag history ≡ up → HasRaised flag history
+FlagsAreRaised = (flag : ℕ) (history : List Access) → IsLawful meeting_may history
+    → word_at flag history ≡ up → HasRaised flag history
 
 -- The other one of two callers.
 abbrev pub other_caller : ℕ → ℕ
@@ -127,12 +145,13 @@ pub record IsSeen (flag : ℕ) (before after : List Deed) : Type 0 where
   pub missed : IsMissed flag misses before between
   pub seen : after ≡ between ++ Loaded flag up ∷ []
 
--- A call of a caller at a meeting, whatever it asks: it raises its own flag, and then loads the other caller's. The reply is done where
--- it saw that one up, and bad where all loads missed it.
+-- A call of a caller at a meeting, whatever it asks: it raises its own flag, and then loads the
+-- other caller's. The reply is done where it saw that one up, and bad where all loads missed it.
 pub record IsMeeting (caller reply : ℕ) (before after : List Deed) : Type 0 where
   pub between : List Deed
   pub raised : between ≡ before ++ Stored caller up ∷ []
-  pub waited : (IsSeen (other_caller caller) between after × (reply ≡ reply_done)) ⊎ (IsMissed (other_caller caller) most_loads between after × (reply ≡ BAD))
+  pub waited : (IsSeen (other_caller caller) between after × (reply ≡ reply_done))
+      ⊎ (IsMissed (other_caller caller) most_loads between after × (reply ≡ BAD))
 
 -- The form of its reply: done or bad.
 abbrev pub IsMeetingReply : ℕ → Type 0
@@ -140,9 +159,14 @@ IsMeetingReply reply = (reply ≡ reply_done) ⊎ (reply ≡ BAD)
 
 -- The pairs of a caller's calls have this form.
 abbrev pub MeetingsAreFormed : Type 0
-MeetingsAreFormed = (caller : ℕ) (pairs : List (ℕ × ℕ)) (before after : List Deed) → AreCalls (λ _. IsMeeting caller) pairs before after → All (λ pair. IsMeetingReply pair.1) pairs
+MeetingsAreFormed = (caller : ℕ) (pairs : List (ℕ × ℕ)) (before after : List Deed)
+    → AreCalls (λ _. IsMeeting caller) pairs before after
+    → All (λ pair. IsMeetingReply pair.1) pairs
 
 -- The last step of a call tells its reply: done exactly where it found the other caller's flag up.
 abbrev pub LastLoadsTellReplies : Type 0
-LastLoadsTellReplies = (caller reply : ℕ) (before after : List Deed) → IsMeeting caller reply before after
-    → (between : List Deed) × (found : ℕ) × (after ≡ between ++ Loaded (other_caller caller) found ∷ []) × ((reply ≡ reply_done) ↔ (found ≡ up))
+LastLoadsTellReplies = (caller reply : ℕ) (before after : List Deed)
+    → IsMeeting caller reply before after
+    → (between : List Deed) × (found : ℕ)
+    × (after ≡ between ++ Loaded (other_caller caller) found ∷ [])
+    × ((reply ≡ reply_done) ↔ (found ≡ up))

@@ -14,7 +14,8 @@ IsSplitPass t p = IsPassOf cell_may (λ _. IsSplit) t.words p
 
 -- The pass is one of this one-pass queue, which has a place for each call.
 abbrev pub IsQueuePass : OnePass → WordsPass → Type 0
-IsQueuePass q p = IsPassOf queue_may (λ _. IsOnePass (callers_of q.words * cap_of q.words)) q.words p
+IsQueuePass q p =
+    IsPassOf queue_may (λ _. IsOnePass (callers_of q.words * cap_of q.words)) q.words p
 
 -- The pass is one of this meeting.
 abbrev pub IsMeetingPass : Meeting → WordsPass → Type 0

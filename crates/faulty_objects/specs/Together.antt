@@ -9,8 +9,8 @@ use Rattle.shared_words.specs.Histories.{Access, access, IsLawful}
 use Rattle.shared_words.specs.Passes.{AreOfOneHistory}
 use Rattle.faulty_objects.specs.Forms.{IsSplit, queue_may, item_index, IsOnePass, up, meeting_may, HasRaised, IsMeeting}
 
--- The passes of n callers of a split tally tell one history of loads and stores. Each load found what the last store before it
--- stored.
+-- The passes of n callers of a split tally tell one history of loads and stores. Each load found
+-- what the last store before it stored.
 pub record TellOneSplit (n : ℕ) (history : List Access) (passes : List WordsPass) : Type 0 where
   pub told : AreOfOneHistory cell_may (λ _. IsSplit) n history passes
   pub found : LoadsFindTheLast history
@@ -22,12 +22,15 @@ is_addition (Stored place word) = false
 is_addition (Loaded place found) = false
 is_addition (Swapped place word found) = false
 
--- Each addition to the counter found the number of additions before it, modulo 2^64: so the places are given in order, each once.
+-- Each addition to the counter found the number of additions before it, modulo 2^64: so the places
+-- are given in order, each once.
 abbrev pub PlacesAreInOrder : List Access → Type 0
-PlacesAreInOrder history = (before rest : List Access) (who found : ℕ) → history ≡ before ++ access who (Added 0 1 found) ∷ rest
+PlacesAreInOrder history = (before rest : List Access) (who found : ℕ)
+    → history ≡ before ++ access who (Added 0 1 found) ∷ rest
     → found ≡ count_by (λ a. is_addition a.deed) before % 2 ^ 64
 
--- A word is in an item's place after a history: a store put it there, and no access to this place comes after that store.
+-- A word is in an item's place after a history: a store put it there, and no access to this place
+-- comes after that store.
 pub record IsPutAt (place word : ℕ) (history : List Access) : Type 0 where
   pub before : List Access
   pub who : ℕ
@@ -35,10 +38,12 @@ pub record IsPutAt (place word : ℕ) (history : List Access) : Type 0 where
   pub put : history ≡ before ++ access who (Stored (item_index place) word) ∷ later
   pub left : All (λ a. place_of a.deed ≢ item_index place) later
 
--- Each exchange that found an item took one that a store had put into this place, and that no access had taken since.
+-- Each exchange that found an item took one that a store had put into this place, and that no
+-- access had taken since.
 abbrev pub TakesTakeWhatWasPut : List Access → Type 0
 TakesTakeWhatWasPut history = (before rest : List Access) (who place found : ℕ)
-    → history ≡ before ++ access who (Swapped (item_index place) 0 found) ∷ rest → found ≢ 0 → IsPutAt place found before
+    → history ≡ before ++ access who (Swapped (item_index place) 0 found) ∷ rest → found ≢ 0
+    → IsPutAt place found before
 
 -- A history that ends with an exchange of a caller which took what was put, and the reply gives it.
 pub record IsGiven (who reply : ℕ) (history : List Access) : Type 0 where
@@ -53,9 +58,10 @@ pub record IsGiven (who reply : ℕ) (history : List Access) : Type 0 where
 abbrev pub IsNoneOrGiven : ℕ → ℕ → List Access → Type 0
 IsNoneOrGiven who reply history = (reply ≡ reply_none) ⊎ IsGiven who reply history
 
--- The passes of n callers of a one-pass queue with this many places tell one history. Its places are given in order, and what is
--- taken was put.
-pub record TellOneQueue (places n : ℕ) (history : List Access) (passes : List WordsPass) : Type 0 where
+-- The passes of n callers of a one-pass queue with this many places tell one history. Its places
+-- are given in order, and what is taken was put.
+pub record TellOneQueue (places n : ℕ) (history : List Access)
+    (passes : List WordsPass) : Type 0 where
   pub told : AreOfOneHistory queue_may (λ _. IsOnePass places) n history passes
   pub in_order : PlacesAreInOrder history
   pub taken : TakesTakeWhatWasPut history
@@ -65,18 +71,22 @@ abbrev pub LoadsFindRaisedFlags : List Access → Type 0
 LoadsFindRaisedFlags history = (before rest : List Access) (who flag : ℕ)
     → history ≡ before ++ access who (Loaded flag up) ∷ rest → HasRaised flag before
 
--- The passes of n callers of a meeting tell one history. A flag is found up only after its caller has raised it.
+-- The passes of n callers of a meeting tell one history. A flag is found up only after its caller
+-- has raised it.
 pub record TellOneMeeting (n : ℕ) (history : List Access) (passes : List WordsPass) : Type 0 where
   pub told : AreOfOneHistory meeting_may (λ caller _. IsMeeting caller) n history passes
   pub raised : LoadsFindRaisedFlags history
 
 -- In the history of a one-pass queue the places are given in order, and what is taken was put.
 abbrev pub QueuesGivePlacesInOrder : Type 0
-QueuesGivePlacesInOrder = (history : List Access) → IsLawful queue_may history → PlacesAreInOrder history
+QueuesGivePlacesInOrder = (history : List Access) → IsLawful queue_may history
+    → PlacesAreInOrder history
 
 abbrev pub QueuesGiveWhatWasPut : Type 0
-QueuesGiveWhatWasPut = (history : List Access) → IsLawful queue_may history → TakesTakeWhatWasPut history
+QueuesGiveWhatWasPut = (history : List Access) → IsLawful queue_may history
+    → TakesTakeWhatWasPut history
 
 -- In the history of a meeting a load finds a flag up only after its caller has raised it.
 abbrev pub MeetingsFindRaisedFlags : Type 0
-MeetingsFindRaisedFlags = (history : List Access) → IsLawful meeting_may history → LoadsFindRaisedFlags history
+MeetingsFindRaisedFlags = (history : List Access) → IsLawful meeting_may history
+    → LoadsFindRaisedFlags history

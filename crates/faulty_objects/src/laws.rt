@@ -20,7 +20,8 @@ pub fn meetings_are_formed()
     ensures { MeetingsAreFormed }
 {}
 
-/// A reply at a meeting is done exactly where the call's last load found the other caller's flag up.
+/// A reply at a meeting is done exactly where the call's last load found the other caller's flag
+/// up.
 pub fn last_loads_tell_replies()
     ensures { LastLoadsTellReplies }
 {}

@@ -31,9 +31,9 @@ impl Usage for Flags {
     ghost may = { meeting_may };
 }
 
-/// A meeting of two callers: each raises its own flag, and waits a while for the other's to be up. It serves to
-/// see whether callers are at work at the same time: one that is through before the other begins waits in vain,
-/// and its reply is bad.
+/// A meeting of two callers: each raises its own flag, and waits a while for the other's to be up.
+/// It serves to see whether callers are at work at the same time: one that is through before the
+/// other begins waits in vain, and its reply is bad.
 #[derive(Drop)]
 pub struct Meeting {
     pub(crate) words: SharedWords<Flags>,
@@ -44,8 +44,8 @@ impl Meeting {
     ghost use Rattle.shared_words.specs.Passes.{caller_of_seat, history_of, deeds_of, caller_of_pass, made_with, cap_of_pass, pairs_in, history_in, IsSeatOf, IsFreshPass};
     ghost use Rattle.faulty_objects.specs.Passes.{IsMeetingPass};
 
-    /// A meeting for `n` callers, of whom there are two, with `cap` calls each, and a pass for each caller, in order.
-    /// No flag is up.
+    /// A meeting for `n` callers, of whom there are two, with `cap` calls each, and a pass for each
+    /// caller, in order. No flag is up.
     pub fn open(alloc: Global, n: u32, cap: u64) -> Result<(Meeting, Vec<WordsPass>), NoMemory>
         // There are two callers.
         requires two_callers { n ≡ 2 }
@@ -95,9 +95,11 @@ impl Meeting {
         requires seat { IsSeatOf meeting_may self.now.words seat.old }
         ensures seat { IsSeatOf meeting_may self.now.words seat.new }
         ensures caller { caller_of_seat seat.new ≡ caller_of_seat seat.old }
-        ensures call { IsMeeting (caller_of_seat seat.old) result (deeds_of seat.old) (deeds_of seat.new) }
+        ensures call { IsMeeting (caller_of_seat seat.old) result (deeds_of seat.old)
+            (deeds_of seat.new) }
         ensures history { IsPrefix (history_of seat.old) (history_of seat.new) }
-        ensures raised { result ≡ reply_done → HasRaised (other_caller (caller_of_seat seat.old)) (history_of seat.new) }
+        ensures raised { result ≡ reply_done
+            → HasRaised (other_caller (caller_of_seat seat.old)) (history_of seat.new) }
     {
         let caller = seat.caller();
         self.words.store(seat, caller as usize, UP);
@@ -108,7 +110,8 @@ impl Meeting {
         }
     }
 
-    /// Makes one call of the pass's caller, the same one whatever the operation. It takes no memory.
+    /// Makes one call of the pass's caller, the same one whatever the operation. It takes no
+    /// memory.
     pub fn make(&self, pass: &mut WordsPass, op: OpWord) -> u64
         // The pass is one of this meeting.
         requires own { IsMeetingPass self.now pass.old }
@@ -124,7 +127,8 @@ impl Meeting {
         // The accesses that the pass knew are the first of those that it knows.
         ensures history { IsPrefix (history_in pass.old) (history_in pass.new) }
         // A reply done comes only where the other caller has raised its flag.
-        ensures raised { result ≡ reply_done → HasRaised (other_caller (caller_of_pass pass.old)) (history_in pass.new) }
+        ensures raised { result ≡ reply_done
+            → HasRaised (other_caller (caller_of_pass pass.old)) (history_in pass.new) }
         // The reply is done or `bad`.
         ensures form { IsMeetingReply result }
     {

@@ -13,8 +13,8 @@ use seq_objects::{DONE, NONE, value_reply};
 use shared_words::{SharedWords, Usage, WordSeat, WordsPass};
 use std::alloc::Global;
 
-/// The operation word of the enqueue of 0, and that of the dequeue: the enqueues stand from the one up to the
-/// other.
+/// The operation word of the enqueue of 0, and that of the dequeue: the enqueues stand from the one
+/// up to the other.
 const ENQUEUE_0: OpWord = 1 << 32;
 
 const DEQUEUE: OpWord = 2 << 32;
@@ -28,8 +28,8 @@ impl Usage for QueueDeeds {
     ghost may = { queue_may };
 }
 
-/// The array queue of Herlihy and Wing (1990) with a dequeue that gives up: it goes over the places once, and
-/// says that there is none where it found each of them empty.
+/// The array queue of Herlihy and Wing (1990) with a dequeue that gives up: it goes over the places
+/// once, and says that there is none where it found each of them empty.
 #[derive(Drop)]
 pub struct OnePass {
     pub(crate) words: SharedWords<QueueDeeds>,
@@ -40,7 +40,8 @@ impl OnePass {
     ghost use Rattle.shared_words.specs.Passes.{caller_of_seat, history_of, deeds_of, caller_of_pass, made_with, cap_of_pass, pairs_in, history_in, IsSeatOf, IsFreshPass};
     ghost use Rattle.faulty_objects.specs.Passes.{IsQueuePass};
 
-    /// A queue for `n` callers with `cap` calls each, and a pass for each caller, in order. It is empty.
+    /// A queue for `n` callers with `cap` calls each, and a pass for each caller, in order. It is
+    /// empty.
     pub fn open(alloc: Global, n: u32, cap: u64) -> Result<(OnePass, Vec<WordsPass>), NoMemory>
         // There is at least one caller.
         requires some_callers { 1 ≤ n }
@@ -78,7 +79,8 @@ impl OnePass {
         requires value { value < 4294967296 }
         ensures seat { IsSeatOf queue_may self.now.words seat.new }
         ensures caller { caller_of_seat seat.new ≡ caller_of_seat seat.old }
-        ensures call { IsEnqueued (callers_of self.now.words * cap_of self.now.words) value (deeds_of seat.old) (deeds_of seat.new) }
+        ensures call { IsEnqueued (callers_of self.now.words * cap_of self.now.words) value
+            (deeds_of seat.old) (deeds_of seat.new) }
         ensures history { IsPrefix (history_of seat.old) (history_of seat.new) }
     {
         let place = self.words.add(seat, 0, 1);
@@ -92,7 +94,8 @@ impl OnePass {
         requires seat { IsSeatOf queue_may self.now.words seat.old }
         ensures seat { IsSeatOf queue_may self.now.words seat.new }
         ensures caller { caller_of_seat seat.new ≡ caller_of_seat seat.old }
-        ensures call { IsDequeued (callers_of self.now.words * cap_of self.now.words) result (deeds_of seat.old) (deeds_of seat.new) }
+        ensures call { IsDequeued (callers_of self.now.words * cap_of self.now.words) result
+            (deeds_of seat.old) (deeds_of seat.new) }
         ensures history { IsPrefix (history_of seat.old) (history_of seat.new) }
         ensures given { IsNoneOrGiven (caller_of_seat seat.old) result (history_of seat.new) }
     {
@@ -111,7 +114,8 @@ impl OnePass {
         requires seat { IsSeatOf queue_may self.now.words seat.old }
         ensures seat { IsSeatOf queue_may self.now.words seat.new }
         ensures caller { caller_of_seat seat.new ≡ caller_of_seat seat.old }
-        ensures call { IsOnePass (callers_of self.now.words * cap_of self.now.words) op result (deeds_of seat.old) (deeds_of seat.new) }
+        ensures call { IsOnePass (callers_of self.now.words * cap_of self.now.words) op result
+            (deeds_of seat.old) (deeds_of seat.new) }
         ensures history { IsPrefix (history_of seat.old) (history_of seat.new) }
         ensures given { op ≡ dequeue
             → IsNoneOrGiven (caller_of_seat seat.old) result (history_of seat.new) }
@@ -135,7 +139,8 @@ impl OnePass {
         // The pass is still one of this queue.
         ensures own { IsQueuePass self.now pass.new }
         // The pass keeps its caller and how many calls it may make.
-        ensures same { (caller_of_pass pass.new ≡ caller_of_pass pass.old) × (cap_of_pass pass.new ≡ cap_of_pass pass.old) }
+        ensures same { (caller_of_pass pass.new ≡ caller_of_pass pass.old)
+            × (cap_of_pass pass.new ≡ cap_of_pass pass.old) }
         // The pass has this operation and this reply after the calls that it had.
         ensures pairs { pairs_in pass.new ≡ pairs_in pass.old ++ (op, result) ∷ [] }
         // The accesses that the pass knew are the first of those that it knows.

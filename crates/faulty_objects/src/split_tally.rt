@@ -18,8 +18,8 @@ use std::alloc::Global;
 /// The operation word of the increment.
 const INCREMENT: OpWord = 1 << 32;
 
-/// A counter whose increment is torn: a load, and then a store of one more. So increments that overlap may be
-/// lost.
+/// A counter whose increment is torn: a load, and then a store of one more. So increments that
+/// overlap may be lost.
 #[derive(Drop)]
 pub struct SplitTally {
     pub(crate) words: SharedWords<LoadsAndStores>,
@@ -30,7 +30,8 @@ impl SplitTally {
     ghost use Rattle.shared_words.specs.Passes.{caller_of_seat, history_of, deeds_of, caller_of_pass, made_with, cap_of_pass, pairs_in, history_in, IsSeatOf, IsFreshPass};
     ghost use Rattle.faulty_objects.specs.Passes.{IsSplitPass};
 
-    /// A split tally for `n` callers with `cap` calls each, and a pass for each caller, in order. The count is 0.
+    /// A split tally for `n` callers with `cap` calls each, and a pass for each caller, in order.
+    /// The count is 0.
     pub fn open(alloc: Global, n: u32, cap: u64) -> Result<(SplitTally, Vec<WordsPass>), NoMemory>
         // There is at least one caller.
         requires some_callers { 1 ≤ n }
@@ -60,7 +61,8 @@ impl SplitTally {
         ensures caller { caller_of_seat seat.new ≡ caller_of_seat seat.old }
         ensures call { IsSplit op result (deeds_of seat.old) (deeds_of seat.new) }
         ensures history { IsPrefix (history_of seat.old) (history_of seat.new) }
-        ensures torn { op ≡ increment → IsTorn (caller_of_seat seat.old) result (history_of seat.new) }
+        ensures torn { op ≡ increment
+            → IsTorn (caller_of_seat seat.old) result (history_of seat.new) }
     {
         if op != INCREMENT {
             return BAD;
@@ -79,14 +81,16 @@ impl SplitTally {
         // The pass is still one of this tally.
         ensures own { IsSplitPass self.now pass.new }
         // The pass keeps its caller and how many calls it may make.
-        ensures same { (caller_of_pass pass.new ≡ caller_of_pass pass.old) × (cap_of_pass pass.new ≡ cap_of_pass pass.old) }
+        ensures same { (caller_of_pass pass.new ≡ caller_of_pass pass.old)
+            × (cap_of_pass pass.new ≡ cap_of_pass pass.old) }
         // The pass has this operation and this reply after the calls that it had.
         ensures pairs { pairs_in pass.new ≡ pairs_in pass.old ++ (op, result) ∷ [] }
         // The accesses that the pass knew are the first of those that it knows.
         ensures history { IsPrefix (history_in pass.old) (history_in pass.new) }
         // The call loaded the word and then stored one more, maybe with others' accesses between,
         // and its reply tells the word loaded.
-        ensures torn { op ≡ increment → IsTorn (caller_of_pass pass.old) result (history_in pass.new) }
+        ensures torn { op ≡ increment
+            → IsTorn (caller_of_pass pass.old) result (history_in pass.new) }
         // The reply is a value exactly to the increment, and else `bad`.
         ensures form { IsTallyReply op result }
     {

@@ -23,42 +23,66 @@ use Rattle.frontier_check.specs.Prefix.{no_calls, IsNext, Follow, LeavesOpen, St
 use Rattle.frontier_check.proofs.Leading.{zeros, raised_within, sum_raised, sum_small}
 
 -- one place more
-follow-push : (book : List Page) (next : List ℕ → ℕ → List ℕ × ℕ) (cut list : List ℕ) (places : List Place) (to_cut to_list : List ℕ) (place : Place)
-    → Follow book next cut list places to_cut to_list → IsNext book to_cut place → (next to_list (step_at book place).0).1 ≡ place.reply
-    → Follow book next cut list (places ++ place ∷ []) (raised to_cut place.caller) (list_after book next to_list place)
+follow-push : (book : List Page) (next : List ℕ → ℕ → List ℕ × ℕ) (cut list : List ℕ)
+    (places : List Place) (to_cut to_list : List ℕ) (place : Place)
+    → Follow book next cut list places to_cut to_list → IsNext book to_cut place
+    → (next to_list (step_at book place).0).1 ≡ place.reply
+    → Follow book next cut list (places ++ place ∷ []) (raised to_cut place.caller)
+    (list_after book next to_list place)
 follow-push book next cut list [] to_cut to_list place (same_cut, same_list) is gives = (
   subst (λ (c : List ℕ). IsNext book c place) (sym same_cut) is,
   subst (λ (l : List ℕ). (next l (step_at book place).0).1 ≡ place.reply) (sym same_list) gives,
-  (ap (λ (c : List ℕ). raised c place.caller) same_cut, ap (λ (l : List ℕ). list_after book next l place) same_list),
+  (
+    ap (λ (c : List ℕ). raised c place.caller) same_cut,
+    ap (λ (l : List ℕ). list_after book next l place) same_list,
+  ),
 )
-follow-push book next cut list (first ∷ places) to_cut to_list place (at, reply, later) is gives =
-    (at, reply, follow-push book next (raised cut first.caller) (list_after book next list first) places to_cut to_list place later is gives)
+follow-push book next cut list (first ∷ places) to_cut to_list place (at, reply, later) is gives = (
+  at,
+  reply,
+  follow-push book next (raised cut first.caller)
+      (list_after book next list first) places to_cut to_list place later is gives,
+)
 
 -- the first call of another caller outside a cut is outside the raised cut too
 same_next : (cut : List ℕ) (i j : ℕ) → (j ≡ i → ⊥) → next_call (raised cut i) j ≡ next_call cut j
-same_next cut i j other = same_call (next_call (raised cut i) j) (next_call cut j) refl (raised_other cut i j other)
+same_next cut i j other =
+    same_call (next_call (raised cut i) j) (next_call cut j) refl (raised_other cut i j other)
 
 -- A place that is next may come next, where after it the view of each caller's first call holds it.
-next-may_come : (book : List Page) (cut : List ℕ) (place : Place) → IsValid book → place.caller < length cut → IsNext book cut place → LeavesOpen book (raised cut place.caller)
+next-may_come : (book : List Page) (cut : List ℕ) (place : Place) → IsValid book
+    → place.caller < length cut → IsNext book cut place → LeavesOpen book (raised cut place.caller)
     → MayComeNext book cut (call_at place)
 next-may_come book cut place valid inside is leaves =
     may_come_next-from_first book cut (call_at place) valid is.is_call is.next
-    (λ (i : ℕ) (answered : IsAnswered book (next_call cut i)) (p : Precedes book (next_call cut i) (call_at place)). elim (cases_eq i place.caller) [
+    (λ (i : ℕ) (answered : IsAnswered book (next_call cut i))
+    (p : Precedes book (next_call cut i) (call_at place)). elim (cases_eq i place.caller) [
       | inl same ↦ elim p [
         | inl early ↦
             let says : Record → Type 0 = λ r. get_or r.view place.caller 0 ≤ place.number in
             let known = some_from_is_some_and (record_of book (next_call cut i)) says early in
-            let later : IsSomeAnd (Some known.0) says = subst (λ o. IsSomeAnd o says) known.1 early in
+            let later : IsSomeAnd (Some known.0) says =
+            subst (λ o. IsSomeAnd o says) known.1 early in
             let own = valid.own (next_call cut i) known.0 known.1 in
-            absurd (omega (arith, own, later, is.next, ap (λ (j : ℕ). get_or cut j 0) same, ap (λ (j : ℕ). get_or known.0.view j 0) same))
-        | inr before ↦ absurd (omega (arith, before.1, is.next, ap (λ (j : ℕ). get_or cut j 0) same))
+            absurd (omega (
+              arith,
+              own,
+              later,
+              is.next,
+              ap (λ (j : ℕ). get_or cut j 0) same,
+              ap (λ (j : ℕ). get_or known.0.view j 0) same,
+            ))
+        | inr before ↦
+            absurd (omega (arith, before.1, is.next, ap (λ (j : ℕ). get_or cut j 0) same))
       ]
       | inr other ↦ elim p [
         | inl early ↦
             let says : Record → Type 0 = λ r. get_or r.view place.caller 0 ≤ place.number in
             let known = some_from_is_some_and (record_of book (next_call cut i)) says early in
-            let later : IsSomeAnd (Some known.0) says = subst (λ o. IsSomeAnd o says) known.1 early in
-            let there = subst (λ (c : Call). record_of book c ≡ Some known.0) (sym (same_next cut place.caller i other)) known.1 in
+            let later : IsSomeAnd (Some known.0) says =
+            subst (λ o. IsSomeAnd o says) known.1 early in
+            let there = subst (λ (c : Call). record_of book c ≡ Some known.0)
+            (sym (same_next cut place.caller i other)) known.1 in
             let holds = leaves i known.0 there place.caller in
             absurd (omega (arith, holds, later, is.next, raised_same cut place.caller inside))
         | inr before ↦ absurd (other before.0)
@@ -66,54 +90,76 @@ next-may_come book cut place valid inside is leaves =
     ])
 
 -- So before it the view of each caller's first call holds the cut.
-leaves-before : (book : List Page) (cut : List ℕ) (place : Place) → place.caller < length cut → IsNext book cut place → LeavesOpen book (raised cut place.caller) → LeavesOpen book cut
+leaves-before : (book : List Page) (cut : List ℕ) (place : Place) → place.caller < length cut
+    → IsNext book cut place → LeavesOpen book (raised cut place.caller) → LeavesOpen book cut
 leaves-before book cut place inside is leaves i r known =
     elim (cases_eq i place.caller) [
       | inl same ↦
-          let number : get_or cut i 0 ≡ place.number = ap (λ (j : ℕ). get_or cut j 0) same ∙ sym is.next in
-          (is.recorded r (subst (λ (c : Call). record_of book c ≡ Some r) (same_call (next_call cut i) (call_at place) same number) known)).1
+          let number : get_or cut i 0 ≡ place.number =
+          ap (λ (j : ℕ). get_or cut j 0) same ∙ sym is.next in
+          (is.recorded r (subst (λ (c : Call). record_of book c ≡ Some r)
+          (same_call (next_call cut i) (call_at place) same number) known)).1
       | inr other ↦
-          let there = subst (λ (c : Call). record_of book c ≡ Some r) (sym (same_next cut place.caller i other)) known in
+          let there = subst (λ (c : Call). record_of book c ≡ Some r)
+          (sym (same_next cut place.caller i other)) known in
           λ (j : ℕ). omega (arith, leaves i r there j, raised_more cut place.caller j inside)
     ]
 
 -- What goes on after places goes on from where they begin.
-pub record Closing (book : List Page) (next : List ℕ → ℕ → List ℕ × ℕ) (cut list : List ℕ) (places : List Place) (to_cut to_list : List ℕ) : Type 0 where
-  pub goes : (rest : List Place) → Continues book next to_cut to_list rest → Continues book next cut list (places ++ rest)
+pub record Closing (book : List Page) (next : List ℕ → ℕ → List ℕ × ℕ) (cut list : List ℕ)
+    (places : List Place) (to_cut to_list : List ℕ) : Type 0 where
+  pub goes : (rest : List Place) → Continues book next to_cut to_list rest
+      → Continues book next cut list (places ++ rest)
   pub leaves : LeavesOpen book cut
 
-closing : (book : List Page) (next : List ℕ → ℕ → List ℕ × ℕ) (cut list : List ℕ) (places : List Place) (to_cut to_list : List ℕ) → IsValid book → length book ≤ length cut
-    → Follow book next cut list places to_cut to_list → LeavesOpen book to_cut → Closing book next cut list places to_cut to_list
+closing : (book : List Page) (next : List ℕ → ℕ → List ℕ × ℕ) (cut list : List ℕ)
+    (places : List Place) (to_cut to_list : List ℕ) → IsValid book → length book ≤ length cut
+    → Follow book next cut list places to_cut to_list → LeavesOpen book to_cut
+    → Closing book next cut list places to_cut to_list
 closing book next cut list [] to_cut to_list valid wide (same_cut, same_list) leaves = record {
-  goes = λ rest goes. subst (λ (c : List ℕ). Continues book next c list rest) (sym same_cut) (subst (λ (l : List ℕ). Continues book next to_cut l rest) (sym same_list) goes);
+  goes = λ rest goes. subst (λ (c : List ℕ). Continues book next c list rest) (sym same_cut)
+      (subst (λ (l : List ℕ). Continues book next to_cut l rest) (sym same_list) goes);
   leaves = subst (λ (c : List ℕ). LeavesOpen book c) (sym same_cut) leaves;
 }
 closing book next cut list (first ∷ places) to_cut to_list valid wide (at, reply, later) leaves =
-    let there : first.caller < length book = caller_from_call book first.caller first.number at.is_call in
+    let there : first.caller < length book =
+    caller_from_call book first.caller first.number at.is_call in
     let inside : first.caller < length cut = omega arith in
-    let longer : length (raised cut first.caller) ≡ length cut = length-set cut first.caller (get_or cut first.caller 0 + 1) in
-    let rest = closing book next (raised cut first.caller) (list_after book next list first) places to_cut to_list valid (omega arith) later leaves in
+    let longer : length (raised cut first.caller) ≡ length cut =
+    length-set cut first.caller (get_or cut first.caller 0 + 1) in
+    let rest = closing book next (raised cut first.caller)
+    (list_after book next list first) places to_cut to_list valid (omega arith) later leaves in
     record {
       goes = λ more goes. (
-        record { may_come = next-may_come book cut first valid inside at rest.leaves; recorded = λ r known. (at.recorded r known).0; reply = reply },
+        record {
+          may_come = next-may_come book cut first valid inside at rest.leaves;
+          recorded = λ r known. (at.recorded r known).0;
+          reply = reply;
+        },
         rest.goes more goes,
       );
       leaves = leaves-before book cut first inside at rest.leaves;
     }
 
 -- The places that were put are a prefix, where they leave each other call its place.
-pub prefix-from_put : (init : List ℕ) (next : List ℕ → ℕ → List ℕ × ℕ) (book : List Page) (prefix : Prefix) → IsPut init next book prefix → LeavesOpen book prefix.cut → IsPrefix init next book prefix
+pub prefix-from_put : (init : List ℕ) (next : List ℕ → ℕ → List ℕ × ℕ) (book : List Page)
+    (prefix : Prefix) → IsPut init next book prefix → LeavesOpen book prefix.cut
+    → IsPrefix init next book prefix
 prefix-from_put init next book prefix put leaves =
     let long : length (no_calls book) ≡ length book = length-replicate (length book) 0 in
-    let closed = closing book next (no_calls book) init prefix.places.items prefix.cut prefix.here.words put.stands.valid (omega arith) put.follow leaves in
+    let closed = closing book next (no_calls book) init prefix.places.items prefix.cut
+    prefix.here.words put.stands.valid (omega arith) put.follow leaves in
     record {
       stands = put.stands;
-      legal = λ rest goes. legal_order_from_continues book init next (no_calls book) (prefix.places.items ++ rest) (omega arith) (zeros book) (closed.goes rest goes);
+      legal = λ rest goes. legal_order_from_continues book init next (no_calls book)
+          (prefix.places.items ++ rest) (omega arith) (zeros book) (closed.goes rest goes);
     }
 
 -- the prefix without places
-pub stands-start : (init : List ℕ) (next : List ℕ → ℕ → List ℕ × ℕ) (book : List Page) (prefix : Prefix) → IsValid book → IsSmall book → length init ≤ 1
-    → prefix.places.items ≡ [] → prefix.cut ≡ no_calls book → prefix.here.words ≡ init → Stands init next book prefix
+pub stands-start : (init : List ℕ) (next : List ℕ → ℕ → List ℕ × ℕ) (book : List Page)
+    (prefix : Prefix) → IsValid book → IsSmall book → length init ≤ 1
+    → prefix.places.items ≡ [] → prefix.cut ≡ no_calls book → prefix.here.words ≡ init
+    → Stands init next book prefix
 stands-start init next book prefix valid small begins places cut list =
     let long : length (no_calls book) ≡ length book = length-replicate (length book) 0 in
     record {
@@ -122,27 +168,37 @@ stands-start init next book prefix valid small begins places cut list =
       wide = ap (λ (c : List ℕ). length c) cut ∙ long;
       within = λ (i : ℕ). omega (arith, zeros book i, ap (λ (c : List ℕ). get_or c i 0) cut);
       words = omega (arith, begins, ap (λ (l : List ℕ). length l) list);
-      reaches = subst (λ (order : List Place). Reaches init next book order prefix.cut prefix.here.words) (sym places)
+      reaches =
+          subst (λ (order : List Place). Reaches init next book order prefix.cut prefix.here.words)
+          (sym places)
           (subst (λ (c : List ℕ). Reaches init next book [] c prefix.here.words) (sym cut)
-          (subst (λ (l : List ℕ). Reaches init next book [] (no_calls book) l) (sym list) (no_places_reach_the_start init next book (length book))));
+          (subst (λ (l : List ℕ). Reaches init next book [] (no_calls book) l) (sym list)
+          (no_places_reach_the_start init next book (length book))));
     }
 
-pub put-start : (init : List ℕ) (next : List ℕ → ℕ → List ℕ × ℕ) (book : List Page) (prefix : Prefix) → IsValid book → IsSmall book → length init ≤ 1
-    → prefix.places.items ≡ [] → prefix.cut ≡ no_calls book → prefix.here.words ≡ init → IsPut init next book prefix
+pub put-start : (init : List ℕ) (next : List ℕ → ℕ → List ℕ × ℕ) (book : List Page)
+    (prefix : Prefix) → IsValid book → IsSmall book → length init ≤ 1
+    → prefix.places.items ≡ [] → prefix.cut ≡ no_calls book → prefix.here.words ≡ init
+    → IsPut init next book prefix
 put-start init next book prefix valid small begins places cut list = record {
   stands = stands-start init next book prefix valid small begins places cut list;
-  follow = subst (λ (order : List Place). Follow book next (no_calls book) init order prefix.cut prefix.here.words) (sym places) (sym cut, sym list);
+  follow = subst (λ (order : List Place). Follow book next
+      (no_calls book) init order prefix.cut prefix.here.words) (sym places) (sym cut, sym list);
 }
 
-pub prefix-start : (init : List ℕ) (next : List ℕ → ℕ → List ℕ × ℕ) (book : List Page) (prefix : Prefix) → IsValid book → IsSmall book → length init ≤ 1
-    → prefix.places.items ≡ [] → prefix.cut ≡ no_calls book → prefix.here.words ≡ init → IsPrefix init next book prefix
+pub prefix-start : (init : List ℕ) (next : List ℕ → ℕ → List ℕ × ℕ) (book : List Page)
+    (prefix : Prefix) → IsValid book → IsSmall book → length init ≤ 1
+    → prefix.places.items ≡ [] → prefix.cut ≡ no_calls book → prefix.here.words ≡ init
+    → IsPrefix init next book prefix
 prefix-start init next book prefix valid small begins places cut list =
     let long : length (no_calls book) ≡ length book = length-replicate (length book) 0 in
     record {
       stands = stands-start init next book prefix valid small begins places cut list;
-      legal = λ rest goes. subst (λ (order : List Place). IsLegalOrder init next book (order ++ rest)) (sym places)
+      legal = λ rest goes.
+          subst (λ (order : List Place). IsLegalOrder init next book (order ++ rest)) (sym places)
           (legal_order_from_continues book init next (no_calls book) rest (omega arith) (zeros book)
-          (subst (λ (c : List ℕ). Continues book next c init rest) cut (subst (λ (l : List ℕ). Continues book next prefix.cut l rest) list goes)));
+          (subst (λ (c : List ℕ). Continues book next c init rest) cut
+          (subst (λ (l : List ℕ). Continues book next prefix.cut l rest) list goes)));
     }
 
 -- what is known of the next place of a prefix that stands
@@ -151,14 +207,18 @@ pub record Putting (book : List Page) (prefix : Prefix) (place : Place) : Type 0
   pub number : place.number < MAX_CALLS
   pub words : length prefix.here.words < ROOM
 
-pub putting : (init : List ℕ) (next : List ℕ → ℕ → List ℕ × ℕ) (book : List Page) (prefix : Prefix) (place : Place) → Stands init next book prefix → IsNext book prefix.cut place
+pub putting : (init : List ℕ) (next : List ℕ → ℕ → List ℕ × ℕ) (book : List Page) (prefix : Prefix)
+    (place : Place) → Stands init next book prefix → IsNext book prefix.cut place
     → Putting book prefix place
 putting init next book prefix place s is =
-    let there : place.caller < length book = caller_from_call book place.caller place.number is.is_call in
+    let there : place.caller < length book =
+    caller_from_call book place.caller place.number is.is_call in
     let inside : place.caller < length prefix.cut = omega (arith, s.wide) in
-    let longer : length (raised prefix.cut place.caller) ≡ length book = length-set prefix.cut place.caller (get_or prefix.cut place.caller 0 + 1) ∙ s.wide in
+    let longer : length (raised prefix.cut place.caller) ≡ length book =
+    length-set prefix.cut place.caller (get_or prefix.cut place.caller 0 + 1) ∙ s.wide in
     let few : sum (raised prefix.cut place.caller) ≤ MAX_CALLERS * MAX_CALLS =
-    sum_small book (raised prefix.cut place.caller) s.small longer (raised_within book prefix.cut (call_at place) inside is.is_call is.next s.within) in
+    sum_small book (raised prefix.cut place.caller) s.small longer
+    (raised_within book prefix.cut (call_at place) inside is.is_call is.next s.within) in
     let more = sum_raised prefix.cut place.caller inside in
     record {
       caller = inside;
@@ -167,36 +227,65 @@ putting init next book prefix place s is =
     }
 
 -- One more place is put.
-pub put-more : (init : List ℕ) (next : List ℕ → ℕ → List ℕ × ℕ) (book : List Page) (old new : Prefix) (place : Place) → ((list : List ℕ) (op : ℕ) → length (next list op).0 ≤ length list + 1)
-    → IsPut init next book old → IsNext book old.cut place → (next old.here.words (step_at book place).0).1 ≡ place.reply
-    → new.places.items ≡ old.places.items ++ place ∷ [] → new.cut ≡ raised old.cut place.caller → new.here.words ≡ list_after book next old.here.words place
+pub put-more : (init : List ℕ) (next : List ℕ → ℕ → List ℕ × ℕ) (book : List Page)
+    (old new : Prefix) (place : Place)
+    → ((list : List ℕ) (op : ℕ) → length (next list op).0 ≤ length list + 1)
+    → IsPut init next book old → IsNext book old.cut place
+    → (next old.here.words (step_at book place).0).1 ≡ place.reply
+    → new.places.items ≡ old.places.items ++ place ∷ [] → new.cut ≡ raised old.cut place.caller
+    → new.here.words ≡ list_after book next old.here.words place
     → IsPut init next book new
 put-more init next book old new place grows put is gives places cut list =
     let s = put.stands in
     let p = putting init next book old place s is in
-    let one : Reaches init next book (old.places.items ++ place ∷ []) (raised old.cut place.caller) (list_after book next old.here.words place) =
-    subst (λ (n : ℕ). Reaches init next book (old.places.items ++ place ∷ []) (set old.cut place.caller (n + 1)) (list_after book next old.here.words place)) is.next
-    (one_more_place_reaches_on init next book old.places.items old.cut old.here.words place s.reaches p.caller is.next) in
-    let follow = follow-push book next (no_calls book) init old.places.items old.cut old.here.words place put.follow is gives in
-    let longer : length (raised old.cut place.caller) ≡ length old.cut = length-set old.cut place.caller (get_or old.cut place.caller 0 + 1) in
+    let one : Reaches init next book (old.places.items ++ place ∷ []) (raised old.cut place.caller)
+    (list_after book next old.here.words place) =
+    subst (λ (n : ℕ). Reaches init next book (old.places.items ++ place ∷ [])
+    (set old.cut place.caller (n + 1)) (list_after book next old.here.words place)) is.next
+    (one_more_place_reaches_on init next book old.places.items old.cut old.here.words place
+    s.reaches p.caller is.next) in
+    let follow = follow-push book next
+    (no_calls book) init old.places.items old.cut old.here.words place put.follow is gives in
+    let longer : length (raised old.cut place.caller) ≡ length old.cut =
+    length-set old.cut place.caller (get_or old.cut place.caller 0 + 1) in
     record {
       stands = record {
         valid = s.valid;
         small = s.small;
         wide = ap (λ (c : List ℕ). length c) cut ∙ (longer ∙ s.wide);
-        within = λ (i : ℕ). omega (arith, raised_within book old.cut (call_at place) p.caller is.is_call is.next s.within i, ap (λ (c : List ℕ). get_or c i 0) cut);
-        words = omega (arith, s.words, grows old.here.words (step_at book place).0, ap (λ (l : List ℕ). length l) list, ap (λ (c : List ℕ). sum c) cut, sum_raised old.cut place.caller p.caller);
-        reaches = subst (λ (order : List Place). Reaches init next book order new.cut new.here.words) (sym places)
-            (subst (λ (c : List ℕ). Reaches init next book (old.places.items ++ place ∷ []) c new.here.words) (sym cut)
-            (subst (λ (l : List ℕ). Reaches init next book (old.places.items ++ place ∷ []) (raised old.cut place.caller) l) (sym list) one));
+        within = λ (i : ℕ). omega (
+          arith,
+          raised_within book old.cut (call_at place) p.caller is.is_call is.next s.within i,
+          ap (λ (c : List ℕ). get_or c i 0) cut,
+        );
+        words = omega (
+          arith,
+          s.words,
+          grows old.here.words (step_at book place).0,
+          ap (λ (l : List ℕ). length l) list,
+          ap (λ (c : List ℕ). sum c) cut,
+          sum_raised old.cut place.caller p.caller,
+        );
+        reaches =
+            subst (λ (order : List Place). Reaches init next book order new.cut new.here.words)
+            (sym places)
+            (subst (λ (c : List ℕ).
+            Reaches init next book (old.places.items ++ place ∷ []) c new.here.words) (sym cut)
+            (subst (λ (l : List ℕ). Reaches init next book (old.places.items ++ place ∷ [])
+            (raised old.cut place.caller) l) (sym list) one));
       };
-      follow = subst (λ (order : List Place). Follow book next (no_calls book) init order new.cut new.here.words) (sym places)
-          (subst (λ (c : List ℕ). Follow book next (no_calls book) init (old.places.items ++ place ∷ []) c new.here.words) (sym cut)
-          (subst (λ (l : List ℕ). Follow book next (no_calls book) init (old.places.items ++ place ∷ []) (raised old.cut place.caller) l) (sym list) follow));
+      follow = subst (λ (order : List Place).
+          Follow book next (no_calls book) init order new.cut new.here.words) (sym places)
+          (subst (λ (c : List ℕ). Follow book next (no_calls book) init
+          (old.places.items ++ place ∷ []) c new.here.words) (sym cut)
+          (subst (λ (l : List ℕ). Follow book next (no_calls book) init
+          (old.places.items ++ place ∷ []) (raised old.cut place.caller) l) (sym list) follow));
     }
 
 -- The list of a prefix that stands fits the room of a state.
-pub stands-fit : (init : List ℕ) (next : List ℕ → ℕ → List ℕ × ℕ) (book : List Page) (prefix : Prefix) → Stands init next book prefix → length prefix.here.words ≤ ROOM
+pub stands-fit : (init : List ℕ) (next : List ℕ → ℕ → List ℕ × ℕ) (book : List Page)
+    (prefix : Prefix) → Stands init next book prefix → length prefix.here.words ≤ ROOM
 stands-fit init next book prefix s =
-    let few : sum prefix.cut ≤ MAX_CALLERS * MAX_CALLS = sum_small book prefix.cut s.small s.wide s.within in
+    let few : sum prefix.cut ≤ MAX_CALLERS * MAX_CALLS =
+    sum_small book prefix.cut s.small s.wide s.within in
     omega (arith, s.words)

@@ -24,20 +24,34 @@ use Rattle.book_base.specs.Pruning.{IsDeadEnd, IsReached}
 use Rattle.frontier_check.specs.Search.{places_of, IsOpen, Leads, Fits, order_of}
 
 -- one level more
-pub leads-push : (book : List Page) (next : List ℕ → ℕ → List ℕ × ℕ) (cut list : List ℕ) (levels : List Level) (to_cut to_list : List ℕ) (level : Level)
-    → Leads book next cut list levels to_cut to_list → level.words.items ≡ to_list → IsOpen book next to_cut to_list (level.place ∷ places_of level.choices.items)
-    → Leads book next cut list (levels ++ level ∷ []) (raised to_cut level.place.caller) (list_after book next to_list level.place)
+pub leads-push : (book : List Page) (next : List ℕ → ℕ → List ℕ × ℕ) (cut list : List ℕ)
+    (levels : List Level) (to_cut to_list : List ℕ) (level : Level)
+    → Leads book next cut list levels to_cut to_list → level.words.items ≡ to_list
+    → IsOpen book next to_cut to_list (level.place ∷ places_of level.choices.items)
+    → Leads book next cut list (levels ++ level ∷ []) (raised to_cut level.place.caller)
+    (list_after book next to_list level.place)
 leads-push book next cut list [] to_cut to_list level (same_cut, same_list) words here = (
   words ∙ sym same_list,
-  subst (λ (c : List ℕ). IsOpen book next c list (level.place ∷ places_of level.choices.items)) (sym same_cut)
-      (subst (λ (l : List ℕ). IsOpen book next to_cut l (level.place ∷ places_of level.choices.items)) (sym same_list) here),
-  (ap (λ (c : List ℕ). raised c level.place.caller) same_cut, ap (λ (l : List ℕ). list_after book next l level.place) same_list),
+  subst (λ (c : List ℕ). IsOpen book next c list (level.place ∷ places_of level.choices.items))
+      (sym same_cut)
+      (subst
+      (λ (l : List ℕ). IsOpen book next to_cut l (level.place ∷ places_of level.choices.items))
+      (sym same_list) here),
+  (
+    ap (λ (c : List ℕ). raised c level.place.caller) same_cut,
+    ap (λ (l : List ℕ). list_after book next l level.place) same_list,
+  ),
 )
-leads-push book next cut list (first ∷ levels) to_cut to_list level (at, way, later) words here =
-    (at, way, leads-push book next (raised cut first.place.caller) (list_after book next list first.place) levels to_cut to_list level later words here)
+leads-push book next cut list (first ∷ levels) to_cut to_list level (at, way, later) words here = (
+  at,
+  way,
+  leads-push book next (raised cut first.place.caller)
+      (list_after book next list first.place) levels to_cut to_list level later words here,
+)
 
 -- where a walk stood before its last level
-pub record Back (book : List Page) (next : List ℕ → ℕ → List ℕ × ℕ) (cut list : List ℕ) (levels : List Level) (level : Level) (to_cut to_list : List ℕ) : Type 0 where
+pub record Back (book : List Page) (next : List ℕ → ℕ → List ℕ × ℕ) (cut list : List ℕ)
+    (levels : List Level) (level : Level) (to_cut to_list : List ℕ) : Type 0 where
   pub from : List ℕ
   pub leads : Leads book next cut list levels from level.words.items
   pub here : IsOpen book next from level.words.items (level.place ∷ places_of level.choices.items)
@@ -45,63 +59,103 @@ pub record Back (book : List Page) (next : List ℕ → ℕ → List ℕ × ℕ)
   pub to_list_is : to_list ≡ list_after book next level.words.items level.place
 
 -- one level fewer
-pub leads-pop : (book : List Page) (next : List ℕ → ℕ → List ℕ × ℕ) (cut list : List ℕ) (levels : List Level) (level : Level) (to_cut to_list : List ℕ)
-    → Leads book next cut list (levels ++ level ∷ []) to_cut to_list → Back book next cut list levels level to_cut to_list
+pub leads-pop : (book : List Page) (next : List ℕ → ℕ → List ℕ × ℕ) (cut list : List ℕ)
+    (levels : List Level) (level : Level) (to_cut to_list : List ℕ)
+    → Leads book next cut list (levels ++ level ∷ []) to_cut to_list
+    → Back book next cut list levels level to_cut to_list
 leads-pop book next cut list [] level to_cut to_list (words, here, (cut_is, list_is)) = record {
   from = cut;
   leads = (refl, sym words);
-  here = subst (λ (l : List ℕ). IsOpen book next cut l (level.place ∷ places_of level.choices.items)) (sym words) here;
+  here =
+      subst (λ (l : List ℕ). IsOpen book next cut l (level.place ∷ places_of level.choices.items))
+      (sym words) here;
   to_cut_is = sym cut_is;
   to_list_is = sym list_is ∙ ap (λ (l : List ℕ). list_after book next l level.place) (sym words);
 }
 leads-pop book next cut list (first ∷ levels) level to_cut to_list (words, here, later) =
-    let back = leads-pop book next (raised cut first.place.caller) (list_after book next list first.place) levels level to_cut to_list later in
-    record { from = back.from; leads = (words, here, back.leads); here = back.here; to_cut_is = back.to_cut_is; to_list_is = back.to_list_is }
+    let back = leads-pop book next (raised cut first.place.caller)
+    (list_after book next list first.place) levels level to_cut to_list later in
+    record {
+      from = back.from;
+      leads = (words, here, back.leads);
+      here = back.here;
+      to_cut_is = back.to_cut_is;
+      to_list_is = back.to_list_is;
+    }
 
 -- what the levels lead to goes on from where they begin
-leads-continues : (book : List Page) (next : List ℕ → ℕ → List ℕ × ℕ) (cut list : List ℕ) (levels : List Level) (to_cut to_list : List ℕ)
-    → Leads book next cut list levels to_cut to_list → HoldsAnswered book to_cut → Continues book next cut list (order_of levels)
-leads-continues book next cut list [] to_cut to_list (same_cut, same_list) all = subst (λ (c : List ℕ). HoldsAnswered book c) (sym same_cut) all
-leads-continues book next cut list (first ∷ levels) to_cut to_list (words, here, later) all =
-    (here.sound.0, leads-continues book next (raised cut first.place.caller) (list_after book next list first.place) levels to_cut to_list later all)
+leads-continues : (book : List Page) (next : List ℕ → ℕ → List ℕ × ℕ) (cut list : List ℕ)
+    (levels : List Level) (to_cut to_list : List ℕ)
+    → Leads book next cut list levels to_cut to_list → HoldsAnswered book to_cut
+    → Continues book next cut list (order_of levels)
+leads-continues book next cut list [] to_cut to_list (same_cut, same_list) all =
+    subst (λ (c : List ℕ). HoldsAnswered book c) (sym same_cut) all
+leads-continues book next cut list (first ∷ levels) to_cut to_list (words, here, later) all = (
+  here.sound.0,
+  leads-continues book next (raised cut first.place.caller)
+      (list_after book next list first.place) levels to_cut to_list later all,
+)
 
 -- the cut without calls
 pub zeros : (book : List Page) (i : ℕ) → get_or (no_calls book) i 0 ≡ 0
 zeros book i = get_or-replicate_default (length book) i 0
 
 -- what goes on from where the levels lead to goes on, after them, from where they begin
-leads-more : (book : List Page) (next : List ℕ → ℕ → List ℕ × ℕ) (cut list : List ℕ) (levels : List Level) (to_cut to_list : List ℕ) (rest : List Place)
-    → Leads book next cut list levels to_cut to_list → Continues book next to_cut to_list rest → Continues book next cut list (order_of levels ++ rest)
+leads-more : (book : List Page) (next : List ℕ → ℕ → List ℕ × ℕ) (cut list : List ℕ)
+    (levels : List Level) (to_cut to_list : List ℕ) (rest : List Place)
+    → Leads book next cut list levels to_cut to_list → Continues book next to_cut to_list rest
+    → Continues book next cut list (order_of levels ++ rest)
 leads-more book next cut list [] to_cut to_list rest (same_cut, same_list) goes =
-    subst (λ (c : List ℕ). Continues book next c list rest) (sym same_cut) (subst (λ (l : List ℕ). Continues book next to_cut l rest) (sym same_list) goes)
-leads-more book next cut list (first ∷ levels) to_cut to_list rest (words, here, later) goes =
-    (here.sound.0, leads-more book next (raised cut first.place.caller) (list_after book next list first.place) levels to_cut to_list rest later goes)
+    subst (λ (c : List ℕ). Continues book next c list rest) (sym same_cut)
+    (subst (λ (l : List ℕ). Continues book next to_cut l rest) (sym same_list) goes)
+leads-more book next cut list (first ∷ levels) to_cut to_list rest (words, here, later) goes = (
+  here.sound.0,
+  leads-more book next (raised cut first.place.caller)
+      (list_after book next list first.place) levels to_cut to_list rest later goes,
+)
 
 -- what the levels lead to is reached by their places, where it is reached from where they begin
-leads-reaches : (init : List ℕ) (next : List ℕ → ℕ → List ℕ × ℕ) (book : List Page) (before : List Place) (cut list : List ℕ) (levels : List Level) (to_cut to_list : List ℕ)
-    → length book ≤ length cut → Reaches init next book before cut list → Leads book next cut list levels to_cut to_list
+leads-reaches : (init : List ℕ) (next : List ℕ → ℕ → List ℕ × ℕ) (book : List Page)
+    (before : List Place) (cut list : List ℕ) (levels : List Level) (to_cut to_list : List ℕ)
+    → length book ≤ length cut → Reaches init next book before cut list
+    → Leads book next cut list levels to_cut to_list
     → Reaches init next book (before ++ order_of levels) to_cut to_list
 leads-reaches init next book before cut list [] to_cut to_list wide reaches (same_cut, same_list) =
-    subst (λ (order : List Place). Reaches init next book order to_cut to_list) (sym (append-nil before))
-    (subst (λ (c : List ℕ). Reaches init next book before c to_list) same_cut (subst (λ (l : List ℕ). Reaches init next book before cut l) same_list reaches))
-leads-reaches init next book before cut list (first ∷ levels) to_cut to_list wide reaches (words, here, later) =
+    subst (λ (order : List Place). Reaches init next book order to_cut to_list)
+    (sym (append-nil before))
+    (subst (λ (c : List ℕ). Reaches init next book before c to_list) same_cut
+    (subst (λ (l : List ℕ). Reaches init next book before cut l) same_list reaches))
+leads-reaches init next book before cut list (first ∷ levels) to_cut to_list wide reaches
+    (words, here, later) =
     let may : MayComeNext book cut (call_at first.place) = here.sound.0.may_come in
-    let inside : first.place.caller < length cut = within_cut book cut (call_at first.place) wide may.is_call in
-    let longer : length (raised cut first.place.caller) ≡ length cut = length-set cut first.place.caller (get_or cut first.place.caller 0 + 1) in
-    let one : Reaches init next book (before ++ first.place ∷ []) (raised cut first.place.caller) (list_after book next list first.place) =
-    subst (λ (n : ℕ). Reaches init next book (before ++ first.place ∷ []) (set cut first.place.caller (n + 1)) (list_after book next list first.place)) may.next
-    (one_more_place_reaches_on init next book before cut list first.place reaches inside may.next) in
-    subst (λ (order : List Place). Reaches init next book order to_cut to_list) (append_assoc before (first.place ∷ []) (order_of levels))
-    (leads-reaches init next book (before ++ first.place ∷ []) (raised cut first.place.caller) (list_after book next list first.place) levels to_cut to_list (omega arith) one later)
+    let inside : first.place.caller < length cut =
+    within_cut book cut (call_at first.place) wide may.is_call in
+    let longer : length (raised cut first.place.caller) ≡ length cut =
+    length-set cut first.place.caller (get_or cut first.place.caller 0 + 1) in
+    let one : Reaches init next book (before ++ first.place ∷ []) (raised cut first.place.caller)
+    (list_after book next list first.place) =
+    subst (λ (n : ℕ). Reaches init next book (before ++ first.place ∷ [])
+    (set cut first.place.caller (n + 1)) (list_after book next list first.place)) may.next
+    (one_more_place_reaches_on init next book before cut list first.place reaches inside
+    may.next) in
+    subst (λ (order : List Place). Reaches init next book order to_cut to_list)
+    (append_assoc before (first.place ∷ []) (order_of levels))
+    (leads-reaches init next book (before ++ first.place ∷ []) (raised cut first.place.caller)
+    (list_after book next list first.place) levels to_cut to_list (omega arith) one later)
 
 -- The levels that lead from a prefix to a cut and a list reach them, after its places.
-pub reached-from_leads : (init : List ℕ) (next : List ℕ → ℕ → List ℕ × ℕ) (book : List Page) (prefix : Prefix) (levels : List Level) (cut list : List ℕ)
-    → IsPrefix init next book prefix → Leads book next prefix.cut prefix.here.words levels cut list → IsReached init next book cut list
+pub reached-from_leads : (init : List ℕ) (next : List ℕ → ℕ → List ℕ × ℕ) (book : List Page)
+    (prefix : Prefix) (levels : List Level) (cut list : List ℕ)
+    → IsPrefix init next book prefix → Leads book next prefix.cut prefix.here.words levels cut list
+    → IsReached init next book cut list
 reached-from_leads init next book prefix levels cut list f leads = record {
   before = prefix.places.items ++ order_of levels;
-  reaches = leads-reaches init next book prefix.places.items prefix.cut prefix.here.words levels cut list (omega (arith, f.stands.wide)) f.stands.reaches leads;
-  legal = λ rest goes. subst (λ (order : List Place). IsLegalOrder init next book order) (sym (append_assoc prefix.places.items (order_of levels) rest))
-      (f.legal (order_of levels ++ rest) (leads-more book next prefix.cut prefix.here.words levels cut list rest leads goes));
+  reaches = leads-reaches init next book prefix.places.items prefix.cut prefix.here.words levels cut
+      list (omega (arith, f.stands.wide)) f.stands.reaches leads;
+  legal = λ rest goes. subst (λ (order : List Place). IsLegalOrder init next book order)
+      (sym (append_assoc prefix.places.items (order_of levels) rest))
+      (f.legal (order_of levels ++ rest)
+      (leads-more book next prefix.cut prefix.here.words levels cut list rest leads goes));
 }
 
 -- a raised cut holds one call more
@@ -109,23 +163,35 @@ pub sum_raised : (cut : List ℕ) (i : ℕ) → i < length cut → sum (raised c
 sum_raised cut i h = omega (arith, sum_by-set (λ (n : ℕ). n) cut i (get_or cut i 0 + 1) 0 h)
 
 -- counts within those of the book still are with one more call, which is its caller's next
-pub raised_within : (book : List Page) (cut : List ℕ) (call : Call) → call.caller < length cut → IsCall book call → call.number ≡ get_or cut call.caller 0
-    → ((i : ℕ) → get_or cut i 0 ≤ calls_of book i) → (i : ℕ) → get_or (raised cut call.caller) i 0 ≤ calls_of book i
+pub raised_within : (book : List Page) (cut : List ℕ) (call : Call) → call.caller < length cut
+    → IsCall book call → call.number ≡ get_or cut call.caller 0
+    → ((i : ℕ) → get_or cut i 0 ≤ calls_of book i) → (i : ℕ)
+    → get_or (raised cut call.caller) i 0 ≤ calls_of book i
 raised_within book cut call inside is at within i =
     elim (cases_eq i call.caller) [
-      | inl same ↦ omega (arith, raised_same cut call.caller inside, ap (λ (j : ℕ). get_or (raised cut call.caller) j 0) same, is, at, ap (calls_of book) same)
+      | inl same ↦ omega (
+        arith,
+        raised_same cut call.caller inside,
+        ap (λ (j : ℕ). get_or (raised cut call.caller) j 0) same,
+        is,
+        at,
+        ap (calls_of book) same,
+      )
       | inr other ↦ omega (arith, raised_other cut call.caller i other, within i)
     ]
 
 -- how far levels lead
-pub record Reach (book : List Page) (cut list : List ℕ) (levels : List Level) (to_cut to_list : List ℕ) : Type 0 where
+pub record Reach (book : List Page) (cut list : List ℕ) (levels : List Level)
+    (to_cut to_list : List ℕ) : Type 0 where
   pub wide : length to_cut ≡ length cut
   pub calls : sum to_cut ≡ sum cut + length levels
   pub words : length to_list ≤ length list + length levels
   pub within : (i : ℕ) → get_or to_cut i 0 ≤ calls_of book i
 
-leads-reach : (book : List Page) (next : List ℕ → ℕ → List ℕ × ℕ) (cut list : List ℕ) (levels : List Level) (to_cut to_list : List ℕ)
-    → ((list : List ℕ) (op : ℕ) → length (next list op).0 ≤ length list + 1) → length book ≤ length cut → ((i : ℕ) → get_or cut i 0 ≤ calls_of book i)
+leads-reach : (book : List Page) (next : List ℕ → ℕ → List ℕ × ℕ) (cut list : List ℕ)
+    (levels : List Level) (to_cut to_list : List ℕ)
+    → ((list : List ℕ) (op : ℕ) → length (next list op).0 ≤ length list + 1)
+    → length book ≤ length cut → ((i : ℕ) → get_or cut i 0 ≤ calls_of book i)
     → Leads book next cut list levels to_cut to_list → Reach book cut list levels to_cut to_list
 leads-reach book next cut list [] to_cut to_list grows wide within (same_cut, same_list) = record {
   wide = ap (λ (c : List ℕ). length c) (sym same_cut);
@@ -133,11 +199,15 @@ leads-reach book next cut list [] to_cut to_list grows wide within (same_cut, sa
   words = omega (arith, ap (λ (l : List ℕ). length l) same_list);
   within = λ (i : ℕ). omega (arith, within i, ap (λ (c : List ℕ). get_or c i 0) same_cut);
 }
-leads-reach book next cut list (first ∷ levels) to_cut to_list grows wide within (words, here, later) =
+leads-reach book next cut list (first ∷ levels) to_cut to_list grows wide within
+    (words, here, later) =
     let may : MayComeNext book cut (call_at first.place) = here.sound.0.may_come in
-    let inside : first.place.caller < length cut = (let there = caller_from_call book first.place.caller first.place.number may.is_call in omega arith) in
-    let long : length (raised cut first.place.caller) ≡ length cut = length-set cut first.place.caller (get_or cut first.place.caller 0 + 1) in
-    let rest = leads-reach book next (raised cut first.place.caller) (list_after book next list first.place) levels to_cut to_list grows (omega arith)
+    let inside : first.place.caller < length cut = (let there =
+    caller_from_call book first.place.caller first.place.number may.is_call in omega arith) in
+    let long : length (raised cut first.place.caller) ≡ length cut =
+    length-set cut first.place.caller (get_or cut first.place.caller 0 + 1) in
+    let rest = leads-reach book next (raised cut first.place.caller)
+    (list_after book next list first.place) levels to_cut to_list grows (omega arith)
     (raised_within book cut (call_at first.place) inside may.is_call may.next within) later in
     record {
       wide = rest.wide ∙ long;
@@ -147,14 +217,18 @@ leads-reach book next cut list (first ∷ levels) to_cut to_list grows wide with
     }
 
 -- counts within those of a small book sum up to no more than it may have
-pub sum_small : (book : List Page) (counts : List ℕ) → IsSmall book → length counts ≡ length book → ((i : ℕ) → get_or counts i 0 ≤ calls_of book i) → sum counts ≤ MAX_CALLERS * MAX_CALLS
+pub sum_small : (book : List Page) (counts : List ℕ) → IsSmall book → length counts ≡ length book
+    → ((i : ℕ) → get_or counts i 0 ≤ calls_of book i) → sum counts ≤ MAX_CALLERS * MAX_CALLS
 sum_small book counts small wide within =
-    let few : All (λ (n : ℕ). n ≤ MAX_CALLS) counts = All-from_get_or (λ (n : ℕ). n ≤ MAX_CALLS) counts 0 (λ (i : ℕ) (lt : i < length counts). let a = within i in let b = small.calls i in omega (arith, a, b)) in
+    let few : All (λ (n : ℕ). n ≤ MAX_CALLS) counts =
+    All-from_get_or (λ (n : ℕ). n ≤ MAX_CALLS) counts 0 (λ (i : ℕ) (lt : i < length counts). let a =
+    within i in let b = small.calls i in omega (arith, a, b)) in
     let callers = small.callers in
     omega (arith, sum_by-le (λ (n : ℕ). n) MAX_CALLS counts few)
 
 -- What is known of where a walk from the start stands, where one more place may stand next.
-pub record Standing (book : List Page) (levels : List Level) (cut list : List ℕ) (place : Place) : Type 0 where
+pub record Standing (book : List Page) (levels : List Level) (cut list : List ℕ)
+    (place : Place) : Type 0 where
   pub wide : length cut ≡ length book
   pub caller : place.caller < length cut
   pub number : place.number < MAX_CALLS
@@ -162,17 +236,25 @@ pub record Standing (book : List Page) (levels : List Level) (cut list : List �
   pub fits : Fits cut list
   pub after : length levels + 1 < ROOM
 
-pub standing : (book : List Page) (prefix : Prefix) (init : List ℕ) (next : List ℕ → ℕ → List ℕ × ℕ) (levels : List Level) (cut list : List ℕ) (place : Place)
-    → IsPrefix init next book prefix → ((list : List ℕ) (op : ℕ) → length (next list op).0 ≤ length list + 1)
-    → Leads book next prefix.cut prefix.here.words levels cut list → MayComeNext book cut (call_at place) → Standing book levels cut list place
+pub standing : (book : List Page) (prefix : Prefix) (init : List ℕ) (next : List ℕ → ℕ → List ℕ × ℕ)
+    (levels : List Level) (cut list : List ℕ) (place : Place)
+    → IsPrefix init next book prefix
+    → ((list : List ℕ) (op : ℕ) → length (next list op).0 ≤ length list + 1)
+    → Leads book next prefix.cut prefix.here.words levels cut list
+    → MayComeNext book cut (call_at place) → Standing book levels cut list place
 standing book prefix init next levels cut list place f grows leads may =
     let small = f.stands.small in
-    let reach = leads-reach book next prefix.cut prefix.here.words levels cut list grows (omega (arith, f.stands.wide)) f.stands.within leads in
+    let reach = leads-reach book next prefix.cut prefix.here.words levels cut list grows
+    (omega (arith, f.stands.wide)) f.stands.within leads in
     let wide : length cut ≡ length book = reach.wide ∙ f.stands.wide in
-    let there : place.caller < length book = caller_from_call book place.caller place.number may.is_call in
+    let there : place.caller < length book =
+    caller_from_call book place.caller place.number may.is_call in
     let inside : place.caller < length cut = omega arith in
-    let longer : length (raised cut place.caller) ≡ length book = length-set cut place.caller (get_or cut place.caller 0 + 1) ∙ wide in
-    let few : sum (raised cut place.caller) ≤ MAX_CALLERS * MAX_CALLS = sum_small book (raised cut place.caller) small longer (raised_within book cut (call_at place) inside may.is_call may.next reach.within) in
+    let longer : length (raised cut place.caller) ≡ length book =
+    length-set cut place.caller (get_or cut place.caller 0 + 1) ∙ wide in
+    let few : sum (raised cut place.caller) ≤ MAX_CALLERS * MAX_CALLS =
+    sum_small book (raised cut place.caller) small longer
+    (raised_within book cut (call_at place) inside may.is_call may.next reach.within) in
     let more = sum_raised cut place.caller inside in
     record {
       wide = wide;
@@ -184,31 +266,46 @@ standing book prefix init next levels cut list place f grows leads may =
     }
 
 -- the cut at which a walk stands has a count for each caller
-pub leads-wide : (book : List Page) (prefix : Prefix) (init : List ℕ) (next : List ℕ → ℕ → List ℕ × ℕ) (levels : List Level) (cut list : List ℕ) → IsPrefix init next book prefix
-    → ((list : List ℕ) (op : ℕ) → length (next list op).0 ≤ length list + 1) → Leads book next prefix.cut prefix.here.words levels cut list → length cut ≡ length book
+pub leads-wide : (book : List Page) (prefix : Prefix) (init : List ℕ)
+    (next : List ℕ → ℕ → List ℕ × ℕ) (levels : List Level) (cut list : List ℕ)
+    → IsPrefix init next book prefix
+    → ((list : List ℕ) (op : ℕ) → length (next list op).0 ≤ length list + 1)
+    → Leads book next prefix.cut prefix.here.words levels cut list → length cut ≡ length book
 leads-wide book prefix init next levels cut list f grows leads =
-    (leads-reach book next prefix.cut prefix.here.words levels cut list grows (omega (arith, f.stands.wide)) f.stands.within leads).wide ∙ f.stands.wide
+    (leads-reach book next prefix.cut prefix.here.words levels cut list grows
+    (omega (arith, f.stands.wide)) f.stands.within leads).wide ∙ f.stands.wide
 
--- The levels that lead to a cut with all answered calls make a legal order, after the places of the prefix.
-pub legal-from_leads : (book : List Page) (prefix : Prefix) (init : List ℕ) (next : List ℕ → ℕ → List ℕ × ℕ) (levels : List Level) (cut list : List ℕ) → IsPrefix init next book prefix
-    → Leads book next prefix.cut prefix.here.words levels cut list → HoldsAnswered book cut → IsLegalOrder init next book (prefix.places.items ++ order_of levels)
+-- The levels that lead to a cut with all answered calls make a legal order, after the places of the
+-- prefix.
+pub legal-from_leads : (book : List Page) (prefix : Prefix) (init : List ℕ)
+    (next : List ℕ → ℕ → List ℕ × ℕ) (levels : List Level) (cut list : List ℕ)
+    → IsPrefix init next book prefix
+    → Leads book next prefix.cut prefix.here.words levels cut list → HoldsAnswered book cut
+    → IsLegalOrder init next book (prefix.places.items ++ order_of levels)
 legal-from_leads book prefix init next levels cut list f leads all =
-    f.legal (order_of levels) (leads-continues book next prefix.cut prefix.here.words levels cut list leads all)
+    f.legal (order_of levels)
+    (leads-continues book next prefix.cut prefix.here.words levels cut list leads all)
 
 -- Where the start is a dead end, the book has no legal order.
-pub none-from_dead : (book : List Page) (init : List ℕ) (next : List ℕ → ℕ → List ℕ × ℕ) → IsDeadEnd book next (no_calls book) init → HasLegalOrder init next book → ⊥
+pub none-from_dead : (book : List Page) (init : List ℕ) (next : List ℕ → ℕ → List ℕ × ℕ)
+    → IsDeadEnd book next (no_calls book) init → HasLegalOrder init next book → ⊥
 none-from_dead book init next dead legal =
     let long : length (no_calls book) ≡ length book = length-replicate (length book) 0 in
-    dead legal.0 (continues_from_legal_order book init next (no_calls book) legal.0 (omega arith) (zeros book) legal.1)
+    dead legal.0 (continues_from_legal_order book init next (no_calls book) legal.0 (omega arith)
+    (zeros book) legal.1)
 
 -- a raised cut, with the caller's count as it was
 pub lowered : (cut : List ℕ) (i n : ℕ) → n ≡ get_or cut i 0 → set (raised cut i) i n ≡ cut
-lowered cut i n e = set-set cut i (get_or cut i 0 + 1) n ∙ (ap (λ (m : ℕ). set cut i m) e ∙ set-get_or cut i 0)
+lowered cut i n e =
+    set-set cut i (get_or cut i 0 + 1) n ∙ (ap (λ (m : ℕ). set cut i m) e ∙ set-get_or cut i 0)
 
 -- So a search after a prefix without places that finds none is right.
-pub none-found : {X E : Type 0} (book : List Page) (init : List ℕ) (next : List ℕ → ℕ → List ℕ × ℕ) (cut list : List ℕ) (result : Result (Option X) E) → cut ≡ no_calls book → list ≡ init
-    → IfOk result (λ found. IfNone found (IsDeadEnd book next cut list)) → IfOk result (λ found. IfNone found (HasLegalOrder init next book → ⊥))
+pub none-found : {X E : Type 0} (book : List Page) (init : List ℕ) (next : List ℕ → ℕ → List ℕ × ℕ)
+    (cut list : List ℕ) (result : Result (Option X) E) → cut ≡ no_calls book → list ≡ init
+    → IfOk result (λ found. IfNone found (IsDeadEnd book next cut list))
+    → IfOk result (λ found. IfNone found (HasLegalOrder init next book → ⊥))
 none-found book init next cut list (Ok None) same_cut same_list dead =
-    none-from_dead book init next (subst (λ (c : List ℕ). IsDeadEnd book next c init) same_cut (subst (λ (l : List ℕ). IsDeadEnd book next cut l) same_list dead))
+    none-from_dead book init next (subst (λ (c : List ℕ). IsDeadEnd book next c init) same_cut
+    (subst (λ (l : List ℕ). IsDeadEnd book next cut l) same_list dead))
 none-found book init next cut list (Ok (Some found)) same_cut same_list dead = tt
 none-found book init next cut list (Err e) same_cut same_list dead = tt

@@ -24,56 +24,80 @@ use Rattle.frontier_check.proofs.Leading.{leads-push, leads-pop, standing, reach
 use Rattle.frontier_check.proofs.Weighing.{weigh-push, weigh-skip, weigh-pop}
 
 -- what a walk leads to, in the words of another with the same levels, counts and list
-same_leads : (book : List Page) (next : List ℕ → ℕ → List ℕ × ℕ) (cut list : List ℕ) (levels new_levels : List Level) (to_cut new_cut to_list new_list : List ℕ)
-    → new_levels ≡ levels → new_cut ≡ to_cut → new_list ≡ to_list → Leads book next cut list levels to_cut to_list → Leads book next cut list new_levels new_cut new_list
+same_leads : (book : List Page) (next : List ℕ → ℕ → List ℕ × ℕ) (cut list : List ℕ)
+    (levels new_levels : List Level) (to_cut new_cut to_list new_list : List ℕ)
+    → new_levels ≡ levels → new_cut ≡ to_cut → new_list ≡ to_list
+    → Leads book next cut list levels to_cut to_list
+    → Leads book next cut list new_levels new_cut new_list
 same_leads book next cut list levels new_levels to_cut new_cut to_list new_list e f k h =
     subst (λ (ls : List Level). Leads book next cut list ls new_cut new_list) (sym e)
-    (subst (λ (c : List ℕ). Leads book next cut list levels c new_list) (sym f) (subst (λ (l : List ℕ). Leads book next cut list levels to_cut l) (sym k) h))
+    (subst (λ (c : List ℕ). Leads book next cut list levels c new_list) (sym f)
+    (subst (λ (l : List ℕ). Leads book next cut list levels to_cut l) (sym k) h))
 
-pub same_open : (book : List Page) (next : List ℕ → ℕ → List ℕ × ℕ) (cut new_cut list new_list : List ℕ) (places new_places : List Place)
-    → new_cut ≡ cut → new_list ≡ list → new_places ≡ places → IsOpen book next cut list places → IsOpen book next new_cut new_list new_places
+pub same_open : (book : List Page) (next : List ℕ → ℕ → List ℕ × ℕ)
+    (cut new_cut list new_list : List ℕ) (places new_places : List Place)
+    → new_cut ≡ cut → new_list ≡ list → new_places ≡ places → IsOpen book next cut list places
+    → IsOpen book next new_cut new_list new_places
 same_open book next cut new_cut list new_list places new_places e f k h =
     subst (λ (c : List ℕ). IsOpen book next c new_list new_places) (sym e)
-    (subst (λ (l : List ℕ). IsOpen book next cut l new_places) (sym f) (subst (λ (ps : List Place). IsOpen book next cut list ps) (sym k) h))
+    (subst (λ (l : List ℕ). IsOpen book next cut l new_places) (sym f)
+    (subst (λ (ps : List Place). IsOpen book next cut list ps) (sym k) h))
 
 -- the last choice is taken
-pub walk-choose : (book : List Page) (prefix : Prefix) (init : List ℕ) (next : List ℕ → ℕ → List ℕ × ℕ) (old new : Walk) (choice : Choice)
-    → IsWalk book prefix init next old (places_of old.choices.items) → old.choices.items ≡ new.choices.items ++ choice ∷ []
+pub walk-choose : (book : List Page) (prefix : Prefix) (init : List ℕ)
+    (next : List ℕ → ℕ → List ℕ × ℕ) (old new : Walk) (choice : Choice)
+    → IsWalk book prefix init next old (places_of old.choices.items)
+    → old.choices.items ≡ new.choices.items ++ choice ∷ []
     → new.levels ≡ old.levels → new.counts ≡ old.counts → new.here ≡ old.here → new.memo ≡ old.memo
-    → IsWalk book prefix init next new (choice.place ∷ places_of new.choices.items) × (weigh ROOM new.levels.items (length new.choices.items + 1) ≡ weight old)
+    → IsWalk book prefix init next new (choice.place ∷ places_of new.choices.items)
+    × (weigh ROOM new.levels.items (length new.choices.items + 1) ≡ weight old)
 walk-choose book prefix init next old new choice h choices levels counts here memo =
-    let more : IsOpen book next old.counts.items old.here.words (places_of (new.choices.items ++ choice ∷ [])) =
-    subst (λ (cs : List Choice). IsOpen book next old.counts.items old.here.words (places_of cs)) choices h.here in
-    let long : length new.choices.items + 1 ≡ length old.choices.items = sym (ap (λ (cs : List Choice). length cs) choices ∙ length_push new.choices.items choice) in (
+    let more : IsOpen book next old.counts.items old.here.words
+    (places_of (new.choices.items ++ choice ∷ [])) =
+    subst (λ (cs : List Choice). IsOpen book next old.counts.items old.here.words (places_of cs))
+    choices h.here in
+    let long : length new.choices.items + 1 ≡ length old.choices.items =
+    sym (ap (λ (cs : List Choice). length cs) choices ∙ length_push new.choices.items choice) in (
       record {
         begins = h.begins;
-        leads = same_leads book next prefix.cut prefix.here.words old.levels.items new.levels.items old.counts.items new.counts.items old.here.words new.here.words
+        leads = same_leads book next prefix.cut prefix.here.words old.levels.items new.levels.items
+            old.counts.items new.counts.items old.here.words new.here.words
             (ap (λ v. v.items) levels) (ap (λ v. v.items) counts) (ap (λ s. s.words) here) h.leads;
-        here = same_open book next old.counts.items new.counts.items old.here.words new.here.words (choice.place ∷ places_of new.choices.items) (choice.place ∷ places_of new.choices.items)
-            (ap (λ v. v.items) counts) (ap (λ s. s.words) here) refl (open-last book next old.counts.items old.here.words new.choices.items choice more);
+        here = same_open book next old.counts.items new.counts.items old.here.words new.here.words
+            (choice.place ∷ places_of new.choices.items)
+            (choice.place ∷ places_of new.choices.items)
+            (ap (λ v. v.items) counts) (ap (λ s. s.words) here) refl
+            (open-last book next old.counts.items old.here.words new.choices.items choice more);
         dead = λ cut list there. h.dead cut list (subst (λ m. Remembers m cut list) memo there);
         memo = subst (λ m. IsMemo m) (sym memo) h.memo;
         callers = ap (λ m. m.callers) memo ∙ h.callers;
         room = ap (λ s. s.room) here ∙ h.room;
       },
-      ap (λ v. weigh ROOM v.items (length new.choices.items + 1)) levels ∙ ap (λ (n : ℕ). weigh ROOM old.levels.items n) long,
+      ap (λ v. weigh ROOM v.items (length new.choices.items + 1)) levels
+          ∙ ap (λ (n : ℕ). weigh ROOM old.levels.items n) long,
     )
 
 -- one more dead end is remembered
-pub walk-remember : (book : List Page) (prefix : Prefix) (init : List ℕ) (next : List ℕ → ℕ → List ℕ × ℕ) (old new : Walk)
-    → IsWalk book prefix init next old [] → new.levels ≡ old.levels → new.counts ≡ old.counts → new.here ≡ old.here → IsMemo new.memo → new.memo.callers ≡ old.memo.callers
-    → ((cut list : List ℕ) → Remembers new.memo cut list → Remembers old.memo cut list ⊎ ((cut ≡ old.counts.items) × (list ≡ old.here.words)))
+pub walk-remember : (book : List Page) (prefix : Prefix) (init : List ℕ)
+    (next : List ℕ → ℕ → List ℕ × ℕ) (old new : Walk)
+    → IsWalk book prefix init next old [] → new.levels ≡ old.levels → new.counts ≡ old.counts
+    → new.here ≡ old.here → IsMemo new.memo → new.memo.callers ≡ old.memo.callers
+    → ((cut list : List ℕ) → Remembers new.memo cut list → Remembers old.memo cut list
+    ⊎ ((cut ≡ old.counts.items) × (list ≡ old.here.words)))
     → IsWalk book prefix init next new []
 walk-remember book prefix init next old new h levels counts here memo callers only = record {
   begins = h.begins;
-  leads = same_leads book next prefix.cut prefix.here.words old.levels.items new.levels.items old.counts.items new.counts.items old.here.words new.here.words
+  leads = same_leads book next prefix.cut prefix.here.words old.levels.items new.levels.items
+      old.counts.items new.counts.items old.here.words new.here.words
       (ap (λ v. v.items) levels) (ap (λ v. v.items) counts) (ap (λ s. s.words) here) h.leads;
-  here = same_open book next old.counts.items new.counts.items old.here.words new.here.words [] [] (ap (λ v. v.items) counts) (ap (λ s. s.words) here) refl h.here;
+  here = same_open book next old.counts.items new.counts.items old.here.words
+      new.here.words [] [] (ap (λ v. v.items) counts) (ap (λ s. s.words) here) refl h.here;
   dead = λ (cut list : List ℕ) there. elim (only cut list there) [
     | inl before ↦ h.dead cut list before
     | inr now ↦
         subst (λ (c : List ℕ). IsDeadEnd book next c list) (sym now.0)
-        (subst (λ (l : List ℕ). IsDeadEnd book next old.counts.items l) (sym now.1) (dead_end book next old.counts.items old.here.words h.here))
+        (subst (λ (l : List ℕ). IsDeadEnd book next old.counts.items l) (sym now.1)
+        (dead_end book next old.counts.items old.here.words h.here))
   ];
   memo = memo;
   callers = callers ∙ h.callers;
@@ -81,20 +105,29 @@ walk-remember book prefix init next old new h levels counts here memo callers on
 }
 
 -- a place leads to a remembered dead end
-pub walk-skip : (book : List Page) (prefix : Prefix) (init : List ℕ) (next : List ℕ → ℕ → List ℕ × ℕ) (old new : Walk) (place : Place)
-    → IsWalk book prefix init next old (place ∷ places_of old.choices.items) → Remembers old.memo (raised old.counts.items place.caller) (list_after book next old.here.words place)
-    → new.levels ≡ old.levels → new.counts.items ≡ old.counts.items → new.here ≡ old.here → new.choices ≡ old.choices → new.memo ≡ old.memo
-    → IsWalk book prefix init next new (places_of new.choices.items) × (weight new < weigh ROOM old.levels.items (length old.choices.items + 1))
+pub walk-skip : (book : List Page) (prefix : Prefix) (init : List ℕ)
+    (next : List ℕ → ℕ → List ℕ × ℕ) (old new : Walk) (place : Place)
+    → IsWalk book prefix init next old (place ∷ places_of old.choices.items) → Remembers old.memo
+    (raised old.counts.items place.caller) (list_after book next old.here.words place)
+    → new.levels ≡ old.levels → new.counts.items ≡ old.counts.items → new.here ≡ old.here
+    → new.choices ≡ old.choices → new.memo ≡ old.memo
+    → IsWalk book prefix init next new (places_of new.choices.items)
+    × (weight new < weigh ROOM old.levels.items (length old.choices.items + 1))
 walk-skip book prefix init next old new place h there levels counts here choices memo =
-    let dead = h.dead (raised old.counts.items place.caller) (list_after book next old.here.words place) there in
+    let dead = h.dead (raised old.counts.items place.caller)
+    (list_after book next old.here.words place) there in
     let same : weight new ≡ weigh ROOM old.levels.items (length old.choices.items) =
-    ap (λ v. weigh ROOM v.items (length new.choices.items)) levels ∙ ap (λ v. weigh ROOM old.levels.items (length v.items)) choices in (
+    ap (λ v. weigh ROOM v.items (length new.choices.items)) levels
+    ∙ ap (λ v. weigh ROOM old.levels.items (length v.items)) choices in (
       record {
         begins = h.begins;
-        leads = same_leads book next prefix.cut prefix.here.words old.levels.items new.levels.items old.counts.items new.counts.items old.here.words new.here.words
+        leads = same_leads book next prefix.cut prefix.here.words old.levels.items new.levels.items
+            old.counts.items new.counts.items old.here.words new.here.words
             (ap (λ v. v.items) levels) counts (ap (λ s. s.words) here) h.leads;
-        here = same_open book next old.counts.items new.counts.items old.here.words new.here.words (places_of old.choices.items) (places_of new.choices.items)
-            counts (ap (λ s. s.words) here) (ap (λ v. places_of v.items) choices) (open-rest book next old.counts.items old.here.words place (places_of old.choices.items) dead h.here);
+        here = same_open book next old.counts.items new.counts.items old.here.words new.here.words
+            (places_of old.choices.items) (places_of new.choices.items)
+            counts (ap (λ s. s.words) here) (ap (λ v. places_of v.items) choices) (open-rest book
+            next old.counts.items old.here.words place (places_of old.choices.items) dead h.here);
         dead = λ cut list at. h.dead cut list (subst (λ m. Remembers m cut list) memo at);
         memo = subst (λ m. IsMemo m) (sym memo) h.memo;
         callers = ap (λ m. m.callers) memo ∙ h.callers;
@@ -104,7 +137,8 @@ walk-skip book prefix init next old new place h there levels counts here choices
     )
 
 -- What a place that is put next adds to a walk.
-pub record IsDeeper (book : List Page) (next : List ℕ → ℕ → List ℕ × ℕ) (old new : Walk) (level : Level) : Type 0 where
+pub record IsDeeper (book : List Page) (next : List ℕ → ℕ → List ℕ × ℕ) (old new : Walk)
+    (level : Level) : Type 0 where
   pub levels : new.levels.items ≡ old.levels.items ++ level ∷ []
   pub words : level.words.items ≡ old.here.words
   pub choices : level.choices.items ≡ old.choices.items
@@ -113,26 +147,39 @@ pub record IsDeeper (book : List Page) (next : List ℕ → ℕ → List ℕ × 
   pub room : new.here.room ≡ old.here.room
   pub memo : new.memo ≡ old.memo
 
-deeper-leads : (book : List Page) (prefix : Prefix) (init : List ℕ) (next : List ℕ → ℕ → List ℕ × ℕ) (old new : Walk) (level : Level)
-    → IsWalk book prefix init next old (level.place ∷ places_of old.choices.items) → IsDeeper book next old new level
+deeper-leads : (book : List Page) (prefix : Prefix) (init : List ℕ) (next : List ℕ → ℕ → List ℕ × ℕ)
+    (old new : Walk) (level : Level)
+    → IsWalk book prefix init next old (level.place ∷ places_of old.choices.items)
+    → IsDeeper book next old new level
     → Leads book next prefix.cut prefix.here.words new.levels.items new.counts.items new.here.words
 deeper-leads book prefix init next old new level h d =
-    let here : IsOpen book next old.counts.items old.here.words (level.place ∷ places_of level.choices.items) =
-    subst (λ (cs : List Choice). IsOpen book next old.counts.items old.here.words (level.place ∷ places_of cs)) (sym d.choices) h.here in
-    same_leads book next prefix.cut prefix.here.words (old.levels.items ++ level ∷ []) new.levels.items (raised old.counts.items level.place.caller) new.counts.items
+    let here : IsOpen book next old.counts.items old.here.words
+    (level.place ∷ places_of level.choices.items) =
+    subst (λ (cs : List Choice). IsOpen book next old.counts.items old.here.words
+    (level.place ∷ places_of cs)) (sym d.choices) h.here in
+    same_leads book next prefix.cut prefix.here.words (old.levels.items ++ level ∷ [])
+    new.levels.items (raised old.counts.items level.place.caller) new.counts.items
     (list_after book next old.here.words level.place) new.here.words d.levels d.counts d.here
-    (leads-push book next prefix.cut prefix.here.words old.levels.items old.counts.items old.here.words level h.leads d.words here)
+    (leads-push book next prefix.cut prefix.here.words old.levels.items old.counts.items
+    old.here.words level h.leads d.words here)
 
-pub walk-deeper : (book : List Page) (prefix : Prefix) (init : List ℕ) (next : List ℕ → ℕ → List ℕ × ℕ) (old new : Walk) (level : Level)
+pub walk-deeper : (book : List Page) (prefix : Prefix) (init : List ℕ)
+    (next : List ℕ → ℕ → List ℕ × ℕ) (old new : Walk) (level : Level)
     → ((list : List ℕ) (op : ℕ) → length (next list op).0 ≤ length list + 1)
-    → IsWalk book prefix init next old (level.place ∷ places_of old.choices.items) → IsDeeper book next old new level
-    → IsOpen book next new.counts.items new.here.words (places_of new.choices.items) → length new.choices.items ≤ length book
-    → IsWalk book prefix init next new (places_of new.choices.items) × (weight new < weigh ROOM old.levels.items (length old.choices.items + 1))
+    → IsWalk book prefix init next old (level.place ∷ places_of old.choices.items)
+    → IsDeeper book next old new level
+    → IsOpen book next new.counts.items new.here.words (places_of new.choices.items)
+    → length new.choices.items ≤ length book
+    → IsWalk book prefix init next new (places_of new.choices.items)
+    × (weight new < weigh ROOM old.levels.items (length old.choices.items + 1))
 walk-deeper book prefix init next old new level grows h d here few =
-    let s = standing book prefix init next old.levels.items old.counts.items old.here.words level.place h.begins grows h.leads h.here.sound.0.may_come in
+    let s = standing book prefix init next old.levels.items old.counts.items old.here.words
+    level.place h.begins grows h.leads h.here.sound.0.may_come in
     let callers = h.begins.stands.small.callers in
-    let same : weight new ≡ weigh ROOM (old.levels.items ++ level ∷ []) (length new.choices.items) = ap (λ (ls : List Level). weigh ROOM ls (length new.choices.items)) d.levels in
-    let more : weigh ROOM old.levels.items (length level.choices.items + 1) ≡ weigh ROOM old.levels.items (length old.choices.items + 1) =
+    let same : weight new ≡ weigh ROOM (old.levels.items ++ level ∷ []) (length new.choices.items) =
+    ap (λ (ls : List Level). weigh ROOM ls (length new.choices.items)) d.levels in
+    let more : weigh ROOM old.levels.items (length level.choices.items + 1)
+    ≡ weigh ROOM old.levels.items (length old.choices.items + 1) =
     ap (λ (cs : List Choice). weigh ROOM old.levels.items (length cs + 1)) d.choices in (
       record {
         begins = h.begins;
@@ -143,34 +190,52 @@ walk-deeper book prefix init next old new level grows h d here few =
         callers = ap (λ m. m.callers) d.memo ∙ h.callers;
         room = d.room ∙ h.room;
       },
-      omega (arith, same, more, weigh-push ROOM old.levels.items level (length new.choices.items) s.depth (omega arith)),
+      omega (
+        arith,
+        same,
+        more,
+        weigh-push ROOM old.levels.items level (length new.choices.items) s.depth (omega arith),
+      ),
     )
 
-pub walk-found : (book : List Page) (prefix : Prefix) (init : List ℕ) (next : List ℕ → ℕ → List ℕ × ℕ) (old new : Walk) (level : Level)
-    → IsWalk book prefix init next old (level.place ∷ places_of old.choices.items) → IsDeeper book next old new level → HoldsAnswered book new.counts.items
+pub walk-found : (book : List Page) (prefix : Prefix) (init : List ℕ)
+    (next : List ℕ → ℕ → List ℕ × ℕ) (old new : Walk) (level : Level)
+    → IsWalk book prefix init next old (level.place ∷ places_of old.choices.items)
+    → IsDeeper book next old new level → HoldsAnswered book new.counts.items
     → IsLegalOrder init next book (prefix.places.items ++ order_of new.levels.items)
-walk-found book prefix init next old new level h d all = legal-from_leads book prefix init next new.levels.items new.counts.items new.here.words h.begins (deeper-leads book prefix init next old new level h d) all
+walk-found book prefix init next old new level h d all =
+    legal-from_leads book prefix init next new.levels.items new.counts.items new.here.words h.begins
+    (deeper-leads book prefix init next old new level h d) all
 
 -- Where a place that is put next leads to.
-pub record LeadsTo (book : List Page) (next : List ℕ → ℕ → List ℕ × ℕ) (old : Walk) (level : Level) (cut list : List ℕ) : Type 0 where
+pub record LeadsTo (book : List Page) (next : List ℕ → ℕ → List ℕ × ℕ) (old : Walk) (level : Level)
+    (cut list : List ℕ) : Type 0 where
   pub words : level.words.items ≡ old.here.words
   pub choices : level.choices.items ≡ old.choices.items
   pub cut_is : cut ≡ raised old.counts.items level.place.caller
   pub list_is : list ≡ list_after book next old.here.words level.place
 
-leads-to : (book : List Page) (prefix : Prefix) (init : List ℕ) (next : List ℕ → ℕ → List ℕ × ℕ) (old : Walk) (level : Level) (cut list : List ℕ)
-    → IsWalk book prefix init next old (level.place ∷ places_of old.choices.items) → LeadsTo book next old level cut list
+leads-to : (book : List Page) (prefix : Prefix) (init : List ℕ) (next : List ℕ → ℕ → List ℕ × ℕ)
+    (old : Walk) (level : Level) (cut list : List ℕ)
+    → IsWalk book prefix init next old (level.place ∷ places_of old.choices.items)
+    → LeadsTo book next old level cut list
     → Leads book next prefix.cut prefix.here.words (old.levels.items ++ level ∷ []) cut list
 leads-to book prefix init next old level cut list h to =
-    let here : IsOpen book next old.counts.items old.here.words (level.place ∷ places_of level.choices.items) =
-    subst (λ (cs : List Choice). IsOpen book next old.counts.items old.here.words (level.place ∷ places_of cs)) (sym to.choices) h.here in
-    same_leads book next prefix.cut prefix.here.words (old.levels.items ++ level ∷ []) (old.levels.items ++ level ∷ []) (raised old.counts.items level.place.caller) cut
+    let here : IsOpen book next old.counts.items old.here.words
+    (level.place ∷ places_of level.choices.items) =
+    subst (λ (cs : List Choice). IsOpen book next old.counts.items old.here.words
+    (level.place ∷ places_of cs)) (sym to.choices) h.here in
+    same_leads book next prefix.cut prefix.here.words (old.levels.items ++ level ∷ [])
+    (old.levels.items ++ level ∷ []) (raised old.counts.items level.place.caller) cut
     (list_after book next old.here.words level.place) list refl to.cut_is to.list_is
-    (leads-push book next prefix.cut prefix.here.words old.levels.items old.counts.items old.here.words level h.leads to.words here)
+    (leads-push book next prefix.cut prefix.here.words old.levels.items old.counts.items
+    old.here.words level h.leads to.words here)
 
 -- Where a place leads to a pair that isn't the end, one more word fits the list there.
-pub deeper-fits : (book : List Page) (prefix : Prefix) (init : List ℕ) (next : List ℕ → ℕ → List ℕ × ℕ) (old : Walk) (level : Level) (cut list : List ℕ) (first : ℕ)
-    → ((list : List ℕ) (op : ℕ) → length (next list op).0 ≤ length list + 1) → IsWalk book prefix init next old (level.place ∷ places_of old.choices.items)
+pub deeper-fits : (book : List Page) (prefix : Prefix) (init : List ℕ)
+    (next : List ℕ → ℕ → List ℕ × ℕ) (old : Walk) (level : Level) (cut list : List ℕ) (first : ℕ)
+    → ((list : List ℕ) (op : ℕ) → length (next list op).0 ≤ length list + 1)
+    → IsWalk book prefix init next old (level.place ∷ places_of old.choices.items)
     → LeadsTo book next old level cut list → IsLeast book cut (length book) first → Fits cut list
 deeper-fits book prefix init next old level cut list first grows h to least =
     let valid = h.begins.stands.valid in
@@ -178,34 +243,57 @@ deeper-fits book prefix init next old level cut list first grows h to least =
     let there = answer_stands book (next_call cut first) least.answered in
     let own = valid.own (next_call cut first) there.0 there.1 in
     let may : MayComeNext book cut (next_call cut first) =
-    may_come-from_least book cut first first there.0.view valid least (λ (r : Record) at. ap (λ (x : Record). x.view) (same_Some r there.0 (sym at ∙ there.1))) (omega (arith, own)) in
-    (standing book prefix init next (old.levels.items ++ level ∷ []) cut list place h.begins grows (leads-to book prefix init next old level cut list h to) may).fits
+    may_come-from_least book cut first first there.0.view valid least
+    (λ (r : Record) at. ap (λ (x : Record). x.view) (same_Some r there.0 (sym at ∙ there.1)))
+    (omega (arith, own)) in
+    (standing book prefix init next (old.levels.items ++ level ∷ []) cut list place h.begins grows
+    (leads-to book prefix init next old level cut list h to) may).fits
 
 -- An order from the start reaches where a place leads to.
-pub deeper-reached : (book : List Page) (prefix : Prefix) (init : List ℕ) (next : List ℕ → ℕ → List ℕ × ℕ) (old : Walk) (level : Level) (cut list : List ℕ)
-    → IsWalk book prefix init next old (level.place ∷ places_of old.choices.items) → LeadsTo book next old level cut list → IsReached init next book cut list
-deeper-reached book prefix init next old level cut list h to = reached-from_leads init next book prefix (old.levels.items ++ level ∷ []) cut list h.begins (leads-to book prefix init next old level cut list h to)
+pub deeper-reached : (book : List Page) (prefix : Prefix) (init : List ℕ)
+    (next : List ℕ → ℕ → List ℕ × ℕ) (old : Walk) (level : Level) (cut list : List ℕ)
+    → IsWalk book prefix init next old (level.place ∷ places_of old.choices.items)
+    → LeadsTo book next old level cut list → IsReached init next book cut list
+deeper-reached book prefix init next old level cut list h to =
+    reached-from_leads init next book prefix (old.levels.items ++ level ∷ []) cut list h.begins
+    (leads-to book prefix init next old level cut list h to)
 
 -- one level back from a dead end
-pub walk-back : (book : List Page) (prefix : Prefix) (init : List ℕ) (next : List ℕ → ℕ → List ℕ × ℕ) (old new : Walk) (level : Level)
-    → IsWalk book prefix init next old [] → old.levels.items ≡ new.levels.items ++ level ∷ [] → new.counts.items ≡ set old.counts.items level.place.caller level.place.number
-    → new.here.words ≡ level.words.items → new.here.room ≡ old.here.room → new.choices ≡ level.choices → new.memo ≡ old.memo
-    → IsWalk book prefix init next new (places_of new.choices.items) × (weight new < weigh ROOM old.levels.items 0)
+pub walk-back : (book : List Page) (prefix : Prefix) (init : List ℕ)
+    (next : List ℕ → ℕ → List ℕ × ℕ) (old new : Walk) (level : Level)
+    → IsWalk book prefix init next old [] → old.levels.items ≡ new.levels.items ++ level ∷ []
+    → new.counts.items ≡ set old.counts.items level.place.caller level.place.number
+    → new.here.words ≡ level.words.items → new.here.room ≡ old.here.room
+    → new.choices ≡ level.choices → new.memo ≡ old.memo
+    → IsWalk book prefix init next new (places_of new.choices.items)
+    × (weight new < weigh ROOM old.levels.items 0)
 walk-back book prefix init next old new level h levels counts here room choices memo =
-    let back = leads-pop book next prefix.cut prefix.here.words new.levels.items level old.counts.items old.here.words
-    (subst (λ (ls : List Level). Leads book next prefix.cut prefix.here.words ls old.counts.items old.here.words) levels h.leads) in
+    let back = leads-pop book next prefix.cut prefix.here.words new.levels.items level
+    old.counts.items old.here.words
+    (subst (λ (ls : List Level). Leads book next prefix.cut prefix.here.words ls old.counts.items
+    old.here.words) levels h.leads) in
     let cut : new.counts.items ≡ back.from =
-    counts ∙ (ap (λ (c : List ℕ). set c level.place.caller level.place.number) back.to_cut_is ∙ lowered back.from level.place.caller level.place.number back.here.sound.0.may_come.next) in
-    let dead : IsDeadEnd book next (raised back.from level.place.caller) (list_after book next level.words.items level.place) =
-    subst (λ (c : List ℕ). IsDeadEnd book next c (list_after book next level.words.items level.place)) back.to_cut_is
-    (subst (λ (l : List ℕ). IsDeadEnd book next old.counts.items l) back.to_list_is (dead_end book next old.counts.items old.here.words h.here)) in
-    let same : weight new ≡ weigh ROOM new.levels.items (length level.choices.items) = ap (λ v. weigh ROOM new.levels.items (length v.items)) choices in
-    let old_is : weigh ROOM old.levels.items 0 ≡ weigh ROOM (new.levels.items ++ level ∷ []) 0 = ap (λ (ls : List Level). weigh ROOM ls 0) levels in (
+    counts ∙ (ap (λ (c : List ℕ). set c level.place.caller level.place.number) back.to_cut_is
+    ∙ lowered back.from level.place.caller level.place.number back.here.sound.0.may_come.next) in
+    let dead : IsDeadEnd book next (raised back.from level.place.caller)
+    (list_after book next level.words.items level.place) =
+    subst
+    (λ (c : List ℕ). IsDeadEnd book next c (list_after book next level.words.items level.place))
+    back.to_cut_is
+    (subst (λ (l : List ℕ). IsDeadEnd book next old.counts.items l) back.to_list_is
+    (dead_end book next old.counts.items old.here.words h.here)) in
+    let same : weight new ≡ weigh ROOM new.levels.items (length level.choices.items) =
+    ap (λ v. weigh ROOM new.levels.items (length v.items)) choices in
+    let old_is : weigh ROOM old.levels.items 0 ≡ weigh ROOM (new.levels.items ++ level ∷ []) 0 =
+    ap (λ (ls : List Level). weigh ROOM ls 0) levels in (
       record {
         begins = h.begins;
-        leads = same_leads book next prefix.cut prefix.here.words new.levels.items new.levels.items back.from new.counts.items level.words.items new.here.words refl cut here back.leads;
-        here = same_open book next back.from new.counts.items level.words.items new.here.words (places_of level.choices.items) (places_of new.choices.items) cut here
-            (ap (λ v. places_of v.items) choices) (open-rest book next back.from level.words.items level.place (places_of level.choices.items) dead back.here);
+        leads = same_leads book next prefix.cut prefix.here.words new.levels.items new.levels.items
+            back.from new.counts.items level.words.items new.here.words refl cut here back.leads;
+        here = same_open book next back.from new.counts.items level.words.items new.here.words
+            (places_of level.choices.items) (places_of new.choices.items) cut here
+            (ap (λ v. places_of v.items) choices) (open-rest book next back.from level.words.items
+            level.place (places_of level.choices.items) dead back.here);
         dead = λ c l at. h.dead c l (subst (λ m. Remembers m c l) memo at);
         memo = subst (λ m. IsMemo m) (sym memo) h.memo;
         callers = ap (λ m. m.callers) memo ∙ h.callers;
@@ -220,32 +308,52 @@ pub record LastLevel (old : Walk) (level : Level) : Type 0 where
   pub number : level.place.number ≤ MAX_CALLS
   pub words : length level.words.items ≤ ROOM
 
-pub last_level : (book : List Page) (prefix : Prefix) (init : List ℕ) (next : List ℕ → ℕ → List ℕ × ℕ) (old : Walk) (levels : List Level) (level : Level)
-    → ((list : List ℕ) (op : ℕ) → length (next list op).0 ≤ length list + 1) → IsWalk book prefix init next old [] → old.levels.items ≡ levels ++ level ∷ [] → LastLevel old level
+pub last_level : (book : List Page) (prefix : Prefix) (init : List ℕ)
+    (next : List ℕ → ℕ → List ℕ × ℕ) (old : Walk) (levels : List Level) (level : Level)
+    → ((list : List ℕ) (op : ℕ) → length (next list op).0 ≤ length list + 1)
+    → IsWalk book prefix init next old [] → old.levels.items
+    ≡ levels ++ level ∷ [] → LastLevel old level
 last_level book prefix init next old levels level grows h is =
-    let back = leads-pop book next prefix.cut prefix.here.words levels level old.counts.items old.here.words
-    (subst (λ (ls : List Level). Leads book next prefix.cut prefix.here.words ls old.counts.items old.here.words) is h.leads) in
-    let s = standing book prefix init next levels back.from level.words.items level.place h.begins grows back.leads back.here.sound.0.may_come in
-    let long : length old.counts.items ≡ length back.from = ap (λ (c : List ℕ). length c) back.to_cut_is ∙ length-set back.from level.place.caller (get_or back.from level.place.caller 0 + 1) in
-    record { caller = omega (arith, s.caller); number = omega (arith, s.number); words = omega (arith, s.fits) }
+    let back =
+    leads-pop book next prefix.cut prefix.here.words levels level old.counts.items old.here.words
+    (subst (λ (ls : List Level).
+    Leads book next prefix.cut prefix.here.words ls old.counts.items old.here.words) is h.leads) in
+    let s = standing book prefix init next levels back.from level.words.items level.place h.begins
+    grows back.leads back.here.sound.0.may_come in
+    let long : length old.counts.items ≡ length back.from =
+    ap (λ (c : List ℕ). length c) back.to_cut_is
+    ∙ length-set back.from level.place.caller (get_or back.from level.place.caller 0 + 1) in
+    record {
+      caller = omega (arith, s.caller);
+      number = omega (arith, s.number);
+      words = omega (arith, s.fits);
+    }
 
 -- a dead end where the prefix ends
-pub walk-none : (book : List Page) (prefix : Prefix) (init : List ℕ) (next : List ℕ → ℕ → List ℕ × ℕ) (walk : Walk) → IsWalk book prefix init next walk [] → walk.levels.items ≡ []
+pub walk-none : (book : List Page) (prefix : Prefix) (init : List ℕ)
+    (next : List ℕ → ℕ → List ℕ × ℕ) (walk : Walk)
+    → IsWalk book prefix init next walk [] → walk.levels.items ≡ []
     → IsDeadEnd book next prefix.cut prefix.here.words
 walk-none book prefix init next walk h none =
     let leads : Leads book next prefix.cut prefix.here.words [] walk.counts.items walk.here.words =
-    subst (λ (ls : List Level). Leads book next prefix.cut prefix.here.words ls walk.counts.items walk.here.words) none h.leads in
+    subst (λ (ls : List Level). Leads book next prefix.cut prefix.here.words ls walk.counts.items
+    walk.here.words) none h.leads in
     subst (λ (c : List ℕ). IsDeadEnd book next c prefix.here.words) (sym leads.0)
-    (subst (λ (l : List ℕ). IsDeadEnd book next walk.counts.items l) (sym leads.1) (dead_end book next walk.counts.items walk.here.words h.here))
+    (subst (λ (l : List ℕ). IsDeadEnd book next walk.counts.items l) (sym leads.1)
+    (dead_end book next walk.counts.items walk.here.words h.here))
 
 -- the walk where the prefix ends
-pub walk-start : (book : List Page) (prefix : Prefix) (init : List ℕ) (next : List ℕ → ℕ → List ℕ × ℕ) (walk : Walk) → IsPrefix init next book prefix
+pub walk-start : (book : List Page) (prefix : Prefix) (init : List ℕ)
+    (next : List ℕ → ℕ → List ℕ × ℕ) (walk : Walk) → IsPrefix init next book prefix
     → walk.levels.items ≡ [] → walk.counts.items ≡ prefix.cut → walk.here.words ≡ prefix.here.words
-    → walk.here.room ≡ ROOM → IsMemo walk.memo → walk.memo.callers ≡ length book → ((cut list : List ℕ) → Remembers walk.memo cut list → ⊥)
-    → IsOpen book next walk.counts.items walk.here.words (places_of walk.choices.items) → IsWalk book prefix init next walk (places_of walk.choices.items)
+    → walk.here.room ≡ ROOM → IsMemo walk.memo → walk.memo.callers ≡ length book
+    → ((cut list : List ℕ) → Remembers walk.memo cut list → ⊥)
+    → IsOpen book next walk.counts.items walk.here.words (places_of walk.choices.items)
+    → IsWalk book prefix init next walk (places_of walk.choices.items)
 walk-start book prefix init next walk f levels counts here room memo callers none start = record {
   begins = f;
-  leads = subst (λ (ls : List Level). Leads book next prefix.cut prefix.here.words ls walk.counts.items walk.here.words) (sym levels) (sym counts, sym here);
+  leads = subst (λ (ls : List Level). Leads book next prefix.cut prefix.here.words ls
+      walk.counts.items walk.here.words) (sym levels) (sym counts, sym here);
   here = start;
   dead = λ cut list there. absurd (none cut list there);
   memo = memo;
@@ -254,8 +362,10 @@ walk-start book prefix init next walk f levels counts here room memo callers non
 }
 
 -- One more word fits the list of a prefix after which a call is open.
-pub prefix-fits : (book : List Page) (prefix : Prefix) (init : List ℕ) (next : List ℕ → ℕ → List ℕ × ℕ) (cut list : List ℕ) (first : ℕ)
-    → ((list : List ℕ) (op : ℕ) → length (next list op).0 ≤ length list + 1) → IsPrefix init next book prefix → cut ≡ prefix.cut → list ≡ prefix.here.words
+pub prefix-fits : (book : List Page) (prefix : Prefix) (init : List ℕ)
+    (next : List ℕ → ℕ → List ℕ × ℕ) (cut list : List ℕ) (first : ℕ)
+    → ((list : List ℕ) (op : ℕ) → length (next list op).0 ≤ length list + 1)
+    → IsPrefix init next book prefix → cut ≡ prefix.cut → list ≡ prefix.here.words
     → IsLeast book cut (length book) first → Fits cut list
 prefix-fits book prefix init next cut list first grows f same_cut same_list least =
     let valid = f.stands.valid in
@@ -263,5 +373,8 @@ prefix-fits book prefix init next cut list first grows f same_cut same_list leas
     let there = answer_stands book (next_call cut first) least.answered in
     let own = valid.own (next_call cut first) there.0 there.1 in
     let may : MayComeNext book cut (next_call cut first) =
-    may_come-from_least book cut first first there.0.view valid least (λ (r : Record) at. ap (λ (x : Record). x.view) (same_Some r there.0 (sym at ∙ there.1))) (omega (arith, own)) in
-    (standing book prefix init next [] cut list place f grows (sym same_cut, sym same_list) may).fits
+    may_come-from_least book cut first first there.0.view valid least
+    (λ (r : Record) at. ap (λ (x : Record). x.view) (same_Some r there.0 (sym at ∙ there.1)))
+    (omega (arith, own)) in
+    (standing book prefix init next [] cut list place f grows
+    (sym same_cut, sym same_list) may).fits

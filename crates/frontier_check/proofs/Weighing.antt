@@ -13,29 +13,36 @@ ways_positive (suc depth) = omega (arith, ways_positive depth)
 ways_down : (depth : ℕ) → 1 ≤ depth → ways depth ≡ (MAX_CALLERS + 2) * ways (depth - 1)
 unfolding ways
 ways_down zero h = absurd (omega arith)
-ways_down (suc depth) h = let e : suc depth - 1 ≡ depth = omega arith in ap (λ (d : ℕ). (MAX_CALLERS + 2) * ways d) (sym e)
+ways_down (suc depth) h = let e : suc depth - 1 ≡ depth = omega arith in
+    ap (λ (d : ℕ). (MAX_CALLERS + 2) * ways d) (sym e)
 
-lighter : (choices fresh above below : ℕ) → above ≡ (MAX_CALLERS + 2) * below → 1 ≤ below → fresh ≤ MAX_CALLERS
+lighter : (choices fresh above below : ℕ) → above ≡ (MAX_CALLERS + 2) * below → 1 ≤ below
+    → fresh ≤ MAX_CALLERS
     → (choices + 1) * above + (fresh + 1) * below < (choices + 1 + 1) * above
 lighter choices fresh above below e positive few =
     let le : fresh * below ≤ MAX_CALLERS * below = mul-le-mul_right below few in
     omega arith
 
 -- what goes down by a choice weighs less than the choice
-pub weigh-push : (depth : ℕ) (levels : List Level) (level : Level) (fresh : ℕ) → length levels < depth → fresh ≤ MAX_CALLERS
+pub weigh-push : (depth : ℕ) (levels : List Level) (level : Level) (fresh : ℕ)
+    → length levels < depth → fresh ≤ MAX_CALLERS
     → weigh depth (levels ++ level ∷ []) fresh < weigh depth levels (length level.choices.items + 1)
 unfolding weigh
-weigh-push depth [] level fresh h few = lighter (length level.choices.items) fresh (ways depth) (ways (depth - 1)) (ways_down depth (omega arith)) (ways_positive (depth - 1)) few
-weigh-push depth (first ∷ levels) level fresh h few = omega (arith, weigh-push (depth - 1) levels level fresh (omega arith) few)
+weigh-push depth [] level fresh h few = lighter (length level.choices.items) fresh (ways depth)
+    (ways (depth - 1)) (ways_down depth (omega arith)) (ways_positive (depth - 1)) few
+weigh-push depth (first ∷ levels) level fresh h few =
+    omega (arith, weigh-push (depth - 1) levels level fresh (omega arith) few)
 
 -- a choice fewer weighs less
-pub weigh-skip : (depth : ℕ) (levels : List Level) (choices : ℕ) → weigh depth levels choices < weigh depth levels (choices + 1)
+pub weigh-skip : (depth : ℕ) (levels : List Level) (choices : ℕ)
+    → weigh depth levels choices < weigh depth levels (choices + 1)
 unfolding weigh
 weigh-skip depth [] choices = omega (arith, ways_positive depth)
 weigh-skip depth (first ∷ levels) choices = omega (arith, weigh-skip (depth - 1) levels choices)
 
 -- what is left of a level weighs less than the level and what is below it
-pub weigh-pop : (depth : ℕ) (levels : List Level) (level : Level) → weigh depth levels (length level.choices.items) < weigh depth (levels ++ level ∷ []) 0
+pub weigh-pop : (depth : ℕ) (levels : List Level) (level : Level)
+    → weigh depth levels (length level.choices.items) < weigh depth (levels ++ level ∷ []) 0
 unfolding weigh
 weigh-pop depth [] level = omega (arith, ways_positive (depth - 1))
 weigh-pop depth (first ∷ levels) level = omega (arith, weigh-pop (depth - 1) levels level)

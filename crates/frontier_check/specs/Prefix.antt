@@ -13,26 +13,34 @@ use Rattle.frontier_check.specs.declared.prefix.Prefix.{Prefix}
 abbrev pub no_calls : List Page → List ℕ
 no_calls book = replicate (length book) 0
 
--- A place is its caller's next after the calls of a cut; where its call is answered, the place has the recorded reply, and the view
--- holds all calls of the cut.
+-- A place is its caller's next after the calls of a cut; where its call is answered, the place has
+-- the recorded reply, and the view holds all calls of the cut.
 pub record IsNext (book : List Page) (cut : List ℕ) (place : Place) : Type 0 where
   pub is_call : IsCall book (call_at place)
   pub next : place.number ≡ slice_index cut place.caller
-  pub recorded : (r : Record) → record_of book (call_at place) ≡ Some r → (r.reply ≡ place.reply) × IsWithin cut r.view
+  pub recorded : (r : Record) → record_of book (call_at place) ≡ Some r → (r.reply ≡ place.reply)
+      × IsWithin cut r.view
 
--- Places follow one another, from one cut and list to another: each is the next one, and has the reply that the object gives.
-abbrev pub Follow : List Page → (List ℕ → ℕ → List ℕ × ℕ) → List ℕ → List ℕ → List Place → List ℕ → List ℕ → Type 0
+-- Places follow one another, from one cut and list to another: each is the next one, and has the
+-- reply that the object gives.
+abbrev pub Follow : List Page → (List ℕ → ℕ → List ℕ × ℕ) → List ℕ → List ℕ → List Place → List ℕ
+    → List ℕ → Type 0
 Follow book next cut list [] to_cut to_list = (cut ≡ to_cut) × (list ≡ to_list)
 Follow book next cut list (place ∷ places) to_cut to_list =
     IsNext book cut place × ((next list (step_at book place).0).1 ≡ place.reply)
-    × Follow book next (raised cut place.caller) (list_after book next list place) places to_cut to_list
+    × Follow book next (raised cut place.caller)
+    (list_after book next list place) places to_cut to_list
 
--- The view of each caller's first call outside a cut holds all calls of the cut, where that call is answered.
+-- The view of each caller's first call outside a cut holds all calls of the cut, where that call is
+-- answered.
 abbrev pub LeavesOpen : List Page → List ℕ → Type 0
-LeavesOpen book cut = (i : ℕ) (r : Record) → record_of book (next_call cut i) ≡ Some r → IsWithin cut r.view
+LeavesOpen book cut = (i : ℕ) (r : Record) → record_of book (next_call cut i) ≡ Some r
+    → IsWithin cut r.view
 
--- A prefix of a valid and small book stands: its places reach its cut and its list, which are no larger than that takes.
-pub record Stands (init : List ℕ) (next : List ℕ → ℕ → List ℕ × ℕ) (book : List Page) (prefix : Prefix) : Type 0 where
+-- A prefix of a valid and small book stands: its places reach its cut and its list, which are no
+-- larger than that takes.
+pub record Stands (init : List ℕ) (next : List ℕ → ℕ → List ℕ × ℕ) (book : List Page)
+    (prefix : Prefix) : Type 0 where
   pub valid : IsValid book
   pub small : IsSmall book
   pub wide : length prefix.cut ≡ length book
@@ -41,11 +49,16 @@ pub record Stands (init : List ℕ) (next : List ℕ → ℕ → List ℕ × ℕ
   pub reaches : Reaches init next book prefix.places.items prefix.cut prefix.here.words
 
 -- The places of a prefix follow one another from the start.
-pub record IsPut (init : List ℕ) (next : List ℕ → ℕ → List ℕ × ℕ) (book : List Page) (prefix : Prefix) : Type 0 where
+pub record IsPut (init : List ℕ) (next : List ℕ → ℕ → List ℕ × ℕ) (book : List Page)
+    (prefix : Prefix) : Type 0 where
   pub stands : Stands init next book prefix
-  pub follow : Follow book next (no_calls book) init prefix.places.items prefix.cut prefix.here.words
+  pub follow : Follow book next
+      (no_calls book) init prefix.places.items prefix.cut prefix.here.words
 
--- A prefix of orders: whatever goes on from its cut and its list makes a legal order after its places.
-pub record IsPrefix (init : List ℕ) (next : List ℕ → ℕ → List ℕ × ℕ) (book : List Page) (prefix : Prefix) : Type 0 where
+-- A prefix of orders: whatever goes on from its cut and its list makes a legal order after its
+-- places.
+pub record IsPrefix (init : List ℕ) (next : List ℕ → ℕ → List ℕ × ℕ) (book : List Page)
+    (prefix : Prefix) : Type 0 where
   pub stands : Stands init next book prefix
-  pub legal : (rest : List Place) → Continues book next prefix.cut prefix.here.words rest → IsLegalOrder init next book (prefix.places.items ++ rest)
+  pub legal : (rest : List Place) → Continues book next prefix.cut prefix.here.words rest
+      → IsLegalOrder init next book (prefix.places.items ++ rest)

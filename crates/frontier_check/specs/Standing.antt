@@ -9,19 +9,25 @@ use Rattle.frontier_check.specs.declared.mark.Mark.{Mark}
 use Rattle.frontier_check.specs.declared.mark.Standing.{Standing}
 use Rattle.frontier_check.specs.Prefix.{LeavesOpen, IsPut}
 
--- A book has grown to another one: it has the same callers, and all its calls and records are the other's.
+-- A book has grown to another one: it has the same callers, and all its calls and records are the
+-- other's.
 pub record HasGrown (old new : List Page) : Type 0 where
   pub callers : length new ≡ length old
-  pub operations : (call : Call) (op : ℕ) → operation_of old call ≡ Some op → operation_of new call ≡ Some op
-  pub records : (call : Call) (r : Record) → record_of old call ≡ Some r → record_of new call ≡ Some r
+  pub operations : (call : Call) (op : ℕ) → operation_of old call ≡ Some op
+      → operation_of new call ≡ Some op
+  pub records : (call : Call) (r : Record) → record_of old call ≡ Some r
+      → record_of new call ≡ Some r
 
--- The calls of a cut that a book has answered were answered already when it had this many records of each caller.
+-- The calls of a cut that a book has answered were answered already when it had this many records
+-- of each caller.
 abbrev pub IsQuiet : List ℕ → List ℕ → List Page → Type 0
-IsQuiet cut before book = (i : ℕ) → i < length book → (slice_index cut i ≤ slice_index before i) ⊎ (answers_of book i ≤ slice_index before i)
+IsQuiet cut before book = (i : ℕ) → i < length book → (slice_index cut i ≤ slice_index before i)
+    ⊎ (answers_of book i ≤ slice_index before i)
 
--- The places up to a mark of an order followed one another in this book, or in one from which it has grown: they lead to the cut and the
--- words of the mark.
-pub record IsMark (init : List ℕ) (next : List ℕ → ℕ → List ℕ × ℕ) (book : List Page) (order : List Place) (mark : Mark) : Type 0 where
+-- The places up to a mark of an order followed one another in this book, or in one from which it
+-- has grown: they lead to the cut and the words of the mark.
+pub record IsMark (init : List ℕ) (next : List ℕ → ℕ → List ℕ × ℕ) (book : List Page)
+    (order : List Place) (mark : Mark) : Type 0 where
   pub earlier : List Page
   pub grown : HasGrown earlier book
   pub records : mark.answered ≡ answered earlier
@@ -34,21 +40,25 @@ pub record IsMark (init : List ℕ) (next : List ℕ → ℕ → List ℕ × ℕ
   pub put : IsPut init next earlier prefix
 
 -- These are marks of an order, one after another, none of them before the least number of places.
-abbrev pub AreMarks : (init : List ℕ) → (next : List ℕ → ℕ → List ℕ × ℕ) → List Page → List Place → ℕ → List Mark → Type 0
+abbrev pub AreMarks : (init : List ℕ) → (next : List ℕ → ℕ → List ℕ × ℕ) → List Page → List Place
+    → ℕ → List Mark → Type 0
 AreMarks init next book order least [] = Unit {0}
 AreMarks init next book order least (mark ∷ marks) =
-    (least ≤ mark.len) × IsMark init next book order mark × AreMarks init next book order mark.len marks
+    (least ≤ mark.len) × IsMark init next book order mark
+    × AreMarks init next book order mark.len marks
 
 -- What stands is of this book, or of one from which it has grown.
-abbrev pub IsStandingFor : (init : List ℕ) → (next : List ℕ → ℕ → List ℕ × ℕ) → List Page → Standing → Type 0
-IsStandingFor init next book standing = AreMarks init next book standing.order.items 0 standing.marks.items
+abbrev pub IsStandingFor : (init : List ℕ) → (next : List ℕ → ℕ → List ℕ × ℕ) → List Page
+    → Standing → Type 0
+IsStandingFor init next book standing =
+    AreMarks init next book standing.order.items 0 standing.marks.items
 
 -- A mark has a count for each caller of a book.
 abbrev pub IsAsWide : List Page → Mark → Type 0
 IsAsWide book mark = (length mark.cut ≡ length book) × (length mark.answered ≡ length book)
 
--- The places up to a mark follow one another in a book still: none of their calls was answered since, and the view of each caller's first
--- call after them holds them.
+-- The places up to a mark follow one another in a book still: none of their calls was answered
+-- since, and the view of each caller's first call after them holds them.
 abbrev pub StillStands : List Page → Mark → Type 0
 StillStands book mark = IsQuiet mark.cut mark.answered book × LeavesOpen book mark.cut
 
@@ -59,7 +69,11 @@ pub record MarksEnd (prefix : Prefix) (records : List ℕ) (mark : Mark) : Type 
   pub words : mark.words.items ≡ prefix.here.words
   pub answered : mark.answered ≡ records
 
--- The marks of an order up to where a prefix ends, in a book with these numbers of records, become marks of it as well.
+-- The marks of an order up to where a prefix ends, in a book with these numbers of records, become
+-- marks of it as well.
 abbrev pub KeepsMarks : Prefix → List ℕ → List Mark → List Mark → Type 0
-KeepsMarks prefix records marks more = (init : List ℕ) (next : List ℕ → ℕ → List ℕ × ℕ) (book : List Page) → IsPut init next book prefix → records ≡ answered book
-    → AreMarks init next book prefix.places.items 0 marks → AreMarks init next book prefix.places.items 0 more
+KeepsMarks prefix records marks more =
+    (init : List ℕ) (next : List ℕ → ℕ → List ℕ × ℕ) (book : List Page)
+    → IsPut init next book prefix → records ≡ answered book
+    → AreMarks init next book prefix.places.items 0 marks
+    → AreMarks init next book prefix.places.items 0 more

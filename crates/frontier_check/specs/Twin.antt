@@ -8,26 +8,31 @@ use Rattle.book_base.specs.Order.{call_at}
 use Rattle.book_base.specs.Pruning.{HasOneOpen, ViewsAreWithin}
 use Rattle.frontier_check.specs.declared.choice.Choice.{Choice}
 
--- A call serves for another one of its operation wherever both may stand next: it is answered, with a view within that of the other
--- where the other is answered too, or neither is answered.
+-- A call serves for another one of its operation wherever both may stand next: it is answered, with
+-- a view within that of the other where the other is answered too, or neither is answered.
 pub record ServesFor (book : List Page) (a b : Call) : Type 0 where
   pub same : operation_of book a ≡ operation_of book b
-  pub sooner : (IsAnswered book a × ViewsAreWithin book a b) ⊎ ((IsAnswered book a → ⊥) × (IsAnswered book b → ⊥))
+  pub sooner : (IsAnswered book a × ViewsAreWithin book a b)
+      ⊎ ((IsAnswered book a → ⊥) × (IsAnswered book b → ⊥))
 
 -- A place is of a call of the book with the operation of another place's call.
 abbrev pub HasOperationOf : List Page → Place → Place → Type 0
-HasOperationOf book other place = IsCall book (call_at place) × (operation_of book (call_at place) ≡ operation_of book (call_at other))
+HasOperationOf book other place = IsCall book (call_at place)
+    × (operation_of book (call_at place) ≡ operation_of book (call_at other))
 
 -- Of two places one is kept, whose call serves for the other's.
 abbrev pub IsKeptOf : List Page → Place → Place → Place → Type 0
-IsKeptOf book a b kept = ((kept ≡ a) × ServesFor book (call_at a) (call_at b)) ⊎ ((kept ≡ b) × ServesFor book (call_at b) (call_at a))
+IsKeptOf book a b kept = ((kept ≡ a) × ServesFor book (call_at a) (call_at b))
+    ⊎ ((kept ≡ b) × ServesFor book (call_at b) (call_at a))
 
 -- A choice is added to the old ones as one more of them.
 abbrev pub IsAdded : List Choice → Choice → List Choice → Type 0
 IsAdded old new items = (i : ℕ) × (items ≡ insert old i new)
 
--- In a book with one open, of a new choice and an old one with its operation the one is kept that serves for the other.
-pub record IsExchanged (book : List Page) (old : List Choice) (new : Choice) (items : List Choice) : Type 0 where
+-- In a book with one open, of a new choice and an old one with its operation the one is kept that
+-- serves for the other.
+pub record IsExchanged (book : List Page) (old : List Choice) (new : Choice)
+    (items : List Choice) : Type 0 where
   pub one_open : HasOneOpen book
   pub at : ℕ
   pub inside : at < length old

@@ -80,8 +80,9 @@ fn gives<S: SeqObject>(
     object.step(spare, op) == place.reply
 }
 
-// When a caller's call is tried among the others: where it has one of the later places, in their order, and else, where
-// it is answered, after those, by how many calls its view counts. It has no turn otherwise, which is more than any.
+// When a caller's call is tried among the others: where it has one of the later places, in their
+// order, and else, where it is answered, after those, by how many calls its view counts. It has no
+// turn otherwise, which is more than any.
 fn turn_of(book: &Book, later: &[Place], caller: u32, number: u64) -> u64
     requires { caller < length book.now }
 {
@@ -131,8 +132,9 @@ fn held_after(cut: &Cut, view: &Cut) -> u32
     held
 }
 
-// Of the callers' first calls outside a prefix the one to put next, where the least view of all such calls holds one alone,
-// and the object gives its reply: what else may stand next is left to a search, which can go back.
+// Of the callers' first calls outside a prefix the one to put next, where the least view of all
+// such calls holds one alone, and the object gives its reply: what else may stand next is left to a
+// search, which can go back.
 fn next_place<S: SeqObject>(
     object: &S,
     book: &Book,
@@ -193,9 +195,10 @@ pub fn calls_after(book: &Book, cut: &Cut) -> u64
     left
 }
 
-/// Puts answered calls after the places of a prefix, and those of the later places, as long as one of them may stand next
-/// with the reply that the object gives, and leaves marks at intervals. The later places come first, in their order, and
-/// then the calls with the least views. Whether the object gave the replies; no clause says how far it comes.
+/// Puts answered calls after the places of a prefix, and those of the later places, as long as one
+/// of them may stand next with the reply that the object gives, and leaves marks at intervals. The
+/// later places come first, in their order, and then the calls with the least views. Whether the
+/// object gave the replies; no clause says how far it comes.
 pub fn put_fresh<S: SeqObject>(
     alloc: Global,
     object: &S,
@@ -206,11 +209,13 @@ pub fn put_fresh<S: SeqObject>(
 ) -> Result<bool, NoMemory>
     requires put { IsPut (S.init object.now) (S.next object.now) book.now prefix.old }
     requires room { prefix.old.here.room ≡ ROOM }
-    requires marks { AreMarks (S.init object.now) (S.next object.now) book.now prefix.old.places.items 0 marks.old.items }
+    requires marks { AreMarks (S.init object.now)
+        (S.next object.now) book.now prefix.old.places.items 0 marks.old.items }
     ensures put { IfOk result (λ given. IsTrue given
         → IsPut (S.init object.now) (S.next object.now) book.now prefix.new) }
     ensures marks { IfOk result (λ given. IsTrue given
-        → AreMarks (S.init object.now) (S.next object.now) book.now prefix.new.places.items 0 marks.new.items) }
+        → AreMarks (S.init object.now)
+        (S.next object.now) book.now prefix.new.places.items 0 marks.new.items) }
 {
     let answered = answers_in(book);
     let mut spare = State::with_room(alloc, ROOM)?;

@@ -11,8 +11,8 @@ pub struct Entry {
     pub len: u32,
 }
 
-/// Pairs of a cut and a list, each with the counts of the cut and the words of the list in a few long
-/// lists, and a table by which a pair is found.
+/// Pairs of a cut and a list, each with the counts of the cut and the words of the list in a few
+/// long lists, and a table by which a pair is found.
 #[derive(Drop)]
 pub struct Memo {
     pub callers: usize,
@@ -92,7 +92,8 @@ impl Memo {
     fn words_of(&self, index: usize) -> &[u64]
         requires memo { IsMemo self.now }
         requires index { index < length self.now.entries.items }
-        ensures { (entry : Entry) → slice_get self.now.entries.items index ≡ Some entry → result.now ≡ words_at self.now entry }
+        ensures { (entry : Entry) → slice_get self.now.entries.items index ≡ Some entry
+            → result.now ≡ words_at self.now entry }
     {
         let entry = self.entries[index];
         &self.words[entry.from as usize..entry.from as usize + entry.len as usize]
@@ -110,7 +111,8 @@ impl Memo {
         ensures callers { self.new.callers ≡ self.old.callers }
         // Want of memory aside, the memo remembers no pair but this one and those that it
         // remembered before.
-        ensures only { OnOk result ((cut list : List ℕ) → Remembers self.new cut list → Remembers self.old cut list ⊎ ((cut ≡ counts.now) × (list ≡ words.now))) }
+        ensures only { OnOk result ((cut list : List ℕ) → Remembers self.new cut list
+            → Remembers self.old cut list ⊎ ((cut ≡ counts.now) × (list ≡ words.now))) }
     {
         let index = self.entries.len();
         let from = self.words.len();
@@ -129,7 +131,8 @@ impl Memo {
         requires room { length self.old.words.items + length words.now < u32.MAX }
         ensures memo { OnOk result (IsMemo self.new) }
         ensures callers { self.new.callers ≡ self.old.callers }
-        ensures only { OnOk result ((cut list : List ℕ) → Remembers self.new cut list → Remembers self.old cut list ⊎ ((cut ≡ counts.now) × (list ≡ words.now))) }
+        ensures only { OnOk result ((cut list : List ℕ) → Remembers self.new cut list
+            → Remembers self.old cut list ⊎ ((cut ≡ counts.now) × (list ≡ words.now))) }
     {
         let entry = Entry {
             from: self.words.len() as u32,

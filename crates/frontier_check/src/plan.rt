@@ -6,8 +6,8 @@ use std::alloc::Global;
 
 /// The turn of each call after a prefix among those that may come next: the least is tried first.
 ///
-/// The turns are a guess. A search comes to the same verdict with any, so that no clause says what they
-/// are.
+/// The turns are a guess. A search comes to the same verdict with any, so that no clause says what
+/// they are.
 #[derive(Drop)]
 pub struct Plan {
     turns: Vec<u32>,
@@ -17,8 +17,8 @@ pub struct Plan {
 }
 
 impl Plan {
-    /// After the places of a prefix the calls of a guide's later places come first, in its order, then the answered
-    /// calls by what their views count, and last all others.
+    /// After the places of a prefix the calls of a guide's later places come first, in its order,
+    /// then the answered calls by what their views count, and last all others.
     pub fn new(
         alloc: Global,
         book: &Book,
@@ -44,8 +44,8 @@ impl Plan {
         Ok(plan)
     }
 
-    // Guesses that the answered calls of a caller, from this one on, took effect in the order of what their
-    // views count.
+    // Guesses that the answered calls of a caller, from this one on, took effect in the order of
+    // what their views count.
     fn guess(&mut self, book: &Book, caller: u32, first: u64, later: usize)
         requires { caller < length book.now }
     {
@@ -78,8 +78,8 @@ impl Plan {
         Some(before.saturating_add(number as usize))
     }
 
-    /// The turn of a call. Beside those of the guide a call that leaves the object's list comes first: it
-    /// takes no other call's turn away.
+    /// The turn of a call. Beside those of the guide a call that leaves the object's list comes
+    /// first: it takes no other call's turn away.
     pub fn turn(&self, caller: u32, number: u64, stays: bool) -> u64 {
         let turn = match self.place_of(caller, number) {
             Some(at) if at < self.turns.len() => self.turns[at],

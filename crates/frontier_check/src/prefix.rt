@@ -39,11 +39,11 @@ impl Prefix {
         })
     }
 
-    /// A prefix of the first of these places, as far as they follow one another and leave each answered
-    /// call of the book that isn't at them a place after them.
+    /// A prefix of the first of these places, as far as they follow one another and leave each
+    /// answered call of the book that isn't at them a place after them.
     ///
-    /// There is none where the object gives another reply than a place has, or where such a call is left no
-    /// place. No clause says how far the places are taken: that costs time alone.
+    /// There is none where the object gives another reply than a place has, or where such a call is
+    /// left no place. No clause says how far the places are taken: that costs time alone.
     pub fn following<S: SeqObject>(
         alloc: Global,
         object: &S,
@@ -87,8 +87,8 @@ impl Prefix {
         Ok(true)
     }
 
-    /// Puts places after the others as long as they follow, and leaves a mark at intervals. Whether the object gave
-    /// their replies.
+    /// Puts places after the others as long as they follow, and leaves a mark at intervals. Whether
+    /// the object gave their replies.
     pub fn put_marked<S: SeqObject>(
         &mut self,
         alloc: Global,
@@ -101,12 +101,14 @@ impl Prefix {
         requires limit { length limit.now ≡ length book.now }
         requires put { IsPut (S.init object.now) (S.next object.now) book.now self.old }
         requires room { self.old.here.room ≡ ROOM }
-        requires marks { AreMarks (S.init object.now) (S.next object.now) book.now self.old.places.items 0 marks.old.items }
+        requires marks { AreMarks (S.init object.now)
+            (S.next object.now) book.now self.old.places.items 0 marks.old.items }
         ensures put { IfOk result (λ given. IsTrue given
             → IsPut (S.init object.now) (S.next object.now) book.now self.new) }
         ensures room { IfOk result (λ given. IsTrue given → self.new.here.room ≡ ROOM) }
         ensures marks { IfOk result (λ given. IsTrue given
-            → AreMarks (S.init object.now) (S.next object.now) book.now self.new.places.items 0 marks.new.items) }
+            → AreMarks (S.init object.now)
+            (S.next object.now) book.now self.new.places.items 0 marks.new.items) }
     {
         let answered = answers_in(book);
         for place in places {
@@ -154,8 +156,8 @@ impl Prefix {
         })
     }
 
-    /// Whether a place is the next of its caller, is within the limit, and has the recorded reply and a
-    /// view that holds the cut, where its call is answered.
+    /// Whether a place is the next of its caller, is within the limit, and has the recorded reply
+    /// and a view that holds the cut, where its call is answered.
     pub fn may_take(&self, book: &Book, limit: &Cut, place: Place) -> bool
         requires wide { length self.now.cut ≡ length book.now }
         requires limit { length limit.now ≡ length book.now }
@@ -205,13 +207,15 @@ impl Prefix {
     }
 }
 
-/// After how many places there is a mark: as many are stepped through again where a search goes on from one.
+/// After how many places there is a mark: as many are stepped through again where a search goes on
+/// from one.
 const INTERVAL: usize = 32;
 
 /// How many marks there are at most: each has a copy of the object's list.
 const MOST_MARKS: usize = 32;
 
-/// Whether the view of each caller's first call outside a cut holds the cut, where that call is answered.
+/// Whether the view of each caller's first call outside a cut holds the cut, where that call is
+/// answered.
 pub fn leaves_open(book: &Book, cut: &Cut) -> bool
     requires { length cut.now ≡ length book.now }
     ensures { IsTrue result → LeavesOpen book.now cut.now }
@@ -238,7 +242,8 @@ pub fn answers_in(book: &Book) -> Cut
     answered
 }
 
-// How many calls of each caller are in a cut or stand at these places after it, where they are places of the book.
+// How many calls of each caller are in a cut or stand at these places after it, where they are
+// places of the book.
 fn calls_at(cut: &Cut, places: &[Place]) -> Cut
     ensures { length result ≡ length cut.now }
 {
@@ -251,8 +256,9 @@ fn calls_at(cut: &Cut, places: &[Place]) -> Cut
     calls
 }
 
-/// The calls of a cut and of the places after it before which no answered call has to stand that is at none of them:
-/// by caller, the least count in the views of those calls. No clause says so: it costs or saves time alone.
+/// The calls of a cut and of the places after it before which no answered call has to stand that is
+/// at none of them: by caller, the least count in the views of those calls. No clause says so: it
+/// costs or saves time alone.
 pub fn limit_of(book: &Book, cut: &Cut, places: &[Place]) -> Cut
     requires { length cut.now ≡ length book.now }
     ensures { length result ≡ length book.now }

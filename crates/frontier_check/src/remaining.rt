@@ -76,8 +76,8 @@ fn operation_at(book: &Book, place: Place) -> Option<OpWord> {
     }
 }
 
-// The operation of the call at a place, where it makes a list of this word alone of the list that the
-// object begins with.
+// The operation of the call at a place, where it makes a list of this word alone of the list that
+// the object begins with.
 fn put_at<S: SeqObject>(
     object: &S,
     book: &Book,

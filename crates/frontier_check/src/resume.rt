@@ -9,7 +9,8 @@ use crate::walk::{ROOM, load};
 use book_base::{Book, Cut, NoMemory, Place, SeqObject, State};
 use std::alloc::Global;
 
-// Whether the calls of a cut that a book has answered were answered already when it had this many records.
+// Whether the calls of a cut that a book has answered were answered already when it had this many
+// records.
 fn is_quiet(book: &Book, cut: &Cut, before: &Cut) -> bool
     requires cut { length cut.now ≡ length book.now }
     requires before { length before.now ≡ length book.now }
@@ -24,8 +25,8 @@ fn is_quiet(book: &Book, cut: &Cut, before: &Cut) -> bool
     true
 }
 
-// Whether the places up to a mark follow one another in a book still, and leave each answered call that isn't at them a
-// place after them.
+// Whether the places up to a mark follow one another in a book still, and leave each answered call
+// that isn't at them a place after them.
 fn still_stands(book: &Book, mark: &Mark) -> bool
     requires { IsAsWide book.now mark.now }
     ensures { IsTrue result → StillStands book.now mark.now }
@@ -35,7 +36,8 @@ fn still_stands(book: &Book, mark: &Mark) -> bool
 
 // The last mark whose places still follow one another.
 fn last_standing(book: &Book, marks: &[Mark]) -> Option<usize>
-    requires { (k : ℕ) (mark : Mark) → k < length marks.now → mark ≡ slice_index_or marks.now k mark → IsAsWide book.now mark }
+    requires { (k : ℕ) (mark : Mark) → k < length marks.now → mark ≡ slice_index_or marks.now k mark
+        → IsAsWide book.now mark }
     ensures within { IfSome result (λ k. k < length marks.now) }
     ensures stands { IfSome result (λ k. (mark : Mark) → mark ≡ slice_index_or marks.now k mark
         → StillStands book.now mark) }
@@ -75,8 +77,8 @@ fn prefix_at(
     Ok((prefix, later))
 }
 
-/// The places of an order up to the last mark that still stands, as a prefix, and the other places. The marks after it
-/// are gone.
+/// The places of an order up to the last mark that still stands, as a prefix, and the other places.
+/// The marks after it are gone.
 pub fn resume<S: SeqObject>(
     alloc: Global,
     object: &S,
@@ -84,11 +86,13 @@ pub fn resume<S: SeqObject>(
     order: Vec<Place>,
     marks: &mut Vec<Mark>,
 ) -> Result<(Prefix, Vec<Place>), NoMemory>
-    requires marks { AreMarks (S.init object.now) (S.next object.now) book.now order.items 0 marks.old.items }
+    requires marks { AreMarks (S.init object.now)
+        (S.next object.now) book.now order.items 0 marks.old.items }
     ensures put { IfOk result (λ r. IsPut (S.init object.now) (S.next object.now) book.now r.0) }
     ensures room { IfOk result (λ r. r.0.here.room ≡ ROOM) }
     ensures marks { IfOk result (λ r.
-        AreMarks (S.init object.now) (S.next object.now) book.now r.0.places.items 0 marks.new.items) }
+        AreMarks (S.init object.now)
+        (S.next object.now) book.now r.0.places.items 0 marks.new.items) }
     ensures fewer { OnOk result ((n : ℕ) × (marks.new.items ≡ take n marks.old.items)) }
 {
     match last_standing(book, marks) {

@@ -54,12 +54,18 @@ impl<S> Drop for Search<'_, S> {
 impl<S: SeqObject> Search<'_, S> {
     /// Finds the places that make a legal order after those of the prefix, if there are any.
     pub fn run(&self) -> Result<Option<Vec<Place>>, NoMemory>
-        requires foresight { IsForesight (S.init self.now.object.now) (S.next self.now.object.now) self.now.book.now self.now.known.now }
+        requires foresight { IsForesight (S.init self.now.object.now)
+            (S.next self.now.object.now) self.now.book.now self.now.known.now }
         requires open { IsTrue self.now.one_open → HasOneOpen self.now.book.now }
-        requires sight { IfSome self.now.sight.now (λ sight. HasOneOpen self.now.book.now × S.sees self.now.object.now self.now.book.now sight) }
-        requires prefix { IsPrefix (S.init self.now.object.now) (S.next self.now.object.now) self.now.book.now self.now.prefix.now }
-        ensures found { IfOk result (λ found. IfSome found (λ rest. IsLegalOrder (S.init self.now.object.now) (S.next self.now.object.now) self.now.book.now (self.now.prefix.now.places.items ++ rest.items))) }
-        ensures none { IfOk result (λ found. IfNone found (IsDeadEnd self.now.book.now (S.next self.now.object.now) self.now.prefix.now.cut self.now.prefix.now.here.words)) }
+        requires sight { IfSome self.now.sight.now (λ sight. HasOneOpen self.now.book.now
+            × S.sees self.now.object.now self.now.book.now sight) }
+        requires prefix { IsPrefix (S.init self.now.object.now)
+            (S.next self.now.object.now) self.now.book.now self.now.prefix.now }
+        ensures found { IfOk result (λ found. IfSome found
+            (λ rest. IsLegalOrder (S.init self.now.object.now) (S.next self.now.object.now)
+            self.now.book.now (self.now.prefix.now.places.items ++ rest.items))) }
+        ensures none { IfOk result (λ found. IfNone found (IsDeadEnd self.now.book.now
+            (S.next self.now.object.now) self.now.prefix.now.cut self.now.prefix.now.here.words)) }
     {
         let mut spare = State::with_room(self.alloc, ROOM)?;
         match self.begin(&mut spare)? {
@@ -68,14 +74,19 @@ impl<S: SeqObject> Search<'_, S> {
         }
     }
 
-    /// The places that make a legal order after those of the prefix, if they are found within this many steps.
-    /// `None` says nothing: there may be some, and no clause says that it looks so far.
+    /// The places that make a legal order after those of the prefix, if they are found within this
+    /// many steps. `None` says nothing: there may be some, and no clause says that it looks so far.
     pub fn run_few(&self, steps: u64) -> Result<Option<Vec<Place>>, NoMemory>
-        requires foresight { IsForesight (S.init self.now.object.now) (S.next self.now.object.now) self.now.book.now self.now.known.now }
+        requires foresight { IsForesight (S.init self.now.object.now)
+            (S.next self.now.object.now) self.now.book.now self.now.known.now }
         requires open { IsTrue self.now.one_open → HasOneOpen self.now.book.now }
-        requires sight { IfSome self.now.sight.now (λ sight. HasOneOpen self.now.book.now × S.sees self.now.object.now self.now.book.now sight) }
-        requires prefix { IsPrefix (S.init self.now.object.now) (S.next self.now.object.now) self.now.book.now self.now.prefix.now }
-        ensures found { IfOk result (λ found. IfSome found (λ rest. IsLegalOrder (S.init self.now.object.now) (S.next self.now.object.now) self.now.book.now (self.now.prefix.now.places.items ++ rest.items))) }
+        requires sight { IfSome self.now.sight.now (λ sight. HasOneOpen self.now.book.now
+            × S.sees self.now.object.now self.now.book.now sight) }
+        requires prefix { IsPrefix (S.init self.now.object.now)
+            (S.next self.now.object.now) self.now.book.now self.now.prefix.now }
+        ensures found { IfOk result (λ found. IfSome found
+            (λ rest. IsLegalOrder (S.init self.now.object.now) (S.next self.now.object.now)
+            self.now.book.now (self.now.prefix.now.places.items ++ rest.items))) }
     {
         let mut spare = State::with_room(self.alloc, ROOM)?;
         match self.begin(&mut spare)? {
@@ -86,14 +97,20 @@ impl<S: SeqObject> Search<'_, S> {
 
     // The walk that stands where the prefix ends; there is none where all answered calls stand.
     fn begin(&self, spare: &mut State) -> Result<Option<Walk>, NoMemory>
-        requires foresight { IsForesight (S.init self.now.object.now) (S.next self.now.object.now) self.now.book.now self.now.known.now }
+        requires foresight { IsForesight (S.init self.now.object.now)
+            (S.next self.now.object.now) self.now.book.now self.now.known.now }
         requires open { IsTrue self.now.one_open → HasOneOpen self.now.book.now }
-        requires sight { IfSome self.now.sight.now (λ sight. HasOneOpen self.now.book.now × S.sees self.now.object.now self.now.book.now sight) }
-        requires prefix { IsPrefix (S.init self.now.object.now) (S.next self.now.object.now) self.now.book.now self.now.prefix.now }
+        requires sight { IfSome self.now.sight.now (λ sight. HasOneOpen self.now.book.now
+            × S.sees self.now.object.now self.now.book.now sight) }
+        requires prefix { IsPrefix (S.init self.now.object.now)
+            (S.next self.now.object.now) self.now.book.now self.now.prefix.now }
         requires room { spare.old.room ≡ ROOM }
         ensures room { spare.new.room ≡ ROOM }
-        ensures walk { IfOk result (λ begun. IfSome begun (λ walk. IsWalk self.now.book.now self.now.prefix.now (S.init self.now.object.now) (S.next self.now.object.now) walk (places_of walk.choices.items))) }
-        ensures none { IfOk result (λ begun. IfNone begun (HoldsAnswered self.now.book.now self.now.prefix.now.cut)) }
+        ensures walk { IfOk result (λ begun. IfSome begun
+            (λ walk. IsWalk self.now.book.now self.now.prefix.now (S.init self.now.object.now)
+            (S.next self.now.object.now) walk (places_of walk.choices.items))) }
+        ensures none { IfOk result
+            (λ begun. IfNone begun (HoldsAnswered self.now.book.now self.now.prefix.now.cut)) }
     {
         let counts = counts_of(self.alloc, &self.prefix.cut)?;
         let Some(first) = least_open(self.book, &counts) else {
@@ -114,13 +131,19 @@ impl<S: SeqObject> Search<'_, S> {
 
     // Goes on with a walk until it has found a legal order, or all is tried.
     fn go_on(&self, walk: &mut Walk, spare: &mut State) -> Result<Option<Vec<Place>>, NoMemory>
-        requires foresight { IsForesight (S.init self.now.object.now) (S.next self.now.object.now) self.now.book.now self.now.known.now }
+        requires foresight { IsForesight (S.init self.now.object.now)
+            (S.next self.now.object.now) self.now.book.now self.now.known.now }
         requires open { IsTrue self.now.one_open → HasOneOpen self.now.book.now }
-        requires sight { IfSome self.now.sight.now (λ sight. HasOneOpen self.now.book.now × S.sees self.now.object.now self.now.book.now sight) }
-        requires walk { IsWalk self.now.book.now self.now.prefix.now (S.init self.now.object.now) (S.next self.now.object.now) walk.old (places_of walk.old.choices.items) }
+        requires sight { IfSome self.now.sight.now (λ sight. HasOneOpen self.now.book.now
+            × S.sees self.now.object.now self.now.book.now sight) }
+        requires walk { IsWalk self.now.book.now self.now.prefix.now (S.init self.now.object.now)
+            (S.next self.now.object.now) walk.old (places_of walk.old.choices.items) }
         requires room { spare.old.room ≡ ROOM }
-        ensures found { IfOk result (λ found. IfSome found (λ rest. IsLegalOrder (S.init self.now.object.now) (S.next self.now.object.now) self.now.book.now (self.now.prefix.now.places.items ++ rest.items))) }
-        ensures none { IfOk result (λ found. IfNone found (IsDeadEnd self.now.book.now (S.next self.now.object.now) self.now.prefix.now.cut self.now.prefix.now.here.words)) }
+        ensures found { IfOk result (λ found. IfSome found
+            (λ rest. IsLegalOrder (S.init self.now.object.now) (S.next self.now.object.now)
+            self.now.book.now (self.now.prefix.now.places.items ++ rest.items))) }
+        ensures none { IfOk result (λ found. IfNone found (IsDeadEnd self.now.book.now
+            (S.next self.now.object.now) self.now.prefix.now.cut self.now.prefix.now.here.words)) }
     {
         'steps: loop {
             match self.advance(walk, spare)? {
@@ -138,12 +161,17 @@ impl<S: SeqObject> Search<'_, S> {
         spare: &mut State,
         steps: u64,
     ) -> Result<Option<Vec<Place>>, NoMemory>
-        requires foresight { IsForesight (S.init self.now.object.now) (S.next self.now.object.now) self.now.book.now self.now.known.now }
+        requires foresight { IsForesight (S.init self.now.object.now)
+            (S.next self.now.object.now) self.now.book.now self.now.known.now }
         requires open { IsTrue self.now.one_open → HasOneOpen self.now.book.now }
-        requires sight { IfSome self.now.sight.now (λ sight. HasOneOpen self.now.book.now × S.sees self.now.object.now self.now.book.now sight) }
-        requires walk { IsWalk self.now.book.now self.now.prefix.now (S.init self.now.object.now) (S.next self.now.object.now) walk.old (places_of walk.old.choices.items) }
+        requires sight { IfSome self.now.sight.now (λ sight. HasOneOpen self.now.book.now
+            × S.sees self.now.object.now self.now.book.now sight) }
+        requires walk { IsWalk self.now.book.now self.now.prefix.now (S.init self.now.object.now)
+            (S.next self.now.object.now) walk.old (places_of walk.old.choices.items) }
         requires room { spare.old.room ≡ ROOM }
-        ensures found { IfOk result (λ found. IfSome found (λ rest. IsLegalOrder (S.init self.now.object.now) (S.next self.now.object.now) self.now.book.now (self.now.prefix.now.places.items ++ rest.items))) }
+        ensures found { IfOk result (λ found. IfSome found
+            (λ rest. IsLegalOrder (S.init self.now.object.now) (S.next self.now.object.now)
+            self.now.book.now (self.now.prefix.now.places.items ++ rest.items))) }
     {
         for _ in 0..steps {
             match self.advance(walk, spare)? {
@@ -157,13 +185,17 @@ impl<S: SeqObject> Search<'_, S> {
 
     // Tries the best choice that is left, or leaves a dead end.
     fn advance(&self, walk: &mut Walk, spare: &mut State) -> Result<Outcome, NoMemory>
-        requires foresight { IsForesight (S.init self.now.object.now) (S.next self.now.object.now) self.now.book.now self.now.known.now }
+        requires foresight { IsForesight (S.init self.now.object.now)
+            (S.next self.now.object.now) self.now.book.now self.now.known.now }
         requires open { IsTrue self.now.one_open → HasOneOpen self.now.book.now }
-        requires sight { IfSome self.now.sight.now (λ sight. HasOneOpen self.now.book.now × S.sees self.now.object.now self.now.book.now sight) }
-        requires walk { IsWalk self.now.book.now self.now.prefix.now (S.init self.now.object.now) (S.next self.now.object.now) walk.old (places_of walk.old.choices.items) }
+        requires sight { IfSome self.now.sight.now (λ sight. HasOneOpen self.now.book.now
+            × S.sees self.now.object.now self.now.book.now sight) }
+        requires walk { IsWalk self.now.book.now self.now.prefix.now (S.init self.now.object.now)
+            (S.next self.now.object.now) walk.old (places_of walk.old.choices.items) }
         requires room { spare.old.room ≡ ROOM }
         ensures room { spare.new.room ≡ ROOM }
-        ensures outcome { IfOk result (IsRightOutcome self.now.book.now self.now.prefix.now (S.init self.now.object.now) (S.next self.now.object.now) (weight walk.old) walk.new) }
+        ensures outcome { IfOk result (IsRightOutcome self.now.book.now self.now.prefix.now
+            (S.init self.now.object.now) (S.next self.now.object.now) (weight walk.old) walk.new) }
     {
         match walk.choices.pop() {
             Some(choice) => self.enter(walk, spare, choice.place),
@@ -177,13 +209,17 @@ impl<S: SeqObject> Search<'_, S> {
 
     // Puts a place next, unless that leads to a remembered dead end.
     fn enter(&self, walk: &mut Walk, spare: &mut State, place: Place) -> Result<Outcome, NoMemory>
-        requires foresight { IsForesight (S.init self.now.object.now) (S.next self.now.object.now) self.now.book.now self.now.known.now }
+        requires foresight { IsForesight (S.init self.now.object.now)
+            (S.next self.now.object.now) self.now.book.now self.now.known.now }
         requires open { IsTrue self.now.one_open → HasOneOpen self.now.book.now }
-        requires sight { IfSome self.now.sight.now (λ sight. HasOneOpen self.now.book.now × S.sees self.now.object.now self.now.book.now sight) }
-        requires walk { IsWalk self.now.book.now self.now.prefix.now (S.init self.now.object.now) (S.next self.now.object.now) walk.old (place ∷ places_of walk.old.choices.items) }
+        requires sight { IfSome self.now.sight.now (λ sight. HasOneOpen self.now.book.now
+            × S.sees self.now.object.now self.now.book.now sight) }
+        requires walk { IsWalk self.now.book.now self.now.prefix.now (S.init self.now.object.now)
+            (S.next self.now.object.now) walk.old (place ∷ places_of walk.old.choices.items) }
         requires room { spare.old.room ≡ ROOM }
         ensures room { spare.new.room ≡ ROOM }
-        ensures outcome { IfOk result (IsRightOutcome self.now.book.now self.now.prefix.now (S.init self.now.object.now) (S.next self.now.object.now)
+        ensures outcome { IfOk result (IsRightOutcome self.now.book.now self.now.prefix.now
+            (S.init self.now.object.now) (S.next self.now.object.now)
             (weigh ROOM walk.old.levels.items (length walk.old.choices.items + 1)) walk.new) }
     {
         self.step(walk, spare, place);
@@ -218,10 +254,14 @@ impl<S: SeqObject> Search<'_, S> {
 
     // Makes the step of a place that may stand next. The list before it is kept in the spare state.
     fn step(&self, walk: &mut Walk, spare: &mut State, place: Place)
-        requires walk { IsWalk self.now.book.now self.now.prefix.now (S.init self.now.object.now) (S.next self.now.object.now) walk.old (place ∷ places_of walk.old.choices.items) }
+        requires walk { IsWalk self.now.book.now self.now.prefix.now (S.init self.now.object.now)
+            (S.next self.now.object.now) walk.old (place ∷ places_of walk.old.choices.items) }
         requires room { spare.old.room ≡ ROOM }
         ensures spare { spare.new ≡ record spare.old { words = walk.old.here.words } }
-        ensures here { walk.new.here ≡ record walk.old.here { words = list_after self.now.book.now (S.next self.now.object.now) walk.old.here.words place } }
+        ensures here { walk.new.here ≡ record walk.old.here {
+          words =
+              list_after self.now.book.now (S.next self.now.object.now) walk.old.here.words place;
+        } }
         ensures counts { walk.new.counts.items ≡ raised walk.old.counts.items place.caller }
         ensures levels { walk.new.levels ≡ walk.old.levels }
         ensures choices { walk.new.choices ≡ walk.old.choices }
@@ -238,8 +278,10 @@ impl<S: SeqObject> Search<'_, S> {
 
     // Leaves a dead end: goes back by one level.
     fn retreat(&self, walk: &mut Walk) -> Outcome
-        requires walk { IsWalk self.now.book.now self.now.prefix.now (S.init self.now.object.now) (S.next self.now.object.now) walk.old [] }
-        ensures { IsRightOutcome self.now.book.now self.now.prefix.now (S.init self.now.object.now) (S.next self.now.object.now) (weigh ROOM walk.old.levels.items 0) walk.new result }
+        requires walk { IsWalk self.now.book.now self.now.prefix.now (S.init self.now.object.now)
+            (S.next self.now.object.now) walk.old [] }
+        ensures { IsRightOutcome self.now.book.now self.now.prefix.now (S.init self.now.object.now)
+            (S.next self.now.object.now) (weigh ROOM walk.old.levels.items 0) walk.new result }
     {
         let Some(level) = walk.levels.pop() else {
             return Outcome::NoneLeft;
@@ -255,10 +297,11 @@ impl<S: SeqObject> Search<'_, S> {
         Outcome::GoesOn
     }
 
-    // What is to be tried after the calls of a cut, at a list of the object: of the callers that are to be
-    // tried each place that may stand next and isn't known to be infeasible, unless another one serves for it,
-    // the best one last; or one alone that may stand at once. The caller's first call outside the cut has the
-    // least view of all such calls, so that a call may come next exactly where this view holds it.
+    // What is to be tried after the calls of a cut, at a list of the object: of the callers that
+    // are to be tried each place that may stand next and isn't known to be infeasible, unless
+    // another one serves for it, the best one last; or one alone that may stand at once. The
+    // caller's first call outside the cut has the least view of all such calls, so that a call may
+    // come next exactly where this view holds it.
     fn choices(
         &self,
         counts: &[u16],
@@ -266,16 +309,20 @@ impl<S: SeqObject> Search<'_, S> {
         spare: &mut State,
         first: u32,
     ) -> Result<Vec<Choice>, NoMemory>
-        requires foresight { IsForesight (S.init self.now.object.now) (S.next self.now.object.now) self.now.book.now self.now.known.now }
+        requires foresight { IsForesight (S.init self.now.object.now)
+            (S.next self.now.object.now) self.now.book.now self.now.known.now }
         requires open { IsTrue self.now.one_open → HasOneOpen self.now.book.now }
-        requires sight { IfSome self.now.sight.now (λ sight. HasOneOpen self.now.book.now × S.sees self.now.object.now self.now.book.now sight) }
-        requires reached { IsReached (S.init self.now.object.now) (S.next self.now.object.now) self.now.book.now counts.now here.now.words }
+        requires sight { IfSome self.now.sight.now (λ sight. HasOneOpen self.now.book.now
+            × S.sees self.now.object.now self.now.book.now sight) }
+        requires reached { IsReached (S.init self.now.object.now)
+            (S.next self.now.object.now) self.now.book.now counts.now here.now.words }
         requires wide { length counts.now ≡ length self.now.book.now }
         requires first { IsLeast self.now.book.now counts.now (length self.now.book.now) first }
         requires fits { Fits counts.now here.now.words }
         requires room { spare.old.room ≡ ROOM }
         ensures room { spare.new.room ≡ ROOM }
-        ensures open { IfOk result (λ choices. IsOpen self.now.book.now (S.next self.now.object.now) counts.now here.now.words (places_of choices.items)) }
+        ensures open { IfOk result (λ choices. IsOpen self.now.book.now
+            (S.next self.now.object.now) counts.now here.now.words (places_of choices.items)) }
         ensures few { IfOk result (λ choices. length choices.items ≤ length self.now.book.now) }
     {
         let view = first_view(self.book, counts, first);
@@ -295,16 +342,20 @@ impl<S: SeqObject> Search<'_, S> {
         Ok(choices)
     }
 
-    // The callers that are to be tried after the calls of a cut: all whose next calls may come next, or as many
-    // of them as the object says suffice.
+    // The callers that are to be tried after the calls of a cut: all whose next calls may come
+    // next, or as many of them as the object says suffice.
     fn to_try(&self, cut: &Cut, view: &Cut, here: &State, first: u32) -> Marks
-        requires sight { IfSome self.now.sight.now (λ sight. HasOneOpen self.now.book.now × S.sees self.now.object.now self.now.book.now sight) }
-        requires reached { IsReached (S.init self.now.object.now) (S.next self.now.object.now) self.now.book.now cut.now here.now.words }
+        requires sight { IfSome self.now.sight.now (λ sight. HasOneOpen self.now.book.now
+            × S.sees self.now.object.now self.now.book.now sight) }
+        requires reached { IsReached (S.init self.now.object.now)
+            (S.next self.now.object.now) self.now.book.now cut.now here.now.words }
         requires wide { length cut.now ≡ length self.now.book.now }
         requires first { IsLeast self.now.book.now cut.now (length self.now.book.now) first }
-        requires view { (r : Record) → record_of self.now.book.now (next_call cut.now first) ≡ Some r → r.view ≡ view.now }
+        requires view { (r : Record)
+            → record_of self.now.book.now (next_call cut.now first) ≡ Some r → r.view ≡ view.now }
         requires views { length view.now ≡ length self.now.book.now }
-        ensures { AreToTry self.now.book.now (S.next self.now.object.now) cut.now here.now.words result }
+        ensures { AreToTry self.now.book.now
+            (S.next self.now.object.now) cut.now here.now.words result }
     {
         let marks = all_next(self.book, cut, view, first);
         match self.sight {
@@ -315,7 +366,8 @@ impl<S: SeqObject> Search<'_, S> {
         }
     }
 
-    // The place of an answered call that may stand at once after the calls of a cut, if there is one.
+    // The place of an answered call that may stand at once after the calls of a cut, if there is
+    // one.
     fn at_once(
         &self,
         counts: &[u16],
@@ -326,12 +378,14 @@ impl<S: SeqObject> Search<'_, S> {
     ) -> Option<Place>
         requires wide { length counts.now ≡ length self.now.book.now }
         requires first { IsLeast self.now.book.now counts.now (length self.now.book.now) first }
-        requires view { (r : Record) → record_of self.now.book.now (next_call counts.now first) ≡ Some r → r.view ≡ view.now }
+        requires view { (r : Record) → record_of self.now.book.now (next_call counts.now first)
+            ≡ Some r → r.view ≡ view.now }
         requires views { length view.now ≡ length self.now.book.now }
         requires fits { Fits counts.now here.now.words }
         requires room { spare.old.room ≡ ROOM }
         ensures room { spare.new.room ≡ ROOM }
-        ensures some { IfSome result (StandsAtOnce self.now.book.now (S.next self.now.object.now) counts.now here.now.words) }
+        ensures some { IfSome result (StandsAtOnce self.now.book.now
+            (S.next self.now.object.now) counts.now here.now.words) }
     {
         for caller in 0..self.book.callers() {
             if u64::from(counts[caller as usize]) < view.get(caller) {
@@ -344,8 +398,9 @@ impl<S: SeqObject> Search<'_, S> {
         None
     }
 
-    // The place of a caller's next call, which may come next, where it is answered, leaves every list with
-    // its recorded reply, and the object gives this reply. Only an object that says so is asked for a step.
+    // The place of a caller's next call, which may come next, where it is answered, leaves every
+    // list with its recorded reply, and the object gives this reply. Only an object that says so is
+    // asked for a step.
     fn read_only(
         &self,
         counts: &[u16],
@@ -359,7 +414,8 @@ impl<S: SeqObject> Search<'_, S> {
         requires fits { Fits counts.now here.now.words }
         requires room { spare.old.room ≡ ROOM }
         ensures room { spare.new.room ≡ ROOM }
-        ensures some { IfSome result (StandsAtOnce self.now.book.now (S.next self.now.object.now) counts.now here.now.words) }
+        ensures some { IfSome result (StandsAtOnce self.now.book.now
+            (S.next self.now.object.now) counts.now here.now.words) }
     {
         let number = u64::from(counts[caller as usize]);
         if number >= self.book.answers(caller) {
@@ -382,8 +438,8 @@ impl<S: SeqObject> Search<'_, S> {
         })
     }
 
-    // The least rank of the words of a list, where a call of the book has a limit. No clause says that one
-    // is found: that costs time alone.
+    // The least rank of the words of a list, where a call of the book has a limit. No clause says
+    // that one is found: that costs time alone.
     fn earliest(&self, here: &State) -> Option<u64>
         ensures { IfSome result (IsRankIn self.now.known.now.ranks here.now.words) }
     {
@@ -407,8 +463,11 @@ impl<S: SeqObject> Search<'_, S> {
     fn is_infeasible(&self, cut: &Cut, here: &State, earliest: Option<u64>, caller: u32) -> bool
         requires caller { caller < length cut.now }
         requires earliest { IfSome earliest (IsRankIn self.now.known.now.ranks here.now.words) }
-        requires foresight { IsForesight (S.init self.now.object.now) (S.next self.now.object.now) self.now.book.now self.now.known.now }
-        ensures { IsTrue result → IsInfeasible (S.init self.now.object.now) (S.next self.now.object.now) self.now.book.now cut.now here.now.words (next_call cut.now caller) }
+        requires foresight { IsForesight (S.init self.now.object.now)
+            (S.next self.now.object.now) self.now.book.now self.now.known.now }
+        ensures { IsTrue result
+            → IsInfeasible (S.init self.now.object.now) (S.next self.now.object.now)
+            self.now.book.now cut.now here.now.words (next_call cut.now caller) }
     {
         let call = Call {
             caller,
@@ -423,9 +482,9 @@ impl<S: SeqObject> Search<'_, S> {
         }
     }
 
-    // Adds the place of a caller's next call, which may come next, if the object gives the recorded reply. In
-    // a book with one open an unanswered read-only call isn't added, nor one that a twin serves
-    // for.
+    // Adds the place of a caller's next call, which may come next, if the object gives the recorded
+    // reply. In a book with one open an unanswered read-only call isn't added, nor one that a twin
+    // serves for.
     fn consider(
         &self,
         counts: &[u16],
@@ -441,9 +500,13 @@ impl<S: SeqObject> Search<'_, S> {
         requires may { MayComeNext self.now.book.now counts.now (next_call counts.now caller) }
         requires fits { Fits counts.now here.now.words }
         requires room { spare.old.room ≡ ROOM }
-        requires sound { AllByRecursion (MayStandNext self.now.book.now (S.next self.now.object.now) counts.now here.now.words) (places_of choices.old.items) }
+        requires sound { AllByRecursion
+            (MayStandNext self.now.book.now (S.next self.now.object.now) counts.now here.now.words)
+            (places_of choices.old.items) }
         ensures room { spare.new.room ≡ ROOM }
-        ensures more { OnOk result (IsOneMore self.now.book.now (S.next self.now.object.now) counts.now here.now.words caller (places_of choices.old.items) (places_of choices.new.items)) }
+        ensures more { OnOk result
+            (IsOneMore self.now.book.now (S.next self.now.object.now) counts.now here.now.words
+            caller (places_of choices.old.items) (places_of choices.new.items)) }
         ensures few { length choices.new.items ≤ length choices.old.items + 1 }
     {
         let number = u64::from(counts[caller as usize]);

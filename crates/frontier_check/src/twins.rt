@@ -10,9 +10,9 @@ ghost use Rattle.frontier_check.specs.declared.choice.Choice.{Choice};
 use crate::choice::Choice;
 use book_base::{Book, Call, NoMemory, Place};
 
-/// Adds a choice to others, the best one last. In a book with one open it may take the place of another one
-/// with its operation, or leave it there: one of the two is kept, with the lesser turn of both. No clause says
-/// that such a one is found: where it isn't, the search only tries more.
+/// Adds a choice to others, the best one last. In a book with one open it may take the place of
+/// another one with its operation, or leave it there: one of the two is kept, with the lesser turn
+/// of both. No clause says that such a one is found: where it isn't, the search only tries more.
 pub fn choose(
     book: &Book,
     one_open: bool,
@@ -22,8 +22,10 @@ pub fn choose(
     requires valid { IsValid book.now }
     requires open { IsTrue one_open → HasOneOpen book.now }
     requires call { IsCall book.now (call_at new.place) }
-    requires calls { AllByRecursion (λ place. IsCall book.now (call_at place)) (places_of choices.old.items) }
-    ensures chosen { OnOk result (IsAdded choices.old.items new choices.new.items ⊎ IsExchanged book.now choices.old.items new choices.new.items) }
+    requires calls { AllByRecursion (λ place. IsCall book.now (call_at place))
+        (places_of choices.old.items) }
+    ensures chosen { OnOk result (IsAdded choices.old.items new choices.new.items
+        ⊎ IsExchanged book.now choices.old.items new choices.new.items) }
     ensures few { length choices.new.items ≤ length choices.old.items + 1 }
 {
     let Some(index) = twin_of(book, one_open, choices, new) else {
@@ -37,10 +39,12 @@ pub fn choose(
 fn twin_of(book: &Book, one_open: bool, choices: &[Choice], new: Choice) -> Option<usize>
     requires open { IsTrue one_open → HasOneOpen book.now }
     requires call { IsCall book.now (call_at new.place) }
-    requires calls { AllByRecursion (λ place. IsCall book.now (call_at place)) (places_of choices.now) }
+    requires calls { AllByRecursion (λ place. IsCall book.now (call_at place))
+        (places_of choices.now) }
     ensures open { IfSome result (λ _. HasOneOpen book.now) }
     ensures index { IfSome result (λ k. k < length choices.now) }
-    ensures twin { IfSome result (λ k. (twin : Choice) → twin ≡ slice_index_or choices.now k twin → HasOperationOf book.now new.place twin.place) }
+    ensures twin { IfSome result (λ k. (twin : Choice) → twin ≡ slice_index_or choices.now k twin
+        → HasOperationOf book.now new.place twin.place) }
 {
     if !one_open {
         return None;
@@ -54,7 +58,8 @@ fn twin_of(book: &Book, one_open: bool, choices: &[Choice], new: Choice) -> Opti
     None
 }
 
-// Of two choices with one operation the one whose call serves for the other's, with the lesser turn of both.
+// Of two choices with one operation the one whose call serves for the other's, with the lesser turn
+// of both.
 fn kept_of(book: &Book, twin: Choice, new: Choice) -> Choice
     requires valid { IsValid book.now }
     requires new { IsCall book.now (call_at new.place) }
@@ -70,8 +75,8 @@ fn kept_of(book: &Book, twin: Choice, new: Choice) -> Choice
     Choice { turn, place }
 }
 
-// Whether the first of two calls of one operation serves for the second; otherwise the second one serves for
-// the first.
+// Whether the first of two calls of one operation serves for the second; otherwise the second one
+// serves for the first.
 fn serves(book: &Book, a: Call, b: Call) -> bool
     requires valid { IsValid book.now }
     requires first { IsCall book.now a }

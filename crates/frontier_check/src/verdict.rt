@@ -30,11 +30,12 @@ pub enum Verdict {
 
 /// Looks for a legal order of a book: `Legal` carries one, and `Illegal` comes where there is none.
 ///
-/// The search goes depth first through the pairs of a cut and a state, and remembers those that it has
-/// left (after Wing and Gong 1993, and Lowe 2017).
+/// The search goes depth first through the pairs of a cut and a state, and remembers those that it
+/// has left (after Wing and Gong 1993, and Lowe 2017).
 pub fn check<S: SeqObject>(alloc: Global, object: &S, book: &Book) -> Result<Verdict, NoMemory>
     // A verdict `Legal` carries a legal order of the book, and with `Illegal` the book has none.
-    ensures verdict { IfOk result (λ verdict. IsRight (S.init object.now) (S.next object.now) book.now verdict) }
+    ensures verdict { IfOk result
+        (λ verdict. IsRight (S.init object.now) (S.next object.now) book.now verdict) }
 {
     match order_anywhere(alloc, object, book, &[])? {
         None => Ok(Verdict::Illegal),
@@ -44,10 +45,10 @@ pub fn check<S: SeqObject>(alloc: Global, object: &S, book: &Book) -> Result<Ver
 
 /// Looks for a legal order as `check` does, and first after the guide's places.
 ///
-/// The guide keeps the order that is found, for the next book: a book with a few more calls than the
-/// last one mostly has an order that begins like the last one's. Those places are stepped through, and
-/// the search looks among the calls after them alone; only where that finds none soon it looks
-/// everywhere.
+/// The guide keeps the order that is found, for the next book: a book with a few more calls than
+/// the last one mostly has an order that begins like the last one's. Those places are stepped
+/// through, and the search looks among the calls after them alone; only where that finds none soon
+/// it looks everywhere.
 pub fn check_from<S: SeqObject>(
     alloc: Global,
     object: &S,
@@ -55,7 +56,8 @@ pub fn check_from<S: SeqObject>(
     guide: &mut Guide,
 ) -> Result<Verdict, NoMemory>
     // A verdict `Legal` carries a legal order of the book, and with `Illegal` the book has none.
-    ensures verdict { IfOk result (λ verdict. IsRight (S.init object.now) (S.next object.now) book.now verdict) }
+    ensures verdict { IfOk result
+        (λ verdict. IsRight (S.init object.now) (S.next object.now) book.now verdict) }
     // With `Legal` the guide keeps the order that was found, and with `Illegal` the one that it
     // had.
     ensures guide { IfOk result (IsKept guide.old guide.new) }
@@ -73,7 +75,8 @@ pub fn check_from<S: SeqObject>(
     }
 }
 
-/// Looks for a legal order as `check` does, and first after the places that still stand of the last one.
+/// Looks for a legal order as `check` does, and first after the places that still stand of the last
+/// one.
 ///
 /// What stands is of this object, and of this book or of one from which it has grown; there is none
 /// to begin with. `None` comes where the book has no legal order. The places up to a mark are kept
@@ -87,7 +90,8 @@ pub fn check_after<S: SeqObject>(
 ) -> Result<Option<Standing>, NoMemory>
     // What stands, where anything does, is for this object of this book, or of one from which it
     // has grown.
-    requires standing { IfSome standing (IsStandingFor (S.init object.now) (S.next object.now) book.now) }
+    requires standing { IfSome standing
+        (IsStandingFor (S.init object.now) (S.next object.now) book.now) }
     // The order of what is found, where anything is, is a legal one of the book.
     ensures legal { IfOk result (λ found. IfSome found
         (λ s. IsLegalOrder (S.init object.now) (S.next object.now) book.now s.order.items)) }
@@ -171,7 +175,8 @@ fn check_before<S: SeqObject>(
     order: Vec<Place>,
     marks: Vec<Mark>,
 ) -> Result<Option<Standing>, NoMemory>
-    requires marks { AreMarks (S.init object.now) (S.next object.now) book.now order.items 0 marks.items }
+    requires marks { AreMarks (S.init object.now)
+        (S.next object.now) book.now order.items 0 marks.items }
     ensures legal { IfOk result (λ found. IfSome found
         (λ s. IsLegalOrder (S.init object.now) (S.next object.now) book.now s.order.items)) }
     ensures stands { IfOk result (λ found. IfSome found
@@ -204,11 +209,13 @@ fn order_after_mark<S: SeqObject>(
     order: &[Place],
     marks: &mut Vec<Mark>,
 ) -> Result<Option<Vec<Place>>, NoMemory>
-    requires marks { AreMarks (S.init object.now) (S.next object.now) book.now order.now 0 marks.old.items }
+    requires marks { AreMarks (S.init object.now)
+        (S.next object.now) book.now order.now 0 marks.old.items }
     ensures legal { IfOk result (λ found. IfSome found
         (λ order. IsLegalOrder (S.init object.now) (S.next object.now) book.now order.items)) }
     ensures marks { IfOk result (λ found. IfSome found
-        (λ order. AreMarks (S.init object.now) (S.next object.now) book.now order.items 0 marks.new.items)) }
+        (λ order.
+        AreMarks (S.init object.now) (S.next object.now) book.now order.items 0 marks.new.items)) }
     ensures kept { IfOk result (λ found. IfNone found
         (AreMarks (S.init object.now) (S.next object.now) book.now order.now 0 marks.new.items)) }
 {
@@ -228,8 +235,8 @@ fn order_after_mark<S: SeqObject>(
     Ok(Some(order))
 }
 
-// A legal order that begins with the places of a prefix and with those of these that follow them, if
-// what is left then is found soon.
+// A legal order that begins with the places of a prefix and with those of these that follow them,
+// if what is left then is found soon.
 fn order_by<S: SeqObject>(
     alloc: Global,
     object: &S,
@@ -240,11 +247,13 @@ fn order_by<S: SeqObject>(
 ) -> Result<Option<Vec<Place>>, NoMemory>
     requires put { IsPut (S.init object.now) (S.next object.now) book.now prefix }
     requires room { prefix.here.room ≡ ROOM }
-    requires marks { AreMarks (S.init object.now) (S.next object.now) book.now prefix.places.items 0 marks.old.items }
+    requires marks { AreMarks (S.init object.now)
+        (S.next object.now) book.now prefix.places.items 0 marks.old.items }
     ensures legal { IfOk result (λ found. IfSome found
         (λ order. IsLegalOrder (S.init object.now) (S.next object.now) book.now order.items)) }
     ensures marks { IfOk result (λ found. IfSome found
-        (λ order. AreMarks (S.init object.now) (S.next object.now) book.now order.items 0 marks.new.items)) }
+        (λ order.
+        AreMarks (S.init object.now) (S.next object.now) book.now order.items 0 marks.new.items)) }
 {
     let limit = limit_of(book, &prefix.cut, places);
     if !prefix.put_marked(alloc, object, book, &limit, places, marks)? {
@@ -264,11 +273,13 @@ fn order_on<S: SeqObject>(
     _marks: &[Mark],
 ) -> Result<Option<Vec<Place>>, NoMemory>
     requires put { IsPut (S.init object.now) (S.next object.now) book.now prefix }
-    requires marks { AreMarks (S.init object.now) (S.next object.now) book.now prefix.places.items 0 _marks.now }
+    requires marks { AreMarks (S.init object.now)
+        (S.next object.now) book.now prefix.places.items 0 _marks.now }
     ensures legal { IfOk result (λ found. IfSome found
         (λ order. IsLegalOrder (S.init object.now) (S.next object.now) book.now order.items)) }
     ensures marks { IfOk result (λ found. IfSome found
-        (λ order. AreMarks (S.init object.now) (S.next object.now) book.now order.items 0 _marks.now)) }
+        (λ order.
+        AreMarks (S.init object.now) (S.next object.now) book.now order.items 0 _marks.now)) }
 {
     let Some(rest) = rest_after(alloc, object, book, later, &prefix, STEPS)? else {
         return Ok(None);
@@ -329,8 +340,8 @@ fn rest_after<S: SeqObject>(
     places_after(alloc, object, book, &known, later, prefix, more)
 }
 
-// How often a search begins after fewer of a guide's places: each time it leaves out twice as many as
-// before, so that it has left out nearly all after as many times as this.
+// How often a search begins after fewer of a guide's places: each time it leaves out twice as many
+// as before, so that it has left out nearly all after as many times as this.
 const ATTEMPTS: u32 = 9;
 
 // How many steps a search after places has beside one for each call that is left.
@@ -340,8 +351,8 @@ const STEPS: u64 = 1000;
 // at a mark.
 const FIRST_STEPS: u64 = 100;
 
-// A legal order that begins as a guide does, if one is found soon: first after all the places of the
-// guide that still follow one another, and then after ever fewer of them.
+// A legal order that begins as a guide does, if one is found soon: first after all the places of
+// the guide that still follow one another, and then after ever fewer of them.
 fn order_near<S: SeqObject>(
     alloc: Global,
     object: &S,
@@ -404,8 +415,8 @@ fn later_of(guide: &[Place], taken: usize) -> &[Place] {
     }
 }
 
-// The places that make a legal order after those of a prefix, if they are found in this many more steps
-// than calls are left.
+// The places that make a legal order after those of a prefix, if they are found in this many more
+// steps than calls are left.
 fn places_after<S: SeqObject>(
     alloc: Global,
     object: &S,
@@ -455,7 +466,8 @@ fn order_anywhere<S: SeqObject>(
     }
 }
 
-// A legal order, if there is one: the search looks for it everywhere, and tries the guide's places first.
+// A legal order, if there is one: the search looks for it everywhere, and tries the guide's places
+// first.
 fn order_searched<S: SeqObject>(
     alloc: Global,
     object: &S,
@@ -494,7 +506,8 @@ fn sight_of<S: SeqObject>(
     one_open: bool,
 ) -> Result<Option<Sight>, NoMemory>
     requires { IsTrue one_open → HasOneOpen book.now }
-    ensures { IfOk result (λ found. IfSome found (λ sight. HasOneOpen book.now × S.sees object.now book.now sight)) }
+    ensures { IfOk result
+        (λ found. IfSome found (λ sight. HasOneOpen book.now × S.sees object.now book.now sight)) }
 {
     if one_open {
         object.prepare(alloc, book)

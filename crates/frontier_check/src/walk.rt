@@ -10,8 +10,8 @@ use std::alloc::Global;
 /// Room for as many words as a book has calls, and one more.
 pub const ROOM: u64 = MAX_CALLERS as u64 * MAX_CALLS + 1;
 
-/// A cut and a list on the way to where a search stands: the list's words, the place that was put next
-/// there, and what is still to be tried there besides it.
+/// A cut and a list on the way to where a search stands: the list's words, the place that was put
+/// next there, and what is still to be tried there besides it.
 #[derive(Drop)]
 pub struct Level {
     pub place: Place,
@@ -19,11 +19,11 @@ pub struct Level {
     pub choices: Vec<Choice>,
 }
 
-/// Where a search stands: the levels that lead there, the counts of its cut, its list, what is still to
-/// be tried there with the best choice last, and the dead ends that were left behind.
+/// Where a search stands: the levels that lead there, the counts of its cut, its list, what is
+/// still to be tried there with the best choice last, and the dead ends that were left behind.
 ///
-/// Only the list here is a state of the object. It is stepped forward, and copied back from a level's
-/// words on a retreat.
+/// Only the list here is a state of the object. It is stepped forward, and copied back from a
+/// level's words on a retreat.
 #[derive(Drop)]
 pub struct Walk {
     pub levels: Vec<Level>,

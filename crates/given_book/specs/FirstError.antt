@@ -17,8 +17,8 @@ pub record IsUpToEnd (bytes part : List ℕ) : Type 0 where
 abbrev pub IsReportPart : List ℕ → List ℕ → Type 0
 IsReportPart bytes part = IsUpToEnd bytes part ⊎ (HasNoEnd bytes × (part ≡ bytes))
 
--- The input begins with the text of a report whose first error line, by caller and then by number, is that of this call: the witness
--- of a run is the book at what this line saw.
+-- The input begins with the text of a report whose first error line, by caller and then by number,
+-- is that of this call: the witness of a run is the book at what this line saw.
 pub record IsFirstErrorGiven (bytes : List ℕ) (call : Call) : Type 0 where
   pub part : List ℕ
   pub is : IsReportPart bytes part

@@ -1,4 +1,5 @@
--- The book that an input gives: its text in either version, or the witness after a report or after a verdict.
+-- The book that an input gives: its text in either version, or the witness after a report or after
+-- a verdict.
 use Rattle.std.specs.Prelude.{◌≡◌, ◌⊎◌, ℕ, ◌<◌, List, [], ◌++◌, drop, codes}
 use Rattle.book_base.specs.declared.fault.TextFault.{TextFault}
 use Rattle.book_base.specs.declared.fault.ReadFault.{ReadFault}
@@ -44,14 +45,16 @@ HasNoEnd bytes = (i : ℕ) (rest : List ℕ) → ¬ (HasEndAt bytes i rest)
 abbrev pub IsWitnessPart : List ℕ → List ℕ → Type 0
 IsWitnessPart bytes part = IsAfterEnd bytes part ⊎ (HasNoEnd bytes × (part ≡ []))
 
--- the first line is neither the title of a report, nor a verdict, nor the title of a book of version 1
+-- the first line is neither the title of a report, nor a verdict, nor the title of a book of
+-- version 1
 pub record BeginsOtherwise (bytes : List ℕ) : Type 0 where
   pub report : ¬ (BeginsAsReport bytes)
   pub verdict : ¬ (BeginsAsVerdict bytes)
   pub old : ¬ (BeginsAsOldBook bytes)
 
--- This part of the bytes is read as a book's text, and in this version: what stands after a report or after a verdict, in
--- version 2; or all bytes, in version 1 where they begin with its title, and else in version 2.
+-- This part of the bytes is read as a book's text, and in this version: what stands after a report
+-- or after a verdict, in version 2; or all bytes, in version 1 where they begin with its title, and
+-- else in version 2.
 abbrev pub IsBookPart : List ℕ → Version → List ℕ → Type 0
 IsBookPart bytes version part =
     (BeginsAsReport bytes × (version ≡ Second) × IsWitnessPart bytes part)

@@ -73,7 +73,8 @@ fn after_end(bytes: &[u8]) -> &[u8]
     }
 }
 
-/// What may be the text of a report at the beginning of the bytes: up to the first line `end`, with it.
+/// What may be the text of a report at the beginning of the bytes: up to the first line `end`, with
+/// it.
 pub(crate) fn report_part(bytes: &[u8]) -> &[u8]
     ensures { IsReportPart bytes.now result.now }
 {

@@ -31,31 +31,50 @@ table_or t (Some (Monitor m)) = t
 table_or t (Some Spare) = t
 table_or t None = t
 
-pub same_caller : (h k : CallerHandle) → ◌≡◌ {A = Option Handle} (Some (Caller h)) (Some (Caller k)) → h ≡ k
+pub same_caller : (h k : CallerHandle)
+    → ◌≡◌ {A = Option Handle} (Some (Caller h)) (Some (Caller k)) → h ≡ k
 same_caller h k e = ap (caller_or h) e
 
-pub same_monitor : (m k : MonitorHandle) → ◌≡◌ {A = Option Handle} (Some (Monitor m)) (Some (Monitor k)) → m ≡ k
+pub same_monitor : (m k : MonitorHandle)
+    → ◌≡◌ {A = Option Handle} (Some (Monitor m)) (Some (Monitor k)) → m ≡ k
 same_monitor m k e = ap (monitor_or m) e
 
-pub same_table : (t u : TableHandle) → ◌≡◌ {A = Option Handle} (Some (Table t)) (Some (Table u)) → t ≡ u
+pub same_table : (t u : TableHandle)
+    → ◌≡◌ {A = Option Handle} (Some (Table t)) (Some (Table u)) → t ≡ u
 same_table t u e = ap (table_or t) e
 
 -- what is asked of the caller is asked of its handle
-pub callers_iff : (Yes : Type 0) (Is : CallerHandle → Type 0) (found : Option Handle) (h : CallerHandle) → found ≡ Some (Caller h) → (Yes ↔ Is h) → (Yes ↔ IsCallers Is found)
-callers_iff Yes Is found h is iff = (λ y. (h, is, iff.0 y), λ held. iff.1 (subst Is (same_caller held.0 h (sym held.1 ∙ is)) held.2))
+pub callers_iff : (Yes : Type 0) (Is : CallerHandle → Type 0) (found : Option Handle)
+    (h : CallerHandle) → found ≡ Some (Caller h) → (Yes ↔ Is h) → (Yes ↔ IsCallers Is found)
+callers_iff Yes Is found h is iff = (
+  λ y. (h, is, iff.0 y),
+  λ held. iff.1 (subst Is (same_caller held.0 h (sym held.1 ∙ is)) held.2),
+)
 
 -- and of a monitor
-pub monitors_iff : (Yes : Type 0) (Is : MonitorHandle → Type 0) (found : Option Handle) (m : MonitorHandle) → found ≡ Some (Monitor m) → (Yes ↔ Is m) → (Yes ↔ IsMonitors Is found)
-monitors_iff Yes Is found m is iff = (λ y. (m, is, iff.0 y), λ held. iff.1 (subst Is (same_monitor held.0 m (sym held.1 ∙ is)) held.2))
+pub monitors_iff : (Yes : Type 0) (Is : MonitorHandle → Type 0) (found : Option Handle)
+    (m : MonitorHandle) → found ≡ Some (Monitor m) → (Yes ↔ Is m) → (Yes ↔ IsMonitors Is found)
+monitors_iff Yes Is found m is iff = (
+  λ y. (m, is, iff.0 y),
+  λ held. iff.1 (subst Is (same_monitor held.0 m (sym held.1 ∙ is)) held.2),
+)
 
 -- a table gives a caller where not all are given
-pub gives_iff : {X : Type 0} (given : Option X) (found : Option Handle) (t : TableHandle) → found ≡ Some (Table t) → (IsNone given ↔ (next_of t ≡ (rows_in t).callers)) → (IsSome given ↔ MayGive found)
-gives_iff None found t is iff =
-    (λ some. absurd (true≢false (sym some)), λ may. absurd (subst (λ (u : TableHandle). ¬ (next_of u ≡ (rows_in u).callers)) (same_table may.0 t (sym may.1 ∙ is)) may.2 (iff.0 refl)))
-gives_iff (Some x) found t is iff = (λ some. (t, is, λ all. absurd (true≢false (iff.1 all))), λ may. refl)
+pub gives_iff : {X : Type 0} (given : Option X) (found : Option Handle) (t : TableHandle)
+    → found ≡ Some (Table t) → (IsNone given ↔ (next_of t ≡ (rows_in t).callers))
+    → (IsSome given ↔ MayGive found)
+gives_iff None found t is iff = (
+  λ some. absurd (true≢false (sym some)),
+  λ may. absurd (subst (λ (u : TableHandle). ¬ (next_of u ≡ (rows_in u).callers))
+      (same_table may.0 t (sym may.1 ∙ is)) may.2 (iff.0 refl)),
+)
+gives_iff (Some x) found t is iff =
+    (λ some. (t, is, λ all. absurd (true≢false (iff.1 all))), λ may. refl)
 
 -- what follows from two clauses on the value that is found
-pub found_then : {X Y : Type 0} (r : Result (Option X) Y) (P Q R : X → Type 0) → IfOk r (λ found. IfSome found P) → IfOk r (λ found. IfSome found Q) → ((x : X) → P x → Q x → R x) → IfOk r (λ found. IfSome found R)
+pub found_then : {X Y : Type 0} (r : Result (Option X) Y) (P Q R : X → Type 0)
+    → IfOk r (λ found. IfSome found P) → IfOk r (λ found. IfSome found Q)
+    → ((x : X) → P x → Q x → R x) → IfOk r (λ found. IfSome found R)
 found_then (Ok (Some x)) P Q R p q f = f x p q
 found_then (Ok None) P Q R p q f = tt
 found_then (Err e) P Q R p q f = tt

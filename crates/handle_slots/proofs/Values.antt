@@ -56,8 +56,10 @@ alone_owns p = (fields_of (RawPtr ∷ [])).own_val (p, tt)
 pub alone_told : (p : Ptr) (vs : List Val) → shadow (alone_owns p vs) → vs ≡ alone p ∷ []
 alone_told p vs s = s.1.0 ∙ (λ i. vstruct (of_list (s.1.1.0 i ++ [])) ∷ [])
 
-pub alone_made : {M : Type 1} {𝓤 : Ura M} (𝓛 : Logic 𝓤) (p : Ptr) → ent 𝓤 (emp 𝓤) (sem 𝓛 (alone_owns p (alone p ∷ [])))
-alone_made 𝓛 p = makes_shadow 𝓛 (alone_owns p (alone p ∷ [])) (λ _. (tt, (tt, tt))) ((ptr_val p ∷ [], tt), (refl, (refl, tt)))
+pub alone_made : {M : Type 1} {𝓤 : Ura M} (𝓛 : Logic 𝓤) (p : Ptr)
+    → ent 𝓤 (emp 𝓤) (sem 𝓛 (alone_owns p (alone p ∷ [])))
+alone_made 𝓛 p = makes_shadow 𝓛 (alone_owns p (alone p ∷ [])) (λ _. (tt, (tt, tt)))
+    ((ptr_val p ∷ [], tt), (refl, (refl, tt)))
 
 -- a pointer beside the heap's handle, which has one value
 abbrev pub beside : Ptr → Val
@@ -66,11 +68,19 @@ beside p = vstruct (vcons (ptr_val p) (vcons heap_val vnil))
 abbrev pub beside_owns : Ptr → global.the_row.Denot → List Val → Fml
 beside_owns p heap = (fields_of (RawPtr ∷ global.the_row ∷ [])).own_val (p, (heap, tt))
 
-pub beside_told : (p : Ptr) (heap : global.the_row.Denot) (vs : List Val) → shadow (beside_owns p heap vs) → vs ≡ beside p ∷ []
-beside_told p heap vs s = s.1.0 ∙ (λ i. vstruct (of_list (s.1.1.0 i ++ (heap_Tells heap _ s.1.1.1.0 i ++ []))) ∷ [])
+pub beside_told : (p : Ptr) (heap : global.the_row.Denot) (vs : List Val)
+    → shadow (beside_owns p heap vs) → vs ≡ beside p ∷ []
+beside_told p heap vs s =
+    s.1.0 ∙ (λ i. vstruct (of_list (s.1.1.0 i ++ (heap_Tells heap _ s.1.1.1.0 i ++ []))) ∷ [])
 
-pub beside_made : {M : Type 1} {𝓤 : Ura M} (𝓛 : Logic 𝓤) (p : Ptr) (heap : global.the_row.Denot) → Is global.the_row heap (heap_val ∷ []) → ent 𝓤 (emp 𝓤) (sem 𝓛 (beside_owns p heap (beside p ∷ [])))
+pub beside_made : {M : Type 1} {𝓤 : Ura M} (𝓛 : Logic 𝓤) (p : Ptr) (heap : global.the_row.Denot)
+    → Is global.the_row heap (heap_val ∷ [])
+    → ent 𝓤 (emp 𝓤) (sem 𝓛 (beside_owns p heap (beside p ∷ [])))
 beside_made 𝓛 p heap is =
-    qed 𝓛 [] ∵ nothing ! $ owned ! global.the_row (Is global.the_row) (laws.makes global.the_type global_laws.the_plain 𝓛) heap (heap_val ∷ []) is $ fjoin ! $
-    feq_i ! (List Val) (ptr_val p ∷ []) (ptr_val p ∷ []) refl $ fjoin ! $ feq_i ! (List Val) (beside p ∷ []) (beside p ∷ []) refl $ fjoin ! $
-    fpack ! (Valss (RawPtr ∷ global.the_row ∷ [])) (within (record { name = []; args = []; types = []; fields = RawPtr ∷ global.the_row ∷ [] }) (p, (heap, tt)) (beside p ∷ [])) (ptr_val p ∷ [], (heap_val ∷ [], tt)) $ done !
+    qed 𝓛 [] ∵ nothing ! $ owned ! global.the_row (Is global.the_row)
+    (laws.makes global.the_type global_laws.the_plain 𝓛) heap (heap_val ∷ []) is $ fjoin ! $
+    feq_i ! (List Val) (ptr_val p ∷ []) (ptr_val p ∷ []) refl $ fjoin ! $ feq_i ! (List Val)
+    (beside p ∷ []) (beside p ∷ []) refl $ fjoin ! $
+    fpack ! (Valss (RawPtr ∷ global.the_row ∷ []))
+    (within (record { name = []; args = []; types = []; fields = RawPtr ∷ global.the_row ∷ [] })
+    (p, (heap, tt)) (beside p ∷ [])) (ptr_val p ∷ [], (heap_val ∷ [], tt)) $ done !

@@ -17,4 +17,5 @@ coded_handle = coded_option the_row.coded
 -- A box with this handle, whose parts belong together; or nothing.
 abbrev pub held_at : Ptr → Option Handle → Fml
 held_at p None = ftrue
-held_at p (Some h) = fsep (fex Global (λ heap. box_owns (ghosts.dealloc_token heap) the_row p h)) (fex (IsSound h) (λ _. ftrue))
+held_at p (Some h) = fsep (fex Global (λ heap. box_owns (ghosts.dealloc_token heap) the_row p h))
+    (fex (IsSound h) (λ _. ftrue))

@@ -20,7 +20,8 @@ use Rattle.handle_slots.specs.declared.slot.Slot.{Slot}
 abbrev pub handle_in : Slot → Option Handle
 handle_in s = s.held.value
 
--- A table is asked for that there is: the kind has this name, and there are not too few and not too many callers and calls.
+-- A table is asked for that there is: the kind has this name, and there are not too few and not too
+-- many callers and calls.
 pub record IsSized (name : List ℕ) (callers calls : ℕ) : Type 0 where
   pub kind : Kind
   pub named : kind_name kind ≡ name
@@ -29,10 +30,12 @@ pub record IsSized (name : List ℕ) (callers calls : ℕ) : Type 0 where
   pub some_calls : 1 ≤ calls
   pub few_calls : calls ≤ MAX_CALLS
 
--- The handle is that of a table of this kind for this many callers with this many calls each, which has given none of them.
+-- The handle is that of a table of this kind for this many callers with this many calls each, which
+-- has given none of them.
 abbrev pub IsOpened : List ℕ → ℕ → ℕ → Option Handle → Type 0
 IsOpened name callers calls found =
-    (t : TableHandle) × (found ≡ Some (Table t)) × (kind_name (kind_in t) ≡ name) × ((rows_in t).callers ≡ callers)
+    (t : TableHandle) × (found ≡ Some (Table t)) × (kind_name (kind_in t) ≡ name)
+    × ((rows_in t).callers ≡ callers)
     × ((rows_in t).cap ≡ calls) × (next_of t ≡ 0)
 
 -- The handle is that of a table which has callers left to give.
@@ -42,12 +45,14 @@ MayGive found = (t : TableHandle) × (found ≡ Some (Table t)) × ¬ (next_of t
 -- The handle is that of this caller of the table, fresh, in this role.
 abbrev pub IsFreshAs : Role → TableHandle → ℕ → Handle → Type 0
 IsFreshAs role.Caller t who given = (h : CallerHandle) × (given ≡ Caller h) × IsFreshOf t who h
-IsFreshAs role.Monitor t who given = (m : MonitorHandle) × (given ≡ Monitor m) × IsFreshMonitorOf t who m
+IsFreshAs role.Monitor t who given = (m : MonitorHandle) × (given ≡ Monitor m)
+    × IsFreshMonitorOf t who m
 
 -- The table has given its next caller, whose handle this is, in this role.
 abbrev pub HasGiven : Role → Option Handle → Option Handle → Option Handle → Type 0
 HasGiven part before after given =
-    (t u : TableHandle) × (h : Handle) × (before ≡ Some (Table t)) × (after ≡ Some (Table u)) × (given ≡ Some h)
+    (t u : TableHandle) × (h : Handle) × (before ≡ Some (Table t)) × (after ≡ Some (Table u))
+    × (given ≡ Some h)
     × GivesNext (next_of t + 1) t u × IsFreshAs part t (next_of t) h
 
 -- The handle is that of a caller for which this holds.
@@ -55,9 +60,11 @@ abbrev pub IsCallers : (CallerHandle → Type 0) → Option Handle → Type 0
 IsCallers Is found = (h : CallerHandle) × (found ≡ Some (Caller h)) × Is h
 
 -- The handles before and after are those of one caller, for which this holds.
-abbrev pub AreCallers : (CallerHandle → CallerHandle → Type 0) → Option Handle → Option Handle → Type 0
+abbrev pub AreCallers : (CallerHandle → CallerHandle → Type 0) → Option Handle
+    → Option Handle → Type 0
 AreCallers Are before after =
-    (h k : CallerHandle) × (before ≡ Some (Caller h)) × (after ≡ Some (Caller k)) × IsOfSameTable h k × Are h k
+    (h k : CallerHandle) × (before ≡ Some (Caller h)) × (after ≡ Some (Caller k))
+    × IsOfSameTable h k × Are h k
 
 -- The caller has announced a call with this operation.
 abbrev pub Begins : ℕ → Option Handle → Option Handle → Type 0
@@ -78,7 +85,8 @@ IsMonitors Is found = (m : MonitorHandle) × (found ≡ Some (Monitor m)) × Is 
 -- The monitor has made a round, with this judgement.
 abbrev pub Judges : Judgement → Option Handle → Option Handle → Type 0
 Judges judgement before after =
-    (m k : MonitorHandle) × (before ≡ Some (Monitor m)) × (after ≡ Some (Monitor k)) × IsOfSameWatch m k × HasJudged m judgement k
+    (m k : MonitorHandle) × (before ≡ Some (Monitor m)) × (after ≡ Some (Monitor k))
+    × IsOfSameWatch m k × HasJudged m judgement k
 
 -- The last call of the handle's caller was an error, or a round of its monitor was illegal.
 abbrev pub HasWitness : Option Handle → Type 0

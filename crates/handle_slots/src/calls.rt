@@ -10,7 +10,8 @@ use call_handles::{Answer, Handle, Judgement};
 use core::mem::replace_with;
 use std::alloc::Global;
 
-// The handle with a call of this operation announced, where its caller may announce one, and whether it did.
+// The handle with a call of this operation announced, where its caller may announce one, and
+// whether it did.
 fn announced_by(handle: Handle, op: OpWord) -> (Handle, bool)
     requires sound { IsSound handle }
     ensures sound { IsSound result.0 }
@@ -39,8 +40,8 @@ fn announced_in(slot: Slot, given: (Global, OpWord)) -> (Slot, bool)
     (Slot::of(handle), begun)
 }
 
-/// Announces a call with this operation of the caller whose handle is in the slot, where it may announce one: whether
-/// it did. Else the handle is as it was.
+/// Announces a call with this operation of the caller whose handle is in the slot, where it may
+/// announce one: whether it did. Else the handle is as it was.
 pub fn announce(alloc: Global, slot: &mut Slot, op: OpWord) -> bool
     // The answer is true exactly where the slot has a caller that stands between two calls and has
     // a call left.
@@ -87,8 +88,9 @@ fn answered_in(slot: Slot, given: (Global, u64)) -> (Slot, Option<Answer>)
     (Slot::of(handle), answer)
 }
 
-/// Hands in the reply to the call that the caller has announced whose handle is in the slot, and judges the call. There
-/// is no answer where it has announced none, and then the handle is as it was.
+/// Hands in the reply to the call that the caller has announced whose handle is in the slot, and
+/// judges the call. There is no answer where it has announced none, and then the handle is as it
+/// was.
 pub fn answered(alloc: Global, slot: &mut Slot, reply: u64) -> Option<Answer>
     // There is an answer exactly where the slot has a caller that has announced a call.
     ensures when { IsSome result ↔ IsCallers HasAnnounced (handle_in slot.old) }
@@ -106,7 +108,8 @@ pub fn answered(alloc: Global, slot: &mut Slot, reply: u64) -> Option<Answer>
     replace_with(slot, (alloc, reply), answered_in)
 }
 
-// The handle after its announced call is published with this reply, where one is announced, and whether it was.
+// The handle after its announced call is published with this reply, where one is announced, and
+// whether it was.
 fn published_by(handle: Handle, reply: u64) -> (Handle, bool)
     requires sound { IsSound handle }
     ensures sound { IsSound result.0 }
@@ -135,8 +138,8 @@ fn published_in(slot: Slot, given: (Global, u64)) -> (Slot, bool)
     (Slot::of(handle), published)
 }
 
-/// Hands in the reply to the call that the caller has announced whose handle is in the slot, and publishes it without a
-/// judgement: whether it has announced one. Else the handle is as it was.
+/// Hands in the reply to the call that the caller has announced whose handle is in the slot, and
+/// publishes it without a judgement: whether it has announced one. Else the handle is as it was.
 pub fn publish(alloc: Global, slot: &mut Slot, reply: u64) -> bool
     // The answer is true exactly where the slot has a caller that has announced a call.
     ensures when { IsTrue result ↔ IsCallers HasAnnounced (handle_in slot.old) }
@@ -179,13 +182,14 @@ fn judged_in(slot: Slot, alloc: Global) -> (Slot, Option<Judgement>)
     (Slot::of(handle), found)
 }
 
-/// Makes a round of the monitor whose handle is in the slot, where none was illegal yet: what it found. There is no
-/// answer where the slot has no such monitor, and then the handle is as it was.
+/// Makes a round of the monitor whose handle is in the slot, where none was illegal yet: what it
+/// found. There is no answer where the slot has no such monitor, and then the handle is as it was.
 pub fn judge(alloc: Global, slot: &mut Slot) -> Option<Judgement>
     // There is an answer exactly where the slot has a monitor that has made no illegal round.
     ensures when { IsSome result ↔ IsMonitors MayJudge (handle_in slot.old) }
     // With an answer the slot's monitor has made a round with this judgement, which is right.
-    ensures judged { IfSome result (λ found. Judges found (handle_in slot.old) (handle_in slot.new)) }
+    ensures judged { IfSome result
+        (λ found. Judges found (handle_in slot.old) (handle_in slot.new)) }
     // Without an answer the handle is as it was.
     ensures unchanged { IfNone result (handle_in slot.new ≡ handle_in slot.old) }
 {
@@ -221,8 +225,8 @@ fn witness_in(slot: Slot, alloc: Global) -> (Slot, Result<Option<Vec<u8>>, NoMem
     (Slot::of(handle), found)
 }
 
-/// The text of the book of the error that the last call of the slot's caller was, or of the illegal round that the slot's
-/// monitor has made, where there is one.
+/// The text of the book of the error that the last call of the slot's caller was, or of the illegal
+/// round that the slot's monitor has made, where there is one.
 pub fn witness(alloc: Global, slot: &mut Slot) -> Result<Option<Vec<u8>>, NoMemory>
     // There is a text exactly where the last call of the slot's caller was an error, or the slot's
     // monitor has made an illegal round.
@@ -248,7 +252,8 @@ fn closed(slot: Slot, alloc: Global) -> (Slot, ())
     (empty, ())
 }
 
-/// Lets the handle go that is in the slot: whether there was one. A call that is announced stays unanswered.
+/// Lets the handle go that is in the slot: whether there was one. A call that is announced stays
+/// unanswered.
 pub fn close(alloc: Global, slot: &mut Slot) -> bool
     // The answer says whether the slot had a handle.
     ensures when { result ≡ is_some (handle_in slot.old) }

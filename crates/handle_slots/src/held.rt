@@ -8,7 +8,8 @@ use call_handles::Handle;
 use std::alloc::Global;
 use std::marker::Model;
 
-/// The pointer by which a program in another language holds a handle: a box lies there, or nothing does.
+/// The pointer by which a program in another language holds a handle: a box lies there, or nothing
+/// does.
 #[repr(C)]
 #[derive(Drop)]
 pub struct Held {
@@ -33,7 +34,8 @@ impl Held {
     /// The box that lies there, and the pointer with nothing.
     pub(crate) fn take(self, alloc: Global) -> (Loose<Handle, Global>, Held)
         requires some { IsSome self.value }
-        ensures { (self.value ≡ Some result.0.value) × IsSound result.0.value × (result.1.value ≡ None) }
+        ensures { (self.value ≡ Some result.0.value) × IsSound result.0.value
+            × (result.1.value ≡ None) }
     {
         let Held { at } = self;
         let loose = Loose {

@@ -1,4 +1,5 @@
-//! Handles in places of a program in another language: a pointer to a box in each, and the calls on what lies there.
+//! Handles in places of a program in another language: a pointer to a box in each, and the calls on
+//! what lies there.
 #![tactic(auto)]
 
 mod calls;

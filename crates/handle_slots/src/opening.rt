@@ -11,8 +11,9 @@ use core::mem::replace_with;
 use seq_objects::Kind;
 use std::alloc::Global;
 
-/// Opens a table for this many callers, 1 to 16, with 1 to 256 calls each, which are judged by the kind of this name, and
-/// puts its handle into the slot: whether it does. It doesn't where there is no such table, or the slot has a handle.
+/// Opens a table for this many callers, 1 to 16, with 1 to 256 calls each, which are judged by the
+/// kind of this name, and puts its handle into the slot: whether it does. It doesn't where there is
+/// no such table, or the slot has a handle.
 pub fn open(
     alloc: Global,
     kind: &[u8],
@@ -120,8 +121,9 @@ fn filled(mut place: Box<Handle>, handle: Handle) -> Box<Handle>
     place
 }
 
-/// Puts the handle of the next caller of a table into the slot, in this role: whether it does. It doesn't where the
-/// first slot has no table, where this has given all its callers, or where the second slot has a handle.
+/// Puts the handle of the next caller of a table into the slot, in this role: whether it does. It
+/// doesn't where the first slot has no table, where this has given all its callers, or where the
+/// second slot has a handle.
 pub fn give(alloc: Global, role: Role, table: &mut Slot, slot: &mut Slot) -> Result<bool, NoMemory>
     // The answer is true exactly where the first slot has a table with a caller left to give, and
     // the second slot had no handle.

@@ -5,7 +5,8 @@ use crate::loose::Loose;
 use call_handles::Handle;
 use std::alloc::Global;
 
-/// A place of a program in another language for one handle. It has one where `in_use` is 1; all zero, it has none.
+/// A place of a program in another language for one handle. It has one where `in_use` is 1; all
+/// zero, it has none.
 #[repr(C)]
 #[derive(Drop)]
 pub struct Slot {

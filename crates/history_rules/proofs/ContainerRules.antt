@@ -17,59 +17,91 @@ use Rattle.history_rules.proofs.Runs.{step_of_run, holds_what_was_put}
 use Rattle.history_rules.proofs.Orders.{steps_of, answered_step, putting_step, put_alone, put_at_one_place, call_of_put, call_of_take}
 
 -- what is held after a prefix of a run from empty
-pub held_after : (reading : Reading) (next : List ℕ → ℕ → List ℕ × ℕ) → IsContainer reading next → (v : ℕ) (list : List ℕ) (steps : List (ℕ × ℕ)) → IsRunFrom next list steps → reading.values list ≡ []
-    → (n : ℕ) → how_often (put_by reading) v (take n steps) ≡ how_often (taken_by reading) v (take n steps) + times v (reading.values (list_after_run next list (take n steps)))
+pub held_after : (reading : Reading) (next : List ℕ → ℕ → List ℕ × ℕ) → IsContainer reading next
+    → (v : ℕ) (list : List ℕ) (steps : List (ℕ × ℕ)) → IsRunFrom next list steps
+    → reading.values list ≡ []
+    → (n : ℕ) → how_often (put_by reading) v (take n steps) ≡ how_often (taken_by reading) v
+    (take n steps) + times v (reading.values (list_after_run next list (take n steps)))
 held_after reading next is v list steps run empty n =
-    omega (arith, ap (times v) empty, holds_what_was_put reading next is v list (take n steps) (IsRunFrom-take next list n steps run))
+    omega (
+      arith,
+      ap (times v) empty,
+      holds_what_was_put reading next is v list (take n steps)
+          (IsRunFrom-take next list n steps run),
+    )
 
 -- a step that takes, and what it shows
-pub take_at : (reading : Reading) (next : List ℕ → ℕ → List ℕ × ℕ) → IsContainer reading next → (list : List ℕ) (steps : List (ℕ × ℕ)) → IsRunFrom next list steps
-    → (k : ℕ) (step : ℕ × ℕ) (shown : Option ℕ) → slice_get steps k ≡ Some step → reading.deed step.0 ≡ Takes → reading.shown step.1 ≡ shown
-    → GivesOne (reading.values (list_after_run next list (take k steps))) shown (reading.values (next (list_after_run next list (take k steps)) step.0).0)
+pub take_at : (reading : Reading) (next : List ℕ → ℕ → List ℕ × ℕ) → IsContainer reading next
+    → (list : List ℕ) (steps : List (ℕ × ℕ)) → IsRunFrom next list steps
+    → (k : ℕ) (step : ℕ × ℕ) (shown : Option ℕ) → slice_get steps k ≡ Some step
+    → reading.deed step.0 ≡ Takes → reading.shown step.1 ≡ shown
+    → GivesOne (reading.values (list_after_run next list (take k steps))) shown
+    (reading.values (next (list_after_run next list (take k steps)) step.0).0)
 take_at reading next is list steps run k step shown at deed shows =
     let before : List ℕ = list_after_run next list (take k steps) in
     let reply = (step_of_run next list steps k step run at).0 in
-    subst (λ (o : Option ℕ). GivesOne (reading.values before) o (reading.values (next before step.0).0)) (ap reading.shown reply ∙ shows) (is.take before step.0 deed)
+    subst
+    (λ (o : Option ℕ). GivesOne (reading.values before) o (reading.values (next before step.0).0))
+    (ap reading.shown reply ∙ shows) (is.take before step.0 deed)
 
 -- what a step puts in or takes out, from its deed
-pub puts_by : (reading : Reading) (step : ℕ × ℕ) (v : ℕ) → reading.deed step.0 ≡ Puts v → put_by reading step ≡ Some v
+pub puts_by : (reading : Reading) (step : ℕ × ℕ) (v : ℕ) → reading.deed step.0 ≡ Puts v
+    → put_by reading step ≡ Some v
 puts_by reading step v deed = ap value_put deed
 
-pub takes_by : (reading : Reading) (step : ℕ × ℕ) (v : ℕ) → reading.deed step.0 ≡ Takes → reading.shown step.1 ≡ Some v → taken_by reading step ≡ Some v
-takes_by reading step v deed shows = ap (λ (d : Deed). value_taken d (reading.shown step.1)) deed ∙ shows
+pub takes_by : (reading : Reading) (step : ℕ × ℕ) (v : ℕ) → reading.deed step.0 ≡ Takes
+    → reading.shown step.1 ≡ Some v → taken_by reading step ≡ Some v
+takes_by reading step v deed shows =
+    ap (λ (d : Deed). value_taken d (reading.shown step.1)) deed ∙ shows
 
 -- no step both puts in and takes
-pub deeds_apart : (reading : Reading) (steps : List (ℕ × ℕ)) (j k : ℕ) (a b : ℕ × ℕ) (v : ℕ) → slice_get steps j ≡ Some a → slice_get steps k ≡ Some b
+pub deeds_apart : (reading : Reading) (steps : List (ℕ × ℕ)) (j k : ℕ) (a b : ℕ × ℕ) (v : ℕ)
+    → slice_get steps j ≡ Some a → slice_get steps k ≡ Some b
     → reading.deed a.0 ≡ Puts v → reading.deed b.0 ≡ Takes → j ≡ k → ⊥
 deeds_apart reading steps j k a b v at_a at_b puts takes same =
     let one : a ≡ b = same_Some a b (sym at_a ∙ (ap (slice_get steps) same ∙ at_b)) in
     let deed : Puts v ≡ Takes = sym puts ∙ (ap (λ (s : ℕ × ℕ). reading.deed s.0) one ∙ takes) in
     none-some v (sym (ap value_put deed))
 
--- Nothing is held where a take found nothing, so a value that was put in before was taken out before.
-taken_before_empty : (reading : Reading) (next : List ℕ → ℕ → List ℕ × ℕ) → IsContainer reading next → (list : List ℕ) (steps : List (ℕ × ℕ)) → IsRunFrom next list steps → reading.values list ≡ []
-    → (v q e : ℕ) (step_q step_e : ℕ × ℕ) → slice_get steps q ≡ Some step_q → reading.deed step_q.0 ≡ Puts v
-    → slice_get steps e ≡ Some step_e → reading.deed step_e.0 ≡ Takes → reading.shown step_e.1 ≡ None → q < e
+-- Nothing is held where a take found nothing, so a value that was put in before was taken out
+-- before.
+taken_before_empty : (reading : Reading) (next : List ℕ → ℕ → List ℕ × ℕ) → IsContainer reading next
+    → (list : List ℕ) (steps : List (ℕ × ℕ)) → IsRunFrom next list steps → reading.values list ≡ []
+    → (v q e : ℕ) (step_q step_e : ℕ × ℕ) → slice_get steps q ≡ Some step_q
+    → reading.deed step_q.0 ≡ Puts v
+    → slice_get steps e ≡ Some step_e → reading.deed step_e.0 ≡ Takes
+    → reading.shown step_e.1 ≡ None → q < e
     → 1 ≤ how_often (taken_by reading) v (take e steps)
-taken_before_empty reading next is list steps run empty v q e step_q step_e at_q puts at_e takes shows lt =
+taken_before_empty reading next is list steps run empty v q e step_q step_e at_q puts at_e
+    takes shows lt =
     let nothing = (take_at reading next is list steps run e step_e None at_e takes shows).0 in
-    omega (arith, held_after reading next is v list steps run empty e, ap (times v) nothing, how_often-more (put_by reading) v steps q e step_q at_q (puts_by reading step_q v puts) lt)
+    omega (
+      arith,
+      held_after reading next is v list steps run empty e,
+      ap (times v) nothing,
+      how_often-more (put_by reading) v steps q e step_q at_q (puts_by reading step_q v puts) lt,
+    )
 
 -- what is put in by one call alone is put in at most once
-pub puts_at_most_one : (reading : Reading) (init : List ℕ) (next : List ℕ → ℕ → List ℕ × ℕ) (book : List Page) (order : List Place) → IsLegalOrder init next book order
-    → (call : Call) (v : ℕ) → PutsInAlone reading book call v → (n : ℕ) → how_often (put_by reading) v (take n (steps_of book order)) ≤ 1
+pub puts_at_most_one : (reading : Reading) (init : List ℕ) (next : List ℕ → ℕ → List ℕ × ℕ)
+    (book : List Page) (order : List Place) → IsLegalOrder init next book order
+    → (call : Call) (v : ℕ) → PutsInAlone reading book call v → (n : ℕ)
+    → how_often (put_by reading) v (take n (steps_of book order)) ≤ 1
 puts_at_most_one reading init next book order legal call v alone n =
     let steps = steps_of book order in
     elim (cases_lt (how_often (put_by reading) v (take n steps)) 1) [
       | inl none ↦ omega arith
       | inr some ↦
           let found = how_often-found (put_by reading) v steps n some in
-          let stands : StandsAt order found.0 call = put_alone reading init next book order legal call v alone found.0 found.1 found.3 found.4 in
-          how_often-once (put_by reading) v found.0 steps n (put_at_one_place reading init next book order legal call v found.0 alone stands)
+          let stands : StandsAt order found.0 call = put_alone reading init next book order legal
+          call v alone found.0 found.1 found.3 found.4 in
+          how_often-once (put_by reading) v found.0 steps n
+          (put_at_one_place reading init next book order legal call v found.0 alone stands)
     ]
 
 pub empty_before_put : EmptyBeforePut
-empty_before_put reading init next book is none v empty take_v put_v finds takes precedes alone order legal q stands =
+empty_before_put reading init next book is none v empty take_v put_v finds takes precedes alone
+    order legal q stands =
     let steps = steps_of book order in
     let e = answered_step reading init next book order legal empty None finds in
     let m = answered_step reading init next book order legal take_v (Some v) takes in
@@ -79,17 +111,29 @@ empty_before_put reading init next book is none v empty take_v put_v finds takes
       | inl before ↦ (e.0, before, e.2)
       | inr le ↦ elim (cases_lt q e.0) [
         | inl after ↦
-            let once = puts_at_most_one reading init next book order legal put_v v alone (suc m.0) in
-            let early = taken_before_empty reading next is init steps legal.run none v q e.0 put.0 e.1 put.1 put.2 e.3 e.4 e.5 after in
+            let once =
+            puts_at_most_one reading init next book order legal put_v v alone (suc m.0) in
+            let early = taken_before_empty reading next is init steps legal.run none v q e.0 put.0
+            e.1 put.1 put.2 e.3 e.4 e.5 after in
             let grows = how_often-grows (taken_by reading) v steps e.0 m.0 (omega arith) in
-            let more = how_often-more (taken_by reading) v steps m.0 (suc m.0) m.1 m.3 (takes_by reading m.1 v m.4 m.5) (omega arith) in
-            absurd (omega (arith, once, early, grows, more, held_after reading next is v init steps legal.run none (suc m.0)))
-        | inr ge ↦ absurd (deeds_apart reading steps q e.0 put.0 e.1 v put.1 e.3 put.2 e.4 (omega arith))
+            let more = how_often-more (taken_by reading) v steps m.0 (suc m.0) m.1 m.3
+            (takes_by reading m.1 v m.4 m.5) (omega arith) in
+            absurd (omega (
+              arith,
+              once,
+              early,
+              grows,
+              more,
+              held_after reading next is v init steps legal.run none (suc m.0),
+            ))
+        | inr ge ↦
+            absurd (deeds_apart reading steps q e.0 put.0 e.1 v put.1 e.3 put.2 e.4 (omega arith))
       ]
     ]
 
 pub empty_before_kept : EmptyBeforeKept
-empty_before_kept reading init next book is none all v empty put_v finds puts never order legal q stands =
+empty_before_kept reading init next book is none all v empty put_v finds puts never order
+    legal q stands =
     let steps = steps_of book order in
     let e = answered_step reading init next book order legal empty None finds in
     let put = putting_step reading book order put_v v q puts stands in
@@ -97,11 +141,14 @@ empty_before_kept reading init next book is none all v empty put_v finds puts ne
       | inl before ↦ (e.0, before, e.2)
       | inr le ↦ elim (cases_lt q e.0) [
         | inl after ↦
-            let early = taken_before_empty reading next is init steps legal.run none v q e.0 put.0 e.1 put.1 put.2 e.3 e.4 e.5 after in
+            let early = taken_before_empty reading next is init steps legal.run none v q e.0 put.0
+            e.1 put.1 put.2 e.3 e.4 e.5 after in
             let found = how_often-found (taken_by reading) v steps e.0 early in
-            let taker = call_of_take reading init next book order legal all found.0 v found.1 found.3 found.4 in
+            let taker =
+            call_of_take reading init next book order legal all found.0 v found.1 found.3 found.4 in
             absurd (never taker.0 taker.1)
-        | inr ge ↦ absurd (deeds_apart reading steps q e.0 put.0 e.1 v put.1 e.3 put.2 e.4 (omega arith))
+        | inr ge ↦
+            absurd (deeds_apart reading steps q e.0 put.0 e.1 v put.1 e.3 put.2 e.4 (omega arith))
       ]
     ]
 
@@ -111,21 +158,32 @@ taken_is_put reading init next book is none v take_v takes never h =
     let legal = h.1 in
     let steps = steps_of book order in
     let m = answered_step reading init next book order legal take_v (Some v) takes in
-    let more = how_often-more (taken_by reading) v steps m.0 (suc m.0) m.1 m.3 (takes_by reading m.1 v m.4 m.5) (omega arith) in
-    let found = how_often-found (put_by reading) v steps (suc m.0) (omega (arith, more, held_after reading next is v init steps legal.run none (suc m.0))) in
+    let more = how_often-more (taken_by reading) v steps m.0 (suc m.0) m.1 m.3
+    (takes_by reading m.1 v m.4 m.5) (omega arith) in
+    let found = how_often-found (put_by reading) v steps (suc m.0)
+    (omega (arith, more, held_after reading next is v init steps legal.run none (suc m.0))) in
     let putter = call_of_put reading init next book order legal found.0 v found.1 found.3 found.4 in
     never putter.0 putter.2
 
 -- a value that is put in once is taken out once
-pub taken_at_one_place : (reading : Reading) (init : List ℕ) (next : List ℕ → ℕ → List ℕ × ℕ) (book : List Page) (order : List Place) → IsContainer reading next → reading.values init ≡ []
+pub taken_at_one_place : (reading : Reading) (init : List ℕ) (next : List ℕ → ℕ → List ℕ × ℕ)
+    (book : List Page) (order : List Place) → IsContainer reading next → reading.values init ≡ []
     → IsLegalOrder init next book order → (v : ℕ) (put_v : Call) → PutsInAlone reading book put_v v
-    → (j k : ℕ) (a b : ℕ × ℕ) → slice_get (steps_of book order) j ≡ Some a → taken_by reading a ≡ Some v → slice_get (steps_of book order) k ≡ Some b → taken_by reading b ≡ Some v → j < k → ⊥
-taken_at_one_place reading init next book order is none legal v put_v alone j k a b at_a is_a at_b is_b lt =
+    → (j k : ℕ) (a b : ℕ × ℕ) → slice_get (steps_of book order) j ≡ Some a → taken_by reading a
+    ≡ Some v → slice_get (steps_of book order) k ≡ Some b → taken_by reading b ≡ Some v → j < k → ⊥
+taken_at_one_place reading init next book order is none legal v put_v alone j k a b at_a is_a
+    at_b is_b lt =
     let steps = steps_of book order in
     let first = how_often-more (taken_by reading) v steps j k a at_a is_a lt in
     let second = how_often-more (taken_by reading) v steps k (suc k) b at_b is_b (omega arith) in
     let held = held_after reading next is v init steps legal.run none (suc k) in
-    absurd (omega (arith, first, second, held, puts_at_most_one reading init next book order legal put_v v alone (suc k)))
+    absurd (omega (
+      arith,
+      first,
+      second,
+      held,
+      puts_at_most_one reading init next book order legal put_v v alone (suc k),
+    ))
 
 pub taken_once : TakenOnce
 taken_once reading init next book is none v one other put_v apart takes_one takes_other alone h =
@@ -134,24 +192,31 @@ taken_once reading init next book is none v one other put_v apart takes_one take
     let a = answered_step reading init next book order legal one (Some v) takes_one in
     let b = answered_step reading init next book order legal other (Some v) takes_other in
     elim (cases_lt a.0 b.0) [
-      | inl lt ↦ taken_at_one_place reading init next book order is none legal v put_v alone a.0 b.0 a.1 b.1 a.3 (takes_by reading a.1 v a.4 a.5) b.3 (takes_by reading b.1 v b.4 b.5) lt
+      | inl lt ↦ taken_at_one_place reading init next book order is none legal v put_v alone a.0 b.0
+          a.1 b.1 a.3 (takes_by reading a.1 v a.4 a.5) b.3 (takes_by reading b.1 v b.4 b.5) lt
       | inr le ↦ elim (cases_lt b.0 a.0) [
-        | inl gt ↦ taken_at_one_place reading init next book order is none legal v put_v alone b.0 a.0 b.1 a.1 b.3 (takes_by reading b.1 v b.4 b.5) a.3 (takes_by reading a.1 v a.4 a.5) gt
+        | inl gt ↦ taken_at_one_place reading init next book order is none legal v put_v alone b.0
+            a.0 b.1 a.1 b.3 (takes_by reading b.1 v b.4 b.5) a.3 (takes_by reading a.1 v a.4 a.5) gt
         | inr ge ↦
             let same : a.0 ≡ b.0 = omega arith in
-            let place : a.2.0 ≡ b.2.0 = same_Some a.2.0 b.2.0 (sym a.2.1 ∙ (ap (slice_get order) same ∙ b.2.1)) in
+            let place : a.2.0 ≡ b.2.0 =
+            same_Some a.2.0 b.2.0 (sym a.2.1 ∙ (ap (slice_get order) same ∙ b.2.1)) in
             apart (sym a.2.2 ∙ (ap call_at place ∙ b.2.2))
       ]
     ]
 
 -- what each step keeps, a run keeps
-kept_along : (next : List ℕ → ℕ → List ℕ × ℕ) (kept : List ℕ → Bool) → ((list : List ℕ) (op : ℕ) → IsTrue (kept list) → IsTrue (kept (next list op).0))
-    → (list : List ℕ) (steps : List (ℕ × ℕ)) → IsTrue (kept list) → IsTrue (kept (list_after_run next list steps))
+kept_along : (next : List ℕ → ℕ → List ℕ × ℕ) (kept : List ℕ → Bool)
+    → ((list : List ℕ) (op : ℕ) → IsTrue (kept list) → IsTrue (kept (next list op).0))
+    → (list : List ℕ) (steps : List (ℕ × ℕ)) → IsTrue (kept list)
+    → IsTrue (kept (list_after_run next list steps))
 kept_along next kept keeps list [] now = now
-kept_along next kept keeps list (step ∷ steps) now = kept_along next kept keeps (next list step.0).0 steps (keeps list step.0 now)
+kept_along next kept keeps list (step ∷ steps) now =
+    kept_along next kept keeps (next list step.0).0 steps (keeps list step.0 now)
 
 pub greater_before_put : GreaterBeforePut
-greater_before_put reading init next kept book is kept_init none v w take_v take_w put_w less takes_v takes_w precedes alone order legal q stands =
+greater_before_put reading init next kept book is kept_init none v w take_v take_w put_w less
+    takes_v takes_w precedes alone order legal q stands =
     let steps = steps_of book order in
     let a = answered_step reading init next book order legal take_v (Some v) takes_v in
     let b = answered_step reading init next book order legal take_w (Some w) takes_w in
@@ -162,17 +227,29 @@ greater_before_put reading init next kept book is kept_init none v w take_v take
       | inr le ↦ elim (cases_lt q a.0) [
         | inl after ↦
             let here : List ℕ = list_after_run next init (take a.0 steps) in
-            let put_more = how_often-more (put_by reading) w steps q a.0 put.0 put.1 (puts_by reading put.0 w put.2) after in
-            let none_taken : how_often (taken_by reading) w (take a.0 steps) ≡ 0 = elim (cases_lt (how_often (taken_by reading) w (take a.0 steps)) 1) [
+            let put_more = how_often-more (put_by reading) w steps q a.0 put.0 put.1
+            (puts_by reading put.0 w put.2) after in
+            let none_taken : how_often (taken_by reading) w (take a.0 steps) ≡ 0 =
+            elim (cases_lt (how_often (taken_by reading) w (take a.0 steps)) 1) [
               | inl zero_times ↦ omega arith
               | inr some ↦
                   let found = how_often-found (taken_by reading) w steps a.0 some in
-                  absurd (taken_at_one_place reading init next book order is.container none legal w put_w alone found.0 b.0 found.1 b.1 found.3 found.4 b.3 (takes_by reading b.1 w b.4 b.5) (omega (arith, found.2)))
+                  absurd (taken_at_one_place reading init next book order is.container none legal w
+                  put_w alone found.0 b.0 found.1 b.1 found.3 found.4 b.3
+                  (takes_by reading b.1 w b.4 b.5) (omega (arith, found.2)))
             ] in
-            let held : 1 ≤ times w (reading.values here) = omega (arith, put_more, none_taken, held_after reading next is.container w init steps legal.run none a.0) in
-            let shows : reading.shown (next here a.1.0).1 ≡ Some v = ap reading.shown (step_of_run next init steps a.0 a.1 legal.run a.3).0 ∙ a.5 in
-            let wrong = is.least here a.1.0 v w (kept_along next kept is.keeps init (take a.0 steps) kept_init) a.4 shows held in
+            let held : 1 ≤ times w (reading.values here) = omega (
+              arith,
+              put_more,
+              none_taken,
+              held_after reading next is.container w init steps legal.run none a.0,
+            ) in
+            let shows : reading.shown (next here a.1.0).1 ≡ Some v =
+            ap reading.shown (step_of_run next init steps a.0 a.1 legal.run a.3).0 ∙ a.5 in
+            let wrong = is.least here a.1.0 v w
+            (kept_along next kept is.keeps init (take a.0 steps) kept_init) a.4 shows held in
             absurd (omega (arith, wrong, less))
-        | inr ge ↦ absurd (deeds_apart reading steps q a.0 put.0 a.1 w put.1 a.3 put.2 a.4 (omega arith))
+        | inr ge ↦
+            absurd (deeds_apart reading steps q a.0 put.0 a.1 w put.1 a.3 put.2 a.4 (omega arith))
       ]
     ]

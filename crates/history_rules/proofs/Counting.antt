@@ -15,7 +15,8 @@ abbrev pub how_often : {X : Type 0} → (X → Option ℕ) → ℕ → List X �
 how_often f v [] = 0
 how_often f v (x ∷ xs) = is_once v (f x) + how_often f v xs
 
-pub is_once-cases : (v : ℕ) (o : Option ℕ) → ((o ≡ Some v) × (is_once v o ≡ 1)) ⊎ ((o ≡ Some v → ⊥) × (is_once v o ≡ 0))
+pub is_once-cases : (v : ℕ) (o : Option ℕ) → ((o ≡ Some v) × (is_once v o ≡ 1))
+    ⊎ ((o ≡ Some v → ⊥) × (is_once v o ≡ 0))
 is_once-cases v None = inr (λ e. none-some v e, refl)
 is_once-cases v (Some w) = elim (cases_eq w v) [
   | inl same ↦ inl (ap (λ (n : ℕ). Some n) same, ap one_if (eq-eqb w v same))
@@ -26,24 +27,29 @@ pub is_once-same : (v : ℕ) (o : Option ℕ) → o ≡ Some v → is_once v o �
 is_once-same v o e = elim (is_once-cases v o) [ inl here ↦ here.1 | inr other ↦ absurd (other.0 e) ]
 
 -- a longer prefix shows it as often
-pub how_often-grows : {X : Type 0} (f : X → Option ℕ) (v : ℕ) (xs : List X) (m n : ℕ) → m ≤ n → how_often f v (take m xs) ≤ how_often f v (take n xs)
+pub how_often-grows : {X : Type 0} (f : X → Option ℕ) (v : ℕ) (xs : List X) (m n : ℕ) → m ≤ n
+    → how_often f v (take m xs) ≤ how_often f v (take n xs)
 how_often-grows f v xs zero n le = omega arith
 how_often-grows f v xs (suc m) zero le = absurd (omega arith)
 how_often-grows f v [] (suc m) (suc n) le = omega arith
-how_often-grows f v (x ∷ xs) (suc m) (suc n) le = omega (arith, how_often-grows f v xs m n (omega arith))
+how_often-grows f v (x ∷ xs) (suc m) (suc n) le =
+    omega (arith, how_often-grows f v xs m n (omega arith))
 
 -- and once more where an item between shows it
-pub how_often-more : {X : Type 0} (f : X → Option ℕ) (v : ℕ) (xs : List X) (k n : ℕ) (x : X) → slice_get xs k ≡ Some x → f x ≡ Some v → k < n
+pub how_often-more : {X : Type 0} (f : X → Option ℕ) (v : ℕ) (xs : List X) (k n : ℕ) (x : X)
+    → slice_get xs k ≡ Some x → f x ≡ Some v → k < n
     → how_often f v (take k xs) + 1 ≤ how_often f v (take n xs)
 how_often-more f v [] k n x e is lt = absurd (none-some x e)
 how_often-more f v (y ∷ ys) k zero x e is lt = absurd (omega arith)
 how_often-more f v (y ∷ ys) zero (suc n) x e is lt =
     let here : is_once v (f y) ≡ 1 = is_once-same v (f y) (ap f (same_Some y x e) ∙ is) in
     omega (arith, here)
-how_often-more f v (y ∷ ys) (suc k) (suc n) x e is lt = omega (arith, how_often-more f v ys k n x e is (omega arith))
+how_often-more f v (y ∷ ys) (suc k) (suc n) x e is lt =
+    omega (arith, how_often-more f v ys k n x e is (omega arith))
 
 -- what is shown is shown somewhere
-pub how_often-found : {X : Type 0} (f : X → Option ℕ) (v : ℕ) (xs : List X) (n : ℕ) → 1 ≤ how_often f v (take n xs)
+pub how_often-found : {X : Type 0} (f : X → Option ℕ) (v : ℕ) (xs : List X) (n : ℕ)
+    → 1 ≤ how_often f v (take n xs)
     → (k : ℕ) × (x : X) × (k < n) × (slice_get xs k ≡ Some x) × (f x ≡ Some v)
 how_often-found f v xs zero some = absurd (omega arith)
 how_often-found f v [] (suc n) some = absurd (omega arith)
@@ -56,12 +62,16 @@ how_often-found f v (x ∷ xs) (suc n) some = elim (is_once-cases v (f x)) [
 
 -- what is shown in one place alone is shown once
 pub how_often-once : {X : Type 0} (f : X → Option ℕ) (v q : ℕ) (xs : List X) (n : ℕ)
-    → ((k : ℕ) (x : X) → slice_get xs k ≡ Some x → f x ≡ Some v → k ≡ q) → how_often f v (take n xs) ≤ 1
+    → ((k : ℕ) (x : X) → slice_get xs k ≡ Some x → f x ≡ Some v → k ≡ q)
+    → how_often f v (take n xs) ≤ 1
 how_often-once f v q xs zero only = omega arith
 how_often-once f v q [] (suc n) only = omega arith
 how_often-once f v zero (x ∷ xs) (suc n) only =
     elim (cases_lt (how_often f v (take n xs)) 1) [
-      | inl none ↦ elim (is_once-cases v (f x)) [ inl here ↦ omega (arith, here.1) | inr past ↦ omega (arith, past.1) ]
+      | inl none ↦ elim (is_once-cases v (f x)) [
+        | inl here ↦ omega (arith, here.1)
+        | inr past ↦ omega (arith, past.1)
+      ]
       | inr some ↦
           let found = how_often-found f v xs n some in
           let wrong : suc found.0 ≡ 0 = only (suc found.0) found.1 found.3 found.4 in
@@ -70,35 +80,62 @@ how_often-once f v zero (x ∷ xs) (suc n) only =
 how_often-once f v (suc q) (x ∷ xs) (suc n) only =
     elim (is_once-cases v (f x)) [
       | inl here ↦ let wrong : 0 ≡ suc q = only 0 x refl here.0 in absurd (omega arith)
-      | inr past ↦ omega (arith, past.1, how_often-once f v q xs n (λ k y e is. let same : suc k ≡ suc q = only (suc k) y e is in omega arith))
+      | inr past ↦ omega (
+        arith,
+        past.1,
+        how_often-once f v q xs n
+            (λ k y e is. let same : suc k ≡ suc q = only (suc k) y e is in omega arith),
+      )
     ]
 
 -- what is shown more than some number of times is shown after that number of times
-pub how_often-next : {X : Type 0} (f : X → Option ℕ) (v : ℕ) (xs : List X) (n t : ℕ) → t < how_often f v (take n xs)
-    → (k : ℕ) × (x : X) × (k < n) × (slice_get xs k ≡ Some x) × (f x ≡ Some v) × (how_often f v (take k xs) ≡ t)
+pub how_often-next : {X : Type 0} (f : X → Option ℕ) (v : ℕ) (xs : List X) (n t : ℕ)
+    → t < how_often f v (take n xs)
+    → (k : ℕ) × (x : X) × (k < n) × (slice_get xs k ≡ Some x) × (f x ≡ Some v)
+    × (how_often f v (take k xs) ≡ t)
 how_often-next f v xs zero t more = absurd (omega arith)
 how_often-next f v [] (suc n) t more = absurd (omega arith)
 how_often-next f v (x ∷ xs) (suc n) zero more = elim (is_once-cases v (f x)) [
   | inl here ↦ (0, x, omega arith, refl, here.0, refl)
   | inr past ↦
-      let found = how_often-next f v xs n 0 (omega (arith, past.1)) in
-      (suc found.0, found.1, omega (arith, found.2), found.3, found.4, omega (arith, past.1, found.5))
+      let found = how_often-next f v xs n 0 (omega (arith, past.1)) in (
+        suc found.0,
+        found.1,
+        omega (arith, found.2),
+        found.3,
+        found.4,
+        omega (arith, past.1, found.5),
+      )
 ]
 how_often-next f v (x ∷ xs) (suc n) (suc t) more = elim (is_once-cases v (f x)) [
   | inl here ↦
-      let found = how_often-next f v xs n t (omega (arith, here.1)) in
-      (suc found.0, found.1, omega (arith, found.2), found.3, found.4, omega (arith, here.1, found.5))
+      let found = how_often-next f v xs n t (omega (arith, here.1)) in (
+        suc found.0,
+        found.1,
+        omega (arith, found.2),
+        found.3,
+        found.4,
+        omega (arith, here.1, found.5),
+      )
   | inr past ↦
-      let found = how_often-next f v xs n (suc t) (omega (arith, past.1)) in
-      (suc found.0, found.1, omega (arith, found.2), found.3, found.4, omega (arith, past.1, found.5))
+      let found = how_often-next f v xs n (suc t) (omega (arith, past.1)) in (
+        suc found.0,
+        found.1,
+        omega (arith, found.2),
+        found.3,
+        found.4,
+        omega (arith, past.1, found.5),
+      )
 ]
 
 -- how often a value is among all that is shown
-times-option : (v : ℕ) (o : Option ℕ) (vs : List ℕ) → times v (cons_option o vs) ≡ is_once v o + times v vs
+times-option : (v : ℕ) (o : Option ℕ) (vs : List ℕ)
+    → times v (cons_option o vs) ≡ is_once v o + times v vs
 times-option v None vs = omega arith
 times-option v (Some w) vs = refl
 
-pub times-shown : {X : Type 0} (f : X → Option ℕ) (v : ℕ) (xs : List X) → times v (filter_map f xs) ≡ how_often f v xs
+pub times-shown : {X : Type 0} (f : X → Option ℕ) (v : ℕ) (xs : List X)
+    → times v (filter_map f xs) ≡ how_often f v xs
 times-shown f v [] = refl
 times-shown f v (x ∷ xs) = omega (arith, times-option v (f x) (filter_map f xs), times-shown f v xs)
 
@@ -108,7 +145,8 @@ pub how_often-none : {X : Type 0} (f : X → Option ℕ) (v : ℕ) (xs : List X)
 how_often-none f v xs n never =
     elim (cases_lt (how_often f v (take n xs)) 1) [
       | inl none ↦ omega arith
-      | inr some ↦ let found = how_often-found f v xs n some in absurd (never found.0 found.1 found.3 found.4)
+      | inr some ↦ let found = how_often-found f v xs n some in
+          absurd (never found.0 found.1 found.3 found.4)
     ]
 
 -- how often a value is in two lists together
@@ -127,7 +165,8 @@ pub times-found : (v : ℕ) (xs : List ℕ) → 1 ≤ times v xs → (k : ℕ) �
 times-found v [] some = absurd (omega arith)
 times-found v (x ∷ xs) some = elim (cases_eq x v) [
   | inl same ↦ (0, ap (λ (n : ℕ). Some n) same)
-  | inr apart ↦ let found = times-found v xs (omega (arith, ap one_if (ne_eqb x v apart))) in (suc found.0, found.1)
+  | inr apart ↦ let found = times-found v xs (omega (arith, ap one_if (ne_eqb x v apart))) in
+      (suc found.0, found.1)
 ]
 
 pub times-first : (v : ℕ) (xs : List ℕ) → times v (v ∷ xs) ≡ 1 + times v xs

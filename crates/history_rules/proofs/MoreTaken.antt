@@ -18,14 +18,23 @@ use Rattle.history_rules.proofs.ContainerRules.{held_after, takes_by}
 
 pub gives_what_was_put : ContainerGivesWhatWasPut
 gives_what_was_put reading init next steps v is none run =
-    omega (arith, ap (times v) none, holds_what_was_put reading next is v init steps run, times-shown (put_by reading) v steps, times-shown (taken_by reading) v steps)
+    omega (
+      arith,
+      ap (times v) none,
+      holds_what_was_put reading next is v init steps run,
+      times-shown (put_by reading) v steps,
+      times-shown (taken_by reading) v steps,
+    )
 
 -- calls that stand at one place are one
-one_call : (order : List Place) (k : ℕ) (a b : Call) → StandsAt order k a → StandsAt order k b → a ≡ b
+one_call : (order : List Place) (k : ℕ) (a b : Call) → StandsAt order k a
+    → StandsAt order k b → a ≡ b
 one_call order k a b s t = sym s.2 ∙ (ap call_at (same_Some s.0 t.0 (sym s.1 ∙ t.1)) ∙ t.2)
 
--- A taker is matched with the putter whose value it takes, if equal values are taken in the order in which they are put in.
-record AreMatched (reading : Reading) (book : List Page) (order : List Place) (v : ℕ) (takers putters : List Call) (i j : ℕ) : Type 0 where
+-- A taker is matched with the putter whose value it takes, if equal values are taken in the order
+-- in which they are put in.
+record AreMatched (reading : Reading) (book : List Page) (order : List Place) (v : ℕ)
+    (takers putters : List Call) (i j : ℕ) : Type 0 where
   taker : Call
   putter : Call
   is_taker : slice_get takers i ≡ Some taker
@@ -37,21 +46,28 @@ record AreMatched (reading : Reading) (book : List Page) (order : List Place) (v
   putter_stands : StandsAt order put_place putter
   there : slice_get (steps_of book order) take_place ≡ Some step
   takes : taken_by reading step ≡ Some v
-  same : how_often (taken_by reading) v (take take_place (steps_of book order)) ≡ how_often (put_by reading) v (take put_place (steps_of book order))
+  same : how_often (taken_by reading) v (take take_place (steps_of book order))
+      ≡ how_often (put_by reading) v (take put_place (steps_of book order))
 
-matched : (reading : Reading) (init : List ℕ) (next : List ℕ → ℕ → List ℕ × ℕ) (book : List Page) (order : List Place) → IsContainer reading next → reading.values init ≡ []
+matched : (reading : Reading) (init : List ℕ) (next : List ℕ → ℕ → List ℕ × ℕ) (book : List Page)
+    (order : List Place) → IsContainer reading next → reading.values init ≡ []
     → IsLegalOrder init next book order → (v : ℕ) (takers putters : List Call)
     → ((k : ℕ) (call : Call) → slice_get takers k ≡ Some call → TakesOut reading book call v)
     → ((call : Call) → PutsIn reading book call v → (k : ℕ) × (slice_get putters k ≡ Some call))
-    → (i : ℕ) → i < length takers → (j : ℕ) × (j < length putters) × AreMatched reading book order v takers putters i j
+    → (i : ℕ) → i < length takers → (j : ℕ) × (j < length putters)
+    × AreMatched reading book order v takers putters i j
 matched reading init next book order is none legal v takers putters all_take all_put i lt =
     let steps = steps_of book order in
     let taker : Call = get_or takers i (record { caller = 0; number = 0 }) in
-    let is_taker : slice_get takers i ≡ Some taker = slice_get-get_or takers i (record { caller = 0; number = 0 }) lt in
-    let a = answered_step reading init next book order legal taker (Some v) (all_take i taker is_taker) in
+    let is_taker : slice_get takers i ≡ Some taker =
+    slice_get-get_or takers i (record { caller = 0; number = 0 }) lt in
+    let a =
+    answered_step reading init next book order legal taker (Some v) (all_take i taker is_taker) in
     let takes = takes_by reading a.1 v a.4 a.5 in
-    let more = how_often-more (taken_by reading) v steps a.0 (suc a.0) a.1 a.3 takes (omega arith) in
-    let found = how_often-next (put_by reading) v steps (suc a.0) (how_often (taken_by reading) v (take a.0 steps))
+    let more =
+    how_often-more (taken_by reading) v steps a.0 (suc a.0) a.1 a.3 takes (omega arith) in
+    let found = how_often-next (put_by reading) v steps (suc a.0)
+    (how_often (taken_by reading) v (take a.0 steps))
     (omega (arith, more, held_after reading next is v init steps legal.run none (suc a.0))) in
     let putter = call_of_put reading init next book order legal found.0 v found.1 found.3 found.4 in
     let listed = all_put putter.0 putter.2 in (
@@ -73,42 +89,65 @@ matched reading init next book order is none legal v takers putters all_take all
       },
     )
 
-matched_apart : (reading : Reading) (init : List ℕ) (next : List ℕ → ℕ → List ℕ × ℕ) (book : List Page) (order : List Place) → IsLegalOrder init next book order
+matched_apart : (reading : Reading) (init : List ℕ) (next : List ℕ → ℕ → List ℕ × ℕ)
+    (book : List Page) (order : List Place) → IsLegalOrder init next book order
     → (v : ℕ) (takers putters : List Call) → AreDifferent takers
-    → (i k j : ℕ) → AreMatched reading book order v takers putters i j → AreMatched reading book order v takers putters k j → i ≡ k
+    → (i k j : ℕ) → AreMatched reading book order v takers putters i j
+    → AreMatched reading book order v takers putters k j → i ≡ k
 matched_apart reading init next book order legal v takers putters different i k j a b =
     let steps = steps_of book order in
-    let putter : a.putter ≡ b.putter = same_Some a.putter b.putter (sym a.is_putter ∙ b.is_putter) in
-    let put_place : a.put_place ≡ b.put_place = legal.once a.put_place b.put_place b.putter (subst (StandsAt order a.put_place) putter a.putter_stands) b.putter_stands in
-    let same : how_often (taken_by reading) v (take a.take_place steps) ≡ how_often (taken_by reading) v (take b.take_place steps)
-    = a.same ∙ (ap (λ (n : ℕ). how_often (put_by reading) v (take n steps)) put_place ∙ sym b.same) in
+    let putter : a.putter ≡ b.putter =
+    same_Some a.putter b.putter (sym a.is_putter ∙ b.is_putter) in
+    let put_place : a.put_place ≡ b.put_place = legal.once a.put_place b.put_place b.putter
+    (subst (StandsAt order a.put_place) putter a.putter_stands) b.putter_stands in
+    let same : how_often (taken_by reading) v (take a.take_place steps)
+    ≡ how_often (taken_by reading) v (take b.take_place steps)
+    = a.same
+    ∙ (ap (λ (n : ℕ). how_often (put_by reading) v (take n steps)) put_place ∙ sym b.same) in
     let take_place : a.take_place ≡ b.take_place = elim (cases_lt a.take_place b.take_place) [
-      | inl less ↦ absurd (omega (arith, same, how_often-more (taken_by reading) v steps a.take_place b.take_place a.step a.there a.takes less))
+      | inl less ↦ absurd (omega (
+        arith,
+        same,
+        how_often-more (taken_by reading) v steps a.take_place b.take_place a.step a.there
+            a.takes less,
+      ))
       | inr le ↦ elim (cases_lt b.take_place a.take_place) [
-        | inl more ↦ absurd (omega (arith, same, how_often-more (taken_by reading) v steps b.take_place a.take_place b.step b.there b.takes more))
+        | inl more ↦ absurd (omega (
+          arith,
+          same,
+          how_often-more (taken_by reading) v steps b.take_place a.take_place b.step b.there
+              b.takes more,
+        ))
         | inr ge ↦ omega arith
       ]
     ] in
-    let taker : a.taker ≡ b.taker = one_call order b.take_place a.taker b.taker (subst (λ (n : ℕ). StandsAt order n a.taker) take_place a.taker_stands) b.taker_stands in
+    let taker : a.taker ≡ b.taker = one_call order b.take_place a.taker b.taker
+    (subst (λ (n : ℕ). StandsAt order n a.taker) take_place a.taker_stands) b.taker_stands in
     different i k b.taker (a.is_taker ∙ ap (λ (c : Call). Some c) taker) b.is_taker
 
 pub taken_no_more_than_put : TakenNoMoreThanPut
-taken_no_more_than_put reading init next book is none v takers putters different all_take all_put fewer h =
-    let few = pigeonhole (AreMatched reading book h.0 v takers putters) (length takers) (length putters)
+taken_no_more_than_put reading init next book is none v takers putters different all_take
+    all_put fewer h =
+    let few =
+    pigeonhole (AreMatched reading book h.0 v takers putters) (length takers) (length putters)
     (matched reading init next book h.0 is none h.1 v takers putters all_take all_put)
     (matched_apart reading init next book h.0 h.1 v takers putters different) in
     absurd (omega (arith, few, fewer))
 
 -- what stands before a place of an order stands in the prefix before it
-prefix_stands : (before after : List Place) (k : ℕ) (call : Call) → k < length before → StandsAt (before ++ after) k call → StandsAt before k call
-prefix_stands before after k call lt s = (s.0, sym (slice_get-append_within before after k lt) ∙ s.1, s.2)
+prefix_stands : (before after : List Place) (k : ℕ) (call : Call) → k < length before
+    → StandsAt (before ++ after) k call → StandsAt before k call
+prefix_stands before after k call lt s =
+    (s.0, sym (slice_get-append_within before after k lt) ∙ s.1, s.2)
 
-place_after : (before : List Place) (place : Place) (rest : List Place) → slice_get (before ++ place ∷ rest) (length before) ≡ Some place
+place_after : (before : List Place) (place : Place) (rest : List Place)
+    → slice_get (before ++ place ∷ rest) (length before) ≡ Some place
 place_after [] place rest = refl
 place_after (first ∷ before) place rest = place_after before place rest
 
 pub infeasible_until_then : InfeasibleUntilThen
 infeasible_until_then init next book a b first cut list lacks before rest reply reaches legal =
     let place : Place = record { caller = b.caller; number = b.number; reply = reply } in
-    let found = first (before ++ place ∷ rest) legal (length before) (place, place_after before place rest, refl) in
+    let found = first (before ++ place ∷ rest) legal (length before)
+    (place, place_after before place rest, refl) in
     lacks (reaches.holds found.0 a (prefix_stands before (place ∷ rest) found.0 a found.1 found.2))

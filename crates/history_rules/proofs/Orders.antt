@@ -1,4 +1,5 @@
--- Legal orders as runs: what stands at a place is a step of the run, and the calls that put in and take out stand where the steps do.
+-- Legal orders as runs: what stands at a place is a step of the run, and the calls that put in and
+-- take out stand where the steps do.
 use Rattle.std.proofs.Common.{◌≡◌, ℕ, zero, suc, ◌∙◌, List, [], ◌∷◌, map, get_or, unwrap_or, Option, Some, refl, sym, ap, subst, slice_get}
 use Rattle.std.proofs.lemmas.Option.{same_Some, none-some, slice_get-get_or}
 use Rattle.book_base.specs.declared.call.Call.{Call}
@@ -14,12 +15,15 @@ abbrev pub steps_of : List Page → List Place → List (ℕ × ℕ)
 steps_of book order = map (step_at book) order
 
 -- a place of an order is a step, and a step is of a place
-pub step_stands : (book : List Page) (order : List Place) (k : ℕ) (place : Place) → slice_get order k ≡ Some place → slice_get (steps_of book order) k ≡ Some (step_at book place)
+pub step_stands : (book : List Page) (order : List Place) (k : ℕ) (place : Place)
+    → slice_get order k ≡ Some place → slice_get (steps_of book order) k ≡ Some (step_at book place)
 step_stands book [] k place e = absurd (none-some place e)
-step_stands book (first ∷ rest) zero place e = ap (λ (p : Place). Some (step_at book p)) (same_Some first place e)
+step_stands book (first ∷ rest) zero place e =
+    ap (λ (p : Place). Some (step_at book p)) (same_Some first place e)
 step_stands book (first ∷ rest) (suc k) place e = step_stands book rest k place e
 
-pub place_of_step : (book : List Page) (order : List Place) (k : ℕ) (step : ℕ × ℕ) → slice_get (steps_of book order) k ≡ Some step
+pub place_of_step : (book : List Page) (order : List Place) (k : ℕ) (step : ℕ × ℕ)
+    → slice_get (steps_of book order) k ≡ Some step
     → (place : Place) × (slice_get order k ≡ Some place) × (step_at book place ≡ step)
 place_of_step book [] k step e = absurd (none-some step e)
 place_of_step book (first ∷ rest) zero step e = (first, refl, same_Some (step_at book first) step e)
@@ -31,74 +35,110 @@ put_from_value (Puts w) v e = ap Puts (same_Some w v e)
 put_from_value Takes v e = absurd (none-some v e)
 put_from_value Neither v e = absurd (none-some v e)
 
-take_from_value : (deed : Deed) (shown : Option ℕ) (v : ℕ) → value_taken deed shown ≡ Some v → (deed ≡ Takes) × (shown ≡ Some v)
+take_from_value : (deed : Deed) (shown : Option ℕ) (v : ℕ) → value_taken deed shown ≡ Some v
+    → (deed ≡ Takes) × (shown ≡ Some v)
 take_from_value (Puts w) shown v e = absurd (none-some v e)
 take_from_value Takes shown v e = (refl, e)
 take_from_value Neither shown v e = absurd (none-some v e)
 
 -- a call of the book has an operation
-pub has_operation : (book : List Page) (call : Call) → IsCall book call → operation_of book call ≡ Some (unwrap_or (operation_of book call) 0)
+pub has_operation : (book : List Page) (call : Call) → IsCall book call
+    → operation_of book call ≡ Some (unwrap_or (operation_of book call) 0)
 has_operation book call h =
-    let there : operation_of book call ≡ Some (get_or (page_of book call.caller).operations call.number 0) = slice_get-get_or (page_of book call.caller).operations call.number 0 h in
+    let there : operation_of book call
+    ≡ Some (get_or (page_of book call.caller).operations call.number 0) =
+    slice_get-get_or (page_of book call.caller).operations call.number 0 h in
     there ∙ ap (λ (o : Option ℕ). Some (unwrap_or o 0)) (sym there)
 
 -- where a call stands with its recorded reply
-pub answered_step : (reading : Reading) (init : List ℕ) (next : List ℕ → ℕ → List ℕ × ℕ) (book : List Page) (order : List Place) → IsLegalOrder init next book order
+pub answered_step : (reading : Reading) (init : List ℕ) (next : List ℕ → ℕ → List ℕ × ℕ)
+    (book : List Page) (order : List Place) → IsLegalOrder init next book order
     → (call : Call) (shown : Option ℕ) → TakesShowing reading book call shown
-    → (k : ℕ) × (step : ℕ × ℕ) × StandsAt order k call × (slice_get (steps_of book order) k ≡ Some step) × (reading.deed step.0 ≡ Takes) × (reading.shown step.1 ≡ shown)
+    → (k : ℕ) × (step : ℕ × ℕ) × StandsAt order k call
+    × (slice_get (steps_of book order) k ≡ Some step) × (reading.deed step.0 ≡ Takes)
+    × (reading.shown step.1 ≡ shown)
 answered_step reading init next book order legal call shown h =
     let place : Place = record { caller = call.caller; number = call.number; reply = h.1.reply } in
     let found = legal.answered call h.1 h.3 in
-    let op : (step_at book place).0 ≡ h.0 = ap (λ (o : Option ℕ). unwrap_or o 0) h.2 in
-    (found.0, step_at book place, (place, found.1, refl), step_stands book order found.0 place found.1, ap reading.deed op ∙ h.4, h.5)
+    let op : (step_at book place).0 ≡ h.0 = ap (λ (o : Option ℕ). unwrap_or o 0) h.2 in (
+      found.0,
+      step_at book place,
+      (place, found.1, refl),
+      step_stands book order found.0 place found.1,
+      ap reading.deed op ∙ h.4,
+      h.5,
+    )
 
 -- where a call stands that puts in a value
-pub putting_step : (reading : Reading) (book : List Page) (order : List Place) (call : Call) (v k : ℕ) → PutsIn reading book call v → StandsAt order k call
-    → (step : ℕ × ℕ) × (slice_get (steps_of book order) k ≡ Some step) × (reading.deed step.0 ≡ Puts v)
+pub putting_step : (reading : Reading) (book : List Page) (order : List Place) (call : Call)
+    (v k : ℕ) → PutsIn reading book call v → StandsAt order k call
+    → (step : ℕ × ℕ) × (slice_get (steps_of book order) k ≡ Some step)
+    × (reading.deed step.0 ≡ Puts v)
 putting_step reading book order call v k h s =
-    let op : (step_at book s.0).0 ≡ h.0 = ap (λ (c : Call). unwrap_or (operation_of book c) 0) s.2 ∙ ap (λ (o : Option ℕ). unwrap_or o 0) h.1 in
+    let op : (step_at book s.0).0 ≡ h.0 = ap (λ (c : Call). unwrap_or (operation_of book c) 0) s.2
+    ∙ ap (λ (o : Option ℕ). unwrap_or o 0) h.1 in
     (step_at book s.0, step_stands book order k s.0 s.1, ap reading.deed op ∙ h.2)
 
 -- a step that puts in a value is one of a call that does
-pub call_of_put : (reading : Reading) (init : List ℕ) (next : List ℕ → ℕ → List ℕ × ℕ) (book : List Page) (order : List Place) → IsLegalOrder init next book order
-    → (k v : ℕ) (step : ℕ × ℕ) → slice_get (steps_of book order) k ≡ Some step → put_by reading step ≡ Some v → (call : Call) × StandsAt order k call × PutsIn reading book call v
+pub call_of_put : (reading : Reading) (init : List ℕ) (next : List ℕ → ℕ → List ℕ × ℕ)
+    (book : List Page) (order : List Place) → IsLegalOrder init next book order
+    → (k v : ℕ) (step : ℕ × ℕ) → slice_get (steps_of book order) k ≡ Some step → put_by reading step
+    ≡ Some v → (call : Call) × StandsAt order k call × PutsIn reading book call v
 call_of_put reading init next book order legal k v step e is =
     let place = place_of_step book order k step e in
     let call : Call = call_at place.0 in
     let stands : StandsAt order k call = (place.0, place.1, refl) in
-    let op : (step_at book place.0).0 ≡ step.0 = ap (λ (s : ℕ × ℕ). s.0) place.2 in
-    (call, stands, (unwrap_or (operation_of book call) 0, has_operation book call (legal.calls k call stands), ap reading.deed op ∙ put_from_value (reading.deed step.0) v is))
+    let op : (step_at book place.0).0 ≡ step.0 = ap (λ (s : ℕ × ℕ). s.0) place.2 in (
+      call,
+      stands,
+      (
+        unwrap_or (operation_of book call) 0,
+        has_operation book call (legal.calls k call stands),
+        ap reading.deed op ∙ put_from_value (reading.deed step.0) v is,
+      ),
+    )
 
 -- so the only call that puts in a value stands where any step puts it in
-pub put_alone : (reading : Reading) (init : List ℕ) (next : List ℕ → ℕ → List ℕ × ℕ) (book : List Page) (order : List Place) → IsLegalOrder init next book order
-    → (call : Call) (v : ℕ) → PutsInAlone reading book call v → (k : ℕ) (step : ℕ × ℕ) → slice_get (steps_of book order) k ≡ Some step → put_by reading step ≡ Some v
+pub put_alone : (reading : Reading) (init : List ℕ) (next : List ℕ → ℕ → List ℕ × ℕ)
+    (book : List Page) (order : List Place) → IsLegalOrder init next book order
+    → (call : Call) (v : ℕ) → PutsInAlone reading book call v → (k : ℕ) (step : ℕ × ℕ)
+    → slice_get (steps_of book order) k ≡ Some step → put_by reading step ≡ Some v
     → StandsAt order k call
 put_alone reading init next book order legal call v alone k step e is =
     let found = call_of_put reading init next book order legal k v step e is in
     subst (StandsAt order k) (alone.1 found.0 found.2) found.1
 
-pub put_at_one_place : (reading : Reading) (init : List ℕ) (next : List ℕ → ℕ → List ℕ × ℕ) (book : List Page) (order : List Place) → IsLegalOrder init next book order
+pub put_at_one_place : (reading : Reading) (init : List ℕ) (next : List ℕ → ℕ → List ℕ × ℕ)
+    (book : List Page) (order : List Place) → IsLegalOrder init next book order
     → (call : Call) (v q : ℕ) → PutsInAlone reading book call v → StandsAt order q call
-    → (k : ℕ) (step : ℕ × ℕ) → slice_get (steps_of book order) k ≡ Some step → put_by reading step ≡ Some v → k ≡ q
+    → (k : ℕ) (step : ℕ × ℕ) → slice_get (steps_of book order) k ≡ Some step
+    → put_by reading step ≡ Some v → k ≡ q
 put_at_one_place reading init next book order legal call v q alone stands k step e is =
-    legal.once k q call (put_alone reading init next book order legal call v alone k step e is) stands
+    legal.once k q call
+    (put_alone reading init next book order legal call v alone k step e is) stands
 
 -- a step that takes out a value is one of an answered call that does, where all takes are answered
-pub call_of_take : (reading : Reading) (init : List ℕ) (next : List ℕ → ℕ → List ℕ × ℕ) (book : List Page) (order : List Place) → IsLegalOrder init next book order
-    → AllTakesAnswered reading book → (k v : ℕ) (step : ℕ × ℕ) → slice_get (steps_of book order) k ≡ Some step → taken_by reading step ≡ Some v
+pub call_of_take : (reading : Reading) (init : List ℕ) (next : List ℕ → ℕ → List ℕ × ℕ)
+    (book : List Page) (order : List Place) → IsLegalOrder init next book order
+    → AllTakesAnswered reading book → (k v : ℕ) (step : ℕ × ℕ)
+    → slice_get (steps_of book order) k ≡ Some step → taken_by reading step ≡ Some v
     → (call : Call) × TakesOut reading book call v
 call_of_take reading init next book order legal all k v step e is =
     let place = place_of_step book order k step e in
     let call : Call = call_at place.0 in
     let stands : StandsAt order k call = (place.0, place.1, refl) in
     let word : ℕ = unwrap_or (operation_of book call) 0 in
-    let known : operation_of book call ≡ Some word = has_operation book call (legal.calls k call stands) in
+    let known : operation_of book call ≡ Some word =
+    has_operation book call (legal.calls k call stands) in
     let parts = take_from_value (reading.deed step.0) (reading.shown step.1) v is in
     let deed : reading.deed word ≡ Takes = ap (λ (s : ℕ × ℕ). reading.deed s.0) place.2 ∙ parts.0 in
     let answer = answer_stands book call (all call word known deed) in
-    let it : Place = record { caller = call.caller; number = call.number; reply = answer.0.reply } in
+    let it : Place =
+    record { caller = call.caller; number = call.number; reply = answer.0.reply } in
     let found = legal.answered call answer.0 answer.1 in
     let same_place : found.0 ≡ k = legal.once found.0 k call (it, found.1, refl) stands in
-    let one : it ≡ place.0 = same_Some it place.0 (sym found.1 ∙ (ap (slice_get order) same_place ∙ place.1)) in
-    let reply : answer.0.reply ≡ step.1 = ap (λ (p : Place). p.reply) one ∙ ap (λ (s : ℕ × ℕ). s.1) place.2 in
+    let one : it ≡ place.0 =
+    same_Some it place.0 (sym found.1 ∙ (ap (slice_get order) same_place ∙ place.1)) in
+    let reply : answer.0.reply ≡ step.1 =
+    ap (λ (p : Place). p.reply) one ∙ ap (λ (s : ℕ × ℕ). s.1) place.2 in
     (call, (word, answer.0, known, answer.1, deed, ap reading.shown reply ∙ parts.1))

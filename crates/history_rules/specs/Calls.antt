@@ -7,15 +7,18 @@ use Rattle.history_rules.specs.Container.{Puts, Takes, Reading}
 
 -- a call of the book puts in a value
 abbrev pub PutsIn : Reading → List Page → Call → ℕ → Type 0
-PutsIn reading book call v = (op : ℕ) × (operation_of book call ≡ Some op) × (reading.deed op ≡ Puts v)
+PutsIn reading book call v = (op : ℕ) × (operation_of book call ≡ Some op)
+    × (reading.deed op ≡ Puts v)
 
 -- it is the only call of the book that puts in the value
 abbrev pub PutsInAlone : Reading → List Page → Call → ℕ → Type 0
-PutsInAlone reading book call v = PutsIn reading book call v × ((other : Call) → PutsIn reading book other v → other ≡ call)
+PutsInAlone reading book call v = PutsIn reading book call v
+    × ((other : Call) → PutsIn reading book other v → other ≡ call)
 
 -- an answered call of the book takes, and its reply shows this
 abbrev pub TakesShowing : Reading → List Page → Call → Option ℕ → Type 0
-TakesShowing reading book call shown = (op : ℕ) × (r : Record) × (operation_of book call ≡ Some op) × (record_of book call ≡ Some r)
+TakesShowing reading book call shown = (op : ℕ) × (r : Record) × (operation_of book call ≡ Some op)
+    × (record_of book call ≡ Some r)
     × (reading.deed op ≡ Takes) × (reading.shown r.reply ≡ shown)
 
 -- an answered call takes out a value
@@ -28,7 +31,8 @@ FindsNothing reading book call = TakesShowing reading book call None
 
 -- each call that takes is answered
 abbrev pub AllTakesAnswered : Reading → List Page → Type 0
-AllTakesAnswered reading book = (call : Call) (op : ℕ) → operation_of book call ≡ Some op → reading.deed op ≡ Takes → IsAnswered book call
+AllTakesAnswered reading book = (call : Call) (op : ℕ) → operation_of book call ≡ Some op
+    → reading.deed op ≡ Takes → IsAnswered book call
 
 -- no answered call takes out the value
 abbrev pub IsNeverTaken : Reading → List Page → ℕ → Type 0

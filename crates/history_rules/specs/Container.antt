@@ -1,5 +1,5 @@
--- Objects that hold values: what is put in is held until it is taken out. What an object does is read through parameters, so that
--- each rule here is one for every object that can be read so.
+-- Objects that hold values: what is put in is held until it is taken out. What an object does is
+-- read through parameters, so that each rule here is one for every object that can be read so.
 use Rattle.std.specs.Prelude.{◌≡◌, ℕ, ◌+◌, ◌≤◌, ◌==◌, Bool, true, false, IsTrue, List, [], ◌∷◌, ◌++◌, Option, Some, None}
 
 -- what an operation does to what is held: it puts a value in, it takes one out, or neither
@@ -8,8 +8,8 @@ pub data Deed : Type 0 where
   Takes : Deed
   Neither : Deed
 
--- How an object is read: what each operation word does, what the reply to a take shows (a value, or that nothing was there), and
--- which values a list of the object's words holds.
+-- How an object is read: what each operation word does, what the reply to a take shows (a value, or
+-- that nothing was there), and which values a list of the object's words holds.
 pub record Reading : Type 0 where
   pub deed : ℕ → Deed
   pub shown : ℕ → Option ℕ
@@ -54,24 +54,36 @@ GivesFirst before (Some v) after = before ≡ v ∷ after
 
 -- A container: a put adds its value, a take gives one out, and nothing else changes what is held.
 pub record IsContainer (reading : Reading) (next : List ℕ → ℕ → List ℕ × ℕ) : Type 0 where
-  pub put : (list : List ℕ) (op v : ℕ) → reading.deed op ≡ Puts v → (w : ℕ) → times w (reading.values (next list op).0) ≡ times w (v ∷ reading.values list)
-  pub take : (list : List ℕ) (op : ℕ) → reading.deed op ≡ Takes → GivesOne (reading.values list) (reading.shown (next list op).1) (reading.values (next list op).0)
-  pub neither : (list : List ℕ) (op : ℕ) → reading.deed op ≡ Neither → reading.values (next list op).0 ≡ reading.values list
+  pub put : (list : List ℕ) (op v : ℕ) → reading.deed op ≡ Puts v → (w : ℕ)
+      → times w (reading.values (next list op).0) ≡ times w (v ∷ reading.values list)
+  pub take : (list : List ℕ) (op : ℕ) → reading.deed op ≡ Takes → GivesOne (reading.values list)
+      (reading.shown (next list op).1) (reading.values (next list op).0)
+  pub neither : (list : List ℕ) (op : ℕ) → reading.deed op ≡ Neither
+      → reading.values (next list op).0 ≡ reading.values list
 
 -- A queue: a put adds its value at the end, and a take gives out the first.
 pub record IsQueue (reading : Reading) (next : List ℕ → ℕ → List ℕ × ℕ) : Type 0 where
-  pub put : (list : List ℕ) (op v : ℕ) → reading.deed op ≡ Puts v → reading.values (next list op).0 ≡ reading.values list ++ v ∷ []
-  pub take : (list : List ℕ) (op : ℕ) → reading.deed op ≡ Takes → GivesFirst (reading.values list) (reading.shown (next list op).1) (reading.values (next list op).0)
-  pub neither : (list : List ℕ) (op : ℕ) → reading.deed op ≡ Neither → reading.values (next list op).0 ≡ reading.values list
+  pub put : (list : List ℕ) (op v : ℕ) → reading.deed op ≡ Puts v
+      → reading.values (next list op).0 ≡ reading.values list ++ v ∷ []
+  pub take : (list : List ℕ) (op : ℕ) → reading.deed op ≡ Takes → GivesFirst (reading.values list)
+      (reading.shown (next list op).1) (reading.values (next list op).0)
+  pub neither : (list : List ℕ) (op : ℕ) → reading.deed op ≡ Neither
+      → reading.values (next list op).0 ≡ reading.values list
 
 -- A stack: a put adds its value in front, and a take gives out the first.
 pub record IsStack (reading : Reading) (next : List ℕ → ℕ → List ℕ × ℕ) : Type 0 where
-  pub put : (list : List ℕ) (op v : ℕ) → reading.deed op ≡ Puts v → reading.values (next list op).0 ≡ v ∷ reading.values list
-  pub take : (list : List ℕ) (op : ℕ) → reading.deed op ≡ Takes → GivesFirst (reading.values list) (reading.shown (next list op).1) (reading.values (next list op).0)
-  pub neither : (list : List ℕ) (op : ℕ) → reading.deed op ≡ Neither → reading.values (next list op).0 ≡ reading.values list
+  pub put : (list : List ℕ) (op v : ℕ) → reading.deed op ≡ Puts v
+      → reading.values (next list op).0 ≡ v ∷ reading.values list
+  pub take : (list : List ℕ) (op : ℕ) → reading.deed op ≡ Takes → GivesFirst (reading.values list)
+      (reading.shown (next list op).1) (reading.values (next list op).0)
+  pub neither : (list : List ℕ) (op : ℕ) → reading.deed op ≡ Neither
+      → reading.values (next list op).0 ≡ reading.values list
 
--- A priority queue: a container of which a take gives out a least value, at each list that it may come to (the test says which).
-pub record IsPriorityQueue (reading : Reading) (next : List ℕ → ℕ → List ℕ × ℕ) (kept : List ℕ → Bool) : Type 0 where
+-- A priority queue: a container of which a take gives out a least value, at each list that it may
+-- come to (the test says which).
+pub record IsPriorityQueue (reading : Reading) (next : List ℕ → ℕ → List ℕ × ℕ)
+    (kept : List ℕ → Bool) : Type 0 where
   pub container : IsContainer reading next
   pub keeps : (list : List ℕ) (op : ℕ) → IsTrue (kept list) → IsTrue (kept (next list op).0)
-  pub least : (list : List ℕ) (op v w : ℕ) → IsTrue (kept list) → reading.deed op ≡ Takes → reading.shown (next list op).1 ≡ Some v → 1 ≤ times w (reading.values list) → v ≤ w
+  pub least : (list : List ℕ) (op v w : ℕ) → IsTrue (kept list) → reading.deed op ≡ Takes
+      → reading.shown (next list op).1 ≡ Some v → 1 ≤ times w (reading.values list) → v ≤ w

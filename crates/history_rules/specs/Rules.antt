@@ -10,89 +10,130 @@ use Rattle.history_rules.specs.Container.{Reading, put_by, taken_by, times, IsCo
 use Rattle.history_rules.specs.Calls.{PutsIn, PutsInAlone, TakesOut, FindsNothing, AllTakesAnswered, IsNeverTaken}
 use Rattle.book_base.specs.Foresight.{list_after_run, IsInfeasible, MustComeFirst}
 
--- What a queue gives out in a legal run from empty is the first of what was put in, in that order: all that was put in is what was
--- given out, followed by what the queue still holds.
+-- What a queue gives out in a legal run from empty is the first of what was put in, in that order:
+-- all that was put in is what was given out, followed by what the queue still holds.
 abbrev pub QueueGivesInOrder : Type 0
-QueueGivesInOrder = (reading : Reading) (init : List ℕ) (next : List ℕ → ℕ → List ℕ × ℕ) (steps : List (ℕ × ℕ))
+QueueGivesInOrder =
+    (reading : Reading) (init : List ℕ) (next : List ℕ → ℕ → List ℕ × ℕ) (steps : List (ℕ × ℕ))
     → IsQueue reading next → reading.values init ≡ [] → IsLegalRun init next steps
-    → filter_map (put_by reading) steps ≡ filter_map (taken_by reading) steps ++ reading.values (list_after_run next init steps)
+    → filter_map (put_by reading) steps
+    ≡ filter_map (taken_by reading) steps ++ reading.values (list_after_run next init steps)
 
--- What a container gives out in a legal run from empty was put in: each value was put in as often as it was given out and is held.
+-- What a container gives out in a legal run from empty was put in: each value was put in as often
+-- as it was given out and is held.
 abbrev pub ContainerGivesWhatWasPut : Type 0
-ContainerGivesWhatWasPut = (reading : Reading) (init : List ℕ) (next : List ℕ → ℕ → List ℕ × ℕ) (steps : List (ℕ × ℕ)) (v : ℕ)
+ContainerGivesWhatWasPut = (reading : Reading) (init : List ℕ) (next : List ℕ → ℕ → List ℕ × ℕ)
+    (steps : List (ℕ × ℕ)) (v : ℕ)
     → IsContainer reading next → reading.values init ≡ [] → IsLegalRun init next steps
-    → times v (filter_map (put_by reading) steps) ≡ times v (filter_map (taken_by reading) steps) + times v (reading.values (list_after_run next init steps))
+    → times v (filter_map (put_by reading) steps) ≡ times v (filter_map (taken_by reading) steps)
+    + times v (reading.values (list_after_run next init steps))
 
 -- Any container: a take that found nothing and precedes the take of v stands before the put of v.
 abbrev pub EmptyBeforePut : Type 0
-EmptyBeforePut = (reading : Reading) (init : List ℕ) (next : List ℕ → ℕ → List ℕ × ℕ) (book : List Page) → IsContainer reading next → reading.values init ≡ []
-    → (v : ℕ) (empty take_v put_v : Call) → FindsNothing reading book empty → TakesOut reading book take_v v → Precedes book empty take_v
+EmptyBeforePut =
+    (reading : Reading) (init : List ℕ) (next : List ℕ → ℕ → List ℕ × ℕ) (book : List Page)
+    → IsContainer reading next → reading.values init ≡ []
+    → (v : ℕ) (empty take_v put_v : Call) → FindsNothing reading book empty
+    → TakesOut reading book take_v v → Precedes book empty take_v
     → PutsInAlone reading book put_v v → MustComeFirst init next book empty put_v
 
 -- A queue: where the take of x precedes the take of v, the put of x stands before the put of v.
 abbrev pub PutsInOrder : Type 0
-PutsInOrder = (reading : Reading) (init : List ℕ) (next : List ℕ → ℕ → List ℕ × ℕ) (book : List Page) → IsQueue reading next → reading.values init ≡ []
-    → (x v : ℕ) (take_x take_v put_x put_v : Call) → TakesOut reading book take_x x → TakesOut reading book take_v v → Precedes book take_x take_v
-    → PutsInAlone reading book put_x x → PutsInAlone reading book put_v v → MustComeFirst init next book put_x put_v
-
--- A stack: where the take of x precedes the take of v, the put of v is infeasible at a list that holds x.
-abbrev pub PutIsCovered : Type 0
-PutIsCovered = (reading : Reading) (init : List ℕ) (next : List ℕ → ℕ → List ℕ × ℕ) (book : List Page) → IsStack reading next → reading.values init ≡ []
-    → (x v : ℕ) (take_x take_v put_x put_v : Call) → TakesOut reading book take_x x → TakesOut reading book take_v v → Precedes book take_x take_v
+PutsInOrder =
+    (reading : Reading) (init : List ℕ) (next : List ℕ → ℕ → List ℕ × ℕ) (book : List Page)
+    → IsQueue reading next → reading.values init ≡ []
+    → (x v : ℕ) (take_x take_v put_x put_v : Call) → TakesOut reading book take_x x
+    → TakesOut reading book take_v v → Precedes book take_x take_v
     → PutsInAlone reading book put_x x → PutsInAlone reading book put_v v
-    → (cut list : List ℕ) → Contains (reading.values list) x → IsInfeasible init next book cut list put_v
+    → MustComeFirst init next book put_x put_v
 
--- Where each take is answered, a value that none takes out stays for good. Any container: a take that found nothing stands before
--- its put.
+-- A stack: where the take of x precedes the take of v, the put of v is infeasible at a list that
+-- holds x.
+abbrev pub PutIsCovered : Type 0
+PutIsCovered =
+    (reading : Reading) (init : List ℕ) (next : List ℕ → ℕ → List ℕ × ℕ) (book : List Page)
+    → IsStack reading next → reading.values init ≡ []
+    → (x v : ℕ) (take_x take_v put_x put_v : Call) → TakesOut reading book take_x x
+    → TakesOut reading book take_v v → Precedes book take_x take_v
+    → PutsInAlone reading book put_x x → PutsInAlone reading book put_v v
+    → (cut list : List ℕ) → Contains (reading.values list) x
+    → IsInfeasible init next book cut list put_v
+
+-- Where each take is answered, a value that none takes out stays for good. Any container: a take
+-- that found nothing stands before its put.
 abbrev pub EmptyBeforeKept : Type 0
-EmptyBeforeKept = (reading : Reading) (init : List ℕ) (next : List ℕ → ℕ → List ℕ × ℕ) (book : List Page) → IsContainer reading next → reading.values init ≡ []
-    → AllTakesAnswered reading book → (v : ℕ) (empty put_v : Call) → FindsNothing reading book empty → PutsIn reading book put_v v → IsNeverTaken reading book v
+EmptyBeforeKept =
+    (reading : Reading) (init : List ℕ) (next : List ℕ → ℕ → List ℕ × ℕ) (book : List Page)
+    → IsContainer reading next → reading.values init ≡ []
+    → AllTakesAnswered reading book → (v : ℕ) (empty put_v : Call) → FindsNothing reading book empty
+    → PutsIn reading book put_v v → IsNeverTaken reading book v
     → MustComeFirst init next book empty put_v
 
 -- A queue: so does the put of each value that is taken out.
 abbrev pub TakenBeforeKept : Type 0
-TakenBeforeKept = (reading : Reading) (init : List ℕ) (next : List ℕ → ℕ → List ℕ × ℕ) (book : List Page) → IsQueue reading next → reading.values init ≡ []
-    → AllTakesAnswered reading book → (x v : ℕ) (take_x put_x put_v : Call) → TakesOut reading book take_x x → PutsInAlone reading book put_x x
-    → PutsIn reading book put_v v → IsNeverTaken reading book v → MustComeFirst init next book put_x put_v
+TakenBeforeKept =
+    (reading : Reading) (init : List ℕ) (next : List ℕ → ℕ → List ℕ × ℕ) (book : List Page)
+    → IsQueue reading next → reading.values init ≡ []
+    → AllTakesAnswered reading book → (x v : ℕ) (take_x put_x put_v : Call)
+    → TakesOut reading book take_x x → PutsInAlone reading book put_x x
+    → PutsIn reading book put_v v → IsNeverTaken reading book v
+    → MustComeFirst init next book put_x put_v
 
 -- A stack: its put is infeasible at a list that holds a value that is taken out.
 abbrev pub KeptCoversNone : Type 0
-KeptCoversNone = (reading : Reading) (init : List ℕ) (next : List ℕ → ℕ → List ℕ × ℕ) (book : List Page) → IsStack reading next → reading.values init ≡ []
-    → AllTakesAnswered reading book → (x v : ℕ) (take_x put_x put_v : Call) → TakesOut reading book take_x x → PutsInAlone reading book put_x x
+KeptCoversNone =
+    (reading : Reading) (init : List ℕ) (next : List ℕ → ℕ → List ℕ × ℕ) (book : List Page)
+    → IsStack reading next → reading.values init ≡ []
+    → AllTakesAnswered reading book → (x v : ℕ) (take_x put_x put_v : Call)
+    → TakesOut reading book take_x x → PutsInAlone reading book put_x x
     → PutsIn reading book put_v v → IsNeverTaken reading book v
-    → (cut list : List ℕ) → Contains (reading.values list) x → IsInfeasible init next book cut list put_v
+    → (cut list : List ℕ) → Contains (reading.values list) x
+    → IsInfeasible init next book cut list put_v
 
 -- Any container: a book where a value is taken out that no call puts in has no legal order.
 abbrev pub TakenIsPut : Type 0
-TakenIsPut = (reading : Reading) (init : List ℕ) (next : List ℕ → ℕ → List ℕ × ℕ) (book : List Page) → IsContainer reading next → reading.values init ≡ []
-    → (v : ℕ) (take_v : Call) → TakesOut reading book take_v v → ((call : Call) → PutsIn reading book call v → ⊥) → ¬ HasLegalOrder init next book
+TakenIsPut = (reading : Reading) (init : List ℕ) (next : List ℕ → ℕ → List ℕ × ℕ) (book : List Page)
+    → IsContainer reading next → reading.values init ≡ []
+    → (v : ℕ) (take_v : Call) → TakesOut reading book take_v v
+    → ((call : Call) → PutsIn reading book call v → ⊥) → ¬ HasLegalOrder init next book
 
 -- Any container: a book where a value is put in once and taken out twice has no legal order.
 abbrev pub TakenOnce : Type 0
-TakenOnce = (reading : Reading) (init : List ℕ) (next : List ℕ → ℕ → List ℕ × ℕ) (book : List Page) → IsContainer reading next → reading.values init ≡ []
-    → (v : ℕ) (one other put_v : Call) → one ≢ other → TakesOut reading book one v → TakesOut reading book other v → PutsInAlone reading book put_v v
+TakenOnce = (reading : Reading) (init : List ℕ) (next : List ℕ → ℕ → List ℕ × ℕ) (book : List Page)
+    → IsContainer reading next → reading.values init ≡ []
+    → (v : ℕ) (one other put_v : Call) → one ≢ other → TakesOut reading book one v
+    → TakesOut reading book other v → PutsInAlone reading book put_v v
     → ¬ HasLegalOrder init next book
 
 -- the calls of a list differ
 abbrev pub AreDifferent : List Call → Type 0
-AreDifferent calls = (j k : ℕ) (call : Call) → slice_get calls j ≡ Some call → slice_get calls k ≡ Some call → j ≡ k
+AreDifferent calls = (j k : ℕ) (call : Call) → slice_get calls j ≡ Some call
+    → slice_get calls k ≡ Some call → j ≡ k
 
--- Any container: a book where more calls take a value out than put it in has no legal order. Unanswered puts count too.
+-- Any container: a book where more calls take a value out than put it in has no legal order.
+-- Unanswered puts count too.
 abbrev pub TakenNoMoreThanPut : Type 0
-TakenNoMoreThanPut = (reading : Reading) (init : List ℕ) (next : List ℕ → ℕ → List ℕ × ℕ) (book : List Page) → IsContainer reading next → reading.values init ≡ []
+TakenNoMoreThanPut =
+    (reading : Reading) (init : List ℕ) (next : List ℕ → ℕ → List ℕ × ℕ) (book : List Page)
+    → IsContainer reading next → reading.values init ≡ []
     → (v : ℕ) (takers putters : List Call) → AreDifferent takers
     → ((k : ℕ) (call : Call) → slice_get takers k ≡ Some call → TakesOut reading book call v)
     → ((call : Call) → PutsIn reading book call v → (k : ℕ) × (slice_get putters k ≡ Some call))
     → length putters < length takers → ¬ HasLegalOrder init next book
 
--- A priority queue: where w is less than v, and the take of v precedes the take of w, the take of v stands before the put of w.
+-- A priority queue: where w is less than v, and the take of v precedes the take of w, the take of v
+-- stands before the put of w.
 abbrev pub GreaterBeforePut : Type 0
-GreaterBeforePut = (reading : Reading) (init : List ℕ) (next : List ℕ → ℕ → List ℕ × ℕ) (kept : List ℕ → Bool) (book : List Page)
+GreaterBeforePut = (reading : Reading) (init : List ℕ) (next : List ℕ → ℕ → List ℕ × ℕ)
+    (kept : List ℕ → Bool) (book : List Page)
     → IsPriorityQueue reading next kept → IsTrue (kept init) → reading.values init ≡ []
-    → (v w : ℕ) (take_v take_w put_w : Call) → w < v → TakesOut reading book take_v v → TakesOut reading book take_w w → Precedes book take_v take_w
+    → (v w : ℕ) (take_v take_w put_w : Call) → w < v → TakesOut reading book take_v v
+    → TakesOut reading book take_w w → Precedes book take_v take_w
     → PutsInAlone reading book put_w w → MustComeFirst init next book take_v put_w
 
 -- What must come first makes a call infeasible next, where the cut lacks it.
 abbrev pub InfeasibleUntilThen : Type 0
-InfeasibleUntilThen = (init : List ℕ) (next : List ℕ → ℕ → List ℕ × ℕ) (book : List Page) (a b : Call) → MustComeFirst init next book a b
+InfeasibleUntilThen =
+    (init : List ℕ) (next : List ℕ → ℕ → List ℕ × ℕ) (book : List Page) (a b : Call)
+    → MustComeFirst init next book a b
     → (cut list : List ℕ) → ¬ Holds cut a → IsInfeasible init next book cut list b

@@ -1,5 +1,6 @@
--- Small objects that can be read as the rules read them: each puts in v by the operation v + 1 and takes by the operation 0; a take
--- replies v + 1 where it takes out v, and 0 where it finds nothing.
+-- Small objects that can be read as the rules read them: each puts in v by the operation v + 1 and
+-- takes by the operation 0; a take replies v + 1 where it takes out v, and 0 where it finds
+-- nothing.
 use Rattle.std.specs.Prelude.{ℕ, zero, suc, Bool, true, not, ◌&&◌, List, [], ◌∷◌, ◌++◌, Option, Some, None, nat_lt, if◌then◌else◌}
 use Rattle.std.specs.List.{list_all}
 use Rattle.book_base.specs.declared.call.Call.{Call}
@@ -46,7 +47,8 @@ abbrev pub is_rising : List ℕ → Bool
 is_rising [] = true
 is_rising (x ∷ rest) = list_all (λ w. not (nat_lt w x)) rest && is_rising rest
 
--- A register, read so: the operation 0 reads, and v + 1 writes v; it holds 0 at first, and a read replies what it holds.
+-- A register, read so: the operation 0 reads, and v + 1 writes v; it holds 0 at first, and a read
+-- replies what it holds.
 abbrev pub register_access : ℕ → Access
 register_access zero = Reads
 register_access (suc v) = Writes v
@@ -71,7 +73,8 @@ answer reply view = record { reply = reply; view = view }
 abbrev pub call_of : ℕ → ℕ → Call
 call_of i k = record { caller = i; number = k }
 
--- Both callers put in, caller 0 the value 5 and caller 1 the value 6, at once; then caller 1 takes 6, and afterwards caller 0 takes 5.
+-- Both callers put in, caller 0 the value 5 and caller 1 the value 6, at once; then caller 1 takes
+-- 6, and afterwards caller 0 takes 5.
 abbrev pub six_first : List Page
 six_first =
     caller_page (6 ∷ 0 ∷ []) (answer 0 (1 ∷ 1 ∷ []) ∷ answer 6 (2 ∷ 2 ∷ []) ∷ [])

@@ -15,9 +15,10 @@ answered_place call r = record { caller = call.caller; number = call.number; rep
 abbrev pub word_of : List Page → Call → ℕ
 word_of book call = unwrap_or (operation_of book call) 0
 
--- An answered call may stand at once after the calls of a cut and at a list: it may come next, the object gives its recorded reply,
--- and with this reply it leaves every list.
-pub record MayStandAtOnce (book : List Page) (next : List ℕ → ℕ → List ℕ × ℕ) (cut list : List ℕ) (call : Call) (r : Record) : Type 0 where
+-- An answered call may stand at once after the calls of a cut and at a list: it may come next, the
+-- object gives its recorded reply, and with this reply it leaves every list.
+pub record MayStandAtOnce (book : List Page) (next : List ℕ → ℕ → List ℕ × ℕ) (cut list : List ℕ)
+    (call : Call) (r : Record) : Type 0 where
   pub may_come : MayComeNext book cut call
   pub known : record_of book call ≡ Some r
   pub gives : (next list (word_of book call)).1 ≡ r.reply
@@ -25,6 +26,7 @@ pub record MayStandAtOnce (book : List Page) (next : List ℕ → ℕ → List �
 
 -- Where an order goes on from a cut and a list, one goes on with such a call.
 abbrev pub GoesOnWithIt : Type 0
-GoesOnWithIt = (book : List Page) (next : List ℕ → ℕ → List ℕ × ℕ) (cut list : List ℕ) (call : Call) (r : Record) (rest : List Place) → length book ≤ length cut
+GoesOnWithIt = (book : List Page) (next : List ℕ → ℕ → List ℕ × ℕ) (cut list : List ℕ) (call : Call)
+    (r : Record) (rest : List Place) → length book ≤ length cut
     → MayStandAtOnce book next cut list call r → Continues book next cut list rest
     → (other : List Place) × Continues book next cut list (answered_place call r ∷ other)

@@ -1,11 +1,12 @@
-//! The rules, each the contract of a function with nothing in it. They hold for every object that can be
-//! read as the rule says, and where the values concerned are put in once.
+//! The rules, each the contract of a function with nothing in it. They hold for every object that
+//! can be read as the rule says, and where the values concerned are put in once.
 
 ghost use Rattle.history_rules.specs.Rules.{QueueGivesInOrder, ContainerGivesWhatWasPut, EmptyBeforePut, PutsInOrder, PutIsCovered, EmptyBeforeKept, TakenBeforeKept, KeptCoversNone, TakenIsPut, TakenOnce, TakenNoMoreThanPut, GreaterBeforePut, InfeasibleUntilThen};
 ghost use Rattle.history_rules.specs.Register.{ReadBeforeWrites, WritesInOrder};
 ghost use Rattle.history_rules.specs.Standing.{GoesOnWithIt};
 
-/// A queue gives out the first of what was put in, in that order; any container gives out what was put in.
+/// A queue gives out the first of what was put in, in that order; any container gives out what was
+/// put in.
 pub fn what_is_given_out_was_put_in()
     // All that was put into a queue in a legal run from empty is what it gave out, followed by what
     // it holds, in order.
@@ -15,7 +16,8 @@ pub fn what_is_given_out_was_put_in()
     ensures container { ContainerGivesWhatWasPut }
 {}
 
-/// A take that found nothing stands before the put of what is taken after it, whatever the container.
+/// A take that found nothing stands before the put of what is taken after it, whatever the
+/// container.
 pub fn empty_takes_stand_before_puts()
     ensures { EmptyBeforePut }
 {}
@@ -30,8 +32,9 @@ pub fn puts_cover_nothing_taken_before()
     ensures { PutIsCovered }
 {}
 
-/// A value that is never taken stays for good, where each take is answered: takes that found nothing stand
-/// before its put; a queue's puts of what is taken do too; a stack doesn't put it on what is taken.
+/// A value that is never taken stays for good, where each take is answered: takes that found
+/// nothing stand before its put; a queue's puts of what is taken do too; a stack doesn't put it on
+/// what is taken.
 pub fn what_is_never_taken_stays()
     // Where each take is answered, a take that found nothing stands before the put of a value that
     // is never taken, in any container.
@@ -59,8 +62,8 @@ pub fn greater_values_leave_before_less_come()
     ensures { GreaterBeforePut }
 {}
 
-/// A register's reads and writes: what nobody writes is read before each write, and where a read of x
-/// precedes a read of y, the write of x and all its reads stand before the write of y.
+/// A register's reads and writes: what nobody writes is read before each write, and where a read of
+/// x precedes a read of y, the write of x and all its reads stand before the write of y.
 pub fn reads_put_writes_in_order()
     // A value that no call writes is read before each write of a register.
     ensures first { ReadBeforeWrites }
@@ -69,8 +72,8 @@ pub fn reads_put_writes_in_order()
     ensures order { WritesInOrder }
 {}
 
-/// An answered call that may come next, gives its recorded reply and leaves every list with it may stand
-/// at once, whatever the object.
+/// An answered call that may come next, gives its recorded reply and leaves every list with it may
+/// stand at once, whatever the object.
 pub fn read_only_calls_stand_at_once()
     ensures { GoesOnWithIt }
 {}

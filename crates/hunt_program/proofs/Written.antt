@@ -6,9 +6,12 @@ use Rattle.byte_streams.specs.declared.status.Status.TheVariants.{Fine, Found, U
 use Rattle.byte_streams.specs.Told.{AppendsPart}
 use Rattle.byte_streams.specs.Writing.{EndsWriting}
 
-module _ (IsOne : Status → List ℕ → Type 0) (text : List ℕ) (taken taken' : Option (List ℕ)) (no_read : IsOne ReadFault text → ⊥) (no_write : IsOne WriteFault text → ⊥) (no_memory : IsOne NoMemory text → ⊥) where
+module _ (IsOne : Status → List ℕ → Type 0) (text : List ℕ) (taken taken' : Option (List ℕ))
+    (no_read : IsOne ReadFault text → ⊥) (no_write : IsOne WriteFault text → ⊥)
+    (no_memory : IsOne NoMemory text → ⊥) where
   -- the whole text was written, with its status
-  whole : (status : Status) → IsOne status text → Appends taken taken' text → EndsWriting IsOne status taken taken'
+  whole : (status : Status) → IsOne status text → Appends taken taken' text
+      → EndsWriting IsOne status taken taken'
   whole Fine is appends = (text, is, appends)
   whole Found is appends = (text, is, appends)
   whole Usage is appends = (text, is, appends)
@@ -19,9 +22,13 @@ module _ (IsOne : Status → List ℕ → Type 0) (text : List ℕ) (taken taken
 
   -- so it was, or a part of it, and the sink counted a fault
   pub written_ends : (Risen : Type 0) (status result : Status) → IsOne status text
-      → ((result ≡ status) × Appends taken taken' text) ⊎ ((result ≡ WriteFault) × AppendsPart taken taken' text × Risen) → EndsWriting IsOne result taken taken'
+      → ((result ≡ status) × Appends taken taken' text)
+      ⊎ ((result ≡ WriteFault) × AppendsPart taken taken' text × Risen)
+      → EndsWriting IsOne result taken taken'
   written_ends Risen status result is written =
       elim written [
-        | inl done ↦ subst (λ s. EndsWriting IsOne s taken taken') (sym done.0) (whole status is done.1)
-        | inr failed ↦ subst (λ s. EndsWriting IsOne s taken taken') (sym failed.0) (status, text, is, failed.1)
+        | inl done ↦
+            subst (λ s. EndsWriting IsOne s taken taken') (sym done.0) (whole status is done.1)
+        | inr failed ↦ subst (λ s. EndsWriting IsOne s taken taken') (sym failed.0)
+            (status, text, is, failed.1)
       ]

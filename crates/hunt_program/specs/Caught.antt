@@ -21,7 +21,8 @@ use Rattle.hunts.specs.Hunting.{AreQuietBefore, IsCaughtLast}
 use Rattle.hunt_program.specs.declared.shown.Shown.{Shown}
 use Rattle.hunt_program.specs.declared.shown.Shown.TheVariants.{Smaller, Report, Picture}
 
--- A book made small: a part of it without a legal order, which shows that the book has none either, and which no rule makes smaller.
+-- A book made small: a part of it without a legal order, which shows that the book has none either,
+-- and which no rule makes smaller.
 pub record IsSmallerWitness (kind : Kind) (book part : List Page) : Type 0 where
   pub names : List (List ℕ)
   pub is_part : IsPart book names part
@@ -31,12 +32,14 @@ pub record IsSmallerWitness (kind : Kind) (book part : List Page) : Type 0 where
 
 -- The text is that of a book made small.
 abbrev pub IsSmallerText : Kind → List Page → List ℕ → Type 0
-IsSmallerText kind book text = (part : List Page) × IsSmallerWitness kind book part × books.IsWrittenText Second text kind part
+IsSmallerText kind book text = (part : List Page) × IsSmallerWitness kind book part
+    × books.IsWrittenText Second text kind part
 
 -- The text is a picture of a book made small, which says that it has no legal order.
 abbrev pub IsSmallerPicture : Kind → List Page → List ℕ → Type 0
 IsSmallerPicture kind book text =
-    (part : List Page) × IsSmallerWitness kind book part × ShowsEachCall kind part Unasked text × SaysFirst (first_lines false Unasked None) text
+    (part : List Page) × IsSmallerWitness kind book part × ShowsEachCall kind part Unasked text
+    × SaysFirst (first_lines false Unasked None) text
 
 -- The text is that of a catch's report, and after it that of its witness.
 abbrev pub IsReportShown : Kind → Catch → List ℕ → Type 0
@@ -50,10 +53,13 @@ IsShown kind catch Smaller text = IsSmallerText kind catch.witness text
 IsShown kind catch Report text = IsReportShown kind catch text
 IsShown kind catch Picture text = IsSmallerPicture kind catch.witness text
 
--- The output of a hunt, with its status: what is shown of the catch of the last run that was made, or, where all its runs were made and
--- were quiet, that no run had an error.
-abbrev pub IsHuntOutput : {T : Type 0} → (T → ℕ) → (T → Option (List (ℕ × ℕ))) → Settings → Shown → Status → List ℕ → Type 0
+-- The output of a hunt, with its status: what is shown of the catch of the last run that was made,
+-- or, where all its runs were made and were quiet, that no run had an error.
+abbrev pub IsHuntOutput : {T : Type 0} → (T → ℕ) → (T → Option (List (ℕ × ℕ))) → Settings → Shown
+    → Status → List ℕ → Type 0
 IsHuntOutput made told settings shown Found text =
-    (runs : ℕ) × (catch : Catch) × IsCaughtLast made told settings runs catch × IsShown settings.workload.kind catch shown text
-IsHuntOutput made told settings shown Fine text = AreQuietBefore made told settings settings.runs × (text ≡ codes "no run had an error\n")
+    (runs : ℕ) × (catch : Catch) × IsCaughtLast made told settings runs catch
+    × IsShown settings.workload.kind catch shown text
+IsHuntOutput made told settings shown Fine text = AreQuietBefore made told settings settings.runs
+    × (text ≡ codes "no run had an error\n")
 IsHuntOutput made told settings shown status text = ⊥

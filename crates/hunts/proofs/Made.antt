@@ -20,32 +20,45 @@ use Rattle.run_report.proofs.Workers.{counted_told}
 use Rattle.hunts.specs.Hunting.{IsRun, IsMade}
 
 -- what is so of an answer by two facts
-pub if_ok_both : {X E : Type 0} (result : Result X E) (A B C : X → Type 0) → ((x : X) → A x → B x → C x) → IfOk result A → IfOk result B → IfOk result C
+pub if_ok_both : {X E : Type 0} (result : Result X E) (A B C : X → Type 0)
+    → ((x : X) → A x → B x → C x) → IfOk result A → IfOk result B → IfOk result C
 if_ok_both (Ok x) A B C both a b = both x a b
 if_ok_both (Err e) A B C both a b = tt
 
 -- a report of the locals of a bench, with passes that count, over rows of the greatest cap
-pub told_report : {T : Type 0} (made cap : T → ℕ) (told : T → Option (List (ℕ × ℕ))) (plan : Plan) (kind : Kind) (s : Shape) (locals : List Local) (passes : List T) (findings : Findings) → kind ≡ plan.kind
-    → s ≡ outside_shape (length plan.operations) → IsReportOf (kind_init kind) (kind_next kind) s locals plan (run_allotments plan) findings
-    → AreInOrder (IsCountedIn (own_count made cap told) (run_allotments plan) findings) passes → IsRun made told plan passes findings
+pub told_report : {T : Type 0} (made cap : T → ℕ) (told : T → Option (List (ℕ × ℕ))) (plan : Plan)
+    (kind : Kind) (s : Shape) (locals : List Local) (passes : List T) (findings : Findings)
+    → kind ≡ plan.kind
+    → s ≡ outside_shape (length plan.operations)
+    → IsReportOf (kind_init kind) (kind_next kind) s locals plan (run_allotments plan) findings
+    → AreInOrder (IsCountedIn (own_count made cap told) (run_allotments plan) findings) passes
+    → IsRun made told plan passes findings
 told_report made cap told plan kind s locals passes findings same shape is counted =
     let allotments = run_allotments plan in
-    let by_kind : IsLawful (kind_init plan.kind) (kind_next plan.kind) s plan.operations allotments findings.lines
-    = subst (λ (k : Kind). IsLawful (kind_init k) (kind_next k) s plan.operations allotments findings.lines) same is.lawful in
+    let by_kind : IsLawful (kind_init plan.kind)
+    (kind_next plan.kind) s plan.operations allotments findings.lines
+    = subst (λ (k : Kind). IsLawful (kind_init k)
+    (kind_next k) s plan.operations allotments findings.lines) same is.lawful in
     record {
       kind = is.kind;
-      lawful = subst (λ (t : Shape). IsLawful (kind_init plan.kind) (kind_next plan.kind) t plan.operations allotments findings.lines) shape by_kind;
+      lawful = subst (λ (t : Shape). IsLawful (kind_init plan.kind)
+          (kind_next plan.kind) t plan.operations allotments findings.lines) shape by_kind;
       told_in = counted_told made cap told allotments findings passes counted;
     }
 
 -- the witness of a run that was made has no legal order
-pub made_no_order : {T : Type 0} (made : T → ℕ) (told : T → Option (List (ℕ × ℕ))) (plan : Plan) (findings : Findings) (book : List Page) → IsMade made told plan findings → IsWitness findings.lines book
+pub made_no_order : {T : Type 0} (made : T → ℕ) (told : T → Option (List (ℕ × ℕ))) (plan : Plan)
+    (findings : Findings) (book : List Page) → IsMade made told plan findings
+    → IsWitness findings.lines book
     → ¬ HasLegalOrder (kind_init plan.kind) (kind_next plan.kind) book
 made_no_order made told plan findings book is witness =
-    witnesses_have_no_order (kind_init plan.kind) (kind_next plan.kind) (outside_shape (length plan.operations)) plan.operations (run_allotments plan) findings.lines book is.1.lawful witness
+    witnesses_have_no_order (kind_init plan.kind) (kind_next plan.kind)
+    (outside_shape (length plan.operations)) plan.operations
+    (run_allotments plan) findings.lines book is.1.lawful witness
 
 -- what is so of each number below one, and of that one, is so of each number below the next
-pub below_next : (P : ℕ → Type 0) (n : ℕ) → ((k : ℕ) → k < n → P k) → P n → (k : ℕ) → k < n + 1 → P k
+pub below_next : (P : ℕ → Type 0) (n : ℕ) → ((k : ℕ) → k < n → P k) → P n → (k : ℕ)
+    → k < n + 1 → P k
 below_next P n below this k low =
     elim (cases_eq k n) [
       | inl same ↦ subst P (sym same) this

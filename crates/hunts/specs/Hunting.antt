@@ -16,11 +16,14 @@ use Rattle.hunts.specs.declared.runs.Settings.{Settings}
 use Rattle.hunts.specs.declared.runs.Hunted.{Hunted}
 
 module _ {T : Type 0} (made : T → ℕ) (told : T → Option (List (ℕ × ℕ))) where
-  -- A run was made of this plan over an object outside the world, and reports these findings: they are of the plan's kind, and lawful by
-  -- the object of that kind, and these passes, in order, were asked for just the calls of their lines.
+  -- A run was made of this plan over an object outside the world, and reports these findings: they
+  -- are of the plan's kind, and lawful by the object of that kind, and these passes, in order, were
+  -- asked for just the calls of their lines.
   pub record IsRun (plan : Plan) (passes : List T) (findings : Findings) : Type 0 where
     pub kind : findings.kind ≡ plan.kind
-    pub lawful : IsLawful (kind_init plan.kind) (kind_next plan.kind) (outside_shape (length plan.operations)) plan.operations (run_allotments plan) findings.lines
+    pub lawful : IsLawful (kind_init plan.kind) (kind_next plan.kind)
+        (outside_shape (length plan.operations)) plan.operations
+        (run_allotments plan) findings.lines
     pub told_in : AreInOrder (IsToldIn made told (run_allotments plan) findings) passes
 
   -- A run of the plan was made by some passes, and has these findings.
@@ -33,8 +36,8 @@ module _ {T : Type 0} (made : T → ℕ) (told : T → Option (List (ℕ × ℕ)
     pub ran : IsMade (drawn_plan w seed) report
     pub none : HasNoError report.lines
 
-  -- What is caught is of a run of the script of a seed: its witness is what the first error line of its report saw, and no order of the
-  -- witness is legal for the object of its kind.
+  -- What is caught is of a run of the script of a seed: its witness is what the first error line of
+  -- its report saw, and no order of the witness is legal for the object of its kind.
   pub record IsCaught (w : Workload) (seed : ℕ) (catch : Catch) : Type 0 where
     pub seed_is : catch.seed ≡ seed
     pub script : catch.script ≡ drawn_plan w seed
@@ -48,7 +51,8 @@ module _ {T : Type 0} (made : T → ℕ) (told : T → Option (List (ℕ × ℕ)
 
   -- All runs of a hunt before this one were made, and were quiet.
   abbrev pub AreQuietBefore : Settings → ℕ → Type 0
-  AreQuietBefore settings number = (k : ℕ) → k < number → IsQuiet settings.workload (seed_at settings k)
+  AreQuietBefore settings number = (k : ℕ) → k < number
+      → IsQuiet settings.workload (seed_at settings k)
 
   -- What is caught is of the last of this many runs, and those before it were quiet.
   pub record IsCaughtLast (settings : Settings) (runs : ℕ) (catch : Catch) : Type 0 where
@@ -57,8 +61,10 @@ module _ {T : Type 0} (made : T → ℕ) (told : T → Option (List (ℕ × ℕ)
     pub before : AreQuietBefore settings number
     pub caught : IsCaught settings.workload (seed_at settings number) catch
 
-  -- What a hunt ends with: something is caught by its last run, or all its runs were made, and were quiet.
+  -- What a hunt ends with: something is caught by its last run, or all its runs were made, and were
+  -- quiet.
   pub record IsHunted (settings : Settings) (hunted : Hunted) : Type 0 where
     pub within : hunted.runs ≤ settings.runs
     pub caught : IfSome hunted.caught (IsCaughtLast settings hunted.runs)
-    pub nothing : IfNone hunted.caught ((hunted.runs ≡ settings.runs) × AreQuietBefore settings settings.runs)
+    pub nothing : IfNone hunted.caught
+        ((hunted.runs ≡ settings.runs) × AreQuietBefore settings settings.runs)

@@ -1,4 +1,5 @@
-//! Hunts: runs of random scripts over an object, with noise, until one of them shows a book without a legal order.
+//! Hunts: runs of random scripts over an object, with noise, until one of them shows a book without
+//! a legal order.
 #![tactic(auto)]
 
 mod maker;

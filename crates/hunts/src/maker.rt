@@ -9,8 +9,9 @@ use std::alloc::Global;
 
 /// Makes the objects that a hunt runs over: a new one for each run.
 pub trait Maker<B: BlackBox> {
-    /// An object for the callers of a script, and an unused pass for each of them, in order, with a call for each of
-    /// its operations. The object may keep the noise, and pause inside its calls where it is doubtful.
+    /// An object for the callers of a script, and an unused pass for each of them, in order, with a
+    /// call for each of its operations. The object may keep the noise, and pause inside its calls
+    /// where it is doubtful.
     fn open(
         &self,
         alloc: Global,

@@ -11,9 +11,10 @@ pub struct Loudness {
     pub most: u32,
 }
 
-/// Noise for the callers of a run: at a pause it gives the thread away or not, as the seed has it for the pauses in
-/// the order in which they come. So callers meet in the midst of their calls who else would each be through before
-/// the next one starts. All callers share it. The default noise is silent.
+/// Noise for the callers of a run: at a pause it gives the thread away or not, as the seed has it
+/// for the pauses in the order in which they come. So callers meet in the midst of their calls who
+/// else would each be through before the next one starts. All callers share it. The default noise
+/// is silent.
 #[derive(Default, Drop)]
 pub struct Noise {
     key: u64,

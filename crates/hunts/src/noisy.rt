@@ -30,21 +30,26 @@ impl<A: Asks> Asks for Noisy<'_, A> {
 
     fn ask(&self, announced: Announced<A::Program>, pass: &mut A::Pass) -> Answered<A::Program>
         // The caller is one of some table that these passes serve.
-        requires table { (r : TheRows A.Program) × A.serves self.now.asks.now r × IsCallerOf A.Program.meaning r (caller_announced announced) }
+        requires table { (r : TheRows A.Program) × A.serves self.now.asks.now r
+            × IsCallerOf A.Program.meaning r (caller_announced announced) }
         // The announced call has made no object step.
         requires first { steps_now (announced_local announced) ≡ [] }
         // The pass fits the caller of the announced call.
-        requires fits { FitsCaller (A.fits self.now.asks.now) pass.old (caller_announced announced) }
+        requires fits { FitsCaller (A.fits self.now.asks.now) pass.old
+            (caller_announced announced) }
         // The pass has a call left, where it counts calls.
         requires left { HasCallLeft (A.count pass.old) }
         // The answered call is of the same caller.
         ensures who { who_of (caller_answered result) ≡ who_announced announced }
         // The caller is still one of each table that it was one of, and that these passes serve.
-        ensures rows { (r : TheRows A.Program) → A.serves self.now.asks.now r → IsCallerOf A.Program.meaning r (caller_announced announced) → IsCallerOf A.Program.meaning r (caller_answered result) }
+        ensures rows { (r : TheRows A.Program) → A.serves self.now.asks.now r
+            → IsCallerOf A.Program.meaning r (caller_announced announced)
+            → IsCallerOf A.Program.meaning r (caller_answered result) }
         // The answered call has the announced operation.
         ensures operation { op_answered result ≡ op_announced announced }
         // The program allows the caller the reply, by its local.
-        ensures allowed { MayGet A.Program.meaning (caller_answered result) (reply_answered result) }
+        ensures allowed { MayGet A.Program.meaning (caller_answered result)
+            (reply_answered result) }
         // The caller has come no further with its calls: at the most it has more object steps.
         ensures calls { ComesNoFurther (announced_local announced) (answered_local result) }
         // The caller's local has each look, peek and cut that it had before.
@@ -52,7 +57,8 @@ impl<A: Asks> Asks for Noisy<'_, A> {
         // The pass fits the caller of the answered call.
         ensures fits { FitsCaller (A.fits self.now.asks.now) pass.new (caller_answered result) }
         // The pass counts one call more, with this operation and this reply, where it counts calls.
-        ensures count { A.count pass.new ≡ count_after (op_announced announced) (reply_answered result) (A.count pass.old) }
+        ensures count { A.count pass.new
+            ≡ count_after (op_announced announced) (reply_answered result) (A.count pass.old) }
     {
         self.asks.ask(announced, pass)
     }

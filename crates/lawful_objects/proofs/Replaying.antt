@@ -5,25 +5,32 @@ use Rattle.shared_log.specs.declared.entry.Entry.{Entry}
 use Rattle.lawful_objects.specs.Replays.{list_after, last_reply, LastReplyIsNext}
 
 module _ (next : List ℕ → ℕ → List ℕ × ℕ) where
-  pub list_after-append : (list : List ℕ) (xs ys : List Entry) → list_after next list (xs ++ ys) ≡ list_after next (list_after next list xs) ys
+  pub list_after-append : (list : List ℕ) (xs ys : List Entry)
+      → list_after next list (xs ++ ys) ≡ list_after next (list_after next list xs) ys
   list_after-append list [] ys = refl
   list_after-append list (e ∷ xs) ys = list_after-append (next list e.op).0 xs ys
 
-  pub last_reply-append : (list : List ℕ) (xs : List Entry) (e : Entry) (ys : List Entry) → last_reply next list (xs ++ e ∷ ys) ≡ last_reply next (list_after next list xs) (e ∷ ys)
+  pub last_reply-append : (list : List ℕ) (xs : List Entry) (e : Entry) (ys : List Entry)
+      → last_reply next list (xs ++ e ∷ ys) ≡ last_reply next (list_after next list xs) (e ∷ ys)
   last_reply-append list [] e ys = refl
   last_reply-append list (d ∷ []) e ys = refl
   last_reply-append list (d ∷ c ∷ xs) e ys = last_reply-append (next list d.op).0 (c ∷ xs) e ys
 
-  -- where each operation makes the list at most one longer, the list is at most so much longer as there are operations
-  pub length-list_after : ((list : List ℕ) (op : ℕ) → length (next list op).0 ≤ length list + 1) → (list : List ℕ) (log : List Entry) → length (list_after next list log) ≤ length list + length log
+  -- where each operation makes the list at most one longer, the list is at most so much longer as
+  -- there are operations
+  pub length-list_after : ((list : List ℕ) (op : ℕ) → length (next list op).0 ≤ length list + 1)
+      → (list : List ℕ) (log : List Entry)
+      → length (list_after next list log) ≤ length list + length log
   length-list_after grows list [] = omega arith
-  length-list_after grows list (e ∷ log) = let one = grows list e.op in let rest = length-list_after grows (next list e.op).0 log in omega arith
+  length-list_after grows list (e ∷ log) = let one = grows list e.op in
+      let rest = length-list_after grows (next list e.op).0 log in omega arith
 
 pub last_reply_is_next : LastReplyIsNext
 last_reply_is_next next list before e = last_reply-append next list before e []
 
 -- a replay that has come to entry i, and its next step
-module _ (next : List ℕ → ℕ → List ℕ × ℕ) (list : List ℕ) (log : List Entry) (i : ℕ) (d : Entry) (words : List ℕ)
+module _ (next : List ℕ → ℕ → List ℕ × ℕ) (list : List ℕ) (log : List Entry) (i : ℕ) (d : Entry)
+    (words : List ℕ)
     (at : words ≡ list_after next list (take i log)) (low : i < length log) where
   pub list_more : list_after next list (take (i + 1) log) ≡ (next words (get_or log i d).op).0
   list_more =
@@ -37,21 +44,24 @@ module _ (next : List ℕ → ℕ → List ℕ × ℕ) (list : List ℕ) (log : 
       ∙ last_reply-append next list (take i log) (get_or log i d) []
       ∙ ap (λ (l : List ℕ). (next l (get_or log i d).op).1) (sym at)
 
-  pub length-replayed : ((l : List ℕ) (op : ℕ) → length (next l op).0 ≤ length l + 1) → length words ≤ length list + i
+  pub length-replayed : ((l : List ℕ) (op : ℕ) → length (next l op).0 ≤ length l + 1)
+      → length words ≤ length list + i
   length-replayed grows =
       let most = length-list_after next grows list (take i log) in
       let same = ap length at in
       omega (arith, length-take i log)
 
 -- a replay goes on after the entries that it has seen
-module _ (next : List ℕ → ℕ → List ℕ × ℕ) (init : List ℕ) (log : List Entry) (known : ℕ) (words : List ℕ) (seen : words ≡ list_after next init (take known log)) where
+module _ (next : List ℕ → ℕ → List ℕ × ℕ) (init : List ℕ) (log : List Entry) (known : ℕ)
+    (words : List ℕ) (seen : words ≡ list_after next init (take known log)) where
   pub list_beyond : list_after next words (drop known log) ≡ list_after next init log
   list_beyond =
       ap (λ (l : List ℕ). list_after next l (drop known log)) seen
       ∙ sym (list_after-append next init (take known log) (drop known log))
       ∙ ap (list_after next init) (take-append-drop known log)
 
-  reply_of_more : (rest : List Entry) → drop known log ≡ rest → 0 < length rest → last_reply next words rest ≡ last_reply next init log
+  reply_of_more : (rest : List Entry) → drop known log ≡ rest → 0 < length rest
+      → last_reply next words rest ≡ last_reply next init log
   reply_of_more [] is some = absurd (omega arith)
   reply_of_more (e ∷ rest) is some =
       ap (λ (l : List ℕ). last_reply next l (e ∷ rest)) seen
@@ -59,16 +69,21 @@ module _ (next : List ℕ → ℕ → List ℕ × ℕ) (init : List ℕ) (log : 
       ∙ ap (λ (l : List Entry). last_reply next init (take known log ++ l)) (sym is)
       ∙ ap (last_reply next init) (take-append-drop known log)
 
-  pub reply_beyond : known < length log → last_reply next words (drop known log) ≡ last_reply next init log
+  pub reply_beyond : known < length log
+      → last_reply next words (drop known log) ≡ last_reply next init log
   reply_beyond more = reply_of_more (drop known log) refl (omega (arith, length-drop known log))
 
   -- there is room for what the rest adds
-  pub room_beyond : (room : ℕ) → length init ≤ 1 → ((l : List ℕ) (op : ℕ) → length (next l op).0 ≤ length l + 1) → known < length log → length log < room → length words + length (drop known log) ≤ room
+  pub room_beyond : (room : ℕ) → length init ≤ 1
+      → ((l : List ℕ) (op : ℕ) → length (next l op).0 ≤ length l + 1) → known < length log
+      → length log < room → length words + length (drop known log) ≤ room
   room_beyond room small grows more low =
       let most = length-list_after next grows init (take known log) in
       let same = ap length seen in
       omega (arith, length-take known log, length-drop known log)
 
 -- the slice from an entry on
-pub tail_is : (log : List Entry) (known : ℕ) → take (length log - known) (drop known log) ≡ drop known log
-tail_is log known = take_all (length log - known) (drop known log) (omega (arith, length-drop known log))
+pub tail_is : (log : List Entry) (known : ℕ)
+    → take (length log - known) (drop known log) ≡ drop known log
+tail_is log known =
+    take_all (length log - known) (drop known log) (omega (arith, length-drop known log))

@@ -18,8 +18,10 @@ pub tallies_are_counted : TalliesAreCounted
 tallies_are_counted history lawful before rest a is =
     let right = lawful before rest a is in
     let deed = right.allowed.1 in
-    let found : right.allowed.0 ≡ word_at 0 before = subst (λ (d : Deed). HasFound d (word_at (place_of d) before)) deed right.found in
-    let first : IsLawful tally_may before = lawful_prefix tally_may before (a ∷ rest) (subst (λ (l : List Access). IsLawful tally_may l) is lawful) in
+    let found : right.allowed.0 ≡ word_at 0 before =
+    subst (λ (d : Deed). HasFound d (word_at (place_of d) before)) deed right.found in
+    let first : IsLawful tally_may before = lawful_prefix tally_may before (a ∷ rest)
+    (subst (λ (l : List Access). IsLawful tally_may l) is lawful) in
     deed ∙ ap (Added 0 1) (found ∙ tallies_count before first)
 
 -- each load found the last word stored before it
@@ -27,7 +29,8 @@ pub cells_are_read : CellsAreRead
 cells_are_read history lawful before rest who found is =
     let load = access who (Loaded 0 found) in
     let was : found ≡ word_at 0 before = (lawful before rest load is).found in
-    let first : IsLawful cell_may before = lawful_prefix cell_may before (load ∷ rest) (subst (λ (l : List Access). IsLawful cell_may l) is lawful) in
+    let first : IsLawful cell_may before = lawful_prefix cell_may before (load ∷ rest)
+    (subst (λ (l : List Access). IsLawful cell_may l) is lawful) in
     subst (λ (w : ℕ). IsLastStored w before) (sym was) (cells_hold_the_last before first)
 
 -- ---- each access is one caller's
@@ -49,7 +52,8 @@ not_below who first (suc n) low =
     let more = not_below who (first + 1) n (omega arith) in
     omega (arith, sum_by-cons (once_if who) first (range_with_len (first + 1) n), here, more)
 
-once_within : (who first n : ℕ) → first ≤ who → who < first + n → sum_by (once_if who) (range_with_len first n) ≡ 1
+once_within : (who first n : ℕ) → first ≤ who → who < first + n
+    → sum_by (once_if who) (range_with_len first n) ≡ 1
 once_within who first zero from to = absurd (omega arith)
 once_within who first (suc n) from to = elim (cases_eq who first) [
   | inl is ↦
@@ -66,10 +70,17 @@ sum_of_none : (xs : List ℕ) → sum_by (λ (i : ℕ). 0) xs ≡ 0
 sum_of_none [] = refl
 sum_of_none (x ∷ xs) = omega (arith, sum_by-cons (λ (i : ℕ). 0) x xs, sum_of_none xs)
 
-sum_of_both : (f g : ℕ → ℕ) (xs : List ℕ) → sum_by (λ (i : ℕ). f i + g i) xs ≡ sum_by f xs + sum_by g xs
+sum_of_both : (f g : ℕ → ℕ) (xs : List ℕ)
+    → sum_by (λ (i : ℕ). f i + g i) xs ≡ sum_by f xs + sum_by g xs
 sum_of_both f g [] = refl
 sum_of_both f g (x ∷ xs) =
-    omega (arith, sum_by-cons (λ (i : ℕ). f i + g i) x xs, sum_by-cons f x xs, sum_by-cons g x xs, sum_of_both f g xs)
+    omega (
+      arith,
+      sum_by-cons (λ (i : ℕ). f i + g i) x xs,
+      sum_by-cons f x xs,
+      sum_by-cons g x xs,
+      sum_of_both f g xs,
+    )
 
 -- how many deeds a caller has
 abbrev deeds_many : List Access → ℕ → ℕ
@@ -78,30 +89,36 @@ deeds_many history i = length (deeds_by i history)
 many_of_one : (a : Access) (i : ℕ) → deeds_many (a ∷ []) i ≡ once_if a.caller i
 many_of_one a i = elim (cases_Bool (a.caller == i)) [
   | inl own ↦
-      ap (λ (l : List Access). length (map (λ (b : Access). b.deed) l)) (cond-true (a.caller == i) (a ∷ []) [] own)
+      ap (λ (l : List Access). length (map (λ (b : Access). b.deed) l))
+      (cond-true (a.caller == i) (a ∷ []) [] own)
       ∙ sym (ap (λ (b : Bool). cond b 1 0) own)
   | inr other ↦
-      ap (λ (l : List Access). length (map (λ (b : Access). b.deed) l)) (cond-false (a.caller == i) (a ∷ []) [] other)
+      ap (λ (l : List Access). length (map (λ (b : Access). b.deed) l))
+      (cond-false (a.caller == i) (a ∷ []) [] other)
       ∙ sym (ap (λ (b : Bool). cond b 1 0) other)
 ]
 
-many_more : (a : Access) (history : List Access) (i : ℕ) → deeds_many (a ∷ history) i ≡ once_if a.caller i + deeds_many history i
+many_more : (a : Access) (history : List Access) (i : ℕ)
+    → deeds_many (a ∷ history) i ≡ once_if a.caller i + deeds_many history i
 many_more a history i =
     ap (λ (l : List Deed). length l) (deeds_by-append i (a ∷ []) history)
     ∙ length-append (deeds_by i (a ∷ [])) (deeds_by i history)
     ∙ ap (λ (k : ℕ). k + deeds_many history i) (many_of_one a i)
 
 -- the callers' deeds are as many as the accesses
-each_is_one_callers : (n : ℕ) (history : List Access) → All (λ (a : Access). a.caller < n) history → sum_by (deeds_many history) (range_with_len 0 n) ≡ length history
+each_is_one_callers : (n : ℕ) (history : List Access) → All (λ (a : Access). a.caller < n) history
+    → sum_by (deeds_many history) (range_with_len 0 n) ≡ length history
 each_is_one_callers n [] callers = sum_of_none (range_with_len 0 n)
 each_is_one_callers n (a ∷ history) callers =
     let ids : List ℕ = range_with_len 0 n in
     let low = All-head (λ (b : Access). b.caller < n) a history callers in
-    let split : sum_by (deeds_many (a ∷ history)) ids ≡ sum_by (λ (i : ℕ). once_if a.caller i + deeds_many history i) ids =
+    let split : sum_by (deeds_many (a ∷ history)) ids
+    ≡ sum_by (λ (i : ℕ). once_if a.caller i + deeds_many history i) ids =
     ap (λ (f : ℕ → ℕ). sum_by f ids) (λ k i. many_more a history i k) in
     let both = sum_of_both (once_if a.caller) (deeds_many history) ids in
     let one = once_within a.caller 0 n (omega arith) (omega (arith, low)) in
-    let more = each_is_one_callers n history (All-tail (λ (b : Access). b.caller < n) a history callers) in
+    let more =
+    each_is_one_callers n history (All-tail (λ (b : Access). b.caller < n) a history callers) in
     omega (arith, split, both, one, more)
 
 -- ---- a pass tells as many increments as it made additions
@@ -109,8 +126,11 @@ each_is_one_callers n (a ∷ history) callers =
 abbrev is_increment : ℕ × ℕ → Bool
 is_increment pair = pair.0 == increment
 
-told_as_made : (pairs : List (ℕ × ℕ)) (before after : List Deed) → AreCalls IsTallied pairs before after → length after ≡ length before + count_by is_increment pairs
-told_as_made [] before after calls = let same = ap (λ (l : List Deed). length l) calls in omega (arith, same)
+told_as_made : (pairs : List (ℕ × ℕ)) (before after : List Deed)
+    → AreCalls IsTallied pairs before after
+    → length after ≡ length before + count_by is_increment pairs
+told_as_made [] before after calls = let same = ap (λ (l : List Deed). length l) calls in
+    omega (arith, same)
 told_as_made (pair ∷ pairs) before after calls =
     let more = told_as_made pairs calls.0 after calls.2 in
     let counts = sum_by-cons (λ (p : ℕ × ℕ). cond (is_increment p) 1 0) pair pairs in
@@ -128,21 +148,33 @@ told_as_made (pair ∷ pairs) before after calls =
     ]
 
 all_told : (history : List Access) (passes : List WordsPass)
-    → All (λ (p : WordsPass). AreCalls IsTallied (pairs_in p) [] (deeds_by (caller_of_pass p) history)) passes
+    → All
+    (λ (p : WordsPass). AreCalls IsTallied (pairs_in p) [] (deeds_by (caller_of_pass p) history))
+    passes
     → sum_by increments_in passes ≡ sum_by (deeds_many history) (map caller_of_pass passes)
 all_told history [] calls = refl
 all_told history (p ∷ passes) calls =
-    let mine = λ (q : WordsPass). AreCalls IsTallied (pairs_in q) [] (deeds_by (caller_of_pass q) history) in
-    let here = told_as_made (pairs_in p) [] (deeds_by (caller_of_pass p) history) (All-head mine p passes calls) in
+    let mine =
+    λ (q : WordsPass). AreCalls IsTallied (pairs_in q) [] (deeds_by (caller_of_pass q) history) in
+    let here = told_as_made (pairs_in p) [] (deeds_by (caller_of_pass p) history)
+    (All-head mine p passes calls) in
     let more = all_told history passes (All-tail mine p passes calls) in
-    omega (arith, sum_by-cons increments_in p passes, sum_by-cons (deeds_many history) (caller_of_pass p) (map caller_of_pass passes), here, more)
+    omega (
+      arith,
+      sum_by-cons increments_in p passes,
+      sum_by-cons (deeds_many history) (caller_of_pass p) (map caller_of_pass passes),
+      here,
+      more,
+    )
 
 -- what the passes tell together
-pub one_tally : (n : ℕ) (history : List Access) (passes : List WordsPass) → map caller_of_pass passes ≡ range_with_len 0 n
+pub one_tally : (n : ℕ) (history : List Access) (passes : List WordsPass)
+    → map caller_of_pass passes ≡ range_with_len 0 n
     → AreOfOneHistory tally_may (λ _. IsTallied) n history passes → TellOneTally n history passes
 one_tally n history passes callers one =
     let all : length history ≡ sum_by increments_in passes =
-    sym (all_told history passes one.calls ∙ ap (λ (ids : List ℕ). sum_by (deeds_many history) ids) callers ∙ each_is_one_callers n history one.callers) in
+    sym (all_told history passes one.calls ∙ ap (λ (ids : List ℕ). sum_by (deeds_many history) ids)
+    callers ∙ each_is_one_callers n history one.callers) in
     record {
       told = one;
       counted = tallies_are_counted history one.lawful;
@@ -150,7 +182,8 @@ one_tally n history passes callers one =
       word = tallies_count history one.lawful ∙ ap (λ (k : ℕ). k % 2 ^ 64) all;
     }
 
-pub one_cell : (n : ℕ) (history : List Access) (passes : List WordsPass) → AreOfOneHistory cell_may (λ _. IsKept) n history passes → TellOneCell n history passes
+pub one_cell : (n : ℕ) (history : List Access) (passes : List WordsPass)
+    → AreOfOneHistory cell_may (λ _. IsKept) n history passes → TellOneCell n history passes
 one_cell n history passes one =
     record {
       told = one;

@@ -25,17 +25,20 @@ read = operation 2 0
 abbrev pub IsNoWrite : ℕ → Type 0
 IsNoWrite op = (value : ℕ) → value < 2 ^ 32 → op ≢ write value
 
--- A call of a tally: an increment adds 1 to the word in one step, and its reply is the word found; all else makes no step, and the
--- reply is bad.
+-- A call of a tally: an increment adds 1 to the word in one step, and its reply is the word found;
+-- all else makes no step, and the reply is bad.
 pub record IsTallied (op reply : ℕ) (before after : List Deed) : Type 0 where
-  pub counts : op ≡ increment → (found : ℕ) × (after ≡ before ++ Added 0 1 found ∷ []) × (reply ≡ reply_value found)
+  pub counts : op ≡ increment → (found : ℕ) × (after ≡ before ++ Added 0 1 found ∷ [])
+      × (reply ≡ reply_value found)
   pub other : op ≢ increment → (after ≡ before) × (reply ≡ BAD)
 
--- A call of a cell: a write stores its value in one step; a read loads the word in one step, and its reply is the word found; all
--- else makes no step, and the reply is bad.
+-- A call of a cell: a write stores its value in one step; a read loads the word in one step, and
+-- its reply is the word found; all else makes no step, and the reply is bad.
 pub record IsKept (op reply : ℕ) (before after : List Deed) : Type 0 where
-  pub writes : (value : ℕ) → value < 2 ^ 32 → op ≡ write value → (after ≡ before ++ Stored 0 value ∷ []) × (reply ≡ reply_done)
-  pub reads : op ≡ read → (found : ℕ) × (after ≡ before ++ Loaded 0 found ∷ []) × (reply ≡ reply_value found)
+  pub writes : (value : ℕ) → value < 2 ^ 32 → op ≡ write value
+      → (after ≡ before ++ Stored 0 value ∷ []) × (reply ≡ reply_done)
+  pub reads : op ≡ read → (found : ℕ) × (after ≡ before ++ Loaded 0 found ∷ [])
+      × (reply ≡ reply_value found)
   pub other : IsNoWrite op → op ≢ read → (after ≡ before) × (reply ≡ BAD)
 
 -- The form of a tally's reply: a value exactly to the increment, and else bad.
@@ -51,11 +54,13 @@ pub record IsCellReply (op reply : ℕ) : Type 0 where
 
 -- Each pair of a tally's calls has the form of a tally's replies.
 abbrev pub TalliesAreFormed : Type 0
-TalliesAreFormed = (pairs : List (ℕ × ℕ)) (before after : List Deed) → AreCalls IsTallied pairs before after → All (λ pair. IsTallyReply pair.0 pair.1) pairs
+TalliesAreFormed = (pairs : List (ℕ × ℕ)) (before after : List Deed)
+    → AreCalls IsTallied pairs before after → All (λ pair. IsTallyReply pair.0 pair.1) pairs
 
 -- Each pair of a cell's calls has the form of a cell's replies.
 abbrev pub CellsAreFormed : Type 0
-CellsAreFormed = (pairs : List (ℕ × ℕ)) (before after : List Deed) → AreCalls IsKept pairs before after → All (λ pair. IsCellReply pair.0 pair.1) pairs
+CellsAreFormed = (pairs : List (ℕ × ℕ)) (before after : List Deed)
+    → AreCalls IsKept pairs before after → All (λ pair. IsCellReply pair.0 pair.1) pairs
 
 -- The callers of a tally make additions of 1 alone.
 abbrev pub tally_may : ℕ → Deed → Type 0
@@ -63,9 +68,11 @@ tally_may caller deed = (found : ℕ) × (deed ≡ Added 0 1 found)
 
 -- The callers of a cell make stores and loads alone.
 abbrev pub cell_may : ℕ → Deed → Type 0
-cell_may caller deed = ((value : ℕ) × (deed ≡ Stored 0 value)) ⊎ ((found : ℕ) × (deed ≡ Loaded 0 found))
+cell_may caller deed = ((value : ℕ) × (deed ≡ Stored 0 value))
+    ⊎ ((found : ℕ) × (deed ≡ Loaded 0 found))
 
--- A history that ends with an increment of a caller, with the reply to it: the number of increments before it, modulo 2^64.
+-- A history that ends with an increment of a caller, with the reply to it: the number of increments
+-- before it, modulo 2^64.
 pub record IsCounted (who reply : ℕ) (history : List Access) : Type 0 where
   pub before : List Access
   pub ends : history ≡ before ++ access who (Added 0 1 (length before % 2 ^ 64)) ∷ []
@@ -78,9 +85,11 @@ IsLoad a = (found : ℕ) × (a.deed ≡ Loaded 0 found)
 -- The last store of a history stored this word; where it has no store, the word is 0.
 abbrev pub IsLastStored : ℕ → List Access → Type 0
 IsLastStored word history =
-    (All IsLoad history × (word ≡ 0)) ⊎ ((before rest : List Access) × (who : ℕ) × (history ≡ before ++ access who (Stored 0 word) ∷ rest) × All IsLoad rest)
+    (All IsLoad history × (word ≡ 0)) ⊎ ((before rest : List Access) × (who : ℕ)
+    × (history ≡ before ++ access who (Stored 0 word) ∷ rest) × All IsLoad rest)
 
--- A history that ends with a load of a caller, with a reply that tells the word that the last store before it stored.
+-- A history that ends with a load of a caller, with a reply that tells the word that the last store
+-- before it stored.
 pub record IsLastRead (who reply : ℕ) (history : List Access) : Type 0 where
   pub before : List Access
   pub word : ℕ
@@ -90,8 +99,10 @@ pub record IsLastRead (who reply : ℕ) (history : List Access) : Type 0 where
 
 -- The word of a tally is the number of its increments modulo 2^64.
 abbrev pub TalliesCount : Type 0
-TalliesCount = (history : List Access) → IsLawful tally_may history → word_at 0 history ≡ length history % 2 ^ 64
+TalliesCount = (history : List Access) → IsLawful tally_may history
+    → word_at 0 history ≡ length history % 2 ^ 64
 
 -- The word of a cell is the last one stored.
 abbrev pub CellsHoldTheLast : Type 0
-CellsHoldTheLast = (history : List Access) → IsLawful cell_may history → IsLastStored (word_at 0 history) history
+CellsHoldTheLast = (history : List Access) → IsLawful cell_may history
+    → IsLastStored (word_at 0 history) history

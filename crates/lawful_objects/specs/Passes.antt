@@ -53,9 +53,10 @@ module _ {M : Type 0} where
   abbrev pub machine_in : LogBox M → M
   machine_in b = b.machine
 
-  -- The pass is one of this box, and has room for all that its caller may ask; its pairs are what its log says, and its scratch
-  -- holds what the machine keeps of that log.
-  pub record IsPassOf (reply_to : M → List Entry → ℕ) (has_seen : M → List Entry → Scratch → Type 0) (b : LogBox M) (p : LogPass) : Type 0 where
+  -- The pass is one of this box, and has room for all that its caller may ask; its pairs are what
+  -- its log says, and its scratch holds what the machine keeps of that log.
+  pub record IsPassOf (reply_to : M → List Entry → ℕ) (has_seen : M → List Entry → Scratch → Type 0)
+      (b : LogBox M) (p : LogPass) : Type 0 where
     pub seat : IsSeatOf b.log p.seat
     pub pairs : pairs_in p ≡ pairs_of (reply_to (machine_in b)) (log_in p) (caller_of_pass p)
     pub count : length (pairs_in p) ≡ made_with p
@@ -65,6 +66,8 @@ module _ {M : Type 0} where
     pub seen : 0 < length (log_in p) → has_seen (machine_in b) (log_in p) p.tools.scratch
 
   -- The passes are those of all callers of a box, in order.
-  pub record ArePassesOf (reply_to : M → List Entry → ℕ) (has_seen : M → List Entry → Scratch → Type 0) (b : LogBox M) (passes : List LogPass) : Type 0 where
+  pub record ArePassesOf (reply_to : M → List Entry → ℕ)
+      (has_seen : M → List Entry → Scratch → Type 0) (b : LogBox M)
+      (passes : List LogPass) : Type 0 where
     pub callers : map caller_of_pass passes ≡ range_with_len 0 (callers_in b)
     pub each : All (IsPassOf reply_to has_seen b) passes

@@ -17,4 +17,5 @@ last_reply next list (e ∷ d ∷ log) = last_reply next (next list e.op).0 (d �
 -- leave.
 abbrev pub LastReplyIsNext : Type 0
 LastReplyIsNext =
-    (next : List ℕ → ℕ → List ℕ × ℕ) (list : List ℕ) (before : List Entry) (e : Entry) → last_reply next list (before ++ e ∷ []) ≡ (next (list_after next list before) e.op).1
+    (next : List ℕ → ℕ → List ℕ × ℕ) (list : List ℕ) (before : List Entry) (e : Entry)
+    → last_reply next list (before ++ e ∷ []) ≡ (next (list_after next list before) e.op).1

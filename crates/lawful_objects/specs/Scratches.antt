@@ -7,7 +7,8 @@ use Rattle.lawful_objects.specs.declared.scratch.Scratch.{Scratch}
 abbrev pub empty_state : ℕ → Contents
 empty_state room = record { words = []; room = room }
 
--- A new scratch: both states are empty and have room for one word more than n callers have calls, and nothing waits.
+-- A new scratch: both states are empty and have room for one word more than n callers have calls,
+-- and nothing waits.
 pub record IsClear (n cap : ℕ) (s : Scratch) : Type 0 where
   pub state : s.state ≡ empty_state (n * cap + 1)
   pub other : s.other ≡ empty_state (n * cap + 1)

@@ -6,12 +6,14 @@ use Rattle.shared_words.specs.Histories.{Access, access, word_at, IsLawful}
 use Rattle.shared_words.specs.Passes.{pairs_in, AreOfOneHistory}
 use Rattle.lawful_objects.specs.Forms.{increment, tally_may, cell_may, IsTallied, IsKept, IsLastStored}
 
--- Each access of a history is an increment that found the number of accesses before it, modulo 2^64.
+-- Each access of a history is an increment that found the number of accesses before it, modulo
+-- 2^64.
 abbrev pub AreCounted : List Access → Type 0
 AreCounted history = (before rest : List Access) (a : Access) → history ≡ before ++ a ∷ rest
     → a.deed ≡ Added 0 1 (length before % 2 ^ 64)
 
--- Each load of a history found the word that the last store before it stored, or 0 where there is none.
+-- Each load of a history found the word that the last store before it stored, or 0 where there is
+-- none.
 abbrev pub LoadsFindTheLast : List Access → Type 0
 LoadsFindTheLast history = (before rest : List Access) (who found : ℕ)
     → history ≡ before ++ access who (Loaded 0 found) ∷ rest → IsLastStored found before
@@ -20,16 +22,17 @@ LoadsFindTheLast history = (before rest : List Access) (who found : ℕ)
 abbrev pub increments_in : WordsPass → ℕ
 increments_in p = count_by (λ pair. pair.0 == increment) (pairs_in p)
 
--- The passes of n callers of a tally tell one history of increments. The history has as many increments as the passes tell, each
--- found the number of those before it, and the word is left as their number, modulo 2^64.
+-- The passes of n callers of a tally tell one history of increments. The history has as many
+-- increments as the passes tell, each found the number of those before it, and the word is left as
+-- their number, modulo 2^64.
 pub record TellOneTally (n : ℕ) (history : List Access) (passes : List WordsPass) : Type 0 where
   pub told : AreOfOneHistory tally_may (λ _. IsTallied) n history passes
   pub counted : AreCounted history
   pub all : length history ≡ sum_by increments_in passes
   pub word : word_at 0 history ≡ sum_by increments_in passes % 2 ^ 64
 
--- The passes of n callers of a cell tell one history of stores and loads. Each load found what the last store before it stored, and
--- the word is left as the last one stored.
+-- The passes of n callers of a cell tell one history of stores and loads. Each load found what the
+-- last store before it stored, and the word is left as the last one stored.
 pub record TellOneCell (n : ℕ) (history : List Access) (passes : List WordsPass) : Type 0 where
   pub told : AreOfOneHistory cell_may (λ _. IsKept) n history passes
   pub found : LoadsFindTheLast history

@@ -5,7 +5,8 @@ ghost use Rattle.lawful_objects.specs.Pairs.{PairsHaveTheCalls};
 ghost use Rattle.lawful_objects.specs.Forms.{TalliesAreFormed, CellsAreFormed, TalliesCount, CellsHoldTheLast};
 ghost use Rattle.lawful_objects.specs.Together.{TalliesAreCounted, CellsAreRead};
 
-/// The reply to the last operation of a log is the object's at the list that the operations before it leave.
+/// The reply to the last operation of a log is the object's at the list that the operations before
+/// it leave.
 #[tactic(auto, using(crate::proofs::Replaying::last_reply_is_next))]
 pub fn last_reply_is_next()
     ensures { LastReplyIsNext }
@@ -28,7 +29,8 @@ pub fn replies_are_formed()
     ensures cells { CellsAreFormed }
 {}
 
-/// The word of a tally is the number of its increments modulo 2^64, and that of a cell is the last one stored.
+/// The word of a tally is the number of its increments modulo 2^64, and that of a cell is the last
+/// one stored.
 #[tactic(auto, using(crate::proofs::Counting::tallies_count, crate::proofs::Counting::cells_hold_the_last))]
 pub fn words_are_of_histories()
     // The word of a tally is the number of its increments modulo 2^64.

@@ -1,4 +1,5 @@
-//! Lawful objects: a log that a machine answers from, a tally and a cell, each asked by callers on many threads.
+//! Lawful objects: a log that a machine answers from, a tally and a cell, each asked by callers on
+//! many threads.
 #![tactic(auto)]
 
 pub mod laws;

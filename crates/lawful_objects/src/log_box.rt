@@ -10,11 +10,11 @@ use drv_wrapper::{Announced, BlackBox};
 use shared_log::{Entry, LogSeat, SharedLog};
 use std::alloc::Global;
 
-/// A lawful object: its callers share one log of their calls, and a machine answers each call from the log up
-/// to it.
+/// A lawful object: its callers share one log of their calls, and a machine answers each call from
+/// the log up to it.
 ///
-/// The log is one order of all calls, so the object does what the machine does in that order, whatever the
-/// threads do.
+/// The log is one order of all calls, so the object does what the machine does in that order,
+/// whatever the threads do.
 pub struct LogBox<M: Machine> {
     pub(crate) machine: M,
     pub(crate) log: SharedLog,
@@ -25,8 +25,8 @@ impl<M: Machine> LogBox<M> {
     ghost use Rattle.lawful_objects.specs.Equipment.{AreReady};
     ghost use Rattle.shared_log.specs.Seats.{log_of, AreSeatsOf};
 
-    /// Makes one call of the pass's caller: it is appended to the log, and answered from the log up to it. It
-    /// takes no memory.
+    /// Makes one call of the pass's caller: it is appended to the log, and answered from the log up
+    /// to it. It takes no memory.
     pub fn make(&self, pass: &mut LogPass, op: OpWord) -> u64
         // The pass is one of this box.
         requires own { IsPassOf M.reply_to M.has_seen self.now pass.old }
@@ -35,7 +35,8 @@ impl<M: Machine> LogBox<M> {
         // The pass is still one of this box.
         ensures own { IsPassOf M.reply_to M.has_seen self.now pass.new }
         // The pass keeps its caller and how many calls it may make.
-        ensures same { (caller_of_pass pass.new ≡ caller_of_pass pass.old) × (cap_of_pass pass.new ≡ cap_of_pass pass.old) }
+        ensures same { (caller_of_pass pass.new ≡ caller_of_pass pass.old)
+            × (cap_of_pass pass.new ≡ cap_of_pass pass.old) }
         // The pass has made one call more.
         ensures made { made_with pass.new ≡ made_with pass.old + 1 }
         // The log that the pass saw is the one that it saw before, then others' calls, and this
@@ -62,8 +63,10 @@ impl<M: Machine> LogBox<M> {
         mut all_tools: Vec<Tools>,
         mut passes: Vec<LogPass>,
     ) -> Vec<LogPass>
-        requires seats { AreSeatsOf self.now.log seats.items × All (λ s. log_of s ≡ []) seats.items }
-        requires tools { (vec_len all_tools ≡ callers_in self.now) × All (AreReady (callers_in self.now) (cap_in self.now)) all_tools.items }
+        requires seats { AreSeatsOf self.now.log seats.items
+            × All (λ s. log_of s ≡ []) seats.items }
+        requires tools { (vec_len all_tools ≡ callers_in self.now)
+            × All (AreReady (callers_in self.now) (cap_in self.now)) all_tools.items }
         requires passes { (passes.items ≡ []) × (callers_in self.now ≤ vec_capacity passes) }
         ensures passes { ArePassesOf M.reply_to M.has_seen self.now result.items }
         ensures fresh { All (IsFresh (cap_in self.now)) result.items }
@@ -83,7 +86,8 @@ impl<M: Machine> LogBox<M> {
 impl<M: Machine + Drop> LogBox<M> {
     ghost use Rattle.lawful_objects.specs.Passes.{callers_in, cap_in, machine_in, caller_of_pass, made_with, cap_of_pass, pairs_in, log_in, ArePassesOf, IsFresh};
 
-    /// A box for `n` callers with `cap` calls each, and a pass for each caller, in order. The log is empty.
+    /// A box for `n` callers with `cap` calls each, and a pass for each caller, in order. The log
+    /// is empty.
     pub fn open(
         alloc: Global,
         machine: M,
@@ -99,7 +103,8 @@ impl<M: Machine + Drop> LogBox<M> {
         // Each caller has at most `MAX_CALLS` calls.
         requires few_calls { cap ≤ MAX_CALLS }
         // The box has this many callers, this cap and this machine.
-        ensures log { IfOk result (λ r. (callers_in r.0 ≡ n) × (cap_in r.0 ≡ cap) × (machine_in r.0 ≡ machine)) }
+        ensures log { IfOk result
+            (λ r. (callers_in r.0 ≡ n) × (cap_in r.0 ≡ cap) × (machine_in r.0 ≡ machine)) }
         // The passes are those of all callers of the box, in order.
         ensures passes { IfOk result (λ r. ArePassesOf M.reply_to M.has_seen r.0 r.1.items) }
         // Each pass has made no call, and may make as many as the cap.
@@ -130,7 +135,8 @@ impl<M: Machine + Drop> LogBox<M> {
         ensures prefixes { All (λ p. BeginsWith result.items (log_in p)) passes.items }
         // Each pass has the calls of its caller in the log, each with the machine's reply to the
         // log up to it.
-        ensures told { All (λ p. pairs_in p ≡ pairs_of (M.reply_to (machine_in self)) result.items (caller_of_pass p)) passes.items }
+        ensures told { All (λ p. pairs_in p ≡ pairs_of (M.reply_to (machine_in self)) result.items
+            (caller_of_pass p)) passes.items }
     {
         let LogBox { machine: _, log } = self;
         log.close(passes)

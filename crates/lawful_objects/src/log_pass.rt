@@ -36,8 +36,8 @@ impl Tools {
     }
 }
 
-/// What one caller holds to call a box: its seat of the log, its machine's scratch, and its calls with their
-/// replies.
+/// What one caller holds to call a box: its seat of the log, its machine's scratch, and its calls
+/// with their replies.
 pub struct LogPass {
     pub(crate) seat: LogSeat,
     pub(crate) tools: Tools,

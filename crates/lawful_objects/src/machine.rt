@@ -6,13 +6,14 @@ ghost use Rattle.lawful_objects.specs.Scratches.{HasRoom, KeepsRoom};
 use crate::scratch::Scratch;
 use shared_log::Entry;
 
-/// How an object answers from the log of all calls: the meaning is the reply to the last entry of a log.
+/// How an object answers from the log of all calls: the meaning is the reply to the last entry of a
+/// log.
 pub trait Machine {
     /// The reply to the last entry of a log.
     ghost reply_to: { Self → List Item → ℕ };
 
-    /// What the scratch holds after the machine has answered a log, if that serves the next answer. A machine
-    /// that leaves it out keeps nothing there.
+    /// What the scratch holds after the machine has answered a log, if that serves the next answer.
+    /// A machine that leaves it out keeps nothing there.
     ghost has_seen: { Self → List Item → Tool → Type 0 } = { λ machine log scratch. Unit {0} };
 
     /// The reply to the last entry of the log.

@@ -5,8 +5,8 @@ use crate::scratch::Scratch;
 use book_base::{SeqObject, State};
 use shared_log::Entry;
 
-/// The machine that answers as a sequential object does: it replays the operations of the log, and goes on from
-/// the list that it reached at its last answer.
+/// The machine that answers as a sequential object does: it replays the operations of the log, and
+/// goes on from the list that it reached at its last answer.
 #[derive(Debug, Drop)]
 pub struct Plain<S: SeqObject> {
     pub object: S,
@@ -18,7 +18,9 @@ impl<S: SeqObject> Plain<S> {
     // Makes the operations of a log. The reply to the last one.
     fn replay(&self, log: &[Entry], state: &mut State) -> u64
         requires room { length state.old.words + length log.now ≤ state.old.room }
-        ensures list { state.new ≡ record state.old { words = list_after (S.next self.now.object) state.old.words log.now } }
+        ensures list { state.new ≡ record state.old {
+          words = list_after (S.next self.now.object) state.old.words log.now;
+        } }
         ensures reply { result ≡ last_reply (S.next self.now.object) state.old.words log.now }
     {
         let mut reply = 0;

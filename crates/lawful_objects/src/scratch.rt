@@ -18,8 +18,8 @@ pub struct Scratch {
 impl Scratch {
     ghost use Rattle.lawful_objects.specs.Scratches.{IsClear};
 
-    /// A scratch for logs of `n` callers with `cap` calls each: both states are empty, with room for one word
-    /// more than there are calls, and nothing waits.
+    /// A scratch for logs of `n` callers with `cap` calls each: both states are empty, with room
+    /// for one word more than there are calls, and nothing waits.
     pub fn new(alloc: Global, n: u32, cap: u64) -> Result<Scratch, NoMemory>
         // There is at least one caller.
         requires some_callers { 1 ≤ n }

@@ -36,7 +36,8 @@ impl Tally {
     ghost use Rattle.shared_words.specs.Passes.{caller_of_seat, history_of, deeds_of, callers_of, cap_of, caller_of_pass, made_with, cap_of_pass, pairs_in, history_in, IsSeatOf, IsFreshPass};
     ghost use Rattle.lawful_objects.specs.WordObjects.{IsTallyPass};
 
-    /// A tally for `n` callers with `cap` calls each, and a pass for each caller, in order. The count is 0.
+    /// A tally for `n` callers with `cap` calls each, and a pass for each caller, in order. The
+    /// count is 0.
     pub fn open(alloc: Global, n: u32, cap: u64) -> Result<(Tally, Vec<WordsPass>), NoMemory>
         // There is at least one caller.
         requires some_callers { 1 ≤ n }
@@ -66,7 +67,8 @@ impl Tally {
         ensures caller { caller_of_seat seat.new ≡ caller_of_seat seat.old }
         ensures call { IsTallied op result (deeds_of seat.old) (deeds_of seat.new) }
         ensures history { IsPrefix (history_of seat.old) (history_of seat.new) }
-        ensures counted { op ≡ increment → IsCounted (caller_of_seat seat.old) result (history_of seat.new) }
+        ensures counted { op ≡ increment
+            → IsCounted (caller_of_seat seat.old) result (history_of seat.new) }
     {
         if op != INCREMENT {
             return BAD;
@@ -83,7 +85,8 @@ impl Tally {
         // The pass is still one of this tally.
         ensures own { IsTallyPass self.now pass.new }
         // The pass keeps its caller and how many calls it may make.
-        ensures same { (caller_of_pass pass.new ≡ caller_of_pass pass.old) × (cap_of_pass pass.new ≡ cap_of_pass pass.old) }
+        ensures same { (caller_of_pass pass.new ≡ caller_of_pass pass.old)
+            × (cap_of_pass pass.new ≡ cap_of_pass pass.old) }
         // The pass has this operation and this reply after the calls that it had.
         ensures pairs { pairs_in pass.new ≡ pairs_in pass.old ++ (op, result) ∷ [] }
         // The reply is a value exactly to the increment, and else `bad`.
@@ -92,7 +95,8 @@ impl Tally {
         ensures history { IsPrefix (history_in pass.old) (history_in pass.new) }
         // The last access is this increment, and its reply tells the number of increments before
         // it, modulo 2^64.
-        ensures counted { op ≡ increment → IsCounted (caller_of_pass pass.old) result (history_in pass.new) }
+        ensures counted { op ≡ increment
+            → IsCounted (caller_of_pass pass.old) result (history_in pass.new) }
     {
         let reply = self.reply(&mut pass.seat, op);
         pass.note(op, reply);

@@ -13,7 +13,8 @@ use seq_objects::{DONE, value_reply};
 use shared_words::{SharedWords, Usage, WordSeat, WordsPass};
 use std::alloc::Global;
 
-/// The operation word of the write of 0, and that of the read: the writes stand from the one up to the other.
+/// The operation word of the write of 0, and that of the read: the writes stand from the one up to
+/// the other.
 const WRITE_0: OpWord = 1 << 32;
 
 const READ: OpWord = 2 << 32;
@@ -38,7 +39,8 @@ impl WordCell {
     ghost use Rattle.shared_words.specs.Passes.{caller_of_seat, history_of, deeds_of, callers_of, cap_of, caller_of_pass, made_with, cap_of_pass, pairs_in, history_in, IsSeatOf, IsFreshPass};
     ghost use Rattle.lawful_objects.specs.WordObjects.{IsCellPass};
 
-    /// A cell for `n` callers with `cap` calls each, and a pass for each caller, in order. Its value is 0.
+    /// A cell for `n` callers with `cap` calls each, and a pass for each caller, in order. Its
+    /// value is 0.
     pub fn open(alloc: Global, n: u32, cap: u64) -> Result<(WordCell, Vec<WordsPass>), NoMemory>
         // There is at least one caller.
         requires some_callers { 1 ≤ n }
@@ -68,7 +70,8 @@ impl WordCell {
         ensures caller { caller_of_seat seat.new ≡ caller_of_seat seat.old }
         ensures call { IsKept op result (deeds_of seat.old) (deeds_of seat.new) }
         ensures history { IsPrefix (history_of seat.old) (history_of seat.new) }
-        ensures last { op ≡ read → IsLastRead (caller_of_seat seat.old) result (history_of seat.new) }
+        ensures last { op ≡ read
+            → IsLastRead (caller_of_seat seat.old) result (history_of seat.new) }
     {
         if op == READ {
             return value_reply(self.word.load(seat, 0));
@@ -89,7 +92,8 @@ impl WordCell {
         // The pass is still one of this cell.
         ensures own { IsCellPass self.now pass.new }
         // The pass keeps its caller and how many calls it may make.
-        ensures same { (caller_of_pass pass.new ≡ caller_of_pass pass.old) × (cap_of_pass pass.new ≡ cap_of_pass pass.old) }
+        ensures same { (caller_of_pass pass.new ≡ caller_of_pass pass.old)
+            × (cap_of_pass pass.new ≡ cap_of_pass pass.old) }
         // The pass has this operation and this reply after the calls that it had.
         ensures pairs { pairs_in pass.new ≡ pairs_in pass.old ++ (op, result) ∷ [] }
         // The reply is done exactly to a write, a value exactly to the read, and else `bad`.
@@ -97,7 +101,8 @@ impl WordCell {
         // The accesses that the pass knew are the first of those that it knows.
         ensures history { IsPrefix (history_in pass.old) (history_in pass.new) }
         // The last access is this read, and its reply tells the last word stored before it.
-        ensures last { op ≡ read → IsLastRead (caller_of_pass pass.old) result (history_in pass.new) }
+        ensures last { op ≡ read
+            → IsLastRead (caller_of_pass pass.old) result (history_in pass.new) }
     {
         let reply = self.reply(&mut pass.seat, op);
         pass.note(op, reply);

@@ -1,4 +1,5 @@
--- What an error line of a lawful report says: no order of its book, and no run over linearizable object calls.
+-- What an error line of a lawful report says: no order of its book, and no run over linearizable
+-- object calls.
 use Rattle.std.proofs.Common.{subst}
 use Rattle.book_base.specs.Order.{HasLegalOrder}
 use Rattle.book_laws.proofs.BookAtLaws.{is_the_only_one}
@@ -9,7 +10,8 @@ use Rattle.lawful_reports.specs.Errors.{WitnessesHaveNoOrder, NoRunLeavesAnError
 pub witnesses_have_no_order : WitnessesHaveNoOrder
 witnesses_have_no_order init next s operations allotments lines book lawful witness legal =
     lawful.no_order witness.call witness.cut witness.error.error
-    (subst (HasLegalOrder init next) (is_the_only_one (book_of_lines lines) witness.cut book lawful.valid witness.at) legal)
+    (subst (HasLegalOrder init next)
+    (is_the_only_one (book_of_lines lines) witness.cut book lawful.valid witness.at) legal)
 
 pub no_run_leaves_an_error : NoRunLeavesAnError
 no_run_leaves_an_error init next s operations allotments lines lawful some t steps run same =

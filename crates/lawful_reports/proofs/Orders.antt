@@ -30,23 +30,28 @@ record HasItsRecord (l : Local) (k : ℕ) (r : Record) : Type 0 where
   below : k < length l.seen
   is : record_in l k ≡ r
 
-has_its_record : (l : Local) (k : ℕ) (r : Record) (cut : List ℕ) → reached_in l k ≡ Has_seen r cut → HasItsRecord l k r
+has_its_record : (l : Local) (k : ℕ) (r : Record) (cut : List ℕ) → reached_in l k ≡ Has_seen r cut
+    → HasItsRecord l k r
 has_its_record l k r cut e =
     let own : List ℕ = slice_index_or l.seen k [] in
-    let other : Reached = cond (nat_lt k (length l.views)) (Has_record (record_in l k)) Is_announced in
+    let other : Reached =
+    cond (nat_lt k (length l.views)) (Has_record (record_in l k)) Is_announced in
     let made : Bool → Reached = λ b. cond b (Has_seen (record_in l k) own) other in
     elim (cases_lt k (length l.seen)) [
       | inl below ↦
-          let one : Has_seen (record_in l k) own ≡ Has_seen r cut = sym (ap made (lt-ltb k (length l.seen) below)) ∙ e in
+          let one : Has_seen (record_in l k) own ≡ Has_seen r cut =
+          sym (ap made (lt-ltb k (length l.seen) below)) ∙ e in
           let same : record_in l k ≡ r = cc in
           record { below = below; is = same }
       | inr past ↦
           let none : other ≡ Has_seen r cut = sym (ap made (le-ltb k (length l.seen) past)) ∙ e in
-          absurd (cond_both (nat_lt k (length l.views)) (Has_record (record_in l k)) Is_announced (λ (v : Reached). v ≡ Has_seen r cut → ⊥) (λ _ h. absurd cc) (λ _ h. absurd cc) none)
+          absurd (cond_both (nat_lt k (length l.views)) (Has_record (record_in l k)) Is_announced
+          (λ (v : Reached). v ≡ Has_seen r cut → ⊥) (λ _ h. absurd cc) (λ _ h. absurd cc) none)
     ]
 
 pub delivered_replies_stand_in_one_order : DeliveredRepliesStandInOneOrder
-delivered_replies_stand_in_one_order init next s operations allotments lines lawful = (order, legal, stands)
+delivered_replies_stand_in_one_order init next s operations allotments lines lawful =
+    (order, legal, stands)
   where
     order : List Place
     order = lawful.one_order.0
@@ -60,36 +65,56 @@ delivered_replies_stand_in_one_order init next s operations allotments lines law
     together : AreTogether s locals
     together = (lawful.reached.0, lawful.reached.1, refl)
 
-    recorded : (call : Call) (line : Line) (r : Record) (cut : List ℕ) → slice_get (slice_index_or (map calls_in locals) call.caller []) call.number ≡ Some (made_of line)
+    recorded : (call : Call) (line : Line) (r : Record) (cut : List ℕ) → slice_get
+        (slice_index_or (map calls_in locals) call.caller []) call.number ≡ Some (made_of line)
         → line.end ≡ Delivered r cut → record_of (book_in locals) call ≡ Some r
     recorded call line r cut there end =
         let l : Local = local_at locals call.caller in
-        let at : slice_get (calls_in l) call.number ≡ Some (made_of line) = ap (λ (cs : List Made). slice_get cs call.number) (sym (calls_at locals call.caller)) ∙ there in
+        let at : slice_get (calls_in l) call.number ≡ Some (made_of line) =
+        ap (λ (cs : List Made). slice_get cs call.number) (sym (calls_at locals call.caller))
+        ∙ there in
         let low : call.number < length l.operations =
-        omega (arith, slice_get_within (calls_in l) call.number (made_of line) at, length-map-range_with_len (λ k. call_in l k) 0 (length l.operations)) in
+        omega (
+          arith,
+          slice_get_within (calls_in l) call.number (made_of line) at,
+          length-map-range_with_len (λ k. call_in l k) 0 (length l.operations),
+        ) in
         let same : call_in l call.number ≡ made_of line =
-        same_Some (call_in l call.number) (made_of line) (sym (slice_get-made (λ k. call_in l k) (length l.operations) call.number low) ∙ at) in
-        let has = has_its_record l call.number r cut (ap (λ (m : Made). m.reached) same ∙ ap reached_of end) in
+        same_Some (call_in l call.number) (made_of line)
+        (sym (slice_get-made (λ k. call_in l k) (length l.operations) call.number low) ∙ at) in
+        let has = has_its_record l call.number r cut
+        (ap (λ (m : Made). m.reached) same ∙ ap reached_of end) in
         let all = all_lengths s locals together in
-        record_in_book locals all call (omega (arith, has.below, (all call.caller).seen)) ∙ ap (λ (q : Record). Some q) has.is
+        record_in_book locals all call (omega (arith, has.below, (all call.caller).seen))
+        ∙ ap (λ (q : Record). Some q) has.is
 
-    answered : (call : Call) (line : Line) (r : Record) (cut : List ℕ) → line_at lines call ≡ Some line → line.end ≡ Delivered r cut
+    answered : (call : Call) (line : Line) (r : Record) (cut : List ℕ)
+        → line_at lines call ≡ Some line → line.end ≡ Delivered r cut
         → record_of (delivered_book s lines) call ≡ Some r
     answered call line r cut there end =
         let are = lawful.reached.2 in
-        let at = ap (λ (cs : List (List Made)). slice_get (slice_index_or cs call.caller []) call.number) (sym are.calls) ∙ call_of_line lines call line there in
+        let at =
+        ap (λ (cs : List (List Made)). slice_get (slice_index_or cs call.caller []) call.number)
+        (sym are.calls) ∙ call_of_line lines call line there in
         let d : delivered_at lines call ≡ Some cut =
-        ap (λ (o : Option Line). option_and_then (λ (l : Line). delivered_in l.end) o) there ∙ ap delivered_in end in
-        let kept : record_of (book_at (delivered_cut s.callers lines) (book_in locals)) call ≡ Some r =
-        (one init next locals lines are s together).records call (lawful.holds call cut d) ∙ recorded call line r cut at end in
-        ap (λ (b : List Page). record_of (book_at (delivered_cut s.callers lines) b) call) (same_book init next locals lines are) ∙ kept
+        ap (λ (o : Option Line). option_and_then (λ (l : Line). delivered_in l.end) o) there
+        ∙ ap delivered_in end in
+        let kept : record_of
+        (book_at (delivered_cut s.callers lines) (book_in locals)) call ≡ Some r =
+        (one init next locals lines are s together).records call (lawful.holds call cut d)
+        ∙ recorded call line r cut at end in
+        ap (λ (b : List Page). record_of (book_at (delivered_cut s.callers lines) b) call)
+        (same_book init next locals lines are) ∙ kept
 
-    stands : (call : Call) (line : Line) (r : Record) (cut : List ℕ) → line_at lines call ≡ Some line → line.end ≡ Delivered r cut
+    stands : (call : Call) (line : Line) (r : Record) (cut : List ℕ)
+        → line_at lines call ≡ Some line → line.end ≡ Delivered r cut
         → StandsWith (delivered_book s lines) order call line.op r.reply
     stands call line r cut there end =
         let place = legal.answered call r (answered call line r cut there end) in
-        let is : IsCall (delivered_book s lines) call = legal.calls place.0 call (record { caller = call.caller; number = call.number; reply = r.reply }, place.1, refl) in (
+        let is : IsCall (delivered_book s lines) call = legal.calls place.0 call
+        (record { caller = call.caller; number = call.number; reply = r.reply }, place.1, refl) in (
           place.0,
           place.1,
-          (is_the_book_at (book_of_lines lines) (delivered_cut s.callers lines) lawful.valid).operations call is ∙ operation_of-lines lines call line there,
+          (is_the_book_at (book_of_lines lines) (delivered_cut s.callers lines)
+              lawful.valid).operations call is ∙ operation_of-lines lines call line there,
         )

@@ -9,7 +9,8 @@ use Rattle.call_lines.specs.Lawful.{IsLawful}
 use Rattle.report_laws.specs.Cases.{fifty, sixty}
 use Rattle.lawful_reports.specs.Orders.{DeliveredLinesStandIn, delivered_book}
 
--- The first caller's line of that run, and these lines of the second; the second caller's line, and these of the first.
+-- The first caller's line of that run, and these lines of the second; the second caller's line, and
+-- these of the first.
 abbrev pub with_second : List Line → List (List Line)
 with_second own = (delivered 5 fifty (1 ∷ 0 ∷ []) ∷ []) ∷ own ∷ []
 
@@ -18,11 +19,14 @@ with_first own = own ∷ (delivered 6 sixty (1 ∷ 1 ∷ []) ∷ []) ∷ []
 
 -- The first caller went on after an error.
 abbrev pub after_an_error : List (List Line)
-after_an_error = (failed 5 fifty (1 ∷ 0 ∷ []) ∷ pending 7 ∷ []) ∷ (failed 6 sixty (1 ∷ 1 ∷ []) ∷ []) ∷ []
+after_an_error =
+    (failed 5 fifty (1 ∷ 0 ∷ []) ∷ pending 7 ∷ []) ∷ (failed 6 sixty (1 ∷ 1 ∷ []) ∷ []) ∷ []
 
 -- These lines are no lawful report, whatever the callers, their operations and their allotments.
-abbrev pub AreNoReport : (init : List ℕ) → (next : List ℕ → ℕ → List ℕ × ℕ) → List (List Line) → Type 0
-AreNoReport init next lines = (s : Shape) (operations : List (List ℕ)) (allotments : List ℕ) → ¬ IsLawful init next s operations allotments lines
+abbrev pub AreNoReport : (init : List ℕ) → (next : List ℕ → ℕ → List ℕ × ℕ)
+    → List (List Line) → Type 0
+AreNoReport init next lines = (s : Shape) (operations : List (List ℕ)) (allotments : List ℕ)
+    → ¬ IsLawful init next s operations allotments lines
 
 -- The delivered lines of a report of two callers stand in this order of its delivered book.
 abbrev pub StandInOrder : List (List Line) → List Place → Type 0

@@ -12,24 +12,37 @@ use Rattle.call_lines.specs.Lines.{calls_of, any_error, AreLinesOf}
 use Rattle.call_lines.specs.Lawful.{IsLawful}
 use Rattle.reports.specs.Findings.{IsWitness}
 
--- The witness of a lawful report, the book at the seen cut of its first error line, has no legal order.
+-- The witness of a lawful report, the book at the seen cut of its first error line, has no legal
+-- order.
 abbrev pub WitnessesHaveNoOrder : Type 0
 WitnessesHaveNoOrder =
-    (init : List ℕ) (next : List ℕ → ℕ → List ℕ × ℕ) (s : Shape) (operations : List (List ℕ)) (allotments : List ℕ) (lines : List (List Line)) (book : List Page)
-    → IsLawful init next s operations allotments lines → IsWitness lines book → ¬ HasLegalOrder init next book
+    (init : List ℕ) (next : List ℕ → ℕ → List ℕ × ℕ) (s : Shape) (operations : List (List ℕ))
+    (allotments : List ℕ) (lines : List (List Line)) (book : List Page)
+    → IsLawful init next s operations allotments lines → IsWitness lines book
+    → ¬ HasLegalOrder init next book
 
--- No run that ends with the calls of these lines has a linearizable object history, whatever its program, its cap and the verdicts.
-abbrev pub NoLinearizableRunHasTheseCalls : (init : List ℕ) → (next : List ℕ → ℕ → List ℕ × ℕ) → List (List Line) → Type 0
+-- No run that ends with the calls of these lines has a linearizable object history, whatever its
+-- program, its cap and the verdicts.
+abbrev pub NoLinearizableRunHasTheseCalls : (init : List ℕ) → (next : List ℕ → ℕ → List ℕ × ℕ)
+    → List (List Line) → Type 0
 NoLinearizableRunHasTheseCalls init next lines =
-    (t : Shape) (steps : List Step) → IsRun t steps → map calls_in (end_of t steps).locals ≡ calls_of lines → ¬ IsLinearizable init next (history_of t steps)
+    (t : Shape) (steps : List Step) → IsRun t steps → map calls_in (end_of t steps).locals
+    ≡ calls_of lines → ¬ IsLinearizable init next (history_of t steps)
 
--- No run over linearizable object calls leaves the calls of a lawful report in which a line is an error.
+-- No run over linearizable object calls leaves the calls of a lawful report in which a line is an
+-- error.
 abbrev pub NoRunLeavesAnError : Type 0
 NoRunLeavesAnError =
-    (init : List ℕ) (next : List ℕ → ℕ → List ℕ × ℕ) (s : Shape) (operations : List (List ℕ)) (allotments : List ℕ) (lines : List (List Line))
-    → IsLawful init next s operations allotments lines → list_any any_error lines ≡ true → NoLinearizableRunHasTheseCalls init next lines
+    (init : List ℕ) (next : List ℕ → ℕ → List ℕ × ℕ) (s : Shape) (operations : List (List ℕ))
+    (allotments : List ℕ) (lines : List (List Line))
+    → IsLawful init next s operations allotments lines → list_any any_error lines ≡ true
+    → NoLinearizableRunHasTheseCalls init next lines
 
--- It is less to say so of the runs for which the verdicts are right: a false error is in the lines of no run, so that none has them.
-abbrev pub NoLinearizableRunHasTheseLines : (init : List ℕ) → (next : List ℕ → ℕ → List ℕ × ℕ) → List (List Line) → Type 0
+-- It is less to say so of the runs for which the verdicts are right: a false error is in the lines
+-- of no run, so that none has them.
+abbrev pub NoLinearizableRunHasTheseLines : (init : List ℕ) → (next : List ℕ → ℕ → List ℕ × ℕ)
+    → List (List Line) → Type 0
 NoLinearizableRunHasTheseLines init next lines =
-    (t : Shape) (steps : List Step) → IsRun t steps → AreLinesOf init next (end_of t steps).locals lines → ¬ IsLinearizable init next (history_of t steps)
+    (t : Shape) (steps : List Step) → IsRun t steps
+    → AreLinesOf init next (end_of t steps).locals lines
+    → ¬ IsLinearizable init next (history_of t steps)

@@ -15,12 +15,15 @@ use Rattle.call_lines.specs.Lawful.{delivered_cut, IsLawful}
 -- The call stands in this order of a book, with this operation and this reply.
 abbrev pub StandsWith : List Page → List Place → Call → ℕ → ℕ → Type 0
 StandsWith book order call operation reply =
-    (k : ℕ) × (slice_get order k ≡ Some (record { caller = call.caller; number = call.number; reply = reply })) × (operation_of book call ≡ Some operation)
+    (k : ℕ) × (slice_get order k
+    ≡ Some (record { caller = call.caller; number = call.number; reply = reply }))
+    × (operation_of book call ≡ Some operation)
 
 -- Each delivered line stands in this order of a book, with its operation and its reply.
 abbrev pub DeliveredLinesStandIn : List (List Line) → List Page → List Place → Type 0
 DeliveredLinesStandIn lines book order =
-    (call : Call) (line : Line) (r : Record) (cut : List ℕ) → line_at lines call ≡ Some line → line.end ≡ Delivered r cut
+    (call : Call) (line : Line) (r : Record) (cut : List ℕ) → line_at lines call ≡ Some line
+    → line.end ≡ Delivered r cut
     → StandsWith book order call line.op r.reply
 
 -- The book of a report at the greatest seen cut of its delivered lines.
@@ -30,6 +33,8 @@ delivered_book s lines = book_at (delivered_cut s.callers lines) (book_of_lines 
 -- All delivered replies of a lawful report stand in one order, which is legal.
 abbrev pub DeliveredRepliesStandInOneOrder : Type 0
 DeliveredRepliesStandInOneOrder =
-    (init : List ℕ) (next : List ℕ → ℕ → List ℕ × ℕ) (s : Shape) (operations : List (List ℕ)) (allotments : List ℕ) (lines : List (List Line))
+    (init : List ℕ) (next : List ℕ → ℕ → List ℕ × ℕ) (s : Shape) (operations : List (List ℕ))
+    (allotments : List ℕ) (lines : List (List Line))
     → IsLawful init next s operations allotments lines
-    → (order : List Place) × IsLegalOrder init next (delivered_book s lines) order × DeliveredLinesStandIn lines (delivered_book s lines) order
+    → (order : List Place) × IsLegalOrder init next (delivered_book s lines) order
+    × DeliveredLinesStandIn lines (delivered_book s lines) order

@@ -24,7 +24,8 @@ pub fn delivered_lines_stand_in_an_order()
     // Both delivered lines don't stand in an order that lacks the second call.
     ensures one_left_out { ¬ StandInOrder both_delivered (first_place 0 50 ∷ []) }
     // Both delivered lines don't stand in an order with another reply.
-    ensures another_reply { ¬ StandInOrder both_delivered (first_place 0 50 ∷ first_place 1 61 ∷ []) }
+    ensures another_reply { ¬ StandInOrder both_delivered
+        (first_place 0 50 ∷ first_place 1 61 ∷ []) }
 {}
 
 /// False errors. The run is one over linearizable calls of an object that gives ten times the

@@ -3,8 +3,8 @@
 ghost use Rattle.lawful_reports.specs.Orders.{DeliveredRepliesStandInOneOrder};
 ghost use Rattle.lawful_reports.specs.Errors.{WitnessesHaveNoOrder, NoRunLeavesAnError};
 
-/// All delivered replies stand in one legal order, each with its line's operation (Castañeda and Rodríguez
-/// 2023).
+/// All delivered replies stand in one legal order, each with its line's operation (Castañeda and
+/// Rodríguez 2023).
 pub fn delivered_replies_stand_in_one_order()
     ensures { DeliveredRepliesStandInOneOrder }
 {}
@@ -14,8 +14,8 @@ pub fn witnesses_have_no_order()
     ensures { WitnessesHaveNoOrder }
 {}
 
-/// Where a line is an error, no run over linearizable object calls ends with the calls of the report, whatever
-/// the verdicts on them (Herlihy and Wing 1990).
+/// Where a line is an error, no run over linearizable object calls ends with the calls of the
+/// report, whatever the verdicts on them (Herlihy and Wing 1990).
 pub fn no_run_leaves_an_error()
     ensures { NoRunLeavesAnError }
 {}

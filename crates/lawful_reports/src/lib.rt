@@ -1,4 +1,5 @@
-//! What a lawful report says, in plain words: of its delivered lines, of its error lines, and which reports are none.
+//! What a lawful report says, in plain words: of its delivered lines, of its error lines, and which
+//! reports are none.
 #![tactic(auto)]
 
 pub mod cases;

@@ -43,8 +43,12 @@ single_zero word (inr digit) zero_first = absurd (omega arith)
 pub IfSome-parsed : {E : Type 0} (word : List ℕ) (r : Result ℕ E) → BeginsAsNumber word
     → ParsesUnsigned 64 10 word r → IfSome (result_ok r) (λ n. decimal n ≡ word)
 IfSome-parsed {E} word (Ok n) begins parses =
-    let plain : OkIff {E = E} (Ok n) (AllDigits 10 word × (0 < length word) × (digits_value 10 word < 2 ^ 64)) (digits_value 10 word) = parse_plain numerals {E = E} 64 word (Ok n) parses (no_plus word begins) in
-    rw plain.1 (decimal-digits_value numerals word plain.0.0 plain.0.1 (single_zero word begins) plain.0.2)
+    let plain : OkIff {E = E} (Ok n)
+    (AllDigits 10 word × (0 < length word) × (digits_value 10 word < 2 ^ 64))
+    (digits_value 10 word) =
+    parse_plain numerals {E = E} 64 word (Ok n) parses (no_plus word begins) in
+    rw plain.1
+    (decimal-digits_value numerals word plain.0.0 plain.0.1 (single_zero word begins) plain.0.2)
 IfSome-parsed word (Err e) begins parses = tt
 
 -- what isn't read as a number is no number's text
@@ -52,7 +56,8 @@ pub IfNone-parsed : {E : Type 0} (word : List ℕ) (r : Result ℕ E) → Parses
     → IfNone (result_ok r) ((n : ℕ) → n < 2 ^ 64 → decimal n ≢ word)
 IfNone-parsed word (Ok n) parses = tt
 IfNone-parsed word (Err e) parses =
-    λ n small same. let gives : Err e ≡ Ok n = parse-decimal 64 n word (Err e) small small (sym same) parses in cc
+    λ n small same. let gives : Err e ≡ Ok n =
+    parse-decimal 64 n word (Err e) small small (sym same) parses in cc
 
 -- bytes that are no text are no number's text
 pub decimal-other_bytes : (word : List ℕ) → ¬ (IsUtf8 word) → (n : ℕ) → n < 2 ^ 64

@@ -14,8 +14,11 @@ pub find_inside : {X : Type 0} (p : X → Bool) (xs : List X) (x : X) → find p
     → IsIn x xs × (p x ≡ true)
 find_inside p [] x found = cc
 find_inside p (y ∷ ys) x found = elim (cases_Bool (p y)) [
-  | inl here ↦ let same = same_Some x y (sym found ∙ cond-true (p y) (Some y) (find p ys) here) in (inl same, ap p same ∙ here)
-  | inr past ↦ let rest = find_inside p ys x (sym (cond-false (p y) (Some y) (find p ys) past) ∙ found) in (inr rest.0, rest.1)
+  | inl here ↦ let same = same_Some x y (sym found ∙ cond-true (p y) (Some y) (find p ys) here) in
+      (inl same, ap p same ∙ here)
+  | inr past ↦ let rest =
+      find_inside p ys x (sym (cond-false (p y) (Some y) (find p ys) past) ∙ found) in
+      (inr rest.0, rest.1)
 ]
 
 -- the only element that passes is found
@@ -26,7 +29,8 @@ find_only p (y ∷ ys) x inside passes only = elim (cases_Bool (p y)) [
   | inl here ↦ cond-true (p y) (Some y) (find p ys) here ∙ ap Some (only y (inl refl) here)
   | inr past ↦ elim inside [
     | inl same ↦ absurd (both_ways (p x) (ap p same ∙ past) passes)
-    | inr later ↦ cond-false (p y) (Some y) (find p ys) past ∙ find_only p ys x later passes (λ z there. only z (inr there))
+    | inr later ↦ cond-false (p y) (Some y) (find p ys) past
+        ∙ find_only p ys x later passes (λ z there. only z (inr there))
   ]
 ]
 
@@ -45,7 +49,8 @@ are_distinct same [] = true
 are_distinct same (x ∷ xs) = list_all (λ y. not (same x y)) xs && are_distinct same xs
 
 -- in such a list two elements that the test takes for the same are one
-pub are_distinct-inside : {X : Type 0} (same : X → X → Bool) (symmetric : (x y : X) → same x y ≡ true → same y x ≡ true) (xs : List X) (x y : X)
+pub are_distinct-inside : {X : Type 0} (same : X → X → Bool)
+    (symmetric : (x y : X) → same x y ≡ true → same y x ≡ true) (xs : List X) (x y : X)
     → are_distinct same xs ≡ true → IsIn x xs → IsIn y xs → same x y ≡ true → x ≡ y
 are_distinct-inside same symmetric [] x y distinct x_in y_in agree = absurd x_in
 are_distinct-inside same symmetric (z ∷ zs) x y distinct x_in y_in agree =
@@ -53,10 +58,14 @@ are_distinct-inside same symmetric (z ∷ zs) x y distinct x_in y_in agree =
     elim x_in [
       | inl x_first ↦ elim y_in [
         | inl y_first ↦ x_first ∙ sym y_first
-        | inr y_later ↦ absurd (both_ways (same z y) (not-true (same z y) (list_all-inside (λ w. not (same z w)) zs y parts.0 y_later)) (subst (λ w. same w y ≡ true) x_first agree))
+        | inr y_later ↦ absurd (both_ways (same z y)
+            (not-true (same z y) (list_all-inside (λ w. not (same z w)) zs y parts.0 y_later))
+            (subst (λ w. same w y ≡ true) x_first agree))
       ]
       | inr x_later ↦ elim y_in [
-        | inl y_first ↦ absurd (both_ways (same z x) (not-true (same z x) (list_all-inside (λ w. not (same z w)) zs x parts.0 x_later)) (subst (λ w. same w x ≡ true) y_first (symmetric x y agree)))
+        | inl y_first ↦ absurd (both_ways (same z x)
+            (not-true (same z x) (list_all-inside (λ w. not (same z w)) zs x parts.0 x_later))
+            (subst (λ w. same w x ≡ true) y_first (symmetric x y agree)))
         | inr y_later ↦ are_distinct-inside same symmetric zs x y parts.1 x_later y_later agree
       ]
     ]
@@ -66,6 +75,8 @@ pub find-map : {X Y : Type 0} (f : X → Y) (p : Y → Bool) (xs : List X)
     → find p (map f xs) ≡ option_map f (find (λ x. p (f x)) xs)
 find-map f p [] = refl
 find-map f p (x ∷ xs) = elim (cases_Bool (p (f x))) [
-  | inl here ↦ cond-true (p (f x)) (Some (f x)) (find p (map f xs)) here ∙ ap (option_map f) (sym (cond-true (p (f x)) (Some x) (find (λ y. p (f y)) xs) here))
-  | inr past ↦ cond-false (p (f x)) (Some (f x)) (find p (map f xs)) past ∙ find-map f p xs ∙ ap (option_map f) (sym (cond-false (p (f x)) (Some x) (find (λ y. p (f y)) xs) past))
+  | inl here ↦ cond-true (p (f x)) (Some (f x)) (find p (map f xs)) here
+      ∙ ap (option_map f) (sym (cond-true (p (f x)) (Some x) (find (λ y. p (f y)) xs) here))
+  | inr past ↦ cond-false (p (f x)) (Some (f x)) (find p (map f xs)) past ∙ find-map f p xs
+      ∙ ap (option_map f) (sym (cond-false (p (f x)) (Some x) (find (λ y. p (f y)) xs) past))
 ]

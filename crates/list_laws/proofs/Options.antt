@@ -24,7 +24,8 @@ some_from_is_some None h = absurd cc
 some_from_is_some (Some x) h = (x, refl)
 
 -- an option of which something holds is something
-pub some_from_is_some_and : {X : Type 0} (o : Option X) (P : X → Type 0) → IsSomeAnd o P → (x : X) × (o ≡ Some x)
+pub some_from_is_some_and : {X : Type 0} (o : Option X) (P : X → Type 0) → IsSomeAnd o P → (x : X)
+    × (o ≡ Some x)
 some_from_is_some_and None P h = absurd h
 some_from_is_some_and (Some x) P h = (x, refl)
 
@@ -34,17 +35,20 @@ IfNone_then None holds gives = gives holds
 IfNone_then (Some x) holds gives = tt
 
 -- where a step after a value gave something, so did the value
-pub and_then_some : {X Y : Type 0} (o : Option X) (f : X → Option Y) (y : Y) → option_and_then f o ≡ Some y → (x : X) × (o ≡ Some x) × (f x ≡ Some y)
+pub and_then_some : {X Y : Type 0} (o : Option X) (f : X → Option Y) (y : Y)
+    → option_and_then f o ≡ Some y → (x : X) × (o ≡ Some x) × (f x ≡ Some y)
 and_then_some None f y e = absurd cc
 and_then_some (Some x) f y e = (x, refl, e)
 
 -- a value seen by f is f of a value
-pub map_some : {X Y : Type 0} (o : Option X) (f : X → Y) (y : Y) → option_map f o ≡ Some y → (x : X) × (o ≡ Some x) × (f x ≡ y)
+pub map_some : {X Y : Type 0} (o : Option X) (f : X → Y) (y : Y) → option_map f o ≡ Some y → (x : X)
+    × (o ≡ Some x) × (f x ≡ y)
 map_some None f y e = absurd cc
 map_some (Some x) f y e = (x, refl, cc)
 
 -- what is something only if a test passes is so because it passed
-pub if_some : {X : Type 0} (b : Bool) (o : Option X) (y : X) → cond b o None ≡ Some y → (b ≡ true) × (o ≡ Some y)
+pub if_some : {X : Type 0} (b : Bool) (o : Option X) (y : X) → cond b o None ≡ Some y → (b ≡ true)
+    × (o ≡ Some y)
 if_some true o y e = (refl, e)
 if_some false o y e = absurd cc
 

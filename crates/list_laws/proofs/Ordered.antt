@@ -9,10 +9,12 @@ Stands xs x = (k : ℕ) × (slice_get xs k ≡ Some x)
 
 -- what stands earlier in a list comes before what stands later
 abbrev pub IsOrderedBy : {X : Type 0} → (X → X → Type 0) → List X → Type 0
-IsOrderedBy {X} before xs = (j k : ℕ) (x y : X) → slice_get xs j ≡ Some x → slice_get xs k ≡ Some y → j < k → before x y
+IsOrderedBy {X} before xs = (j k : ℕ) (x y : X) → slice_get xs j ≡ Some x → slice_get xs k ≡ Some y
+    → j < k → before x y
 
 -- what stands in a list with one more element stood there before, or is the new one
-pub Stands-push_cases : {X : Type 0} (xs : List X) (y x : X) → Stands (xs ++ y ∷ []) x → Stands xs x ⊎ (x ≡ y)
+pub Stands-push_cases : {X : Type 0} (xs : List X) (y x : X) → Stands (xs ++ y ∷ []) x
+    → Stands xs x ⊎ (x ≡ y)
 Stands-push_cases xs y x (k, at) =
     elim (slice_get-push_cases xs y k x at) [
       | inl old ↦ inl (k, old)
@@ -26,7 +28,8 @@ pub Stands-push_new : {X : Type 0} (xs : List X) (y : X) → Stands (xs ++ y ∷
 Stands-push_new xs y = (length xs, slice_get-push_last xs y)
 
 -- an ordered list stays ordered with one more element that all others come before
-pub IsOrderedBy-push : {X : Type 0} (before : X → X → Type 0) (xs : List X) (y : X) → IsOrderedBy before xs → ((x : X) → Stands xs x → before x y)
+pub IsOrderedBy-push : {X : Type 0} (before : X → X → Type 0) (xs : List X) (y : X)
+    → IsOrderedBy before xs → ((x : X) → Stands xs x → before x y)
     → IsOrderedBy before (xs ++ y ∷ [])
 IsOrderedBy-push before xs y ordered all j k a b at bt less =
     elim (slice_get-push_cases xs y k b bt) [
@@ -45,16 +48,21 @@ abbrev pub IsAsymmetricIn : {X : Type 0} → (X → X → Type 0) → List X →
 IsAsymmetricIn {X} before xs = (x y : X) → Stands xs x → Stands xs y → before x y → before y x → ⊥
 
 -- the first elements of ordered lists with the same elements are one
-same_first : {X : Type 0} (before : X → X → Type 0) (x y : X) (xs ys : List X) (j k : ℕ) → IsOrderedBy before (x ∷ xs) → IsOrderedBy before (y ∷ ys)
-    → IsAsymmetricIn before (x ∷ xs) → slice_get (x ∷ xs) j ≡ Some y → slice_get (y ∷ ys) k ≡ Some x → x ≡ y
+same_first : {X : Type 0} (before : X → X → Type 0) (x y : X) (xs ys : List X) (j k : ℕ)
+    → IsOrderedBy before (x ∷ xs) → IsOrderedBy before (y ∷ ys)
+    → IsAsymmetricIn before (x ∷ xs) → slice_get (x ∷ xs) j ≡ Some y
+    → slice_get (y ∷ ys) k ≡ Some x → x ≡ y
 same_first before x y xs ys zero k a b apart at bt = same_Some x y at
 same_first before x y xs ys (suc j) zero a b apart at bt = sym (same_Some y x bt)
 same_first before x y xs ys (suc j) (suc k) a b apart at bt =
-    absurd (apart x y (0, refl) (suc j, at) (a 0 (suc j) x y refl at (omega arith)) (b 0 (suc k) y x refl bt (omega arith)))
+    absurd (apart x y (0, refl) (suc j, at) (a 0 (suc j) x y refl at (omega arith))
+    (b 0 (suc k) y x refl bt (omega arith)))
 
 -- what stands after the first element of an ordered list stands after the first of the other
-same_rest : {X : Type 0} (before : X → X → Type 0) (x y : X) (xs ys : List X) (z : X) (j k : ℕ) → IsOrderedBy before (x ∷ xs)
-    → IsAsymmetricIn before (x ∷ xs) → x ≡ y → slice_get xs j ≡ Some z → slice_get (y ∷ ys) k ≡ Some z → Stands ys z
+same_rest : {X : Type 0} (before : X → X → Type 0) (x y : X) (xs ys : List X) (z : X) (j k : ℕ)
+    → IsOrderedBy before (x ∷ xs)
+    → IsAsymmetricIn before (x ∷ xs) → x ≡ y → slice_get xs j ≡ Some z
+    → slice_get (y ∷ ys) k ≡ Some z → Stands ys z
 same_rest before x y xs ys z j zero a apart same at bt =
     let one : z ≡ x = sym (same ∙ same_Some y z bt) in
     let self : before x x = subst (before x) one (a 0 (suc j) x z refl at (omega arith)) in
@@ -62,11 +70,15 @@ same_rest before x y xs ys z j zero a apart same at bt =
 same_rest before x y xs ys z j (suc k) a apart same at bt = (k, bt)
 
 -- Two ordered lists with the same elements are one, where no two elements come before one another.
-pub IsOrderedBy-same : {X : Type 0} (before : X → X → Type 0) (xs ys : List X) → IsOrderedBy before xs → IsOrderedBy before ys
-    → IsAsymmetricIn before xs → IsAsymmetricIn before ys → ((x : X) → Stands xs x → Stands ys x) → ((y : X) → Stands ys y → Stands xs y) → xs ≡ ys
+pub IsOrderedBy-same : {X : Type 0} (before : X → X → Type 0) (xs ys : List X)
+    → IsOrderedBy before xs → IsOrderedBy before ys
+    → IsAsymmetricIn before xs → IsAsymmetricIn before ys → ((x : X) → Stands xs x → Stands ys x)
+    → ((y : X) → Stands ys y → Stands xs y) → xs ≡ ys
 IsOrderedBy-same before [] [] a b apart bpart forth back = refl
-IsOrderedBy-same before [] (y ∷ ys) a b apart bpart forth back = let there = back y (0, refl) in absurd (none-some y there.1)
-IsOrderedBy-same before (x ∷ xs) [] a b apart bpart forth back = let there = forth x (0, refl) in absurd (none-some x there.1)
+IsOrderedBy-same before [] (y ∷ ys) a b apart bpart forth back = let there = back y (0, refl) in
+    absurd (none-some y there.1)
+IsOrderedBy-same before (x ∷ xs) [] a b apart bpart forth back = let there = forth x (0, refl) in
+    absurd (none-some x there.1)
 IsOrderedBy-same {X} before (x ∷ xs) (y ∷ ys) a b apart bpart forth back =
     let y_in = back y (0, refl) in
     let x_in = forth x (0, refl) in
@@ -76,6 +88,8 @@ IsOrderedBy-same {X} before (x ∷ xs) (y ∷ ys) a b apart bpart forth back =
     (λ j k v w at bt less. b (suc j) (suc k) v w at bt (omega arith))
     (λ v w at bt. apart v w (suc at.0, at.1) (suc bt.0, bt.1))
     (λ v w at bt. bpart v w (suc at.0, at.1) (suc bt.0, bt.1))
-    (λ z at. let there = forth z (suc at.0, at.1) in same_rest before x y xs ys z at.0 there.0 a apart same at.1 there.1)
-    (λ z at. let there = back z (suc at.0, at.1) in same_rest before y x ys xs z at.0 there.0 b bpart (sym same) at.1 there.1) in
+    (λ z at. let there = forth z (suc at.0, at.1) in
+    same_rest before x y xs ys z at.0 there.0 a apart same at.1 there.1)
+    (λ z at. let there = back z (suc at.0, at.1) in
+    same_rest before y x ys xs z at.0 there.0 b bpart (sym same) at.1 there.1) in
     cc

@@ -2,18 +2,21 @@
 use Rattle.std.proofs.Common.{◌≡◌, ℕ, zero, suc, ◌⊎◌, List, [], ◌∷◌, ◌++◌, length, take, get_or, replicate, Some, refl, ap, inl, inr, slice_get}
 
 -- what stands in a list stands there still when it gets one more item at its end
-pub slice_get-push_old : {X : Type 0} (xs : List X) (y : X) (k : ℕ) (z : X) → slice_get xs k ≡ Some z → slice_get (xs ++ y ∷ []) k ≡ Some z
+pub slice_get-push_old : {X : Type 0} (xs : List X) (y : X) (k : ℕ) (z : X)
+    → slice_get xs k ≡ Some z → slice_get (xs ++ y ∷ []) k ≡ Some z
 slice_get-push_old [] y k z e = absurd cc
 slice_get-push_old (x ∷ xs) y zero z e = e
 slice_get-push_old (x ∷ xs) y (suc k) z e = slice_get-push_old xs y k z e
 
 -- the new item stands at the end
-pub slice_get-push_last : {X : Type 0} (xs : List X) (y : X) → slice_get (xs ++ y ∷ []) (length xs) ≡ Some y
+pub slice_get-push_last : {X : Type 0} (xs : List X) (y : X)
+    → slice_get (xs ++ y ∷ []) (length xs) ≡ Some y
 slice_get-push_last [] y = refl
 slice_get-push_last (x ∷ xs) y = slice_get-push_last xs y
 
 -- what stands in a list with one more item stood there before, or is the new item
-pub slice_get-push_cases : {X : Type 0} (xs : List X) (y : X) (k : ℕ) (z : X) → slice_get (xs ++ y ∷ []) k ≡ Some z → (slice_get xs k ≡ Some z) ⊎ ((k ≡ length xs) × (z ≡ y))
+pub slice_get-push_cases : {X : Type 0} (xs : List X) (y : X) (k : ℕ) (z : X)
+    → slice_get (xs ++ y ∷ []) k ≡ Some z → (slice_get xs k ≡ Some z) ⊎ ((k ≡ length xs) × (z ≡ y))
 slice_get-push_cases [] y zero z e = inr (refl, cc)
 slice_get-push_cases [] y (suc k) z e = absurd cc
 slice_get-push_cases (x ∷ xs) y zero z e = inl e
@@ -24,7 +27,8 @@ slice_get-push_cases (x ∷ xs) y (suc k) z e =
     ]
 
 -- what stands in a prefix of a list stands in the list
-pub slice_get-take : {X : Type 0} (n : ℕ) (xs : List X) (k : ℕ) (z : X) → slice_get (take n xs) k ≡ Some z → slice_get xs k ≡ Some z
+pub slice_get-take : {X : Type 0} (n : ℕ) (xs : List X) (k : ℕ) (z : X)
+    → slice_get (take n xs) k ≡ Some z → slice_get xs k ≡ Some z
 slice_get-take zero xs k z e = absurd cc
 slice_get-take (suc n) [] k z e = absurd cc
 slice_get-take (suc n) (x ∷ xs) zero z e = e
@@ -37,7 +41,8 @@ get_or-replicate_default (suc n) zero d = refl
 get_or-replicate_default (suc n) (suc i) d = get_or-replicate_default n i d
 
 -- of two prefixes of one list one is a prefix of the other
-pub append_cases : {X : Type 0} (xs ys us vs : List X) → xs ++ us ≡ ys ++ vs → ((zs : List X) × (ys ≡ xs ++ zs)) ⊎ ((zs : List X) × (xs ≡ ys ++ zs))
+pub append_cases : {X : Type 0} (xs ys us vs : List X) → xs ++ us ≡ ys ++ vs
+    → ((zs : List X) × (ys ≡ xs ++ zs)) ⊎ ((zs : List X) × (xs ≡ ys ++ zs))
 append_cases [] ys us vs h = inl (ys, refl)
 append_cases (x ∷ xs) [] us vs h = inr (x ∷ xs, refl)
 append_cases (x ∷ xs) (y ∷ ys) us vs h =

@@ -17,7 +17,8 @@ ok_or_ok None d x e = absurd cc
 ok_or_ok (Some y) d x e = cc
 
 -- what is a value only if a test passes is so because it passed
-pub if_ok : {T E : Type 0} (b : Bool) (x y : T) (d : E) → cond b (Ok x) (Err d) ≡ Ok y → (b ≡ true) × (x ≡ y)
+pub if_ok : {T E : Type 0} (b : Bool) (x y : T) (d : E) → cond b (Ok x) (Err d) ≡ Ok y
+    → (b ≡ true) × (x ≡ y)
 if_ok true x y d e = (refl, cc)
 if_ok false x y d e = absurd cc
 

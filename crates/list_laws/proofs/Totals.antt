@@ -3,7 +3,8 @@ use Rattle.std.proofs.Common.{◌≡◌, ℕ, zero, suc, ◌+◌, ◌≤◌, Lis
 use Rattle.std.proofs.lemmas.List.Sums.{sum_by-cons}
 
 -- where no number is greater than the other list's, neither is the sum
-pub sum-within : (xs ys : List ℕ) → length xs ≤ length ys → ((i : ℕ) → get_or xs i 0 ≤ get_or ys i 0) → sum xs ≤ sum ys
+pub sum-within : (xs ys : List ℕ) → length xs ≤ length ys
+    → ((i : ℕ) → get_or xs i 0 ≤ get_or ys i 0) → sum xs ≤ sum ys
 sum-within [] ys wide within = omega arith
 sum-within (x ∷ xs) [] wide within = absurd (omega arith)
 sum-within (x ∷ xs) (y ∷ ys) wide within =

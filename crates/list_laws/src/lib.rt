@@ -1,2 +1,3 @@
-//! Laws of lists and numbers that the standard library lacks: lemmas alone, for the proofs of the crates above.
+//! Laws of lists and numbers that the standard library lacks: lemmas alone, for the proofs of the
+//! crates above.
 #![tactic(auto)]

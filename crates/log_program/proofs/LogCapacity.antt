@@ -25,7 +25,8 @@ cases_free f (suc m) =
       ]
     ]
 
-module _ (init : List ℕ) (next : List ℕ → ℕ → List ℕ × ℕ) (n cap : ℕ) (w : World) (log : IsLog (log_shape init next n cap) w) where
+module _ (init : List ℕ) (next : List ℕ → ℕ → List ℕ × ℕ) (n cap : ℕ) (w : World)
+    (log : IsLog (log_shape init next n cap) w) where
   abbrev s : Shape
   s = log_shape init next n cap
 
@@ -35,22 +36,30 @@ module _ (init : List ℕ) (next : List ℕ → ℕ → List ℕ × ℕ) (n cap 
   abbrev ticket : ℕ → ℕ
   ticket p = ticket_at s w p
 
-  -- A place stands for the number of the call whose ticket it has, and the number after the last place for that of one call more.
+  -- A place stands for the number of the call whose ticket it has, and the number after the last
+  -- place for that of one call more.
   abbrev StandsFor : ℕ → ℕ → ℕ → Type 0
-  StandsFor own p number = ((p < total) × (ticket p ≡ ticket_of number)) ⊎ ((p ≡ total) × (number ≡ own))
+  StandsFor own p number = ((p < total) × (ticket p ≡ ticket_of number))
+      ⊎ ((p ≡ total) × (number ≡ own))
 
-  module _ (own : ℕ) (low : own < total) (nowhere : (q : ℕ) → q < total → ticket q ≡ ticket_of own → ⊥) where
-    stands : ((p : ℕ) → p < total → ticket p ≢ 0) → (p : ℕ) → p < total + 1 → (number : ℕ) × (number < total) × StandsFor own p number
+  module _ (own : ℕ) (low : own < total)
+      (nowhere : (q : ℕ) → q < total → ticket q ≡ ticket_of own → ⊥) where
+    stands : ((p : ℕ) → p < total → ticket p ≢ 0) → (p : ℕ) → p < total + 1 → (number : ℕ)
+        × (number < total) × StandsFor own p number
     stands all p p_low =
         elim (cases_eq p total) [
           | inl last ↦ (own, low, inr (last, refl))
           | inr before ↦
               let below : p < total = omega (arith, p_low, before) in
-              let t = log.named p below (all p below) in
-              (number_of cap t.i t.k, number_low init next n cap t.i t.k t.call.caller t.call.few, inl (below, t.ticket))
+              let t = log.named p below (all p below) in (
+                number_of cap t.i t.k,
+                number_low init next n cap t.i t.k t.call.caller t.call.few,
+                inl (below, t.ticket),
+              )
         ]
 
-    apart : ((p : ℕ) → p < total → ticket p ≢ 0) → (p q number : ℕ) → StandsFor own p number → StandsFor own q number → p ≡ q
+    apart : ((p : ℕ) → p < total → ticket p ≢ 0) → (p q number : ℕ) → StandsFor own p number
+        → StandsFor own q number → p ≡ q
     apart all p q number (inl a) (inl b) = log.once p q a.0 b.0 (all p a.0) (a.1 ∙ sym b.1)
     apart all p q number (inl a) (inr b) = absurd (nowhere p a.0 (a.1 ∙ ap ticket_of b.1))
     apart all p q number (inr a) (inl b) = absurd (nowhere q b.0 (b.1 ∙ ap ticket_of a.1))
@@ -60,7 +69,8 @@ module _ (init : List ℕ) (next : List ℕ → ℕ → List ℕ × ℕ) (n cap 
     free_place =
         elim (cases_free ticket total) [
           | inl found ↦ found
-          | inr all ↦ absurd (omega (arith, pigeonhole (StandsFor own) (total + 1) total (stands all) (apart all)))
+          | inr all ↦ absurd
+              (omega (arith, pigeonhole (StandsFor own) (total + 1) total (stands all) (apart all)))
         ]
 
 pub some_place_is_free : SomePlaceIsFree
@@ -68,5 +78,6 @@ some_place_is_free init next n cap w i reach low asking none =
     let sh : Shape = log_shape init next n cap in
     let log = rules_hold init next n cap w reach in
     let call = asked sh w i (reachable_kept sh w reach) low asking in
-    free_place init next n cap w log (number_of cap i (local_of w i).published) (number_low init next n cap i (local_of w i).published low call.few)
+    free_place init next n cap w log (number_of cap i (local_of w i).published)
+    (number_low init next n cap i (local_of w i).published low call.few)
     (unplaced_nowhere init next n cap w i (local_of w i).published log call.few none)

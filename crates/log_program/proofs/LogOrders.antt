@@ -43,55 +43,74 @@ module _ (init : List ℕ) (next : List ℕ → ℕ → List ℕ × ℕ) (n cap 
   own_ticket call = ticket_of (number_of cap call.caller call.number)
 
   -- a call with a reply is below the cap
-  reply_few : (w : World) (call : Call) (x : ℕ) → reply w call ≡ Some x → nat_lt call.number cap ≡ true
+  reply_few : (w : World) (call : Call) (x : ℕ) → reply w call ≡ Some x
+      → nat_lt call.number cap ≡ true
   reply_few w call x is =
       elim (cases_Bool (nat_lt call.number cap)) [
         | inl few ↦ few
         | inr many ↦
-            absurd (none-some x (sym (cond-false (nat_lt call.number cap) (reply_of_number next init (object_word s w) total (number_of cap call.caller call.number)) None many) ∙ is))
+            absurd (none-some x (sym (cond-false (nat_lt call.number cap) (reply_of_number next init
+            (object_word s w) total (number_of cap call.caller call.number)) None many) ∙ is))
       ]
 
   -- and its ticket stands
-  place_of_reply : (w : World) (number x : ℕ) (o : Option ℕ) → reply_there next init (object_word s w) total number o ≡ Some x → (p : ℕ) × (o ≡ Some p)
+  place_of_reply : (w : World) (number x : ℕ) (o : Option ℕ)
+      → reply_there next init (object_word s w) total number o ≡ Some x → (p : ℕ) × (o ≡ Some p)
   place_of_reply w number x None is = absurd (none-some x is)
   place_of_reply w number x (Some p) is = (p, refl)
 
-  no_place_of_none : (w : World) (number : ℕ) (o : Option ℕ) → reply_there next init (object_word s w) total number o ≡ None → o ≡ None
+  no_place_of_none : (w : World) (number : ℕ) (o : Option ℕ)
+      → reply_there next init (object_word s w) total number o ≡ None → o ≡ None
   no_place_of_none w number None is = refl
   no_place_of_none w number (Some p) is = absurd cc
 
-  has_place : (w : World) (call : Call) (x : ℕ) → reply w call ≡ Some x → (p : ℕ) × (p < total) × (ticket w p ≡ own_ticket call)
+  has_place : (w : World) (call : Call) (x : ℕ) → reply w call ≡ Some x → (p : ℕ) × (p < total)
+      × (ticket w p ≡ own_ticket call)
   has_place w call x is =
       let number : ℕ = number_of cap call.caller call.number in
       let there : reply_of_number next init (object_word s w) total number ≡ Some x =
-      sym (cond-true (nat_lt call.number cap) (reply_of_number next init (object_word s w) total number) None (reply_few w call x is)) ∙ is in
-      let found = place_of_reply w number x (place_with (object_word s w) total (ticket_of number) total) there in
+      sym (cond-true (nat_lt call.number cap)
+      (reply_of_number next init (object_word s w) total number) None (reply_few w call x is))
+      ∙ is in
+      let found = place_of_reply w number x
+      (place_with (object_word s w) total (ticket_of number) total) there in
       let at = place_is (object_word s w) total (ticket_of number) total found.0 found.1 in
       (found.0, at.0, at.1)
 
-  has_no_place : (w : World) (call : Call) → nat_lt call.number cap ≡ true → reply w call ≡ None → (q : ℕ) → q < total → ticket w q ≢ own_ticket call
+  has_no_place : (w : World) (call : Call) → nat_lt call.number cap ≡ true → reply w call ≡ None
+      → (q : ℕ) → q < total → ticket w q ≢ own_ticket call
   has_no_place w call few is =
       let number : ℕ = number_of cap call.caller call.number in
       let none : reply_of_number next init (object_word s w) total number ≡ None =
-      sym (cond-true (nat_lt call.number cap) (reply_of_number next init (object_word s w) total number) None few) ∙ is in
-      no_place_is (object_word s w) total (ticket_of number) total (no_place_of_none w number (place_with (object_word s w) total (ticket_of number) total) none)
+      sym (cond-true (nat_lt call.number cap)
+      (reply_of_number next init (object_word s w) total number) None few) ∙ is in
+      no_place_is (object_word s w) total (ticket_of number) total
+      (no_place_of_none w number (place_with (object_word s w) total (ticket_of number) total) none)
 
   -- a call without an object step has no reply
-  pub no_reply_without_steps : (w : World) → IsReachable s w → (i k : ℕ) → slice_index_or (local_of w i).object_steps k [] ≡ [] → reply w (call_of i k) ≡ None
+  pub no_reply_without_steps : (w : World) → IsReachable s w → (i k : ℕ)
+      → slice_index_or (local_of w i).object_steps k [] ≡ [] → reply w (call_of i k) ≡ None
   no_reply_without_steps w reach i k none =
       none_from_never (reply w (call_of i k)) (λ x is.
       let few : k < cap = ltb-true k cap (reply_few w (call_of i k) x is) in
       let at = has_place w (call_of i k) x is in
-      let t = (rules_hold init next n cap w reach).named at.0 at.1 (λ free. omega (arith, sym at.2 ∙ free)) in
+      let t = (rules_hold init next n cap w reach).named at.0 at.1
+      (λ free. omega (arith, sym at.2 ∙ free)) in
       let same = same_from_place t.i t.k i k cap t.call.few few (omega (arith, t.ticket, at.2)) in
-      let made : slice_get (slice_index_or (local_of w i).object_steps k []) t.placed.j ≡ Some t.placed.step =
-      subst (λ (j : ℕ). slice_get (slice_index_or (local_of w j).object_steps k []) t.placed.j ≡ Some t.placed.step) same.0
-      (subst (λ (m : ℕ). slice_get (slice_index_or (local_of w t.i).object_steps m []) t.placed.j ≡ Some t.placed.step) same.1 t.placed.made) in
-      none-some t.placed.step (subst (λ (own : List Object_step). slice_get own t.placed.j ≡ Some t.placed.step) none made))
+      let made : slice_get (slice_index_or (local_of w i).object_steps k []) t.placed.j
+      ≡ Some t.placed.step =
+      subst (λ (j : ℕ). slice_get (slice_index_or (local_of w j).object_steps k []) t.placed.j
+      ≡ Some t.placed.step) same.0
+      (subst (λ (m : ℕ). slice_get (slice_index_or (local_of w t.i).object_steps m []) t.placed.j
+      ≡ Some t.placed.step) same.1 t.placed.made) in
+      none-some t.placed.step
+      (subst (λ (own : List Object_step). slice_get own t.placed.j ≡ Some t.placed.step) none made))
 
   -- the call under way has one, where its program allows it a reply
-  pub reply_where_allowed : (w : World) → IsReachable s w → (i answer : ℕ) → i < n → (local_of w i).published < length (local_of w i).operations
-      → IsTrue (log_may_reply next init n cap i (local_of w i) answer) → (x : ℕ) × (reply w (call_of i (local_of w i).published) ≡ Some x)
+  pub reply_where_allowed : (w : World) → IsReachable s w → (i answer : ℕ) → i < n
+      → (local_of w i).published < length (local_of w i).operations
+      → IsTrue (log_may_reply next init n cap i (local_of w i) answer) → (x : ℕ)
+      × (reply w (call_of i (local_of w i).published) ≡ Some x)
   reply_where_allowed w reach i answer caller there may =
       let me : Local = local_of w i in
       let k : ℕ = me.published in
@@ -99,44 +118,59 @@ module _ (init : List ℕ) (next : List ℕ → ℕ → List ℕ × ℕ) (n cap 
       let word : ℕ → ℕ = object_word s w in
       let agrees = (reachable_kept s w reach).agree i caller in
       let few : k < cap = omega (arith, there, agrees.few, agrees.phase.operations) in
-      let has_steps : k < length me.object_steps = omega (arith, there, agrees.phase.operations, agrees.phase.object_steps) in
-      let lasting = each_at (Each (IsLasting s w)) me.object_steps k [] ((rules_hold init next n cap w reach).lasting i caller) has_steps in
+      let has_steps : k < length me.object_steps =
+      omega (arith, there, agrees.phase.operations, agrees.phase.object_steps) in
+      let lasting = each_at (Each (IsLasting s w)) me.object_steps
+      k [] ((rules_hold init next n cap w reach).lasting i caller) has_steps in
       let place : Option ℕ = placed_at total (ticket_of number) (steps_now me) in
-      let allowed : reply_at next init total (operation_now me) (all_steps_of me) place ≡ Some answer =
+      let allowed : reply_at next init total (operation_now me) (all_steps_of me) place
+      ≡ Some answer =
       reply_is (reply_at next init total (operation_now me) (all_steps_of me) place) answer may in
       elim (cases_Option place) [
-        | inl none ↦ absurd (none-some answer (sym (ap (reply_at next init total (operation_now me) (all_steps_of me)) none) ∙ allowed))
+        | inl none ↦ absurd (none-some answer (sym
+            (ap (reply_at next init total (operation_now me) (all_steps_of me)) none) ∙ allowed))
         | inr some ↦
-            let at = placed_stands init next n cap w (ticket_of number) some.0 (steps_now me) lasting some.1 in
+            let at = placed_stands init next n cap w (ticket_of number) some.0
+            (steps_now me) lasting some.1 in
             elim (cases_Option (place_with word total (ticket_of number) total)) [
-              | inl nowhere ↦ absurd (no_place_is word total (ticket_of number) total nowhere some.0 at.0 at.1)
+              | inl nowhere ↦
+                  absurd (no_place_is word total (ticket_of number) total nowhere some.0 at.0 at.1)
               | inr found ↦ (
-                (next (list_of next init (operations_below word total found.0)) (joined (word (low_place number)) (word (high_place number)))).1,
-                cond-true (nat_lt k cap) (reply_of_number next init word total number) None (lt-ltb k cap few)
+                (next (list_of next init (operations_below word total found.0))
+                    (joined (word (low_place number)) (word (high_place number)))).1,
+                cond-true (nat_lt k cap) (reply_of_number next init word total number) None
+                    (lt-ltb k cap few)
                     ∙ ap (reply_there next init word total number) found.1,
               )
             ]
       ]
 
   -- below a filled place all are filled
-  filled_below : (w : World) → IsLog s w → (q d : ℕ) → q + d < total → ticket w (q + d) ≢ 0 → ticket w q ≢ 0
-  filled_below w log q zero low filled = let same : q + 0 ≡ q = omega arith in λ free. filled (ap (ticket w) same ∙ free)
+  filled_below : (w : World) → IsLog s w → (q d : ℕ) → q + d < total → ticket w (q + d) ≢ 0
+      → ticket w q ≢ 0
+  filled_below w log q zero low filled = let same : q + 0 ≡ q = omega arith in
+      λ free. filled (ap (ticket w) same ∙ free)
   filled_below w log q (suc d) low filled =
       let same : q + suc d ≡ (q + d) + 1 = omega arith in
-      filled_below w log q d (omega (arith, low)) (log.prefix (q + d) (omega (arith, low)) (λ free. filled (ap (ticket w) same ∙ free)))
+      filled_below w log q d (omega (arith, low))
+      (log.prefix (q + d) (omega (arith, low)) (λ free. filled (ap (ticket w) same ∙ free)))
 
   -- of two calls, the one that took effect first has the lower place
-  lower : (steps : List Step) → IsRun s steps → (a b : Call) (y : ℕ) → TakesEffectBefore s (log_effects init next n cap) steps a b
-      → reply (end_of s steps) b ≡ Some y → (p q : ℕ) × (p < q) × HasPlace s (end_of s steps) a p × HasPlace s (end_of s steps) b q
+  lower : (steps : List Step) → IsRun s steps → (a b : Call) (y : ℕ)
+      → TakesEffectBefore s (log_effects init next n cap) steps a b
+      → reply (end_of s steps) b ≡ Some y → (p q : ℕ) × (p < q) × HasPlace s (end_of s steps) a p
+      × HasPlace s (end_of s steps) b q
   lower steps run a b y t is =
       let v : World = end_of s t.before in
       let both : IsRun s (t.before ++ t.later) = subst (IsRun s) (sym t.run) run in
-      let parts = and_parts (are_possible s (start s) t.before) (are_possible s v t.later) (sym (are_possible-append s (start s) t.before t.later) ∙ both) in
+      let parts = and_parts (are_possible s (start s) t.before) (are_possible s v t.later)
+      (sym (are_possible-append s (start s) t.before t.later) ∙ both) in
       let log = rules_hold init next n cap v (t.before, parts.0, refl) in
       let first = has_place v a t.reply t.first in
       let last = has_place (end_of s steps) b y is in
       let stays : (q : ℕ) → ticket v q ≢ 0 → ticket (end_of s steps) q ≡ ticket v q =
-      λ q filled. ap (λ (sts : List Step). ticket (end_of s sts) q) (sym t.run) ∙ tickets_stay init next n cap t.before t.later q both filled in
+      λ q filled. ap (λ (sts : List Step). ticket (end_of s sts) q) (sym t.run)
+      ∙ tickets_stay init next n cap t.before t.later q both filled in
       let filled : ticket v first.0 ≢ 0 = λ free. omega (arith, sym first.2 ∙ free) in
       let none = has_no_place v b (reply_few (end_of s steps) b y is) t.second in
       let below : first.0 < last.0 = elim (cases_lt first.0 last.0) [
@@ -144,7 +178,8 @@ module _ (init : List ℕ) (next : List ℕ → ℕ → List ℕ × ℕ) (n cap 
         | inr high ↦
             let more : last.0 + (first.0 - last.0) ≡ first.0 = omega (arith, high) in
             let there : ticket v last.0 ≢ 0 =
-            filled_below v log last.0 (first.0 - last.0) (omega (arith, more, first.1)) (λ free. filled (ap (ticket v) (sym more) ∙ free)) in
+            filled_below v log last.0 (first.0 - last.0) (omega (arith, more, first.1))
+            (λ free. filled (ap (ticket v) (sym more) ∙ free)) in
             absurd (none last.0 last.1 (sym (stays last.0 there) ∙ last.2))
       ] in (
         first.0,
@@ -157,10 +192,12 @@ module _ (init : List ℕ) (next : List ℕ → ℕ → List ℕ × ℕ) (n cap 
 pub log_orders_are_of_tickets : LogOrdersAreOfTickets
 log_orders_are_of_tickets init next n cap steps run =
     let sh : Shape = log_shape init next n cap in
-    let found = the_order_is_of_effects init next sh (log_effects init next n cap) (has_effects init next n cap) steps run in (
+    let found = the_order_is_of_effects init next sh (log_effects init next n cap)
+    (has_effects init next n cap) steps run in (
       found.0,
       found.1,
       found.2,
       λ p q a b lt at there.
-          lower init next n cap steps run a.call b.call b.reply (found.2.ordered p q a b lt at there) (found.2.replied b (contained found.0 q b there)),
+          lower init next n cap steps run a.call b.call b.reply
+          (found.2.ordered p q a b lt at there) (found.2.replied b (contained found.0 q b there)),
     )

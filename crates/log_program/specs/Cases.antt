@@ -10,12 +10,14 @@ use Rattle.world_core.specs.Schedules.{by, scan, stages, publication, object_ste
 use Rattle.object_orders.specs.Cases.{gets}
 use Rattle.log_program.specs.LogProgram.{log_shape}
 
--- Two callers with one call each over the log of an object whose reply is the number of operations before. The words of caller 0 lie at
--- places 0 and 1, those of caller 1 at 2 and 3, and the log at 4 and 5; their tickets are 1 and 2.
+-- Two callers with one call each over the log of an object whose reply is the number of operations
+-- before. The words of caller 0 lie at places 0 and 1, those of caller 1 at 2 and 3, and the log at
+-- 4 and 5; their tickets are 1 and 2.
 abbrev pub log_pair : Shape
 log_pair = log_shape [] numbering 2 1
 
--- One caller with two calls over such a log, with the words of its calls and the log at the same places.
+-- One caller with two calls over such a log, with the words of its calls and the log at the same
+-- places.
 abbrev pub log_alone : Shape
 log_alone = log_shape [] numbering 1 2
 
@@ -25,7 +27,8 @@ steps_at who place old new = by who (Object (object_step place old new))
 
 -- A caller scans N, and announces the operation of a low and a high word, embedding the cut.
 abbrev pub announces : ℕ → ℕ → ℕ → List ℕ → List Step
-announces who low high cut = scan who N Begins_scan cut ++ stages who N 0 (low ∷ high ∷ cut) ++ by who Announce ∷ []
+announces who low high cut =
+    scan who N Begins_scan cut ++ stages who N 0 (low ∷ high ∷ cut) ++ by who Announce ∷ []
 
 -- The operations of caller 0 and of caller 1.
 abbrev pub first_operation : ℕ
@@ -34,7 +37,8 @@ first_operation = joined 5 8
 abbrev pub second_operation : ℕ
 second_operation = joined 6 9
 
--- Both callers have announced; caller 0 has stored the low word of its operation, and then the high one too; and so has caller 1.
+-- Both callers have announced; caller 0 has stored the low word of its operation, and then the high
+-- one too; and so has caller 1.
 abbrev pub announced : List Step
 announced = announces 0 5 8 (0 ∷ 0 ∷ []) ++ announces 1 6 9 (1 ∷ 0 ∷ [])
 
@@ -51,8 +55,8 @@ stored_both = stored ++ steps_at 1 2 0 6 ∷ steps_at 1 3 0 9 ∷ []
 abbrev pub placed_one : List Step
 placed_one = stored_both ++ steps_at 1 4 0 2 ∷ []
 
--- Caller 0 has found that ticket; it has placed its own after it; and it has loaded the low word of the operation of caller 1, and then
--- the high one too.
+-- Caller 0 has found that ticket; it has placed its own after it; and it has loaded the low word of
+-- the operation of caller 1, and then the high one too.
 abbrev pub found_one : List Step
 found_one = placed_one ++ steps_at 0 4 2 2 ∷ []
 
@@ -65,7 +69,8 @@ loaded_low = placed_both ++ steps_at 0 2 6 6 ∷ []
 abbrev pub loaded : List Step
 loaded = loaded_low ++ steps_at 0 3 9 9 ∷ []
 
--- Both callers have their replies: one operation is before that of caller 0, and none before that of caller 1.
+-- Both callers have their replies: one operation is before that of caller 0, and none before that
+-- of caller 1.
 abbrev pub replied : List Step
 replied = loaded ++ gets 0 1 1 ∷ gets 1 1 0 ∷ []
 

@@ -1,5 +1,5 @@
--- What the words of a log say: its operations in order, and the reply of each call whose ticket is placed. A call takes effect as its
--- ticket is placed.
+-- What the words of a log say: its operations in order, and the reply of each call whose ticket is
+-- placed. A call takes effect as its ticket is placed.
 use Rattle.std.specs.Prelude.{◌≡◌, ℕ, zero, suc, ◌*◌, ◌<◌, ◌==◌, nat_lt, if◌then◌else◌, List, [], ◌∷◌, ◌++◌, Option, Some, None, slice_get}
 use Rattle.book_base.specs.OperationWord.{joined}
 use Rattle.book_base.specs.declared.call.Call.{Call}
@@ -18,37 +18,45 @@ operation_at word (suc number) = joined (word (low_place number)) (word (high_pl
 -- The operations of the tickets below place p of the log, in order.
 abbrev pub operations_below : (ℕ → ℕ) → ℕ → ℕ → List ℕ
 operations_below word total zero = []
-operations_below word total (suc p) = operations_below word total p ++ operation_at word (word (ticket_place total p))
+operations_below word total (suc p) =
+    operations_below word total p ++ operation_at word (word (ticket_place total p))
 
 -- The last place of the log below this one that has a ticket.
 abbrev pub place_with : (ℕ → ℕ) → ℕ → ℕ → ℕ → Option ℕ
 place_with word total ticket zero = None
-place_with word total ticket (suc p) = if word (ticket_place total p) == ticket then Some p else place_with word total ticket p
+place_with word total ticket (suc p) =
+    if word (ticket_place total p) == ticket then Some p else place_with word total ticket p
 
 -- The reply of the call with this number, whose ticket is at place p.
 abbrev pub reply_there : (List ℕ → ℕ → List ℕ × ℕ) → List ℕ → (ℕ → ℕ) → ℕ → ℕ → Option ℕ → Option ℕ
 reply_there next init word total number None = None
 reply_there next init word total number (Some p) =
-    Some (next (list_of next init (operations_below word total p)) (joined (word (low_place number)) (word (high_place number)))).1
+    Some (next (list_of next init (operations_below word total p))
+    (joined (word (low_place number)) (word (high_place number)))).1
 
 abbrev pub reply_of_number : (List ℕ → ℕ → List ℕ × ℕ) → List ℕ → (ℕ → ℕ) → ℕ → ℕ → Option ℕ
-reply_of_number next init word total number = reply_there next init word total number (place_with word total (ticket_of number) total)
+reply_of_number next init word total number =
+    reply_there next init word total number (place_with word total (ticket_of number) total)
 
--- The effects of a log: the list after all its operations, and the replies of the calls whose tickets are placed.
+-- The effects of a log: the list after all its operations, and the replies of the calls whose
+-- tickets are placed.
 abbrev pub log_effects : List ℕ → (List ℕ → ℕ → List ℕ × ℕ) → ℕ → ℕ → Effects
 log_effects init next n cap =
     record {
-      list = λ w. list_of next init (operations_below (object_word (log_shape init next n cap) w) (n * cap) (n * cap));
+      list = λ w. list_of next init
+          (operations_below (object_word (log_shape init next n cap) w) (n * cap) (n * cap));
       reply = λ w call.
           if nat_lt call.number cap
-          then reply_of_number next init (object_word (log_shape init next n cap) w) (n * cap) (number_of cap call.caller call.number)
+          then reply_of_number next init (object_word (log_shape init next n cap) w) (n * cap)
+          (number_of cap call.caller call.number)
           else None;
     }
 
 -- The ticket of a call is at place p of the log.
 pub record HasPlace (s : Shape) (w : World) (call : Call) (p : ℕ) : Type 0 where
   pub low : p < s.callers * s.cap
-  pub ticket : object_word s w (ticket_place (s.callers * s.cap) p) ≡ ticket_of (number_of s.cap call.caller call.number)
+  pub ticket : object_word s w (ticket_place (s.callers * s.cap) p)
+      ≡ ticket_of (number_of s.cap call.caller call.number)
 
 -- A call that comes before another in an order has its ticket at a lower place.
 abbrev pub IsInTicketOrder : Shape → World → List Done → Type 0
@@ -56,16 +64,20 @@ IsInTicketOrder s w order =
     (p q : ℕ) (a b : Done) → p < q → slice_get order p ≡ Some a → slice_get order q ≡ Some b
     → (x y : ℕ) × (x < y) × HasPlace s w a.call x × HasPlace s w b.call y
 
--- The object history of every run of a log is linearizable, for every sequential object, number of callers and cap. The order has just
--- the calls whose tickets are placed, each with its reply, by the places of their tickets.
+-- The object history of every run of a log is linearizable, for every sequential object, number of
+-- callers and cap. The order has just the calls whose tickets are placed, each with its reply, by
+-- the places of their tickets.
 abbrev pub LogsLinearize : Type 0
 LogsLinearize =
-    (init : List ℕ) (next : List ℕ → ℕ → List ℕ × ℕ) (n cap : ℕ) (steps : List Step) → IsRun (log_shape init next n cap) steps
+    (init : List ℕ) (next : List ℕ → ℕ → List ℕ × ℕ) (n cap : ℕ) (steps : List Step)
+    → IsRun (log_shape init next n cap) steps
     → IsLinearizable init next (history_of (log_shape init next n cap) steps)
 
 abbrev pub LogOrdersAreOfTickets : Type 0
 LogOrdersAreOfTickets =
-    (init : List ℕ) (next : List ℕ → ℕ → List ℕ × ℕ) (n cap : ℕ) (steps : List Step) → IsRun (log_shape init next n cap) steps
-    → (order : List Done) × IsLinearization init next (history_of (log_shape init next n cap) steps) order
+    (init : List ℕ) (next : List ℕ → ℕ → List ℕ × ℕ) (n cap : ℕ) (steps : List Step)
+    → IsRun (log_shape init next n cap) steps
+    → (order : List Done)
+    × IsLinearization init next (history_of (log_shape init next n cap) steps) order
     × IsOrderOfEffects (log_shape init next n cap) (log_effects init next n cap) steps order
     × IsInTicketOrder (log_shape init next n cap) (end_of (log_shape init next n cap) steps) order

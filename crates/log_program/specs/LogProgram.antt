@@ -1,4 +1,5 @@
--- The program of the log: which object steps a call may make, in which order, and which reply it may get.
+-- The program of the log: which object steps a call may make, in which order, and which reply it
+-- may get.
 use Rattle.std.specs.Prelude.{ℕ, ◌-◌, ◌*◌, Bool, false, not, ◌&&◌, ◌||◌, ◌==◌, nat_lt, if◌then◌else◌, List, [], ◌∷◌, Option, Some, None}
 use Rattle.book_base.specs.OperationWord.{low_of, high_of}
 use Rattle.world_core.specs.Shape.{Shape, Meaning}
@@ -10,16 +11,20 @@ use Rattle.log_program.specs.LogWords.{number_of, low_place, high_place, ticket_
 -- A step stores the low word of the operation, which this call hasn't stored yet.
 abbrev pub is_low_store : ℕ → Local → Object_step → Bool
 is_low_store number l step =
-    step.place == low_place number && (step.new == low_of (operation_now l) && not (is_known (known (low_place number) (steps_now l))))
+    step.place == low_place number && (step.new == low_of (operation_now l)
+    && not (is_known (known (low_place number) (steps_now l))))
 
--- A step stores the high word of the operation, once the low word is stored and the high one isn't yet.
+-- A step stores the high word of the operation, once the low word is stored and the high one isn't
+-- yet.
 abbrev pub is_high_store : ℕ → Local → Object_step → Bool
 is_high_store number l step =
     step.place == high_place number
-    && (step.new == high_of (operation_now l) && (is_known (known (low_place number) (steps_now l)) && not (is_known (known (high_place number) (steps_now l)))))
+    && (step.new == high_of (operation_now l) && (is_known (known (low_place number) (steps_now l))
+    && not (is_known (known (high_place number) (steps_now l)))))
 
--- A step exchanges 0 for the call's ticket at the first place of the log that the caller doesn't know to be filled, and leaves a
--- ticket that it finds there. Both words of the operation are stored, and the call has no place in the log yet.
+-- A step exchanges 0 for the call's ticket at the first place of the log that the caller doesn't
+-- know to be filled, and leaves a ticket that it finds there. Both words of the operation are
+-- stored, and the call has no place in the log yet.
 abbrev pub is_exchange : ℕ → ℕ → Local → Object_step → Bool
 is_exchange total number l step =
     not (nat_lt step.place (2 * total))
@@ -29,7 +34,8 @@ is_exchange total number l step =
     && (not (is_known (placed_at total (ticket_of number) (steps_now l)))
     && step.new == (if step.old == 0 then ticket_of number else step.old)))))
 
--- A place is for a word of the operation of a call whose ticket is known to be below the call's own.
+-- A place is for a word of the operation of a call whose ticket is known to be below the call's
+-- own.
 abbrev pub is_named_before : Option ℕ → ℕ → List Object_step → ℕ → Bool
 is_named_before None total steps place = false
 is_named_before (Some p) total steps place = is_named_below total steps place p
@@ -37,7 +43,8 @@ is_named_before (Some p) total steps place = is_named_below total steps place p
 -- A step loads a word of the operation of such a call, once the own ticket is placed.
 abbrev pub is_load : ℕ → ℕ → Local → Object_step → Bool
 is_load total number l step =
-    step.new == step.old && is_named_before (placed_at total (ticket_of number) (steps_now l)) total (all_steps_of l) step.place
+    step.new == step.old && is_named_before (placed_at total (ticket_of number) (steps_now l)) total
+    (all_steps_of l) step.place
 
 -- The list of a sequential object after some operations.
 abbrev pub list_of : (List ℕ → ℕ → List ℕ × ℕ) → List ℕ → List ℕ → List ℕ
@@ -47,25 +54,31 @@ list_of next list (operation ∷ operations) = list_of next (next list operation
 -- The reply of a sequential object to an operation after those of a log, where the log is known.
 abbrev pub reply_after : (List ℕ → ℕ → List ℕ × ℕ) → List ℕ → ℕ → Option (List ℕ) → Option ℕ
 reply_after next init operation None = None
-reply_after next init operation (Some operations) = Some (next (list_of next init operations) operation).1
+reply_after next init operation (Some operations) =
+    Some (next (list_of next init operations) operation).1
 
 -- The reply to an operation whose ticket is at place p of the log, as far as some steps show.
-abbrev pub reply_at : (List ℕ → ℕ → List ℕ × ℕ) → List ℕ → ℕ → ℕ → List Object_step → Option ℕ → Option ℕ
+abbrev pub reply_at : (List ℕ → ℕ → List ℕ × ℕ) → List ℕ → ℕ → ℕ → List Object_step
+    → Option ℕ → Option ℕ
 reply_at next init total operation steps None = None
-reply_at next init total operation steps (Some p) = reply_after next init operation (known_log total steps p)
+reply_at next init total operation steps (Some p) =
+    reply_after next init operation (known_log total steps p)
 
 -- The steps that a call of a caller may make.
 abbrev pub log_may_step : ℕ → ℕ → ℕ → Local → Object_step → Bool
 log_may_step n cap i l step =
     is_low_store (number_of cap i l.published) l step
     || (is_high_store (number_of cap i l.published) l step
-    || (is_exchange (n * cap) (number_of cap i l.published) l step || is_load (n * cap) (number_of cap i l.published) l step))
+    || (is_exchange (n * cap) (number_of cap i l.published) l step
+    || is_load (n * cap) (number_of cap i l.published) l step))
 
--- The reply that it may get: that of the sequential object after the operations of the tickets below its own.
+-- The reply that it may get: that of the sequential object after the operations of the tickets
+-- below its own.
 abbrev pub log_may_reply : (List ℕ → ℕ → List ℕ × ℕ) → List ℕ → ℕ → ℕ → ℕ → Local → ℕ → Bool
 log_may_reply next init n cap i l reply =
     is_reply
-    (reply_at next init (n * cap) (operation_now l) (all_steps_of l) (placed_at (n * cap) (ticket_of (number_of cap i l.published)) (steps_now l)))
+    (reply_at next init (n * cap) (operation_now l) (all_steps_of l)
+    (placed_at (n * cap) (ticket_of (number_of cap i l.published)) (steps_now l)))
     reply
 
 -- The program of the log of a sequential object, for n callers and a cap.

@@ -48,7 +48,8 @@ pub record HasPlaced (s : Shape) (w : World) (i k ticket : ℕ) : Type 0 where
   pub high : 2 * total_of s ≤ step.place
   pub left : step.new ≡ ticket
 
--- The ticket at place p of the log names an announced call, both of whose words are stored, and which has placed it.
+-- The ticket at place p of the log names an announced call, both of whose words are stored, and
+-- which has placed it.
 pub record NamesCall (s : Shape) (w : World) (p : ℕ) : Type 0 where
   pub i : ℕ
   pub k : ℕ
@@ -59,28 +60,33 @@ pub record NamesCall (s : Shape) (w : World) (p : ℕ) : Type 0 where
   pub high : object_word s w (high_place (number_of s.cap i k)) ≡ high_of operation
   pub placed : HasPlaced s w i k (ticket_of (number_of s.cap i k))
 
--- The word that a step left is still at its place, and is one that never changes: a word of an announced call's operation, or a ticket.
+-- The word that a step left is still at its place, and is one that never changes: a word of an
+-- announced call's operation, or a ticket.
 pub record IsLasting (s : Shape) (w : World) (step : Object_step) : Type 0 where
   pub stands : object_word s w step.place ≡ step.new
-  pub kind : HoldsOperation s w step.place ⊎ ((2 * total_of s ≤ step.place) × (step.place < 3 * total_of s) × (step.new ≢ 0))
+  pub kind : HoldsOperation s w step.place
+      ⊎ ((2 * total_of s ≤ step.place) × (step.place < 3 * total_of s) × (step.new ≢ 0))
 
--- The rules of a log: the filled places are a prefix, each ticket names a call whose words are stored, no ticket is at two places, and the
--- word that a step left is still at its place.
+-- The rules of a log: the filled places are a prefix, each ticket names a call whose words are
+-- stored, no ticket is at two places, and the word that a step left is still at its place.
 pub record IsLog (s : Shape) (w : World) : Type 0 where
   pub prefix : (p : ℕ) → p + 1 < total_of s → ticket_at s w (p + 1) ≢ 0 → ticket_at s w p ≢ 0
   pub named : (p : ℕ) → p < total_of s → ticket_at s w p ≢ 0 → NamesCall s w p
-  pub once : (p q : ℕ) → p < total_of s → q < total_of s → ticket_at s w p ≢ 0 → ticket_at s w p ≡ ticket_at s w q → p ≡ q
+  pub once : (p q : ℕ) → p < total_of s → q < total_of s → ticket_at s w p ≢ 0
+      → ticket_at s w p ≡ ticket_at s w q → p ≡ q
   pub lasting : (i : ℕ) → i < s.callers → Each (Each (IsLasting s w)) (local_of w i).object_steps
 
 -- The rules hold in every reachable world of a log.
 abbrev pub LogRulesHold : Type 0
 LogRulesHold =
-    (init : List ℕ) (next : List ℕ → ℕ → List ℕ × ℕ) (n cap : ℕ) (w : World) → IsReachable (log_shape init next n cap) w → IsLog (log_shape init next n cap) w
+    (init : List ℕ) (next : List ℕ → ℕ → List ℕ × ℕ) (n cap : ℕ) (w : World)
+    → IsReachable (log_shape init next n cap) w → IsLog (log_shape init next n cap) w
 
 -- A ticket never changes along a run.
 abbrev pub TicketsStay : Type 0
 TicketsStay =
-    (init : List ℕ) (next : List ℕ → ℕ → List ℕ × ℕ) (n cap : ℕ) (before later : List Step) (p : ℕ) → IsRun (log_shape init next n cap) (before ++ later)
+    (init : List ℕ) (next : List ℕ → ℕ → List ℕ × ℕ) (n cap : ℕ) (before later : List Step) (p : ℕ)
+    → IsRun (log_shape init next n cap) (before ++ later)
     → ticket_at (log_shape init next n cap) (end_of (log_shape init next n cap) before) p ≢ 0
     → ticket_at (log_shape init next n cap) (end_of (log_shape init next n cap) (before ++ later)) p
     ≡ ticket_at (log_shape init next n cap) (end_of (log_shape init next n cap) before) p
@@ -88,7 +94,9 @@ TicketsStay =
 -- While the call under way of a caller has no place in the log, some place of the log is free.
 abbrev pub SomePlaceIsFree : Type 0
 SomePlaceIsFree =
-    (init : List ℕ) (next : List ℕ → ℕ → List ℕ × ℕ) (n cap : ℕ) (w : World) (i : ℕ) → IsReachable (log_shape init next n cap) w → i < n
+    (init : List ℕ) (next : List ℕ → ℕ → List ℕ × ℕ) (n cap : ℕ) (w : World) (i : ℕ)
+    → IsReachable (log_shape init next n cap) w → i < n
     → is_asking (local_of w i).phase ≡ true
-    → placed_at (n * cap) (ticket_of (number_of cap i (local_of w i).published)) (steps_now (local_of w i)) ≡ None
+    → placed_at (n * cap) (ticket_of (number_of cap i (local_of w i).published))
+    (steps_now (local_of w i)) ≡ None
     → (p : ℕ) × (p < n * cap) × (ticket_at (log_shape init next n cap) w p ≡ 0)

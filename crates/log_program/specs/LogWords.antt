@@ -3,7 +3,8 @@ use Rattle.std.specs.Prelude.{ℕ, zero, suc, ◌+◌, ◌-◌, ◌*◌, Bool, t
 use Rattle.book_base.specs.OperationWord.{joined}
 use Rattle.world_core.specs.Local.{Object_step}
 
--- The number of call k of caller i among the calls of all callers, each of whom has as many as the cap.
+-- The number of call k of caller i among the calls of all callers, each of whom has as many as the
+-- cap.
 abbrev pub number_of : ℕ → ℕ → ℕ → ℕ
 number_of cap i k = i * cap + k
 
@@ -14,7 +15,8 @@ low_place number = 2 * number
 abbrev pub high_place : ℕ → ℕ
 high_place number = 2 * number + 1
 
--- The place of the ticket at place p of the log, which comes after the operations of all calls, where total is the number of calls.
+-- The place of the ticket at place p of the log, which comes after the operations of all calls,
+-- where total is the number of calls.
 abbrev pub ticket_place : ℕ → ℕ → ℕ
 ticket_place total p = 2 * total + p
 
@@ -39,17 +41,20 @@ is_filled (Some x) = nat_lt 0 x
 -- Each place of the log below this one is known to be filled.
 abbrev pub are_filled_below : ℕ → List Object_step → ℕ → Bool
 are_filled_below total steps zero = true
-are_filled_below total steps (suc p) = is_filled (known (ticket_place total p) steps) && are_filled_below total steps p
+are_filled_below total steps (suc p) =
+    is_filled (known (ticket_place total p) steps) && are_filled_below total steps p
 
 -- The first place of the log that isn't known to be filled.
 abbrev pub is_first_unfilled : ℕ → List Object_step → ℕ → Bool
-is_first_unfilled total steps p = are_filled_below total steps p && not (is_filled (known (ticket_place total p) steps))
+is_first_unfilled total steps p =
+    are_filled_below total steps p && not (is_filled (known (ticket_place total p) steps))
 
 -- The place of the log at which the first of some steps left this ticket, where one of them did.
 abbrev pub placed_at : ℕ → ℕ → List Object_step → Option ℕ
 placed_at total ticket [] = None
 placed_at total ticket (step ∷ more) =
-    if not (nat_lt step.place (2 * total)) && step.new == ticket then Some (step.place - 2 * total) else placed_at total ticket more
+    if not (nat_lt step.place (2 * total)) && step.new == ticket then Some (step.place - 2 * total)
+    else placed_at total ticket more
 
 -- A known ticket names a call one of whose operation's words lies at this place.
 abbrev pub names : Option ℕ → ℕ → Bool
@@ -60,7 +65,8 @@ names (Some (suc number)) place = place == low_place number || place == high_pla
 -- A ticket that is known below place p of the log names such a call.
 abbrev pub is_named_below : ℕ → List Object_step → ℕ → ℕ → Bool
 is_named_below total steps place zero = false
-is_named_below total steps place (suc p) = names (known (ticket_place total p) steps) place || is_named_below total steps place p
+is_named_below total steps place (suc p) =
+    names (known (ticket_place total p) steps) place || is_named_below total steps place p
 
 -- The operation of two known words.
 abbrev pub joined_if_known : Option ℕ → Option ℕ → Option ℕ
@@ -71,7 +77,8 @@ joined_if_known _ _ = None
 abbrev pub known_operation : Option ℕ → List Object_step → Option ℕ
 known_operation None steps = None
 known_operation (Some zero) steps = None
-known_operation (Some (suc number)) steps = joined_if_known (known (low_place number) steps) (known (high_place number) steps)
+known_operation (Some (suc number)) steps =
+    joined_if_known (known (low_place number) steps) (known (high_place number) steps)
 
 -- A list of operations with one more, where both are known.
 abbrev pub with_operation : Option (List ℕ) → Option ℕ → Option (List ℕ)
@@ -81,4 +88,5 @@ with_operation _ _ = None
 -- The operations of the tickets below place p of the log, in order, where all of them are known.
 abbrev pub known_log : ℕ → List Object_step → ℕ → Option (List ℕ)
 known_log total steps zero = Some []
-known_log total steps (suc p) = with_operation (known_log total steps p) (known_operation (known (ticket_place total p) steps) steps)
+known_log total steps (suc p) = with_operation (known_log total steps p)
+    (known_operation (known (ticket_place total p) steps) steps)

@@ -1,12 +1,12 @@
-//! What holds of every run of a log, for every sequential object, number of callers and cap. Each law is the
-//! contract of a function with nothing in it.
+//! What holds of every run of a log, for every sequential object, number of callers and cap. Each
+//! law is the contract of a function with nothing in it.
 
 ghost use Rattle.log_program.specs.LogEffects.{LogsLinearize, LogOrdersAreOfTickets};
 ghost use Rattle.log_program.specs.LogRules.{LogRulesHold, TicketsStay, SomePlaceIsFree};
 
-/// In every reachable world the filled places of the log are a prefix, each ticket names a call whose words are
-/// stored, no ticket is at two places, and the word that an object step left is still there; and a ticket never
-/// changes.
+/// In every reachable world the filled places of the log are a prefix, each ticket names a call
+/// whose words are stored, no ticket is at two places, and the word that an object step left is
+/// still there; and a ticket never changes.
 pub fn log_rules_hold()
     // The rules of a log hold in every reachable world of its program.
     ensures rules { LogRulesHold }
@@ -19,7 +19,8 @@ pub fn some_place_is_free()
     ensures { SomePlaceIsFree }
 {}
 
-/// The object history of every run of a log is linearizable, in the order of its tickets (Herlihy and Wing 1990).
+/// The object history of every run of a log is linearizable, in the order of its tickets (Herlihy
+/// and Wing 1990).
 pub fn logs_linearize()
     // The object history of every run of a log is linearizable.
     ensures linearizable { LogsLinearize }

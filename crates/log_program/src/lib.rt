@@ -1,4 +1,5 @@
-//! The log as an object inside the world: its program, the rules of its tickets, and that its runs are linearizable.
+//! The log as an object inside the world: its program, the rules of its tickets, and that its runs
+//! are linearizable.
 #![tactic(auto)]
 
 pub mod cases;

@@ -11,7 +11,8 @@ count_before = last_reply numbering []
 
 -- A call of this operation that was answered with this reply.
 abbrev pub answered_with : ℕ → ℕ → Made
-answered_with operation reply = record { operation = operation; reached = Has_record (record { reply = reply; view = [] }) }
+answered_with operation reply =
+    record { operation = operation; reached = Has_record (record { reply = reply; view = [] }) }
 
 -- Caller 0 has its record of a call, with this reply; each other caller has announced one.
 abbrev pub one_answered : ℕ → ℕ → List Made
@@ -23,7 +24,8 @@ abbrev pub others_made : ℕ → ℕ → ℕ
 others_made phases zero = 3
 others_made phases (suc i) = phases
 
--- A caller has made two calls, of which the first was answered with 1 and the second with 0; and all phases of both.
+-- A caller has made two calls, of which the first was answered with 1 and the second with 0; and
+-- all phases of both.
 abbrev pub answered_backwards : ℕ → List Made
 answered_backwards i = answered_with 5 1 ∷ answered_with 7 0 ∷ []
 

@@ -6,28 +6,36 @@ use Rattle.world_core.specs.Calls.{Made}
 use Rattle.call_lines.specs.Phases.{asked, operations_of, answers_in}
 use Rattle.logged_calls.specs.Logged.{IsLoggedBy}
 
--- Call k of caller i stands in a log, after entries of which k are the caller's, and its reply is the answer to the log up to it.
-pub record IsAnsweredIn (answer : List Entry → ℕ) (log : List Entry) (i k op reply : ℕ) : Type 0 where
+-- Call k of caller i stands in a log, after entries of which k are the caller's, and its reply is
+-- the answer to the log up to it.
+pub record IsAnsweredIn (answer : List Entry → ℕ) (log : List Entry)
+    (i k op reply : ℕ) : Type 0 where
   pub before : List Entry
   pub suffix : List Entry
   pub at : log ≡ before ++ entry i op ∷ suffix
   pub number : length (calls_by i before) ≡ k
   pub replied : reply ≡ answer (before ++ entry i op ∷ [])
 
--- An entry after some others is of one of n callers, and asks for the operation of the next of its calls, which it asked for.
-pub record IsOfCall (n : ℕ) (phases : ℕ → ℕ) (calls : ℕ → List Made) (before : List Entry) (e : Entry) : Type 0 where
+-- An entry after some others is of one of n callers, and asks for the operation of the next of its
+-- calls, which it asked for.
+pub record IsOfCall (n : ℕ) (phases : ℕ → ℕ) (calls : ℕ → List Made) (before : List Entry)
+    (e : Entry) : Type 0 where
   pub caller : e.caller < n
   pub asked_for : length (calls_by e.caller before) < asked (phases e.caller)
-  pub operation : slice_get (operations_of (calls e.caller)) (length (calls_by e.caller before)) ≡ Some e.op
+  pub operation : slice_get (operations_of (calls e.caller))
+      (length (calls_by e.caller before)) ≡ Some e.op
 
 -- Each answered call stands in the log, and was answered from the log up to it.
 abbrev pub AnswersComeFromTheLog : Type 0
 AnswersComeFromTheLog =
-    (answer : List Entry → ℕ) (n : ℕ) (phases : ℕ → ℕ) (calls : ℕ → List Made) (logged : IsLoggedBy answer n phases calls) (i k op reply : ℕ)
-    → i < n → slice_get (answers_in (calls i)) k ≡ Some (op, reply) → IsAnsweredIn answer logged.log i k op reply
+    (answer : List Entry → ℕ) (n : ℕ) (phases : ℕ → ℕ) (calls : ℕ → List Made)
+    (logged : IsLoggedBy answer n phases calls) (i k op reply : ℕ)
+    → i < n → slice_get (answers_in (calls i)) k ≡ Some (op, reply)
+    → IsAnsweredIn answer logged.log i k op reply
 
 -- Each entry of the log is of a call that its caller asked for.
 abbrev pub EntriesAreOfCalls : Type 0
 EntriesAreOfCalls =
-    (answer : List Entry → ℕ) (n : ℕ) (phases : ℕ → ℕ) (calls : ℕ → List Made) (logged : IsLoggedBy answer n phases calls) (before suffix : List Entry) (e : Entry)
+    (answer : List Entry → ℕ) (n : ℕ) (phases : ℕ → ℕ) (calls : ℕ → List Made)
+    (logged : IsLoggedBy answer n phases calls) (before suffix : List Entry) (e : Entry)
     → logged.log ≡ before ++ e ∷ suffix → IsOfCall n phases calls before e

@@ -6,14 +6,17 @@ use Rattle.world_core.specs.Calls.{Made}
 use Rattle.call_lines.specs.Phases.{asked, answered, operations_of, answers_in}
 use Rattle.lawful_objects.specs.Pairs.{pairs_of}
 
--- All calls of n callers, each of which made this many phases, went into one log, and were answered from it. The callers of the log are
--- below n. The entries of each caller ask, in order, for the operations of its calls, as far as it asked for them: those of its
--- answered calls, and at most one more. The reply of each answered call is the answer to the log up to its entry.
-pub record IsLoggedBy (answer : List Entry → ℕ) (n : ℕ) (phases : ℕ → ℕ) (calls : ℕ → List Made) : Type 0 where
+-- All calls of n callers, each of which made this many phases, went into one log, and were answered
+-- from it. The callers of the log are below n. The entries of each caller ask, in order, for the
+-- operations of its calls, as far as it asked for them: those of its answered calls, and at most
+-- one more. The reply of each answered call is the answer to the log up to its entry.
+pub record IsLoggedBy (answer : List Entry → ℕ) (n : ℕ) (phases : ℕ → ℕ)
+    (calls : ℕ → List Made) : Type 0 where
   pub log : List Entry
   pub callers : All (λ e. e.caller < n) log
   pub entries : (i : ℕ) → i < n → calls_by i log ≡ take (asked (phases i)) (operations_of (calls i))
-  pub replies : (i : ℕ) → i < n → take (answered (phases i)) (pairs_of answer log i) ≡ answers_in (calls i)
+  pub replies : (i : ℕ) → i < n
+      → take (answered (phases i)) (pairs_of answer log i) ≡ answers_in (calls i)
 
 -- The reply of each answered call of n callers has this form for its operation.
 abbrev pub AreFormed : (ℕ → ℕ → Type 0) → ℕ → (ℕ → List Made) → Type 0

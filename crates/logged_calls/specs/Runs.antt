@@ -12,31 +12,41 @@ use Rattle.lawful_objects.specs.Replays.{last_reply}
 use Rattle.lawful_objects.specs.Forms.{IsTallyReply, IsCellReply}
 use Rattle.logged_calls.specs.Logged.{IsLoggedBy, AreFormed}
 
--- These are the locals of one reachable world, and each caller has made exactly this many phases of its operations.
-pub record HaveMadePhases (s : Shape) (operations : ℕ → List ℕ) (phases : ℕ → ℕ) (locals : List Local) : Type 0 where
+-- These are the locals of one reachable world, and each caller has made exactly this many phases of
+-- its operations.
+pub record HaveMadePhases (s : Shape) (operations : ℕ → List ℕ) (phases : ℕ → ℕ)
+    (locals : List Local) : Type 0 where
   pub together : AreTogether s locals
   pub made : (i : ℕ) → i < s.callers → HasMade (operations i) (phases i) (local_at locals i)
 
--- A call under way that was announced and not asked has no object step yet, and to one that was asked the program allows a reply.
+-- A call under way that was announced and not asked has no object step yet, and to one that was
+-- asked the program allows a reply.
 abbrev pub HaveAskedInTurn : Shape → (ℕ → ℕ) → List Local → Type 0
-HaveAskedInTurn s phases locals = (i : ℕ) → i < s.callers → KeepsAsked s.program i (phases i) (local_at locals i)
+HaveAskedInTurn s phases locals = (i : ℕ) → i < s.callers
+    → KeepsAsked s.program i (phases i) (local_at locals i)
 
--- The calls of every run of the log of a sequential object are in one log, and its answers are that object's: for every first list and
--- step, number of callers and cap.
+-- The calls of every run of the log of a sequential object are in one log, and its answers are that
+-- object's: for every first list and step, number of callers and cap.
 abbrev pub RunsOfLogsAreLogged : Type 0
 RunsOfLogsAreLogged =
-    (init : List ℕ) (next : List ℕ → ℕ → List ℕ × ℕ) (n cap : ℕ) (operations : ℕ → List ℕ) (phases : ℕ → ℕ) (locals : List Local)
-    → HaveMadePhases (log_shape init next n cap) operations phases locals → HaveAskedInTurn (log_shape init next n cap) phases locals
+    (init : List ℕ) (next : List ℕ → ℕ → List ℕ × ℕ) (n cap : ℕ) (operations : ℕ → List ℕ)
+    (phases : ℕ → ℕ) (locals : List Local)
+    → HaveMadePhases (log_shape init next n cap) operations phases locals
+    → HaveAskedInTurn (log_shape init next n cap) phases locals
     → IsLoggedBy (last_reply next init) n phases (λ i. calls_in (local_at locals i))
 
--- In every run of a tally the reply of each answered call is a value exactly to an increment, and else bad.
+-- In every run of a tally the reply of each answered call is a value exactly to an increment, and
+-- else bad.
 abbrev pub RunsOfTalliesAreFormed : Type 0
 RunsOfTalliesAreFormed =
-    (n cap : ℕ) (operations : ℕ → List ℕ) (phases : ℕ → ℕ) (locals : List Local) → HaveMadePhases (one_word_shape n cap tally) operations phases locals
+    (n cap : ℕ) (operations : ℕ → List ℕ) (phases : ℕ → ℕ) (locals : List Local)
+    → HaveMadePhases (one_word_shape n cap tally) operations phases locals
     → AreFormed IsTallyReply n (λ i. calls_in (local_at locals i))
 
--- In every run of a cell the reply of each answered call is done exactly to a write, a value exactly to the read, and else bad.
+-- In every run of a cell the reply of each answered call is done exactly to a write, a value
+-- exactly to the read, and else bad.
 abbrev pub RunsOfCellsAreFormed : Type 0
 RunsOfCellsAreFormed =
-    (n cap : ℕ) (operations : ℕ → List ℕ) (phases : ℕ → ℕ) (locals : List Local) → HaveMadePhases (one_word_shape n cap cell) operations phases locals
+    (n cap : ℕ) (operations : ℕ → List ℕ) (phases : ℕ → ℕ) (locals : List Local)
+    → HaveMadePhases (one_word_shape n cap cell) operations phases locals
     → AreFormed IsCellReply n (λ i. calls_in (local_at locals i))

@@ -3,9 +3,10 @@
 ghost use Rattle.logged_calls.specs.Logged.{IsLoggedBy};
 ghost use Rattle.logged_calls.specs.Cases.{count_before, one_answered, others_made, answered_backwards, both_made};
 
-/// Of two callers the first has its record. Where the second was asked, its call may have come before the first's,
-/// or after it; where it was announced and not asked, no reply counts it. Nor does a reply count a call of a caller
-/// that isn't there, nor one of its own caller that comes later.
+/// Of two callers the first has its record. Where the second was asked, its call may have come
+/// before the first's, or after it; where it was announced and not asked, no reply counts it. Nor
+/// does a reply count a call of a caller that isn't there, nor one of its own caller that comes
+/// later.
 pub fn logs_have_the_calls_that_were_asked()
     // A reply of 1 is of a log where the other caller's call was asked and came before.
     ensures asked_before { IsLoggedBy count_before 2 (others_made 2) (one_answered 1) }

@@ -24,39 +24,55 @@ use Rattle.monitor.proofs.Resting.{given_last}
 use Rattle.monitor.proofs.Rounds.{legal_stays, illegal_stays}
 
 -- an element that isn't the last is one of those before it
-get_before : {X : Type 0} (xs : List X) (x y : X) (k : ℕ) → slice_get (xs ++ x ∷ []) k ≡ Some y → k + 1 < length (xs ++ x ∷ []) → slice_get xs k ≡ Some y
+get_before : {X : Type 0} (xs : List X) (x y : X) (k : ℕ) → slice_get (xs ++ x ∷ []) k ≡ Some y
+    → k + 1 < length (xs ++ x ∷ []) → slice_get xs k ≡ Some y
 get_before xs x y k there low =
-    elim (slice_get-push_cases xs x k y there) [ inl old ↦ old | inr new ↦ absurd (omega (arith, new.0, low, length-append xs (x ∷ []))) ]
+    elim (slice_get-push_cases xs x k y there) [
+      | inl old ↦ old
+      | inr new ↦ absurd (omega (arith, new.0, low, length-append xs (x ∷ [])))
+    ]
 
 -- the last of several elements after others
-get_last : {X : Type 0} (xs ys : List X) (x : X) → slice_get (xs ++ (ys ++ x ∷ [])) (length (xs ++ ys)) ≡ Some x
-get_last {X} xs ys x = subst (λ (zs : List X). slice_get zs (length (xs ++ ys)) ≡ Some x) (append_assoc xs ys (x ∷ [])) (slice_get-push_last (xs ++ ys) x)
+get_last : {X : Type 0} (xs ys : List X) (x : X)
+    → slice_get (xs ++ (ys ++ x ∷ [])) (length (xs ++ ys)) ≡ Some x
+get_last {X} xs ys x = subst (λ (zs : List X). slice_get zs (length (xs ++ ys)) ≡ Some x)
+    (append_assoc xs ys (x ∷ [])) (slice_get-push_last (xs ++ ys) x)
 
 one_less : (n m : ℕ) → n ≡ m + 1 → n - 1 ≡ m
 one_less n m e = omega (arith, e)
 
-module _ (init : List ℕ) (next : List ℕ → ℕ → List ℕ × ℕ) (s : Shape) (locals : List Local) (i : ℕ) (t : AreTogether s locals) (low : i < s.callers) where
+module _ (init : List ℕ) (next : List ℕ → ℕ → List ℕ × ℕ) (s : Shape) (locals : List Local) (i : ℕ)
+    (t : AreTogether s locals) (low : i < s.callers) where
   abbrev mine : Local
   mine = local_at locals i
 
   -- what caller i gathered is the book of all calls
-  legal : (cut : List ℕ) → IsLegalAt init next s.callers mine cut → HasLegalOrder init next (book_at cut (book_in locals))
-  legal cut h = subst (HasLegalOrder init next) (gathered_is_the_book_at s locals i cut h.book t low h.gathered) h.order
+  legal : (cut : List ℕ) → IsLegalAt init next s.callers mine cut
+      → HasLegalOrder init next (book_at cut (book_in locals))
+  legal cut h = subst (HasLegalOrder init next)
+      (gathered_is_the_book_at s locals i cut h.book t low h.gathered) h.order
 
-  illegal : (w : Witness) → IsIllegalAt init next s.callers mine w → ¬ HasLegalOrder init next (book_at w.cut (book_in locals))
-  illegal w h = subst (λ (book : List Page). ¬ HasLegalOrder init next book) (gathered_is_the_book_at s locals i w.cut w.book t low h.gathered) h.none
+  illegal : (w : Witness) → IsIllegalAt init next s.callers mine w
+      → ¬ HasLegalOrder init next (book_at w.cut (book_in locals))
+  illegal w h = subst (λ (book : List Page). ¬ HasLegalOrder init next book)
+      (gathered_is_the_book_at s locals i w.cut w.book t low h.gathered) h.none
 
   -- a witness whose cut a scan of M gave
-  witness : (w : Witness) (k since : ℕ) → slice_get mine.cuts k ≡ Some (record { region = M; cut = w.cut; since = since }) → IsIllegalAt init next s.callers mine w
+  witness : (w : Witness) (k since : ℕ)
+      → slice_get mine.cuts k ≡ Some (record { region = M; cut = w.cut; since = since })
+      → IsIllegalAt init next s.callers mine w
       → IsWitnessOf init next locals w
   witness w k since there h =
       record {
-        published = given_cuts_are_published s locals i k (record { region = M; cut = w.cut; since = since }) t low there refl;
+        published = given_cuts_are_published s locals i k
+            (record { region = M; cut = w.cut; since = since }) t low there refl;
         book = gathered_is_the_book_at s locals i w.cut w.book t low h.gathered;
         none = h.none;
       }
 
-  judged : (most : ℕ) (rounds : List Given) (own : Option Witness) → AreRounds init next s.callers most mine rounds own → AreJudgedRounds init next (book_in locals) most rounds
+  judged : (most : ℕ) (rounds : List Given) (own : Option Witness)
+      → AreRounds init next s.callers most mine rounds own
+      → AreJudgedRounds init next (book_in locals) most rounds
   judged most rounds None h = record {
     few = omega (arith, h.0);
     regions = λ k given there. (h.1 k given there).region;
@@ -69,18 +85,23 @@ module _ (init : List ℕ) (next : List ℕ → ℕ → List ℕ × ℕ) (s : Sh
       record {
         few = h.0;
         regions = λ k other there.
-            elim (slice_get-push_cases ends.before given k other (ap (λ (xs : List Given). slice_get xs k) (sym ends.is) ∙ there)) [
+            elim (slice_get-push_cases ends.before given k other
+            (ap (λ (xs : List Given). slice_get xs k) (sym ends.is) ∙ there)) [
               | inl old ↦ (ends.legal k other old).region
               | inr new ↦ ap (λ (g : Given). g.region) new.1
             ];
         legal = λ k other there past.
             let at : slice_get ends.before k ≡ Some other =
-            get_before ends.before given other k (ap (λ (xs : List Given). slice_get xs k) (sym ends.is) ∙ there) (subst (λ (xs : List Given). k + 1 < length xs) ends.is past) in
+            get_before ends.before given other k
+            (ap (λ (xs : List Given). slice_get xs k) (sym ends.is) ∙ there)
+            (subst (λ (xs : List Given). k + 1 < length xs) ends.is past) in
             legal other.cut (ends.legal k other at).legal;
         ends = inr (
           given,
           ap (λ (xs : List Given). slice_get xs (length xs - 1)) ends.is
-              ∙ ap (λ (k : ℕ). slice_get (ends.before ++ given ∷ []) k) (one_less (length (ends.before ++ given ∷ [])) (length ends.before) (length-append ends.before (given ∷ [])))
+              ∙ ap (λ (k : ℕ). slice_get (ends.before ++ given ∷ []) k)
+              (one_less (length (ends.before ++ given ∷ [])) (length ends.before)
+              (length-append ends.before (given ∷ [])))
               ∙ slice_get-push_last ends.before given,
           illegal w ends.illegal,
         );
@@ -91,16 +112,24 @@ rounds_are_right init next s locals i l m own (Legal cut) t low more found =
     let (once, is, none) = found in
     let there = more.cuts (length l.cuts) (given_with l M cut) (given_last cut l m once) in (
       given_cuts_are_published s locals i (length l.cuts) (given_with l M cut) t low there refl,
-      legal init next s locals i t low cut (legal_stays init next s.callers m (local_at locals i) cut more.peeked is),
+      legal init next s locals i t low cut
+          (legal_stays init next s.callers m (local_at locals i) cut more.peeked is),
     )
 rounds_are_right init next s locals i l m own (Illegal cut) t low more found =
     let (once, w, is_own, at, is) = found in
-    let mine : HasScannedOnce w.cut l m = subst (λ (x : List ℕ). HasScannedOnce x l m) (sym at) once in
-    let there = more.cuts (length l.cuts) (given_with l M w.cut) (given_last w.cut l m mine) in
-    (w, is_own, at, witness init next s locals i t low w (length l.cuts) (length l.looked) there (illegal_stays init next s.callers m (local_at locals i) w more.peeked is))
+    let mine : HasScannedOnce w.cut l m =
+    subst (λ (x : List ℕ). HasScannedOnce x l m) (sym at) once in
+    let there = more.cuts (length l.cuts) (given_with l M w.cut) (given_last w.cut l m mine) in (
+      w,
+      is_own,
+      at,
+      witness init next s locals i t low w (length l.cuts) (length l.looked) there
+          (illegal_stays init next s.callers m (local_at locals i) w more.peeked is),
+    )
 
 pub rounds_are_judged : RoundsAreJudged
-rounds_are_judged init next s locals i most before own t low h = (h.rounds, h.cuts, judged init next s locals i t low most h.rounds own h.are)
+rounds_are_judged init next s locals i most before own t low h =
+    (h.rounds, h.cuts, judged init next s locals i t low most h.rounds own h.are)
 
 pub own_is_a_witness : OwnIsAWitness
 own_is_a_witness init next s locals i most before w t low h =
@@ -114,14 +143,20 @@ own_is_a_witness init next s locals i most before w t low h =
     witness init next s locals i t low w place ends.since there ends.illegal
 
 -- a published cut is within all that is published
-published_within : (locals : List Local) (cut : List ℕ) → IsPublished locals cut → IsWithin cut (published_of locals)
+published_within : (locals : List Local) (cut : List ℕ) → IsPublished locals cut
+    → IsWithin cut (published_of locals)
 published_within locals cut p i =
     elim (cases_lt i (length locals)) [
-      | inl within ↦ omega (arith, p.within i within, get_or-map (λ (l : Local). l.published) locals i fresh 0 within)
+      | inl within ↦ omega (
+        arith,
+        p.within i within,
+        get_or-map (λ (l : Local). l.published) locals i fresh 0 within,
+      )
       | inr past ↦ omega (arith, get_or_past cut i 0 (omega (arith, past, p.wide)))
     ]
 
 pub witnesses_are_final : WitnessesAreFinal
 witnesses_are_final init next s locals w t h =
-    larger_has_none init next (book_in locals) w.cut (published_of locals) (books_are_valid s locals t) (published_within locals w.cut h.published)
+    larger_has_none init next (book_in locals) w.cut (published_of locals)
+    (books_are_valid s locals t) (published_within locals w.cut h.published)
     (subst (λ (book : List Page). ¬ HasLegalOrder init next book) h.book h.none)

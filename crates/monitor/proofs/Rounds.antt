@@ -14,31 +14,51 @@ use Rattle.monitor.proofs.Resting.{grows_once}
 
 module _ (init : List ℕ) (next : List ℕ → ℕ → List ℕ × ℕ) (n : ℕ) where
   -- what was found of a book stays so while its caller peeks more
-  pub legal_stays : (l m : Local) (cut : List ℕ) → HasPeekedAll l m → IsLegalAt init next n l cut → IsLegalAt init next n m cut
-  legal_stays l m cut more h = record { book = h.book; gathered = gathered_stays n l m cut h.book more h.gathered; order = h.order }
+  pub legal_stays : (l m : Local) (cut : List ℕ) → HasPeekedAll l m → IsLegalAt init next n l cut
+      → IsLegalAt init next n m cut
+  legal_stays l m cut more h = record {
+    book = h.book;
+    gathered = gathered_stays n l m cut h.book more h.gathered;
+    order = h.order;
+  }
 
-  pub illegal_stays : (l m : Local) (w : Witness) → HasPeekedAll l m → IsIllegalAt init next n l w → IsIllegalAt init next n m w
-  illegal_stays l m w more h = record { gathered = gathered_stays n l m w.cut w.book more h.gathered; none = h.none }
+  pub illegal_stays : (l m : Local) (w : Witness) → HasPeekedAll l m → IsIllegalAt init next n l w
+      → IsIllegalAt init next n m w
+  illegal_stays l m w more h =
+      record { gathered = gathered_stays n l m w.cut w.book more h.gathered; none = h.none }
 
-  all_stay : (l m : Local) (rounds : List Given) → HasPeekedAll l m → AreLegal init next n l rounds → AreLegal init next n m rounds
+  all_stay : (l m : Local) (rounds : List Given) → HasPeekedAll l m → AreLegal init next n l rounds
+      → AreLegal init next n m rounds
   all_stay l m rounds more h k given there =
       let round = h k given there in
       record { region = round.region; legal = legal_stays l m given.cut more round.legal }
 
   -- a legal round after legal ones
-  all_push : (l : Local) (rounds : List Given) (given : Given) → AreLegal init next n l rounds → IsLegalRound init next n l given → AreLegal init next n l (rounds ++ given ∷ [])
+  all_push : (l : Local) (rounds : List Given) (given : Given) → AreLegal init next n l rounds
+      → IsLegalRound init next n l given → AreLegal init next n l (rounds ++ given ∷ [])
   all_push l rounds given h last k other there =
-      elim (slice_get-push_cases rounds given k other there) [ inl old ↦ h k other old | inr new ↦ subst (IsLegalRound init next n l) (sym new.1) last ]
+      elim (slice_get-push_cases rounds given k other there) [
+        | inl old ↦ h k other old
+        | inr new ↦ subst (IsLegalRound init next n l) (sym new.1) last
+      ]
 
-  cuts_after : (l m k : Local) (rounds : List Given) (given : Given) → m.cuts ≡ l.cuts ++ rounds → k.cuts ≡ m.cuts ++ given ∷ [] → k.cuts ≡ l.cuts ++ (rounds ++ given ∷ [])
-  cuts_after l m k rounds given before now = now ∙ ap (λ (cuts : List Given). cuts ++ given ∷ []) before ∙ append_assoc l.cuts rounds (given ∷ [])
+  cuts_after : (l m k : Local) (rounds : List Given) (given : Given) → m.cuts ≡ l.cuts ++ rounds
+      → k.cuts ≡ m.cuts ++ given ∷ [] → k.cuts ≡ l.cuts ++ (rounds ++ given ∷ [])
+  cuts_after l m k rounds given before now = now ∙ ap
+      (λ (cuts : List Given). cuts ++ given ∷ []) before ∙ append_assoc l.cuts rounds (given ∷ [])
 
   -- no round was made
   pub no_round : (l : Local) → HasMadeRounds init next n 0 l l None
-  no_round l = record { rounds = []; cuts = sym (append-nil l.cuts); are = (refl, λ k given there. absurd (none-some given there)); progress = refl }
+  no_round l = record {
+    rounds = [];
+    cuts = sym (append-nil l.cuts);
+    are = (refl, λ k given there. absurd (none-some given there));
+    progress = refl;
+  }
 
   -- a further legal round
-  pub one_more_legal : (i : ℕ) (cut : List ℕ) (l m k : Local) → HasMadeRounds init next n i l m None → HasScannedOnce cut m k → IsLegalAt init next n k cut
+  pub one_more_legal : (i : ℕ) (cut : List ℕ) (l m k : Local) → HasMadeRounds init next n i l m None
+      → HasScannedOnce cut m k → IsLegalAt init next n k cut
       → HasMadeRounds init next n (i + 1) l k None
   one_more_legal i cut l m k made once legal =
       let given : Given = given_with m M cut in
@@ -47,13 +67,17 @@ module _ (init : List ℕ) (next : List ℕ → ℕ → List ℕ × ℕ) (n : �
         cuts = cuts_after l m k made.rounds given made.cuts once.adds.cuts;
         are = (
           omega (arith, length-append made.rounds (given ∷ []), made.are.0),
-          all_push k made.rounds given (all_stay m k made.rounds (grows_once cut m k once).peeked made.are.1) (record { region = refl; legal = legal }),
+          all_push k made.rounds given
+              (all_stay m k made.rounds (grows_once cut m k once).peeked made.are.1)
+              (record { region = refl; legal = legal }),
         );
         progress = once.progress ∙ made.progress;
       }
 
   -- the first illegal round
-  pub the_illegal : (i most : ℕ) (w : Witness) (l m k : Local) → i < most → HasMadeRounds init next n i l m None → HasScannedOnce w.cut m k → IsIllegalAt init next n k w
+  pub the_illegal : (i most : ℕ) (w : Witness) (l m k : Local) → i < most
+      → HasMadeRounds init next n i l m None → HasScannedOnce w.cut m k
+      → IsIllegalAt init next n k w
       → HasMadeRounds init next n most l k (Some w)
   the_illegal i most w l m k low made once illegal =
       let given : Given = given_with m M w.cut in
@@ -62,7 +86,13 @@ module _ (init : List ℕ) (next : List ℕ → ℕ → List ℕ × ℕ) (n : �
         cuts = cuts_after l m k made.rounds given made.cuts once.adds.cuts;
         are = (
           omega (arith, low, length-append made.rounds (given ∷ []), made.are.0),
-          record { before = made.rounds; since = length m.looked; is = refl; legal = all_stay m k made.rounds (grows_once w.cut m k once).peeked made.are.1; illegal = illegal },
+          record {
+            before = made.rounds;
+            since = length m.looked;
+            is = refl;
+            legal = all_stay m k made.rounds (grows_once w.cut m k once).peeked made.are.1;
+            illegal = illegal;
+          },
         );
         progress = once.progress ∙ made.progress;
       }

@@ -28,7 +28,8 @@ module _ {P : Type 0} where
     pub stance : stance_on c i ≡ stance_on b i
 
   -- A watch is that of caller i, which had this local, before its first round.
-  pub record IsWatchOf (meaning : P → ℕ → ℕ → Meaning) (r : Rows P) (b : Board) (i : ℕ) (l : Local) (most : ℕ) (w : Watch P) : Type 0 where
+  pub record IsWatchOf (meaning : P → ℕ → ℕ → Meaning) (r : Rows P) (b : Board) (i : ℕ) (l : Local)
+      (most : ℕ) (w : Watch P) : Type 0 where
     pub monitor : Monitor P
     pub here : w.monitor ≡ Some monitor
     pub fresh : IsFresh meaning r b monitor
@@ -37,22 +38,27 @@ module _ {P : Type 0} where
     pub rounds : w.rounds ≡ most
 
   -- A watch is that of caller i, which had this local, after its rounds.
-  pub record HasWatchedAs (init : List ℕ) (next : List ℕ → ℕ → List ℕ × ℕ) (meaning : P → ℕ → ℕ → Meaning) (r : Rows P) (i : ℕ) (l : Local) (most : ℕ) (w : Watch P) : Type 0 where
+  pub record HasWatchedAs (init : List ℕ) (next : List ℕ → ℕ → List ℕ × ℕ)
+      (meaning : P → ℕ → ℕ → Meaning) (r : Rows P) (i : ℕ) (l : Local) (most : ℕ)
+      (w : Watch P) : Type 0 where
     pub monitor : Monitor P
     pub here : w.monitor ≡ Some monitor
     pub of : IsMonitorOf meaning r monitor
     pub who : who_of (caller_of monitor) ≡ i
     pub progress : progress_of (local_of monitor) ≡ progress_of l
-    pub rounds : w.wants_memory ≡ false → HasMadeRounds init next r.callers most l (local_of monitor) (own_of monitor)
+    pub rounds : w.wants_memory ≡ false
+        → HasMadeRounds init next r.callers most l (local_of monitor) (own_of monitor)
 
   -- The monitor of a watch is at hand, and its caller is off the bench.
-  pub record IsAtHand (meaning : P → ℕ → ℕ → Meaning) (r : Rows P) (b : Bench P) (w : Watch P) : Type 0 where
+  pub record IsAtHand (meaning : P → ℕ → ℕ → Meaning) (r : Rows P) (b : Bench P)
+      (w : Watch P) : Type 0 where
     pub monitor : Monitor P
     pub here : w.monitor ≡ Some monitor
     pub of : IsMonitorOf meaning r monitor
     pub gone : on_bench b (who_of (caller_of monitor)) ≡ None
 
-  -- The caller of a watch came back to the bench as it was, live and idle, and handed over what it had found.
+  -- The caller of a watch came back to the bench as it was, live and idle, and handed over what it
+  -- had found.
   pub record ComesBack (b c : Bench P) (w : Watch P) (left : Left) : Type 0 where
     pub monitor : Monitor P
     pub here : w.monitor ≡ Some monitor
@@ -61,9 +67,10 @@ module _ {P : Type 0} where
     pub wanted : left.wants_memory ≡ w.wants_memory
     pub others : (i : ℕ) → i ≢ who_of (caller_of monitor) → IsUnmoved b c i
 
-  -- Caller i, which had this local, is back on the bench, live and idle: it came no further with its calls, and made its rounds,
-  -- unless it wanted memory.
-  pub record IsBackFrom (init : List ℕ) (next : List ℕ → ℕ → List ℕ × ℕ) (n : ℕ) (b : Bench P) (i : ℕ) (l : Local) (most : ℕ) (left : Left) : Type 0 where
+  -- Caller i, which had this local, is back on the bench, live and idle: it came no further with
+  -- its calls, and made its rounds, unless it wanted memory.
+  pub record IsBackFrom (init : List ℕ) (next : List ℕ → ℕ → List ℕ × ℕ) (n : ℕ) (b : Bench P)
+      (i : ℕ) (l : Local) (most : ℕ) (left : Left) : Type 0 where
     pub local : Local
     pub here : IsFreeOn b i local
     pub progress : progress_of local ≡ progress_of l

@@ -22,34 +22,43 @@ use Rattle.monitor.specs.Rounds.{HasScannedOnce, IsLegalAt, IsIllegalAt}
 abbrev pub HasScannedSome : Local → Local → Type 0
 HasScannedSome l m = (cut : List ℕ) × HasScannedOnce cut l m
 
--- A monitor scanned M once, and gathered a book at the cut that it was given, at a table of n callers.
+-- A monitor scanned M once, and gathered a book at the cut that it was given, at a table of n
+-- callers.
 pub record HasGathered (n : ℕ) (l m : Local) (g : Gathered) : Type 0 where
   pub once : HasScannedOnce g.cut l m
   pub book : IsGathered n m g.cut g.book
 
--- What a round found, by the caller's local before and after it and the own witness: the book at the cut of its one scan has a legal
--- order, and there is no witness; or it has none, and is the own witness.
-abbrev pub HasFound : List ℕ → (List ℕ → ℕ → List ℕ × ℕ) → ℕ → Local → Local → Option Witness → Round → Type 0
-HasFound init next n l m own (Legal cut) = HasScannedOnce cut l m × IsLegalAt init next n m cut × (own ≡ None)
+-- What a round found, by the caller's local before and after it and the own witness: the book at
+-- the cut of its one scan has a legal order, and there is no witness; or it has none, and is the
+-- own witness.
+abbrev pub HasFound : List ℕ → (List ℕ → ℕ → List ℕ × ℕ) → ℕ → Local → Local → Option Witness
+    → Round → Type 0
+HasFound init next n l m own (Legal cut) = HasScannedOnce cut l m × IsLegalAt init next n m cut
+    × (own ≡ None)
 HasFound init next n l m own (Illegal cut) =
-    HasScannedOnce cut l m × (w : Witness) × (own ≡ Some w) × (w.cut ≡ cut) × IsIllegalAt init next n m w
+    HasScannedOnce cut l m × (w : Witness) × (own ≡ Some w) × (w.cut ≡ cut)
+    × IsIllegalAt init next n m w
 
--- What a monitor of a table of n callers keeps for its next round: after a legal round its book, and after an illegal one none.
+-- What a monitor of a table of n callers keeps for its next round: after a legal round its book,
+-- and after an illegal one none.
 abbrev pub IsKeptAfter : ℕ → Round → Option Gathered → Type 0
 IsKeptAfter n (Legal cut) kept = IsSomeAnd kept (λ g. (length g.book ≡ n) × (g.cut ≡ cut))
 IsKeptAfter n (Illegal cut) kept = kept ≡ None
 
--- The counter ticked for a round's scan, at most so often as a scan may, and then once for each word of the book of the round that
--- is new, as against the book that was kept before.
-pub record TicksForBook (n : ℕ) (before : Option Gathered) (g : Gathered) (ticks ticks' : ℕ) : Type 0 where
+-- The counter ticked for a round's scan, at most so often as a scan may, and then once for each
+-- word of the book of the round that is new, as against the book that was kept before.
+pub record TicksForBook (n : ℕ) (before : Option Gathered) (g : Gathered)
+    (ticks ticks' : ℕ) : Type 0 where
   pub scan : ℕ
   pub few : scan ≤ most_words n
   pub new : TicksForNew n before g (ticks + scan) ticks'
 
 -- The counter ticked for a round's scan and for its book, which is kept after a legal round, and is
 -- the own witness after an illegal one.
-abbrev pub TicksForRound : ℕ → Option Gathered → Option Gathered → Option Witness → ℕ → ℕ → Round → Type 0
-TicksForRound n before kept own ticks ticks' (Legal cut) = IfSome kept (λ g. TicksForBook n before g ticks ticks')
+abbrev pub TicksForRound : ℕ → Option Gathered → Option Gathered → Option Witness → ℕ → ℕ
+    → Round → Type 0
+TicksForRound n before kept own ticks ticks' (Legal cut) =
+    IfSome kept (λ g. TicksForBook n before g ticks ticks')
 TicksForRound n before kept own ticks ticks' (Illegal cut) =
     IfSome own (λ w. TicksForBook n before (record { book = w.book; cut = w.cut }) ticks ticks')
 
@@ -99,10 +108,12 @@ module _ {P : Type 0} where
 
   -- A monitor is one of whatever rows a caller is of.
   abbrev pub Becomes : Caller P → Monitor P → Type 0
-  Becomes c m = (meaning : P → ℕ → ℕ → Meaning) (r : Rows P) → IsCallerOf meaning r c → IsMonitorOf meaning r m
+  Becomes c m = (meaning : P → ℕ → ℕ → Meaning) (r : Rows P) → IsCallerOf meaning r c
+      → IsMonitorOf meaning r m
 
   -- The monitor k is m at a later moment: one of these rows and this board, with the number of m.
-  pub record IsLater (meaning : P → ℕ → ℕ → Meaning) (r : Rows P) (b : Board) (m k : Monitor P) : Type 0 where
+  pub record IsLater (meaning : P → ℕ → ℕ → Meaning) (r : Rows P) (b : Board)
+      (m k : Monitor P) : Type 0 where
     pub monitor : IsMonitorOf meaning r k
     pub who : who_of k.caller ≡ who_of m.caller
     pub on : IsOn b k

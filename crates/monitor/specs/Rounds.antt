@@ -1,4 +1,5 @@
--- What the rounds of a monitor leave in its caller's local: for each a cut, and a verdict on the book that was gathered at it.
+-- What the rounds of a monitor leave in its caller's local: for each a cut, and a verdict on the
+-- book that was gathered at it.
 use Rattle.std.specs.Prelude.{◌≡◌, ℕ, ◌≤◌, List, [], ◌∷◌, ◌++◌, Option, None, Some, length, slice_get}
 use Rattle.book_base.specs.Book.{Page}
 use Rattle.book_base.specs.Order.{HasLegalOrder}
@@ -9,7 +10,8 @@ use Rattle.call_lines.specs.Phases.{progress_of}
 use Rattle.collect_scan.specs.Given.{AddsCut}
 use Rattle.monitor.specs.declared.witness.Witness.{Witness}
 
--- A caller made one scan of M, which gave this cut, and peeked words; it came no further with its calls.
+-- A caller made one scan of M, which gave this cut, and peeked words; it came no further with its
+-- calls.
 pub record HasScannedOnce (cut : List ℕ) (l m : Local) : Type 0 where
   pub adds : AddsCut M cut l m
   pub progress : progress_of m ≡ progress_of l
@@ -33,7 +35,8 @@ module _ (init : List ℕ) (next : List ℕ → ℕ → List ℕ × ℕ) (n : �
 
   -- Each of these rounds is legal.
   abbrev pub AreLegal : Local → List Given → Type 0
-  AreLegal l rounds = (k : ℕ) (given : Given) → slice_get rounds k ≡ Some given → IsLegalRound l given
+  AreLegal l rounds = (k : ℕ) (given : Given) → slice_get rounds k ≡ Some given
+      → IsLegalRound l given
 
   -- After legal rounds the last one is illegal, with this witness.
   pub record EndsIllegal (l : Local) (rounds : List Given) (w : Witness) : Type 0 where
@@ -43,14 +46,14 @@ module _ (init : List ℕ) (next : List ℕ → ℕ → List ℕ × ℕ) (n : �
     pub legal : AreLegal l before
     pub illegal : IsIllegalAt l w
 
-  -- The rounds of a monitor that makes at most this many: all are legal, and there are as many; or the last one is illegal, with the
-  -- own witness, and there are no more than that.
+  -- The rounds of a monitor that makes at most this many: all are legal, and there are as many; or
+  -- the last one is illegal, with the own witness, and there are no more than that.
   abbrev pub AreRounds : ℕ → Local → List Given → Option Witness → Type 0
   AreRounds most l rounds None = (length rounds ≡ most) × AreLegal l rounds
   AreRounds most l rounds (Some w) = (length rounds ≤ most) × EndsIllegal l rounds w
 
-  -- A monitor made its rounds: their cuts follow those that its caller had been given before, and the caller came no further with
-  -- its calls.
+  -- A monitor made its rounds: their cuts follow those that its caller had been given before, and
+  -- the caller came no further with its calls.
   pub record HasMadeRounds (most : ℕ) (l m : Local) (own : Option Witness) : Type 0 where
     pub rounds : List Given
     pub cuts : m.cuts ≡ l.cuts ++ rounds

@@ -11,25 +11,32 @@ use Rattle.monitor.specs.Monitors.{local_of, own_of, IsOn, IsMonitorOf, IsLater}
 
 module _ {P : Type 0} where
   -- A monitor of these rows and this board has found no witness.
-  pub record IsFresh (meaning : P → ℕ → ℕ → Meaning) (r : Rows P) (b : Board) (m : Monitor P) : Type 0 where
+  pub record IsFresh (meaning : P → ℕ → ℕ → Meaning) (r : Rows P) (b : Board)
+      (m : Monitor P) : Type 0 where
     pub of : IsMonitorOf meaning r m
     pub on : IsOn b m
     pub none : own_of m ≡ None
 
   -- The monitor of a watch is at hand, and has found no witness.
-  pub record IsReady (meaning : P → ℕ → ℕ → Meaning) (r : Rows P) (b : Board) (w : Watch P) : Type 0 where
+  pub record IsReady (meaning : P → ℕ → ℕ → Meaning) (r : Rows P) (b : Board)
+      (w : Watch P) : Type 0 where
     pub monitor : Monitor P
     pub here : w.monitor ≡ Some monitor
     pub fresh : IsFresh meaning r b monitor
 
-  -- The monitor m has become k: it came no further with its calls, and made its rounds, unless it wanted memory.
-  pub record HasGoneRound (init : List ℕ) (next : List ℕ → ℕ → List ℕ × ℕ) (meaning : P → ℕ → ℕ → Meaning) (r : Rows P) (b : Board) (most : ℕ) (m k : Monitor P) (wanted : Bool) : Type 0 where
+  -- The monitor m has become k: it came no further with its calls, and made its rounds, unless it
+  -- wanted memory.
+  pub record HasGoneRound (init : List ℕ) (next : List ℕ → ℕ → List ℕ × ℕ)
+      (meaning : P → ℕ → ℕ → Meaning) (r : Rows P) (b : Board) (most : ℕ) (m k : Monitor P)
+      (wanted : Bool) : Type 0 where
     pub later : IsLater meaning r b m k
     pub progress : progress_of (local_of k) ≡ progress_of (local_of m)
-    pub rounds : wanted ≡ false → HasMadeRounds init next r.callers most (local_of m) (local_of k) (own_of k)
+    pub rounds : wanted ≡ false
+        → HasMadeRounds init next r.callers most (local_of m) (local_of k) (own_of k)
 
   -- The monitor of a watch is back from its rounds.
-  pub record HasWatched (init : List ℕ) (next : List ℕ → ℕ → List ℕ × ℕ) (meaning : P → ℕ → ℕ → Meaning) (r : Rows P) (b : Board) (w d : Watch P) : Type 0 where
+  pub record HasWatched (init : List ℕ) (next : List ℕ → ℕ → List ℕ × ℕ)
+      (meaning : P → ℕ → ℕ → Meaning) (r : Rows P) (b : Board) (w d : Watch P) : Type 0 where
     pub before : Monitor P
     pub after : Monitor P
     pub was : w.monitor ≡ Some before

@@ -16,7 +16,8 @@ use std::thread::Threads;
 use work_halves::{Work, work_with_two};
 use world_core::Program;
 
-/// What a monitor leaves: its own witness, whether the board took a copy of it, and whether the monitor wanted memory.
+/// What a monitor leaves: its own witness, whether the board took a copy of it, and whether the
+/// monitor wanted memory.
 #[derive(Debug, Drop)]
 pub struct Left {
     pub own: Option<Witness>,
@@ -89,9 +90,11 @@ fn work_beside<
     requires first { IsReady P.meaning watched.now.rows.now watched.now.board.now first }
     requires second { IsReady P.meaning watched.now.rows.now watched.now.board.now second }
     ensures done { AllZip (λ w d. W.done w shared.now d) all.old all.new }
-    ensures first { HasWatched (S.init watched.now.sequential.now) (S.next watched.now.sequential.now)
+    ensures first { HasWatched (S.init watched.now.sequential.now)
+        (S.next watched.now.sequential.now)
         P.meaning watched.now.rows.now watched.now.board.now first result.0 }
-    ensures second { HasWatched (S.init watched.now.sequential.now) (S.next watched.now.sequential.now)
+    ensures second { HasWatched (S.init watched.now.sequential.now)
+        (S.next watched.now.sequential.now)
         P.meaning watched.now.rows.now watched.now.board.now second result.1 }
 {
     work_with_two(rt, shared, all, watched, &mut first, &mut second);
@@ -144,7 +147,8 @@ pub fn watch_beside<
         → IsBackFrom (S.init sequential.now) (S.next sequential.now) rows.now.callers
         bench.new other l rounds result.1 }
     // A caller of whose witness the board took a copy has an own witness.
-    ensures placed { (result.0.placed ≡ true → is_some result.0.own ≡ true) × (result.1.placed ≡ true → is_some result.1.own ≡ true) }
+    ensures placed { (result.0.placed ≡ true → is_some result.0.own ≡ true)
+        × (result.1.placed ≡ true → is_some result.1.own ≡ true) }
 {
     let board = Board::new(alloc);
     let first = take_off(rows, bench, one, &board, rounds);

@@ -6,8 +6,8 @@ use book_base::NoMemory;
 use once_cell::race::Note;
 use std::alloc::Global;
 
-/// What one monitor has found, and what it knows of its board: its own witness, whether the board took a
-/// copy of that, and a note of the witness on the board.
+/// What one monitor has found, and what it knows of its board: its own witness, whether the board
+/// took a copy of that, and a note of the witness on the board.
 #[derive(Drop)]
 pub(crate) struct Claim {
     own: Option<Witness>,
@@ -26,7 +26,8 @@ impl Claim {
     /// Nothing is found yet, and nothing is known of the board. It takes no memory.
     pub fn new(board: &Board) -> Claim
         ensures board { IsClaimOn board.now result }
-        ensures nothing { (own_in result ≡ None) × (placed_in result ≡ false) × (known_in result ≡ None) }
+        ensures nothing { (own_in result ≡ None) × (placed_in result ≡ false)
+            × (known_in result ≡ None) }
     {
         Claim {
             own: None,
@@ -73,8 +74,10 @@ impl Claim {
         ensures board { IsClaimOn board.now self.new }
         ensures findings { HasSameFindings self.old self.new }
         ensures none { IfNone result ((known_in self.old ≡ None) × (known_in self.new ≡ None)) }
-        ensures some { IfSome result (λ r. (known_in self.new ≡ Some r.now) × Agrees (known_in self.old) r.now) }
-        ensures placed { placed_in self.old ≡ true → IsSomeAnd result (λ r. own_in self.old ≡ Some r.now) }
+        ensures some { IfSome result
+            (λ r. (known_in self.new ≡ Some r.now) × Agrees (known_in self.old) r.now) }
+        ensures placed { placed_in self.old ≡ true
+            → IsSomeAnd result (λ r. own_in self.old ≡ Some r.now) }
     {
         board.cell.get_as(&mut self.note)
     }

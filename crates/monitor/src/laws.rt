@@ -2,8 +2,8 @@
 
 ghost use Rattle.monitor.specs.Worlds.{RoundsAreRight, RoundsAreJudged, OwnIsAWitness, WitnessesAreFinal};
 
-/// What a round found is right of the calls of all callers, at each later moment: its cut is published,
-/// and the book there has a legal order or not.
+/// What a round found is right of the calls of all callers, at each later moment: its cut is
+/// published, and the book there has a legal order or not.
 pub fn rounds_are_right()
     ensures { RoundsAreRight }
 {}

@@ -1,5 +1,5 @@
-//! Monitors: callers that make no calls, and judge in rounds what the others have published. The first
-//! witness of an error stays on a board.
+//! Monitors: callers that make no calls, and judge in rounds what the others have published. The
+//! first witness of an error stays on a board.
 #![tactic(auto)]
 
 mod beside;

@@ -50,7 +50,8 @@ impl<P: Program> Monitor<P> {
         ensures board { IsOn board.now result }
         // The monitor has no own witness, the board took no copy of one, and the monitor knows no
         // witness on it.
-        ensures nothing { (own_of result ≡ None) × (placed_by result ≡ false) × (known_by result ≡ None) }
+        ensures nothing { (own_of result ≡ None) × (placed_by result ≡ false)
+            × (known_by result ≡ None) }
     {
         Monitor {
             caller,
@@ -76,10 +77,13 @@ impl<P: Program> Monitor<P> {
         ensures claim { self.new.claim ≡ self.old.claim }
         ensures none { kept_by self.new ≡ None }
         ensures scanned { HasScannedSome (local_of self.old) (local_of self.new) }
-        ensures gathered { IfOk result (λ r. HasGathered rows.now.callers (local_of self.old) (local_of self.new) r.0) }
+        ensures gathered { IfOk result
+            (λ r. HasGathered rows.now.callers (local_of self.old) (local_of self.new) r.0) }
         ensures stands { IfOk result (λ r. (init : List ℕ) (next : List ℕ → ℕ → List ℕ × ℕ)
-            → StandsIn init next (kept_by self.old) standing → IfSome r.1 (IsStandingFor init next r.0.book)) }
-        ensures ticks { IfOk result (λ r. TicksForBook rows.now.callers (kept_by self.old) r.0 steps.old steps.new) }
+            → StandsIn init next (kept_by self.old) standing
+            → IfSome r.1 (IsStandingFor init next r.0.book)) }
+        ensures ticks { IfOk result
+            (λ r. TicksForBook rows.now.callers (kept_by self.old) r.0 steps.old steps.new) }
         ensures rise { steps.old ≤ steps.new }
     {
         let cut = scan(rows, &mut self.caller, Region::M, steps);
@@ -91,8 +95,8 @@ impl<P: Program> Monitor<P> {
 
     /// Scans M, gathers the book at that cut, and judges it (Castañeda and Rodríguez 2023).
     ///
-    /// Where the book has no legal order it is the own witness from then on, and the board is tried once
-    /// with a copy. After want of memory the board wasn't tried.
+    /// Where the book has no legal order it is the own witness from then on, and the board is tried
+    /// once with a copy. After want of memory the board wasn't tried.
     pub fn round<S: SeqObject, L: Ledger>(
         &mut self,
         alloc: Global,
@@ -117,7 +121,8 @@ impl<P: Program> Monitor<P> {
             rows.now.callers (local_of self.old) (local_of self.new) (own_of self.new)) }
         // A monitor with an own witness knows the witness on the board, which is the one that it
         // knew before, where it knew one.
-        ensures known { IfSome (own_of self.new) (λ w. Knows (known_by self.old) (known_by self.new)) }
+        ensures known { IfSome (own_of self.new)
+            (λ w. Knows (known_by self.old) (known_by self.new)) }
         // The board took a copy of the own witness only where the monitor knew no witness before.
         ensures first { placed_by self.new ≡ true → known_by self.old ≡ None }
         // After a legal round the monitor keeps its book, at the cut of its scan, and after an
@@ -130,7 +135,8 @@ impl<P: Program> Monitor<P> {
         ensures err { OnErr result (own_of self.new ≡ None) }
         // The counter of steps has risen by what the scan takes, and by the words of the round's
         // book that the kept one lacks.
-        ensures ticks { IfOk result (TicksForRound rows.now.callers (kept_by self.old) (kept_by self.new)
+        ensures ticks { IfOk result
+            (TicksForRound rows.now.callers (kept_by self.old) (kept_by self.new)
             (own_of self.new) steps.old steps.new) }
         // The counter of steps isn't lower than before.
         ensures rise { steps.old ≤ steps.new }
@@ -158,7 +164,8 @@ impl<P: Program> Monitor<P> {
         // The monitor has no own witness.
         requires none { own_of self.old ≡ None }
         // What is kept of an order stands in the book that the monitor keeps, for this object.
-        requires stands { StandsIn (S.init object.now) (S.next object.now) (kept_by self.old) standing.old }
+        requires stands { StandsIn (S.init object.now) (S.next object.now)
+            (kept_by self.old) standing.old }
         // The monitor is still one of these rows and of this board, with the same number.
         ensures later { IsLater P.meaning rows.now board.now self.old self.new }
         // The monitor's caller has scanned M once.
@@ -169,7 +176,8 @@ impl<P: Program> Monitor<P> {
             rows.now.callers (local_of self.old) (local_of self.new) (own_of self.new)) }
         // A monitor with an own witness knows the witness on the board, which is the one that it
         // knew before, where it knew one.
-        ensures known { IfSome (own_of self.new) (λ w. Knows (known_by self.old) (known_by self.new)) }
+        ensures known { IfSome (own_of self.new)
+            (λ w. Knows (known_by self.old) (known_by self.new)) }
         // The board took a copy of the own witness only where the monitor knew no witness before.
         ensures first { placed_by self.new ≡ true → known_by self.old ≡ None }
         // After a legal round the monitor keeps its book, at the cut of its scan, and after an
@@ -177,7 +185,8 @@ impl<P: Program> Monitor<P> {
         ensures kept { IfOk result (λ r. IsKeptAfter rows.now.callers r (kept_by self.new)) }
         // What is kept of an order afterwards stands in the book that the monitor keeps then, for
         // this object.
-        ensures stands { StandsIn (S.init object.now) (S.next object.now) (kept_by self.new) standing.new }
+        ensures stands { StandsIn (S.init object.now) (S.next object.now)
+            (kept_by self.new) standing.new }
         // Without an own witness the monitor knows what it knew of the board.
         ensures unfound { own_of self.new ≡ None → (known_by self.new ≡ known_by self.old)
             × (placed_by self.new ≡ placed_by self.old) }
@@ -185,7 +194,8 @@ impl<P: Program> Monitor<P> {
         ensures err { OnErr result (own_of self.new ≡ None) }
         // The counter of steps has risen by what the scan takes, and by the words of the round's
         // book that the kept one lacks.
-        ensures ticks { IfOk result (TicksForRound rows.now.callers (kept_by self.old) (kept_by self.new)
+        ensures ticks { IfOk result
+            (TicksForRound rows.now.callers (kept_by self.old) (kept_by self.new)
             (own_of self.new) steps.old steps.new) }
         // The counter of steps isn't lower than before.
         ensures rise { steps.old ≤ steps.new }
@@ -231,14 +241,17 @@ impl<P: Program> Monitor<P> {
         ensures caller { caller_of self.new ≡ caller_of self.old }
         // The monitor's own witness, whether the board took a copy of it, and the book that it
         // keeps stay.
-        ensures findings { (own_of self.new ≡ own_of self.old) × (placed_by self.new ≡ placed_by self.old) × (kept_by self.new ≡ kept_by self.old) }
+        ensures findings { (own_of self.new ≡ own_of self.old)
+            × (placed_by self.new ≡ placed_by self.old) × (kept_by self.new ≡ kept_by self.old) }
         // No witness is answered only where the monitor knows none, before and after.
         ensures none { IfNone result ((known_by self.old ≡ None) × (known_by self.new ≡ None)) }
         // A witness that is answered is known from then on, and is the one that was known before,
         // where one was.
-        ensures some { IfSome result (λ r. (known_by self.new ≡ Some r.now) × Agrees (known_by self.old) r.now) }
+        ensures some { IfSome result
+            (λ r. (known_by self.new ≡ Some r.now) × Agrees (known_by self.old) r.now) }
         // Where the board took a copy of the own witness, that is what is answered.
-        ensures placed { placed_by self.old ≡ true → IsSomeAnd result (λ r. own_of self.old ≡ Some r.now) }
+        ensures placed { placed_by self.old ≡ true
+            → IsSomeAnd result (λ r. own_of self.old ≡ Some r.now) }
     {
         self.claim.known(board)
     }
@@ -266,7 +279,8 @@ impl<P: Program> Monitor<P> {
 
     /// The caller, the own witness, and whether the board took a copy of that.
     pub(crate) fn into_parts(self) -> (Caller<P>, Option<Witness>, bool)
-        ensures parts { (result.0 ≡ caller_of self) × (result.1 ≡ own_of self) × (result.2 ≡ placed_by self) }
+        ensures parts { (result.0 ≡ caller_of self) × (result.1 ≡ own_of self)
+            × (result.2 ≡ placed_by self) }
         ensures found { result.2 ≡ true → is_some result.1 ≡ true }
     {
         let Monitor {

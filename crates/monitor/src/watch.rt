@@ -28,7 +28,8 @@ pub struct Watch<P = Outside> {
     pub wants_memory: bool,
 }
 
-// The monitor makes rounds, up to the first illegal one, and at most this many. It also answers whether it wanted memory.
+// The monitor makes rounds, up to the first illegal one, and at most this many. It also answers
+// whether it wanted memory.
 fn make_rounds<P: Program, S: SeqObject, L: Ledger>(
     monitor: Monitor<P>,
     shared: &Watched<S, P>,

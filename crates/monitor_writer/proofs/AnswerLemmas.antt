@@ -18,24 +18,32 @@ abbrev IsExactFor : Kind → List Local → Option Witness → Type 0
 IsExactFor kind locals answer = IsExactAnswer (kind_init kind) (kind_next kind) locals answer
 
 -- what is written of it, by the kind of the script
-text_of_run : (kind : Kind) (locals : List Local) (answer : Option Witness) → IsExactFor kind locals answer
-    → (status : Status) (text : List ℕ) → IsAnswerOutput kind answer status text → IsMonitorText kind locals status text
-text_of_run kind locals None exact status text out = subst (λ (s : Status). IsMonitorText kind locals s text) (sym out.1) (exact.is, out.0)
+text_of_run : (kind : Kind) (locals : List Local) (answer : Option Witness)
+    → IsExactFor kind locals answer
+    → (status : Status) (text : List ℕ) → IsAnswerOutput kind answer status text
+    → IsMonitorText kind locals status text
+text_of_run kind locals None exact status text out =
+    subst (λ (s : Status). IsMonitorText kind locals s text) (sym out.1) (exact.is, out.0)
 text_of_run kind locals (Some w) exact status text out =
     subst (λ (s : Status). IsMonitorText kind locals s text) (sym out.1)
     ((λ legal. none-some w (sym (exact.exact.1 legal))), w, exact.is, out.0.0, out.0.1, out.0.2)
 
-pub ends_of_run : (kind named : Kind) (locals : List Local) (answer : Option Witness) (result : Status) (taken taken' : Option (List ℕ)) → named ≡ kind
-    → IsExactFor named locals answer → EndsWriting (IsAnswerOutput named answer) result taken taken' → EndsWriting (IsMonitorText kind locals) result taken taken'
+pub ends_of_run : (kind named : Kind) (locals : List Local) (answer : Option Witness)
+    (result : Status) (taken taken' : Option (List ℕ)) → named ≡ kind
+    → IsExactFor named locals answer → EndsWriting (IsAnswerOutput named answer) result taken taken'
+    → EndsWriting (IsMonitorText kind locals) result taken taken'
 ends_of_run kind named locals answer result taken taken' same exact ends =
     subst (λ (k : Kind). EndsWriting (IsMonitorText k locals) result taken taken') same
-    (EndsWriting-weaker (IsAnswerOutput named answer) (IsMonitorText named locals) result taken taken' (text_of_run named locals answer exact) ends)
+    (EndsWriting-weaker (IsAnswerOutput named answer)
+    (IsMonitorText named locals) result taken taken' (text_of_run named locals answer exact) ends)
 
-found_status : (kind : Kind) (locals : List Local) (answer : Option Witness) → IsExactFor kind locals answer → ¬ IsLegalRun kind locals → status_of answer ≡ Found
+found_status : (kind : Kind) (locals : List Local) (answer : Option Witness)
+    → IsExactFor kind locals answer → ¬ IsLegalRun kind locals → status_of answer ≡ Found
 found_status kind locals None exact illegal = absurd (illegal exact.is)
 found_status kind locals (Some w) exact illegal = refl
 
-fine_status : (kind : Kind) (locals : List Local) (answer : Option Witness) → IsExactFor kind locals answer → IsLegalRun kind locals → status_of answer ≡ Fine
+fine_status : (kind : Kind) (locals : List Local) (answer : Option Witness)
+    → IsExactFor kind locals answer → IsLegalRun kind locals → status_of answer ≡ Fine
 fine_status kind locals None exact legal = refl
 fine_status kind locals (Some w) exact legal = absurd (none-some w (sym (exact.exact.1 legal)))
 
@@ -46,12 +54,16 @@ Ended result status = (result ≡ status) ⊎ ((result ≡ WriteFault) ⊎ (resu
 ended_as : (result a b : Status) → a ≡ b → Ended result a → Ended result b
 ended_as result a b same h = subst (λ (s : Status). Ended result s) same h
 
-pub found_of_run : (kind named : Kind) (locals : List Local) (answer : Option Witness) (result : Status) → named ≡ kind → IsExactFor named locals answer
+pub found_of_run : (kind named : Kind) (locals : List Local) (answer : Option Witness)
+    (result : Status) → named ≡ kind → IsExactFor named locals answer
     → Ended result (status_of answer) → ¬ IsLegalRun kind locals → Ended result Found
 found_of_run kind named locals answer result same exact ended illegal =
-    ended_as result (status_of answer) Found (found_status kind locals answer (subst (λ (k : Kind). IsExactFor k locals answer) same exact) illegal) ended
+    ended_as result (status_of answer) Found (found_status kind locals answer
+    (subst (λ (k : Kind). IsExactFor k locals answer) same exact) illegal) ended
 
-pub fine_of_run : (kind named : Kind) (locals : List Local) (answer : Option Witness) (result : Status) → named ≡ kind → IsExactFor named locals answer
+pub fine_of_run : (kind named : Kind) (locals : List Local) (answer : Option Witness)
+    (result : Status) → named ≡ kind → IsExactFor named locals answer
     → Ended result (status_of answer) → IsLegalRun kind locals → Ended result Fine
 fine_of_run kind named locals answer result same exact ended legal =
-    ended_as result (status_of answer) Fine (fine_status kind locals answer (subst (λ (k : Kind). IsExactFor k locals answer) same exact) legal) ended
+    ended_as result (status_of answer) Fine (fine_status kind locals answer
+    (subst (λ (k : Kind). IsExactFor k locals answer) same exact) legal) ended

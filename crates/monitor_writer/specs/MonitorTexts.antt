@@ -11,10 +11,12 @@ use Rattle.monitor.specs.Worlds.{published_book, IsWitnessOf}
 use Rattle.byte_streams.specs.declared.status.Status.{Status}
 use Rattle.byte_streams.specs.declared.status.Status.TheVariants.{Fine, Found}
 
--- the text of an answer: that there is no witness, or that there is one, and after it the text of its book
+-- the text of an answer: that there is no witness, or that there is one, and after it the text of
+-- its book
 abbrev pub IsAnswerText : Kind → Option Witness → List ℕ → Type 0
 IsAnswerText kind None text = text ≡ codes "legal\n"
-IsAnswerText kind (Some w) text = (shown : List ℕ) × IsWrittenText Second shown kind w.book × (text ≡ codes "illegal\n" ++ shown)
+IsAnswerText kind (Some w) text = (shown : List ℕ) × IsWrittenText Second shown kind w.book
+    × (text ≡ codes "illegal\n" ++ shown)
 
 -- the status that comes with an answer: whether there is a witness
 abbrev pub status_of : Option Witness → Status
@@ -29,11 +31,12 @@ IsAnswerOutput kind answer status text = IsAnswerText kind answer text × (statu
 abbrev pub IsLegalRun : Kind → List Local → Type 0
 IsLegalRun kind locals = HasLegalOrder (kind_init kind) (kind_next kind) (published_book locals)
 
--- What is written of these callers' calls, with a status: that the book of all published records has a legal order; or that it has none,
--- and after it the text of the book of a witness.
+-- What is written of these callers' calls, with a status: that the book of all published records
+-- has a legal order; or that it has none, and after it the text of the book of a witness.
 abbrev pub IsMonitorText : Kind → List Local → Status → List ℕ → Type 0
 IsMonitorText kind locals Fine text = IsLegalRun kind locals × (text ≡ codes "legal\n")
 IsMonitorText kind locals Found text =
     (¬ IsLegalRun kind locals)
-    × (w : Witness) × IsWitnessOf (kind_init kind) (kind_next kind) locals w × (shown : List ℕ) × IsWrittenText Second shown kind w.book × (text ≡ codes "illegal\n" ++ shown)
+    × (w : Witness) × IsWitnessOf (kind_init kind) (kind_next kind) locals w × (shown : List ℕ)
+    × IsWrittenText Second shown kind w.book × (text ≡ codes "illegal\n" ++ shown)
 IsMonitorText kind locals _ text = ⊥

@@ -19,8 +19,10 @@ pub(crate) fn write_answer<K: Sink>(
     answer: &Option<Witness>,
     sink: &mut K,
 ) -> Status
-    ensures ends { EndsWriting (IsAnswerOutput kind answer.now) result (K.taken sink.old) (K.taken sink.new) }
-    ensures status { (result ≡ status_of answer.now) ⊎ (result ≡ Status.WriteFault) ⊎ (result ≡ Status.NoMemory) }
+    ensures ends { EndsWriting (IsAnswerOutput kind answer.now) result (K.taken sink.old)
+        (K.taken sink.new) }
+    ensures status { (result ≡ status_of answer.now) ⊎ (result ≡ Status.WriteFault)
+        ⊎ (result ≡ Status.NoMemory) }
     ensures faults { LeavesSink K.faults result sink.old sink.new }
 {
     match answer_text(alloc, kind, answer) {

@@ -25,14 +25,14 @@ use std::alloc::Global;
 use std::thread::Threads;
 use world_core::{Outside, Program};
 
-/// Runs all callers of a script over any object behind the trait, each in a thread of its own where one can be
-/// had: none judges a call, and two monitors judge beside them what is published (Castañeda and Rodríguez 2023).
-/// It writes `legal` where the book of all published records has a legal order for the script's kind, and else
-/// `illegal` and the text of a witness.
+/// Runs all callers of a script over any object behind the trait, each in a thread of its own where
+/// one can be had: none judges a call, and two monitors judge beside them what is published
+/// (Castañeda and Rodríguez 2023). It writes `legal` where the book of all published records has a
+/// legal order for the script's kind, and else `illegal` and the text of a witness.
 ///
-/// The bench holds two callers more than the script has, all unused, and each of the script's callers has its
-/// pass of the object, unused too; afterwards the bench holds them all again, and the passes are in their order,
-/// whatever the answer.
+/// The bench holds two callers more than the script has, all unused, and each of the script's
+/// callers has its pass of the object, unused too; afterwards the bench holds them all again, and
+/// the passes are in their order, whatever the answer.
 pub fn monitor_and_write<R: Threads + Sync, B: BlackBox + Sync, K: Sink>(
     rt: &R,
     alloc: Global,
@@ -55,7 +55,8 @@ where
 
     // What stands afterwards, whatever the answer.
     // The bench is still one of these rows, and holds all their callers.
-    ensures bench { IsBenchOf ⟦<Outside as Program>⟧.meaning rows.now bench.new × HoldsAll bench.new }
+    ensures bench { IsBenchOf ⟦<Outside as Program>⟧.meaning rows.now bench.new
+        × HoldsAll bench.new }
     // There is one pass for each caller of the script.
     ensures all_passes { vec_len passes.new ≡ length script.now.operations }
     // The list of passes has at least the capacity that it had.
@@ -67,13 +68,15 @@ where
     // asked.
     ensures back { (i : ℕ) → i < length script.now.operations → IsBackOn
         ⟦<Outside as Program>⟧.meaning rows.now (fits_own (B.is_own object.now) B.Pass.caller)
-        (own_count B.Pass.made B.Pass.cap B.Pass.told) script.now.operations (run_allotments script.now)
+        (own_count B.Pass.made B.Pass.cap B.Pass.told) script.now.operations
+        (run_allotments script.now)
         bench.new passes.new.items i }
     // Both monitors are back on the bench, ready and idle, without a call.
     ensures monitors { (i : ℕ) → IsMonitor script.now i → IsUnused bench.new i }
 
-    // Each caller made its phases up to its stop, or all of them, and each monitor its rounds, want of memory aside; where
-    // a caller stopped between two calls, or made all of them, it stands free for its next call.
+    // Each caller made its phases up to its stop, or all of them, and each monitor its rounds, want
+    // of memory aside; where a caller stopped between two calls, or made all of them, it stands
+    // free for its next call.
     ensures made { ¬ (result ≡ Status.NoMemory) → HaveMadeAll script.now (locals_on bench.new) }
     // Want of memory aside, each caller of the script whose allotment ends between two calls, or
     // after all of them, stands free for its next call.
@@ -82,21 +85,23 @@ where
     // ask; what it tells, where it tells anything, begins with the operations and the replies of
     // the caller's records, and is at most one pair longer.
     ensures told { ¬ (result ≡ Status.NoMemory)
-        → AreInOrder (IsToldAll B.Pass.made B.Pass.told script.now (locals_on bench.new)) passes.new.items }
+        → AreInOrder
+        (IsToldAll B.Pass.made B.Pass.told script.now (locals_on bench.new)) passes.new.items }
     // Want of memory aside, the cuts that each monitor was given in this run are those of its
     // rounds over the calls of all callers: at most one more than the script has calls; at each but
     // the last the book has a legal order; and either there are as many as that, or the book at the
     // last has none.
     ensures rounds { ¬ (result ≡ Status.NoMemory)
         → (i : ℕ) (l : Local) → IsMonitor script.now i → on_bench bench.old i ≡ Some l
-        → HasMonitored (kind_init script.now.kind) (kind_next script.now.kind) script.now (locals_on bench.new) i l }
+        → HasMonitored (kind_init script.now.kind) (kind_next script.now.kind) script.now
+        (locals_on bench.new) i l }
 
     // The headline: what was written, by the status, is right of the locals on the bench.
     ensures ends { EndsWriting (IsMonitorText script.now.kind (locals_on bench.new))
         result (K.taken sink.old) (K.taken sink.new) }
 
-    // Whether the book of all published records has a legal order decides the status, failed writes and want of
-    // memory aside.
+    // Whether the book of all published records has a legal order decides the status, failed writes
+    // and want of memory aside.
     ensures found { ¬ IsLegalRun script.now.kind (locals_on bench.new)
         → (result ≡ Status.Found) ⊎ (result ≡ Status.WriteFault) ⊎ (result ≡ Status.NoMemory) }
     // Where the book of all published records has a legal order, the status is `Fine`, failed
@@ -104,7 +109,8 @@ where
     ensures fine { IsLegalRun script.now.kind (locals_on bench.new)
         → (result ≡ Status.Fine) ⊎ (result ≡ Status.WriteFault) ⊎ (result ≡ Status.NoMemory) }
 
-    // A fault has its cause in a count that rose in this call, and every other answer comes where none rose.
+    // A fault has its cause in a count that rose in this call, and every other answer comes where
+    // none rose.
     ensures faults { LeavesSink K.faults result sink.old sink.new }
 {
     let kind = script.kind();

@@ -23,32 +23,45 @@ all_published locals = record {
 
 pub published_records_are_in_the_book : PublishedRecordsAreInTheBook
 published_records_are_in_the_book s locals t =
-    let all = all_published locals in
-    (all.wide ∙ sym (book_long locals), published_cuts_are_within s locals (published_of locals) t all)
+    let all = all_published locals in (
+      all.wide ∙ sym (book_long locals),
+      published_cuts_are_within s locals (published_of locals) t all,
+    )
 
 -- the book at it is that of all published records
-part_is : (s : Shape) (locals : List Local) (part : List Page) → AreTogether s locals → IsBookAt (book_in locals) (published_of locals) part → part ≡ published_book locals
+part_is : (s : Shape) (locals : List Local) (part : List Page) → AreTogether s locals
+    → IsBookAt (book_in locals) (published_of locals) part → part ≡ published_book locals
 part_is s locals part t h =
     books_at_are_one (book_in locals) (published_of locals) part (published_book locals) h
     (book_at_is_the_book_at (book_in locals) (published_of locals) (books_are_valid s locals t))
 
-module _ (init : List ℕ) (next : List ℕ → ℕ → List ℕ × ℕ) (s : Shape) (locals : List Local) (t : AreTogether s locals) where
-  exact : (answer : Option Witness) → IsAnswer init next locals answer → IsExactAnswer init next locals answer
+module _ (init : List ℕ) (next : List ℕ → ℕ → List ℕ × ℕ) (s : Shape) (locals : List Local)
+    (t : AreTogether s locals) where
+  exact : (answer : Option Witness) → IsAnswer init next locals answer
+      → IsExactAnswer init next locals answer
   exact None h = record { is = h; exact = (λ none. h, λ order. refl) }
   exact (Some w) h = record {
     is = h;
-    exact = (λ none. absurd cc, λ order. absurd (witnesses_are_final init next s locals w t h order));
+    exact =
+        (λ none. absurd cc, λ order. absurd (witnesses_are_final init next s locals w t h order));
   }
 
-  judged : (answer : Option Witness) → IsJudgedAt init next (book_in locals) (published_of locals) answer → IsAnswer init next locals answer
-  judged None h = let (part, at, order) = h in subst (HasLegalOrder init next) (part_is s locals part t at) order
+  judged : (answer : Option Witness)
+      → IsJudgedAt init next (book_in locals) (published_of locals) answer
+      → IsAnswer init next locals answer
+  judged None h = let (part, at, order) = h in
+      subst (HasLegalOrder init next) (part_is s locals part t at) order
   judged (Some w) h =
       record {
-        published = subst (λ (cut : List ℕ). IsPublished locals cut) (sym h.0) (all_published locals);
-        book = part_is s locals w.book t h.1 ∙ ap (λ (cut : List ℕ). book_at cut (book_in locals)) (sym h.0);
+        published =
+            subst (λ (cut : List ℕ). IsPublished locals cut) (sym h.0) (all_published locals);
+        book = part_is s locals w.book t h.1
+            ∙ ap (λ (cut : List ℕ). book_at cut (book_in locals)) (sym h.0);
         none = h.2;
       }
 
 pub answers_are_exact : AnswersAreExact
-answers_are_exact init next s locals answer t =
-    (exact init next s locals t answer, λ h. exact init next s locals t answer (judged init next s locals t answer h))
+answers_are_exact init next s locals answer t = (
+  exact init next s locals t answer,
+  λ h. exact init next s locals t answer (judged init next s locals t answer h),
+)

@@ -12,7 +12,8 @@ abbrev pub HavePage : List Line → Local → Type 0
 HavePage own l = page_with (map made_of own) ≡ page_with (calls_in l)
 
 -- A client made all phases of its allotment, whatever it met, and its lines have its page.
-pub record HasDeferred (operations : List ℕ) (allotment p : ℕ) (l : Local) (own : List Line) : Type 0 where
+pub record HasDeferred (operations : List ℕ) (allotment p : ℕ) (l : Local)
+    (own : List Line) : Type 0 where
   pub page : HavePage own l
   pub all : p ≡ allotment
   pub made : HasMade operations allotment l
@@ -20,8 +21,10 @@ pub record HasDeferred (operations : List ℕ) (allotment p : ℕ) (l : Local) (
 -- So does each client whose calls end without a judgement.
 abbrev pub DeferringClientsMakeAll : Type 0
 DeferringClientsMakeAll =
-    (object : Sequential) (n : ℕ) (operations : List ℕ) (allotment p : ℕ) (l : Local) (own : List Line)
-    → HasLeftAt (SaysDeferred object) n operations allotment p l own → HasDeferred operations allotment p l own
+    (object : Sequential) (n : ℕ) (operations : List ℕ) (allotment p : ℕ) (l : Local)
+    (own : List Line)
+    → HasLeftAt (SaysDeferred object) n operations allotment p l own
+    → HasDeferred operations allotment p l own
 
 -- The lines of each caller have its page. A monitor has no line and no call.
 pub record HavePages (locals : List Local) (lines : List (List Line)) : Type 0 where
@@ -30,4 +33,5 @@ pub record HavePages (locals : List Local) (lines : List (List Line)) : Type 0 w
 
 -- The book of such lines is that of the callers.
 abbrev pub LinesAreTheBook : Type 0
-LinesAreTheBook = (locals : List Local) (lines : List (List Line)) → HavePages locals lines → book_of_lines lines ≡ book_in locals
+LinesAreTheBook = (locals : List Local) (lines : List (List Line)) → HavePages locals lines
+    → book_of_lines lines ≡ book_in locals

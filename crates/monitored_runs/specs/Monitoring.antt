@@ -1,4 +1,5 @@
--- Runs whose callers judge nothing, while two monitors watch them: what they begin with, and what they leave.
+-- Runs whose callers judge nothing, while two monitors watch them: what they begin with, and what
+-- they leave.
 use Rattle.std.specs.Prelude.{◌≡◌, ℕ, ◌+◌, ◌%◌, ◌<◌, ◌≤◌, List, [], ◌∷◌, ◌++◌, Option, Some, IfSome, length, map, sum_by, slice_index}
 use Rattle.world_core.specs.Local.{Local, Given}
 use Rattle.world_core.specs.Calls.{calls_in, book_in, local_at}
@@ -20,7 +21,8 @@ use Rattle.monitor.specs.Worlds.{AreJudgedRounds}
 abbrev pub most_rounds : Plan → ℕ
 most_rounds plan = sum_by length plan.operations + 1
 
--- How many records each caller publishes, where each of a plan's callers makes its whole allotment. The two monitors publish none.
+-- How many records each caller publishes, where each of a plan's callers makes its whole allotment.
+-- The two monitors publish none.
 abbrev pub published_for : Plan → List ℕ
 published_for plan = map published_by (run_allotments plan) ++ 0 ∷ 0 ∷ []
 
@@ -33,37 +35,50 @@ pub record IsMonitor (plan : Plan) (i : ℕ) : Type 0 where
   pub after : length plan.operations ≤ i
   pub before : i < length plan.operations + 2
 
--- Each of a plan's callers has made exactly the phases of its allotment, and the two monitors have made no call.
+-- Each of a plan's callers has made exactly the phases of its allotment, and the two monitors have
+-- made no call.
 pub record HaveMadeAll (plan : Plan) (locals : List Local) : Type 0 where
   pub callers : length locals ≡ length plan.operations + 2
-  pub made : (i : ℕ) → i < length plan.operations → HasMade (operations_at plan.operations i) (slice_index (run_allotments plan) i) (local_at locals i)
+  pub made : (i : ℕ) → i < length plan.operations → HasMade (operations_at plan.operations i)
+      (slice_index (run_allotments plan) i) (local_at locals i)
   pub none : (i : ℕ) → IsMonitor plan i → progress_of (local_at locals i) ≡ no_progress
 
--- What the pass of caller i counts, where it counts: it was asked for exactly the calls of the caller's allotment, and tells, where it
--- tells anything, an operation and a reply for each of them.
+-- What the pass of caller i counts, where it counts: it was asked for exactly the calls of the
+-- caller's allotment, and tells, where it tells anything, an operation and a reply for each of
+-- them.
 abbrev pub IsCountedAll : {T : Type 0} → (T → Option PassCount) → Plan → List Local → ℕ → T → Type 0
-IsCountedAll count plan locals i pass = IfSome (count pass) (IsCountOf (slice_index (run_allotments plan) i) (local_at locals i))
+IsCountedAll count plan locals i pass =
+    IfSome (count pass) (IsCountOf (slice_index (run_allotments plan) i) (local_at locals i))
 
--- The pass of caller i was asked for exactly the calls of the caller's allotment. What it tells, where it tells anything, begins with the
--- operations and the replies of the caller's records, and is at most one pair longer.
-pub record IsToldAll {T : Type 0} (made : T → ℕ) (told : T → Option (List (ℕ × ℕ))) (plan : Plan) (locals : List Local) (i : ℕ) (pass : T) : Type 0 where
+-- The pass of caller i was asked for exactly the calls of the caller's allotment. What it tells,
+-- where it tells anything, begins with the operations and the replies of the caller's records, and
+-- is at most one pair longer.
+pub record IsToldAll {T : Type 0} (made : T → ℕ) (told : T → Option (List (ℕ × ℕ))) (plan : Plan)
+    (locals : List Local) (i : ℕ) (pass : T) : Type 0 where
   pub asked_for : made pass ≡ asked (slice_index (run_allotments plan) i)
-  pub told_is : IfSome (told pass) (IsTold (slice_index (run_allotments plan) i) (calls_in (local_at locals i)))
+  pub told_is : IfSome (told pass)
+      (IsTold (slice_index (run_allotments plan) i) (calls_in (local_at locals i)))
 
 module _ (init : List ℕ) (next : List ℕ → ℕ → List ℕ × ℕ) where
-  -- The cuts that monitor i was given, after those that it had in this local, are those of its rounds over the calls of all callers.
+  -- The cuts that monitor i was given, after those that it had in this local, are those of its
+  -- rounds over the calls of all callers.
   abbrev pub HasMonitored : Plan → List Local → ℕ → Local → Type 0
   HasMonitored plan locals i before =
-      (rounds : List Given) × ((local_at locals i).cuts ≡ before.cuts ++ rounds) × AreJudgedRounds init next (book_in locals) (most_rounds plan) rounds
+      (rounds : List Given) × ((local_at locals i).cuts ≡ before.cuts ++ rounds)
+      × AreJudgedRounds init next (book_in locals) (most_rounds plan) rounds
 
 module _ {P : Type 0} where
-  -- Each of a plan's callers whose allotment ends between two calls, or after all of them, stands on the bench free for its next call.
+  -- Each of a plan's callers whose allotment ends between two calls, or after all of them, stands
+  -- on the bench free for its next call.
   abbrev pub AreFreeAgain : Plan → Bench P → Type 0
   AreFreeAgain plan b =
-      (i : ℕ) → i < length plan.operations → slice_index (run_allotments plan) i % 5 ≡ 0 → stance_on b i ≡ Some fresh_stance
+      (i : ℕ) → i < length plan.operations → slice_index (run_allotments plan) i % 5 ≡ 0
+      → stance_on b i ≡ Some fresh_stance
 
-  -- Caller i, which had this local, is on the bench after its rounds, which found this own witness or none.
-  pub record HasWatched (init : List ℕ) (next : List ℕ → ℕ → List ℕ × ℕ) (n : ℕ) (b : Bench P) (i : ℕ) (before : Local) (most : ℕ) (own : Option Witness) : Type 0 where
+  -- Caller i, which had this local, is on the bench after its rounds, which found this own witness
+  -- or none.
+  pub record HasWatched (init : List ℕ) (next : List ℕ → ℕ → List ℕ × ℕ) (n : ℕ) (b : Bench P)
+      (i : ℕ) (before : Local) (most : ℕ) (own : Option Witness) : Type 0 where
     pub local : Local
     pub here : on_bench b i ≡ Some local
     pub rounds : HasMadeRounds init next n most before local own

@@ -3,8 +3,8 @@
 ghost use Rattle.monitored_runs.specs.Deferred.{DeferringClientsMakeAll, LinesAreTheBook};
 ghost use Rattle.monitored_runs.specs.Published.{PublishedRecordsAreInTheBook, AnswersAreExact};
 
-/// A client that judges no call makes all phases of its allotment, and its lines have all its calls and
-/// records.
+/// A client that judges no call makes all phases of its allotment, and its lines have all its calls
+/// and records.
 pub fn deferring_clients_make_all()
     ensures { DeferringClientsMakeAll }
 {}
@@ -19,7 +19,8 @@ pub fn published_records_are_in_the_book()
     ensures { PublishedRecordsAreInTheBook }
 {}
 
-/// A judgement of all published records answers no witness exactly where their book has a legal order.
+/// A judgement of all published records answers no witness exactly where their book has a legal
+/// order.
 pub fn answers_are_exact()
     ensures { AnswersAreExact }
 {}

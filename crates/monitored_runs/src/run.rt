@@ -77,14 +77,16 @@ fn judge_lines<S: SeqObject>(
     judge_at(alloc, sequential, &book, &published_counts(script))
 }
 
-/// Runs all callers of a script, each in a thread of its own where one can be had, whatever object they ask and
-/// wherever it is: none judges a call. Beside them two monitors, the two callers after the script's, make rounds
-/// over what is published, each until one is illegal, and at most one more than the script has calls.
+/// Runs all callers of a script, each in a thread of its own where one can be had, whatever object
+/// they ask and wherever it is: none judges a call. Beside them two monitors, the two callers after
+/// the script's, make rounds over what is published, each until one is illegal, and at most one
+/// more than the script has calls.
 ///
-/// The answer is a witness exactly where the book of all published records has no legal order, whoever found it, and
-/// each caller whose allotment ends between two calls, or after all of them, then stands free for its next call.
-/// Whatever the answer, the bench holds all callers again, and the passes are in their order. Want of memory is
-/// answered before the first call, or where a judgement wanted it.
+/// The answer is a witness exactly where the book of all published records has no legal order,
+/// whoever found it, and each caller whose allotment ends between two calls, or after all of them,
+/// then stands free for its next call. Whatever the answer, the bench holds all callers again, and
+/// the passes are in their order. Want of memory is answered before the first call, or where a
+/// judgement wanted it.
 pub fn monitor_asked<
     R: Threads + Sync,
     P: Program + Send + Sync,
@@ -119,7 +121,8 @@ pub fn monitor_asked<
     // Each caller of the script is back on the bench with its pass, which fits it, and has made a
     // prefix of its phases: at most as many as the script gives it; where the pass counts calls, it
     // counts those that were asked.
-    ensures back { (i : ℕ) → i < length script.now.operations → IsBackOn P.meaning shared.now.rows.now
+    ensures back { (i : ℕ) → i < length script.now.operations
+        → IsBackOn P.meaning shared.now.rows.now
         (A.fits shared.now.asks.now) A.count script.now.operations (run_allotments script.now)
         bench.new passes.new.items i }
     // Both monitors are back on the bench, ready and idle, without a call.
@@ -133,15 +136,19 @@ pub fn monitor_asked<
     ensures free { IfOk result (λ _. AreFreeAgain script.now bench.new) }
     // With an answer each pass that counts calls counts exactly those that the script lets its
     // caller ask, and tells, where it tells anything, an operation and a reply for each of them.
-    ensures counted { IfOk result (λ _. AreInOrder (IsCountedAll A.count script.now (locals_on bench.new)) passes.new.items) }
+    ensures counted { IfOk result
+        (λ _. AreInOrder (IsCountedAll A.count script.now (locals_on bench.new)) passes.new.items) }
     // With an answer the cuts that each monitor was given in this run are those of its rounds over
     // the calls of all callers: at most one more than the script has calls; at each but the last
     // the book has a legal order; and either there are as many as that, or the book at the last has
     // none.
-    ensures rounds { IfOk result (λ _. (i : ℕ) (l : Local) → IsMonitor script.now i → on_bench bench.old i ≡ Some l
-        → HasMonitored (S.init sequential.now) (S.next sequential.now) script.now (locals_on bench.new) i l) }
+    ensures rounds { IfOk result
+        (λ _. (i : ℕ) (l : Local) → IsMonitor script.now i → on_bench bench.old i ≡ Some l
+        → HasMonitored (S.init sequential.now) (S.next sequential.now) script.now
+        (locals_on bench.new) i l) }
     // An answer is a witness exactly where the book of all published records has no legal order.
-    ensures answer { IfOk result (IsExactAnswer (S.init sequential.now) (S.next sequential.now) (locals_on bench.new)) }
+    ensures answer { IfOk result
+        (IsExactAnswer (S.init sequential.now) (S.next sequential.now) (locals_on bench.new)) }
 {
     let most = most_rounds(script);
     let (lines, one, other) = watch_all(
@@ -153,14 +160,15 @@ pub fn monitor_asked<
     }
 }
 
-/// Runs all callers of a script over an object under test, each in a thread of its own where one can be had:
-/// none judges a call. Beside them two monitors, the two callers after the script's, make rounds over what is
-/// published (Castañeda and Rodríguez 2023), each until one is illegal, and at most one more than the script has
-/// calls. The rows have two callers more than the script, and there is a pass for each of the script's.
+/// Runs all callers of a script over an object under test, each in a thread of its own where one
+/// can be had: none judges a call. Beside them two monitors, the two callers after the script's,
+/// make rounds over what is published (Castañeda and Rodríguez 2023), each until one is illegal,
+/// and at most one more than the script has calls. The rows have two callers more than the script,
+/// and there is a pass for each of the script's.
 ///
-/// The answer is a witness exactly where the book of all published records has no legal order, whoever found it.
-/// Whatever the answer, the bench holds all callers again, and the passes are in their order. Want of memory is
-/// answered before the first call, or where a judgement wanted it.
+/// The answer is a witness exactly where the book of all published records has no legal order,
+/// whoever found it. Whatever the answer, the bench holds all callers again, and the passes are in
+/// their order. Want of memory is answered before the first call, or where a judgement wanted it.
 pub fn monitor_over<R: Threads + Sync, S: SeqObject + Sync, B: BlackBox + Sync>(
     rt: &R,
     alloc: Global,
@@ -182,7 +190,8 @@ where
         script.now.operations passes.old.items }
     // For every answer.
     // The bench is still one of these rows, and holds all their callers.
-    ensures bench { IsBenchOf ⟦<Outside as Program>⟧.meaning rows.now bench.new × HoldsAll bench.new }
+    ensures bench { IsBenchOf ⟦<Outside as Program>⟧.meaning rows.now bench.new
+        × HoldsAll bench.new }
     // There is one pass for each caller of the script.
     ensures all_passes { vec_len passes.new ≡ length script.now.operations }
     // The list of passes has at least the capacity that it had.
@@ -192,14 +201,16 @@ where
     // asked.
     ensures back { (i : ℕ) → i < length script.now.operations → IsBackOn
         ⟦<Outside as Program>⟧.meaning rows.now (fits_own (B.is_own object.now) B.Pass.caller)
-        (own_count B.Pass.made B.Pass.cap B.Pass.told) script.now.operations (run_allotments script.now)
+        (own_count B.Pass.made B.Pass.cap B.Pass.told) script.now.operations
+        (run_allotments script.now)
         bench.new passes.new.items i }
     // Each pass is one of this object's, and that of its caller, in order.
     ensures passes { AreInOrder (IsOwnPass (B.is_own object.now) B.Pass.caller) passes.new.items }
     // Both monitors are back on the bench, ready and idle, without a call.
     ensures monitors { (i : ℕ) → IsMonitor script.now i → IsUnused bench.new i }
-    // Where the run is judged: each caller has made its phases up to its stop, or all of them, and the object told them;
-    // where it stopped between two calls, or made all of them, it stands free for its next call.
+    // Where the run is judged: each caller has made its phases up to its stop, or all of them, and
+    // the object told them; where it stopped between two calls, or made all of them, it stands free
+    // for its next call.
     ensures made { IfOk result (λ _. HaveMadeAll script.now (locals_on bench.new)) }
     // With an answer each caller of the script whose allotment ends between two calls, or after all
     // of them, stands free for its next call.
@@ -207,12 +218,16 @@ where
     // With an answer each pass has made exactly the calls that the script lets its caller ask; what
     // it tells, where it tells anything, begins with the operations and the replies of the caller's
     // records, and is at most one pair longer.
-    ensures told { IfOk result (λ _. AreInOrder (IsToldAll B.Pass.made B.Pass.told script.now (locals_on bench.new)) passes.new.items) }
+    ensures told { IfOk result (λ _. AreInOrder
+        (IsToldAll B.Pass.made B.Pass.told script.now (locals_on bench.new)) passes.new.items) }
     // The cuts that each monitor was given are those of its rounds.
-    ensures rounds { IfOk result (λ _. (i : ℕ) (l : Local) → IsMonitor script.now i → on_bench bench.old i ≡ Some l
-        → HasMonitored (S.init sequential.now) (S.next sequential.now) script.now (locals_on bench.new) i l) }
+    ensures rounds { IfOk result
+        (λ _. (i : ℕ) (l : Local) → IsMonitor script.now i → on_bench bench.old i ≡ Some l
+        → HasMonitored (S.init sequential.now) (S.next sequential.now) script.now
+        (locals_on bench.new) i l) }
     // No witness exactly where the book of all published records has a legal order.
-    ensures answer { IfOk result (IsExactAnswer (S.init sequential.now) (S.next sequential.now) (locals_on bench.new)) }
+    ensures answer { IfOk result
+        (IsExactAnswer (S.init sequential.now) (S.next sequential.now) (locals_on bench.new)) }
 {
     passes_are_fresh(rows, object, passes, script);
     let asks = OutsideObject { object };

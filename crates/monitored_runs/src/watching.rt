@@ -72,12 +72,13 @@ fn watch_in<
     )
 }
 
-/// Lets each caller make the phases that a script gives it, each in a thread of its own where one can be
-/// had, while two callers more make rounds, each until one is illegal, and at most this many. All callers
-/// come back to their bench, and all passes to their list, in order, whatever the answer.
+/// Lets each caller make the phases that a script gives it, each in a thread of its own where one
+/// can be had, while two callers more make rounds, each until one is illegal, and at most this
+/// many. All callers come back to their bench, and all passes to their list, in order, whatever the
+/// answer.
 ///
-/// The answer is the lines of each of the script's callers, in order, and what the two others found. Want
-/// of memory is answered before anything is done, or where it was wanted in a round.
+/// The answer is the lines of each of the script's callers, in order, and what the two others
+/// found. Want of memory is answered before anything is done, or where it was wanted in a round.
 pub(crate) fn watch_all<
     'a,
     R: Threads + Sync,
@@ -102,7 +103,8 @@ pub(crate) fn watch_all<
     ensures bench { IsBenchOf P.meaning shared.now.rows.now bench.new }
     ensures all_passes { vec_len passes.new ≡ length script.now.operations }
     ensures capacity { vec_capacity passes.old ≤ vec_capacity passes.new }
-    ensures back { (i : ℕ) → i < length script.now.operations → IsBackOn P.meaning shared.now.rows.now
+    ensures back { (i : ℕ) → i < length script.now.operations
+        → IsBackOn P.meaning shared.now.rows.now
         (A.fits shared.now.asks.now) A.count script.now.operations (run_allotments script.now)
         bench.new passes.new.items i }
     ensures monitors { (i : ℕ) → IsMonitor script.now i → IsUnused bench.new i }
@@ -112,10 +114,12 @@ pub(crate) fn watch_all<
         (length script.now.operations) (length script.now.operations)
         (course_of script.now (run_allotments script.now) silent)
         bench.new passes.new.items (lines_in left.0.items) false) }
-    ensures one { IfOk result (λ left. (l : Local) → on_bench bench.old (length script.now.operations) ≡ Some l
+    ensures one { IfOk result
+        (λ left. (l : Local) → on_bench bench.old (length script.now.operations) ≡ Some l
         → HasWatched (S.init sequential.now) (S.next sequential.now) shared.now.rows.now.callers
         bench.new (length script.now.operations) l rounds left.1.own) }
-    ensures other { IfOk result (λ left. (l : Local) → on_bench bench.old (length script.now.operations + 1) ≡ Some l
+    ensures other { IfOk result
+        (λ left. (l : Local) → on_bench bench.old (length script.now.operations + 1) ≡ Some l
         → HasWatched (S.init sequential.now) (S.next sequential.now) shared.now.rows.now.callers
         bench.new (length script.now.operations + 1) l rounds left.2.own) }
 {

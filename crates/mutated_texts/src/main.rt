@@ -1,8 +1,9 @@
-//! Texts of every form with random changes, through every reader: a reader refuses a text by the name of its first fault, or what
-//! is written of what it read is that text, byte by byte.
+//! Texts of every form with random changes, through every reader: a reader refuses a text by the
+//! name of its first fault, or what is written of what it read is that text, byte by byte.
 //!
-//! The words are the seed of the generator and the number of texts; with a third word, `figures`, a table says how each reader
-//! answered. A text that isn't written back as it was is printed, and the status is then 1.
+//! The words are the seed of the generator and the number of texts; with a third word, `figures`, a
+//! table says how each reader answered. A text that isn't written back as it was is printed, and
+//! the status is then 1.
 #![tactic(auto)]
 
 mod form;

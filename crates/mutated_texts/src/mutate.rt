@@ -103,7 +103,8 @@ fn change_pieces<R: Rng>(
     join(alloc, &pieces)
 }
 
-// A piece loses what stands between a random byte of it and its separator: a space, where there is one after that byte.
+// A piece loses what stands between a random byte of it and its separator: a space, where there is
+// one after that byte.
 fn cut_short<R: Rng>(rng: &mut R, piece: &mut Vec<u8>) -> Result<(), AllocError> {
     if piece.is_empty() {
         return Ok(());

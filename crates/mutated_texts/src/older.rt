@@ -1,4 +1,5 @@
-//! Texts that the library reads and doesn't write: those of version 1, and set books. They are written here, to be compared.
+//! Texts that the library reads and doesn't write: those of version 1, and set books. They are
+//! written here, to be compared.
 
 ghost use Rattle.std.specs.Prelude.{◌<◌, length};
 ghost use Rattle.book_base.specs.Book.{IsCall};
@@ -96,7 +97,8 @@ fn put_call(out: &mut Vec<u8>, words: Words, book: &Book, call: Call) -> Result<
 }
 
 impl Words {
-    // Appends the words of an operation. A counter knows one operation, which is a join, so it has the words of all others.
+    // Appends the words of an operation. A counter knows one operation, which is a join, so it has
+    // the words of all others.
     fn put_op(self, out: &mut Vec<u8>, op: OpWord) -> Result<(), NoMemory> {
         match self {
             Words::First(kind) => kind.put_op(out, op),

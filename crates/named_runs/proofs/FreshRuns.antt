@@ -22,37 +22,50 @@ use Rattle.named_runs.specs.NamedObjects.{AreTold, IsOfBehaviour}
 use Rattle.named_runs.specs.BehaviourRuns.{IsToldReport, IsNamedReport}
 use Rattle.byte_streams.proofs.WritingLemmas.{EndsWriting-weaker}
 
--- what is written of a run with one of some reports is so of one of any reports that have them among them
-pub RunEnds-weaker : (object : Sequential) (A B : Findings → Type 0) (form : Form) (result : Status) (taken taken' : Option (List ℕ)) → ((report : Findings) → A report → B report)
+-- what is written of a run with one of some reports is so of one of any reports that have them
+-- among them
+pub RunEnds-weaker : (object : Sequential) (A B : Findings → Type 0) (form : Form) (result : Status)
+    (taken taken' : Option (List ℕ)) → ((report : Findings) → A report → B report)
     → RunEnds object A form result taken taken' → RunEnds object B form result taken taken'
 RunEnds-weaker object A B form result taken taken' weaker ends =
     EndsWriting-weaker (IsRunOutput object A form) (IsRunOutput object B form) result taken taken'
     (λ status text output. (output.0, weaker output.0 output.1, output.2, output.3)) ends
 
 -- the report of a run over rows that were opened for it is lawful
-pub fresh_report : {P T : Type 0} (meaning : P → ℕ → ℕ → Meaning) (rows : Rows P) (bench : Bench P) (made : T → ℕ) (told : T → Option (List (ℕ × ℕ))) (passes : List T) (plan : Plan) (allotments : List ℕ)
+pub fresh_report : {P T : Type 0} (meaning : P → ℕ → ℕ → Meaning) (rows : Rows P) (bench : Bench P)
+    (made : T → ℕ) (told : T → Option (List (ℕ × ℕ))) (passes : List T) (plan : Plan)
+    (allotments : List ℕ)
     → shape_of meaning rows ≡ outside_shape (length plan.operations)
-    → (findings : Findings) → IsToldBenchReport (object_of_kind plan.kind) meaning rows bench made told passes plan allotments findings → IsToldReport made told passes plan allotments findings
+    → (findings : Findings) → IsToldBenchReport (object_of_kind plan.kind) meaning rows bench made
+    told passes plan allotments findings → IsToldReport made told passes plan allotments findings
 fresh_report meaning rows bench made told passes plan allotments shape findings is = record {
   report = record {
     kind = is.report.kind;
-    lawful = subst (λ (s : Shape). IsLawful (kind_init plan.kind) (kind_next plan.kind) s plan.operations allotments findings.lines) shape is.report.lawful;
+    lawful = subst (λ (s : Shape). IsLawful (kind_init plan.kind)
+        (kind_next plan.kind) s plan.operations allotments findings.lines) shape is.report.lawful;
   };
   told_in = is.told_in;
 }
 
--- what the object of a behaviour answered, it answered under another name for it, for the kind and for the number of callers
-pub answered_as : (behaviour named : Behaviour) (kind other : Kind) (n m : ℕ) (phases : ℕ → ℕ) (calls : ℕ → List Made) → behaviour ≡ named → other ≡ kind → m ≡ n
+-- what the object of a behaviour answered, it answered under another name for it, for the kind and
+-- for the number of callers
+pub answered_as : (behaviour named : Behaviour) (kind other : Kind) (n m : ℕ) (phases : ℕ → ℕ)
+    (calls : ℕ → List Made) → behaviour ≡ named → other ≡ kind → m ≡ n
     → IsOfBehaviour named other m phases calls → IsOfBehaviour behaviour kind n phases calls
 answered_as behaviour named kind other n m phases calls is same all h = rw (is, ← same, ← all) h
 
 -- a report is of a behaviour, where its object answered whatever calls the passes are told in
-pub named_report : {T : Type 0} (made : T → ℕ) (told : T → Option (List (ℕ × ℕ))) (passes : List T) (behaviour : Behaviour) (plan : Plan) (allotments : List ℕ)
-    → ((phases : ℕ → ℕ) (calls : ℕ → List Made) → AreTold told phases calls passes → IsOfBehaviour behaviour plan.kind (length plan.operations) phases calls)
-    → (findings : Findings) → IsToldReport made told passes plan allotments findings → IsNamedReport (outside_shape (length plan.operations)) behaviour plan allotments findings
+pub named_report : {T : Type 0} (made : T → ℕ) (told : T → Option (List (ℕ × ℕ))) (passes : List T)
+    (behaviour : Behaviour) (plan : Plan) (allotments : List ℕ)
+    → ((phases : ℕ → ℕ) (calls : ℕ → List Made) → AreTold told phases calls passes
+    → IsOfBehaviour behaviour plan.kind (length plan.operations) phases calls)
+    → (findings : Findings) → IsToldReport made told passes plan allotments findings
+    → IsNamedReport (outside_shape (length plan.operations)) behaviour plan allotments findings
 named_report made told passes behaviour plan allotments answered findings is = record {
   report = is.report;
   object =
-      subst (λ (n : ℕ). IsOfBehaviour behaviour plan.kind n (phases_in allotments findings) (calls_of_lines findings)) (sym is.report.lawful.callers)
-      (answered (phases_in allotments findings) (calls_of_lines findings) (λ i pass there. (is.told_in i pass there).told_is));
+      subst (λ (n : ℕ). IsOfBehaviour behaviour plan.kind n (phases_in allotments findings)
+      (calls_of_lines findings)) (sym is.report.lawful.callers)
+      (answered (phases_in allotments findings) (calls_of_lines findings)
+      (λ i pass there. (is.told_in i pass there).told_is));
 }

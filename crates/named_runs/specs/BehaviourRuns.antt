@@ -17,34 +17,45 @@ use Rattle.named_runs.specs.NamedObjects.{IsOfBehaviour}
 use Rattle.named_runs.specs.declared.inside.Inside.{Inside}
 use Rattle.named_runs.specs.Worlds.{inside_of, shape_in, world_of}
 
--- A report of a plan's callers in a world of this shape that had these allotments: of the plan's kind, and lawful by the object of that
--- kind.
-pub record IsLawfulReport (s : Shape) (plan : Plan) (allotments : List ℕ) (findings : Findings) : Type 0 where
+-- A report of a plan's callers in a world of this shape that had these allotments: of the plan's
+-- kind, and lawful by the object of that kind.
+pub record IsLawfulReport (s : Shape) (plan : Plan) (allotments : List ℕ)
+    (findings : Findings) : Type 0 where
   pub kind : findings.kind ≡ plan.kind
-  pub lawful : IsLawful (kind_init plan.kind) (kind_next plan.kind) s plan.operations allotments findings.lines
+  pub lawful : IsLawful (kind_init plan.kind)
+      (kind_next plan.kind) s plan.operations allotments findings.lines
 
 -- The report of a run over an object outside the world, and these passes, in order, are told in it.
-pub record IsToldReport {T : Type 0} (made : T → ℕ) (told : T → Option (List (ℕ × ℕ))) (passes : List T) (plan : Plan) (allotments : List ℕ) (findings : Findings) : Type 0 where
+pub record IsToldReport {T : Type 0} (made : T → ℕ) (told : T → Option (List (ℕ × ℕ)))
+    (passes : List T) (plan : Plan) (allotments : List ℕ) (findings : Findings) : Type 0 where
   pub report : IsLawfulReport (outside_shape (length plan.operations)) plan allotments findings
   pub told_in : AreInOrder (IsToldIn made told allotments findings) passes
 
--- The report of a run over an object inside the world: of the locals of the callers in a world of that object, judged by the object of
--- the plan's kind.
+-- The report of a run over an object inside the world: of the locals of the callers in a world of
+-- that object, judged by the object of the plan's kind.
 pub record IsInsideReport (inside : Inside) (plan : Plan) (findings : Findings) : Type 0 where
   pub locals : List Local
-  pub report : IsReportOf (kind_init plan.kind) (kind_next plan.kind) (shape_in (Some inside) plan.kind (length plan.operations)) locals plan (run_allotments plan) findings
+  pub report : IsReportOf (kind_init plan.kind) (kind_next plan.kind)
+      (shape_in (Some inside) plan.kind (length plan.operations)) locals plan
+      (run_allotments plan) findings
 
 -- A lawful report of a world of this shape, whose calls the object of a behaviour answered.
-pub record IsNamedReport (s : Shape) (behaviour : Behaviour) (plan : Plan) (allotments : List ℕ) (findings : Findings) : Type 0 where
+pub record IsNamedReport (s : Shape) (behaviour : Behaviour) (plan : Plan) (allotments : List ℕ)
+    (findings : Findings) : Type 0 where
   pub report : IsLawfulReport s plan allotments findings
-  pub object : IsOfBehaviour behaviour plan.kind (length findings.lines) (phases_in allotments findings) (calls_of_lines findings)
+  pub object : IsOfBehaviour behaviour plan.kind (length findings.lines)
+      (phases_in allotments findings) (calls_of_lines findings)
 
--- A report of a plan's callers that each went on by themselves, over the object of a behaviour: of the world of that object, and
--- without an error line where that is inside the world.
-pub record IsNamedRunReport (behaviour : Behaviour) (plan : Plan) (findings : Findings) : Type 0 where
-  pub named : IsNamedReport (world_of behaviour plan.kind (length plan.operations)) behaviour plan (run_allotments plan) findings
+-- A report of a plan's callers that each went on by themselves, over the object of a behaviour: of
+-- the world of that object, and without an error line where that is inside the world.
+pub record IsNamedRunReport (behaviour : Behaviour) (plan : Plan)
+    (findings : Findings) : Type 0 where
+  pub named : IsNamedReport (world_of behaviour plan.kind (length plan.operations)) behaviour plan
+      (run_allotments plan) findings
   pub no_error : IsSome (inside_of behaviour plan.kind) → list_any any_error findings.lines ≡ false
 
--- A report of a plan's callers that took its turns, over the object of a behaviour, outside the world.
+-- A report of a plan's callers that took its turns, over the object of a behaviour, outside the
+-- world.
 abbrev pub IsNamedReplayReport : Behaviour → Plan → Findings → Type 0
-IsNamedReplayReport behaviour plan findings = IsNamedReport (outside_shape (length plan.operations)) behaviour plan (replay_allotments plan) findings
+IsNamedReplayReport behaviour plan findings = IsNamedReport
+    (outside_shape (length plan.operations)) behaviour plan (replay_allotments plan) findings

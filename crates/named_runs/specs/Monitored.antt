@@ -12,29 +12,36 @@ use Rattle.monitor_writer.specs.MonitorTexts.{IsMonitorText}
 use Rattle.run_report.specs.Reporting.{outside_shape}
 use Rattle.named_runs.specs.NamedObjects.{AreTold, IsOfBehaviour}
 
--- How many phases a caller of a plan makes; the monitors, which come after them, make none. And the calls of a caller.
+-- How many phases a caller of a plan makes; the monitors, which come after them, make none. And the
+-- calls of a caller.
 abbrev pub phases_in : Plan → ℕ → ℕ
 phases_in plan i = slice_index (run_allotments plan) i
 
 abbrev pub calls_at : List Local → ℕ → List Made
 calls_at locals i = calls_in (local_at locals i)
 
--- These locals are those of one reachable world of a plan's callers and of two monitors, whose object is outside: each of the plan's callers
--- has made exactly the phases up to its stop, or all of its calls, and the monitors have made no call.
+-- These locals are those of one reachable world of a plan's callers and of two monitors, whose
+-- object is outside: each of the plan's callers has made exactly the phases up to its stop, or all
+-- of its calls, and the monitors have made no call.
 pub record AreMonitored (plan : Plan) (locals : List Local) : Type 0 where
   pub together : AreTogether (outside_shape (length plan.operations + 2)) locals
   pub made : HaveMadeAll plan locals
 
 -- So they are, and these passes, in order, tell of the calls of their callers.
-pub record AreToldMonitored {T : Type 0} (told : T → Option (List (ℕ × ℕ))) (passes : List T) (plan : Plan) (locals : List Local) : Type 0 where
+pub record AreToldMonitored {T : Type 0} (told : T → Option (List (ℕ × ℕ))) (passes : List T)
+    (plan : Plan) (locals : List Local) : Type 0 where
   pub monitored : AreMonitored plan locals
   pub told_in : AreTold told (phases_in plan) (calls_at locals) passes
 
 -- So they are, and the object of a behaviour answered their calls.
-pub record AreNamedMonitored (behaviour : Behaviour) (plan : Plan) (locals : List Local) : Type 0 where
+pub record AreNamedMonitored (behaviour : Behaviour) (plan : Plan)
+    (locals : List Local) : Type 0 where
   pub monitored : AreMonitored plan locals
-  pub object : IsOfBehaviour behaviour plan.kind (length plan.operations + 2) (phases_in plan) (calls_at locals)
+  pub object : IsOfBehaviour behaviour plan.kind (length plan.operations + 2) (phases_in plan)
+      (calls_at locals)
 
--- The output of a run that left such locals: a status and a text, right of the records that they have published.
+-- The output of a run that left such locals: a status and a text, right of the records that they
+-- have published.
 abbrev pub IsMonitorOutput : (List Local → Type 0) → Kind → Status → List ℕ → Type 0
-IsMonitorOutput Are kind status text = (locals : List Local) × Are locals × IsMonitorText kind locals status text
+IsMonitorOutput Are kind status text = (locals : List Local) × Are locals
+    × IsMonitorText kind locals status text

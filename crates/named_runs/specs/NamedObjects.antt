@@ -19,36 +19,49 @@ use Rattle.bench_clients.specs.Places.{AreInOrder}
 use Rattle.logged_calls.specs.Logged.{IsLoggedBy, AreFormed}
 
 -- These are the passes of n callers, in order, and each is the object's own.
-pub record AreOwnPasses {T : Type 0} (is_own : T → Type 0) (caller : T → ℕ) (n : ℕ) (passes : List T) : Type 0 where
+pub record AreOwnPasses {T : Type 0} (is_own : T → Type 0) (caller : T → ℕ) (n : ℕ)
+    (passes : List T) : Type 0 where
   pub callers : map caller passes ≡ range_with_len 0 n
   pub own : All is_own passes
 
--- Each of these passes, in order, tells the calls of its caller, of which these phases are made, where it tells any.
-abbrev pub AreTold : {T : Type 0} → (T → Option (List (ℕ × ℕ))) → (ℕ → ℕ) → (ℕ → List Made) → List T → Type 0
-AreTold told phases calls passes = AreInOrder (λ i pass. IfSome (told pass) (IsTold (phases i) (calls i))) passes
+-- Each of these passes, in order, tells the calls of its caller, of which these phases are made,
+-- where it tells any.
+abbrev pub AreTold : {T : Type 0} → (T → Option (List (ℕ × ℕ))) → (ℕ → ℕ) → (ℕ → List Made)
+    → List T → Type 0
+AreTold told phases calls passes =
+    AreInOrder (λ i pass. IfSome (told pass) (IsTold (phases i) (calls i))) passes
 
--- The object of a behaviour, for scripts of a kind, answered the calls of n callers, each of which made this many phases: a log object
--- answers from its log, by the object of the kind; of the others the replies have the form that each gives for an operation.
+-- The object of a behaviour, for scripts of a kind, answered the calls of n callers, each of which
+-- made this many phases: a log object answers from its log, by the object of the kind; of the
+-- others the replies have the form that each gives for an operation.
 abbrev pub IsOfBehaviour : Behaviour → Kind → ℕ → (ℕ → ℕ) → (ℕ → List Made) → Type 0
-IsOfBehaviour Lawful kind n phases calls = IsLoggedBy (last_reply (kind_next kind) (kind_init kind)) n phases calls
+IsOfBehaviour Lawful kind n phases calls =
+    IsLoggedBy (last_reply (kind_next kind) (kind_init kind)) n phases calls
 IsOfBehaviour Tally kind n phases calls = AreFormed IsTallyReply n calls
 IsOfBehaviour Cell kind n phases calls = AreFormed IsCellReply n calls
-IsOfBehaviour Lossy kind n phases calls = IsLoggedBy (lossy_reply (kind_next kind) (kind_init kind)) n phases calls
-IsOfBehaviour Twice kind n phases calls = IsLoggedBy (twice_reply (kind_next kind) (kind_init kind)) n phases calls
-IsOfBehaviour Late kind n phases calls = IsLoggedBy (late_reply (kind_next kind) (kind_init kind)) n phases calls
-IsOfBehaviour Invent kind n phases calls = IsLoggedBy (invent_reply (kind_next kind) (kind_init kind)) n phases calls
+IsOfBehaviour Lossy kind n phases calls =
+    IsLoggedBy (lossy_reply (kind_next kind) (kind_init kind)) n phases calls
+IsOfBehaviour Twice kind n phases calls =
+    IsLoggedBy (twice_reply (kind_next kind) (kind_init kind)) n phases calls
+IsOfBehaviour Late kind n phases calls =
+    IsLoggedBy (late_reply (kind_next kind) (kind_init kind)) n phases calls
+IsOfBehaviour Invent kind n phases calls =
+    IsLoggedBy (invent_reply (kind_next kind) (kind_init kind)) n phases calls
 IsOfBehaviour Split kind n phases calls = AreFormed IsTallyReply n calls
 IsOfBehaviour Onepass kind n phases calls = AreFormed IsQueueReply n calls
 
--- An object that was opened for scripts of a kind and for n callers is the object of a behaviour which answered their calls, whatever
--- calls these passes of theirs are told in.
-abbrev pub HasAnswered : {T : Type 0} → Behaviour → (Kind → ℕ → Type 0) → (T → Type 0) → (T → ℕ) → (T → Option (List (ℕ × ℕ))) → List T → Type 0
+-- An object that was opened for scripts of a kind and for n callers is the object of a behaviour
+-- which answered their calls, whatever calls these passes of theirs are told in.
+abbrev pub HasAnswered : {T : Type 0} → Behaviour → (Kind → ℕ → Type 0) → (T → Type 0) → (T → ℕ)
+    → (T → Option (List (ℕ × ℕ))) → List T → Type 0
 HasAnswered behaviour is_opened_for is_own caller told passes =
-    (kind : Kind) (n : ℕ) (phases : ℕ → ℕ) (calls : ℕ → List Made) → is_opened_for kind n → AreOwnPasses is_own caller n passes → AreTold told phases calls passes
+    (kind : Kind) (n : ℕ) (phases : ℕ → ℕ) (calls : ℕ → List Made) → is_opened_for kind n
+    → AreOwnPasses is_own caller n passes → AreTold told phases calls passes
     → IsOfBehaviour behaviour kind n phases calls
 
--- A log was opened for n callers of scripts of a kind: these are its callers, and where all is answered from one log by its answer, the
--- object of a behaviour answered.
+-- A log was opened for n callers of scripts of a kind: these are its callers, and where all is
+-- answered from one log by its answer, the object of a behaviour answered.
 abbrev pub IsLogFor : Behaviour → (List Entry → ℕ) → ℕ → Kind → ℕ → Type 0
 IsLogFor behaviour answer callers kind n =
-    (callers ≡ n) × ((phases : ℕ → ℕ) (calls : ℕ → List Made) → IsLoggedBy answer n phases calls → IsOfBehaviour behaviour kind n phases calls)
+    (callers ≡ n) × ((phases : ℕ → ℕ) (calls : ℕ → List Made) → IsLoggedBy answer n phases calls
+    → IsOfBehaviour behaviour kind n phases calls)

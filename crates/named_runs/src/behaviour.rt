@@ -61,12 +61,14 @@ fn run_outside<R: Threads + Sync, K: Sink>(
     )
 }
 
-/// Runs all callers of a script over the object of a behaviour, each in a thread of its own where one can be had, and writes what
-/// the form shows of their report, which is lawful whatever the object does.
+/// Runs all callers of a script over the object of a behaviour, each in a thread of its own where
+/// one can be had, and writes what the form shows of their report, which is lawful whatever the
+/// object does.
 ///
-/// The object of `lawful`, for every kind, that of `tally` for a counter's script and that of `cell` for a register's are inside the
-/// world: such a run has no error line. Every other object is outside it. The table of rows and the object are opened for the
-/// script's callers with the greatest cap, and closed after the run.
+/// The object of `lawful`, for every kind, that of `tally` for a counter's script and that of
+/// `cell` for a register's are inside the world: such a run has no error line. Every other object
+/// is outside it. The table of rows and the object are opened for the script's callers with the
+/// greatest cap, and closed after the run.
 pub fn run_behaviour<R: Threads + Sync, K: Sink>(
     rt: &R,
     alloc: Global,
@@ -75,7 +77,8 @@ pub fn run_behaviour<R: Threads + Sync, K: Sink>(
     form: Form,
     sink: &mut K,
 ) -> Status
-    // The headline: what was written, by the status, is of a lawful report, whose calls the object of the behaviour answered.
+    // The headline: what was written, by the status, is of a lawful report, whose calls the object
+    // of the behaviour answered.
     ensures ends { RunEnds (object_of_kind script.now.kind) (IsNamedRunReport behaviour script.now)
         form result (K.taken sink.old) (K.taken sink.new) }
 
@@ -83,7 +86,8 @@ pub fn run_behaviour<R: Threads + Sync, K: Sink>(
     ensures fine { IsSome (inside_of behaviour script.now.kind)
         → (result ≡ Status.Fine) ⊎ (result ≡ Status.WriteFault) ⊎ (result ≡ Status.NoMemory) }
 
-    // A fault has its cause in a count that rose in this call, and every other answer comes where none rose.
+    // A fault has its cause in a count that rose in this call, and every other answer comes where
+    // none rose.
     ensures faults { LeavesSink K.faults result sink.old sink.new }
 {
     let kind = script.kind();
@@ -96,10 +100,11 @@ pub fn run_behaviour<R: Threads + Sync, K: Sink>(
     }
 }
 
-/// Lets all callers of a script take its turns over the object of a behaviour, in one thread, and writes what the form shows of
-/// their report, which is lawful whatever the object does.
+/// Lets all callers of a script take its turns over the object of a behaviour, in one thread, and
+/// writes what the form shows of their report, which is lawful whatever the object does.
 ///
-/// The table of rows and the object are opened for the script's callers with the greatest cap, and closed after the replay.
+/// The table of rows and the object are opened for the script's callers with the greatest cap, and
+/// closed after the replay.
 pub fn replay_behaviour<K: Sink>(
     alloc: Global,
     behaviour: Behaviour,
@@ -107,11 +112,14 @@ pub fn replay_behaviour<K: Sink>(
     form: Form,
     sink: &mut K,
 ) -> Status
-    // The headline: what was written, by the status, is of a lawful report, whose calls the object of the behaviour answered.
-    ensures ends { RunEnds (object_of_kind script.now.kind) (IsNamedReplayReport behaviour script.now)
+    // The headline: what was written, by the status, is of a lawful report, whose calls the object
+    // of the behaviour answered.
+    ensures ends { RunEnds (object_of_kind script.now.kind)
+        (IsNamedReplayReport behaviour script.now)
         form result (K.taken sink.old) (K.taken sink.new) }
 
-    // A fault has its cause in a count that rose in this call, and every other answer comes where none rose.
+    // A fault has its cause in a count that rose in this call, and every other answer comes where
+    // none rose.
     ensures faults { LeavesSink K.faults result sink.old sink.new }
 {
     over_behaviour!(
@@ -120,12 +128,12 @@ pub fn replay_behaviour<K: Sink>(
     )
 }
 
-/// Runs all callers of a script over the object of a behaviour, each in a thread of its own where one can be had: none judges a
-/// call, and two monitors watch them. It writes `legal`, or `illegal` and the text of a witness, by the book of all records that
-/// the callers published.
+/// Runs all callers of a script over the object of a behaviour, each in a thread of its own where
+/// one can be had: none judges a call, and two monitors watch them. It writes `legal`, or `illegal`
+/// and the text of a witness, by the book of all records that the callers published.
 ///
-/// The table of rows and the object are opened for two callers more than the script has, with the greatest cap, and closed after
-/// the run, the object with the passes of all of them.
+/// The table of rows and the object are opened for two callers more than the script has, with the
+/// greatest cap, and closed after the run, the object with the passes of all of them.
 pub fn monitor_behaviour<R: Threads + Sync, K: Sink>(
     rt: &R,
     alloc: Global,
@@ -136,11 +144,14 @@ pub fn monitor_behaviour<R: Threads + Sync, K: Sink>(
     // The table has place for two callers more than the script has.
     requires few { length script.now.operations + 2 ≤ MAX_CALLERS }
 
-    // The headline: what was written, by the status, is right of callers whose calls the object of the behaviour answered.
-    ensures ends { EndsWriting (IsMonitorOutput (AreNamedMonitored behaviour script.now) script.now.kind)
+    // The headline: what was written, by the status, is right of callers whose calls the object of
+    // the behaviour answered.
+    ensures ends { EndsWriting
+        (IsMonitorOutput (AreNamedMonitored behaviour script.now) script.now.kind)
         result (K.taken sink.old) (K.taken sink.new) }
 
-    // A fault has its cause in a count that rose in this call, and every other answer comes where none rose.
+    // A fault has its cause in a count that rose in this call, and every other answer comes where
+    // none rose.
     ensures faults { LeavesSink K.faults result sink.old sink.new }
 {
     over_behaviour!(

@@ -1,4 +1,5 @@
-//! Whole runs of a script that open the table of rows themselves: each caller in a thread of its own, by turns, and with monitors.
+//! Whole runs of a script that open the table of rows themselves: each caller in a thread of its
+//! own, by turns, and with monitors.
 
 ghost use Rattle.std.specs.Prelude.{◌≡◌, ◌≤◌, ◌+◌, length, vec_len, vec_capacity};
 ghost use Rattle.book_base.specs.declared.TheConstants.{MAX_CALLERS};
@@ -22,10 +23,12 @@ use std::alloc::Global;
 use std::thread::Threads;
 use world_core::Outside;
 
-/// Runs all callers of a script over an object, each in a thread of its own where one can be had, and writes what the form shows
-/// of their report, which is lawful. The table of rows is opened for the run, with the greatest cap, and closed after it.
+/// Runs all callers of a script over an object, each in a thread of its own where one can be had,
+/// and writes what the form shows of their report, which is lawful. The table of rows is opened for
+/// the run, with the greatest cap, and closed after it.
 ///
-/// Each caller has its pass of the object, unused. Afterwards the passes are in their order, whatever the answer.
+/// Each caller has its pass of the object, unused. Afterwards the passes are in their order,
+/// whatever the answer.
 pub fn run_fresh<R: Threads + Sync, B: BlackBox + Sync, K: Sink>(
     rt: &R,
     alloc: Global,
@@ -46,13 +49,15 @@ where
     // The passes are those of the callers, in order.
     ensures passes { AreInOrder (IsOwnPass (B.is_own object.now) B.Pass.caller) passes.new.items }
 
-    // The headline: what was written, by the status, is of a lawful report, in which the passes are told.
+    // The headline: what was written, by the status, is of a lawful report, in which the passes are
+    // told.
     ensures ends { RunEnds (object_of_kind script.now.kind)
         (IsToldReport B.Pass.made B.Pass.told passes.new.items script.now
         (run_allotments script.now))
         form result (K.taken sink.old) (K.taken sink.new) }
 
-    // A fault has its cause in a count that rose in this call, and every other answer comes where none rose.
+    // A fault has its cause in a count that rose in this call, and every other answer comes where
+    // none rose.
     ensures faults { LeavesSink K.faults result sink.old sink.new }
 {
     let Ok((rows, mut bench)) = Rows::open(alloc, Outside, script.callers(), MAX_CALLS) else {
@@ -66,10 +71,12 @@ where
     status
 }
 
-/// Lets all callers of a script take its turns over an object, in one thread, and writes what the form shows of their report, which
-/// is lawful. The table of rows is opened for the replay, with the greatest cap, and closed after it.
+/// Lets all callers of a script take its turns over an object, in one thread, and writes what the
+/// form shows of their report, which is lawful. The table of rows is opened for the replay, with
+/// the greatest cap, and closed after it.
 ///
-/// Each caller has its pass of the object, unused. Afterwards the passes are in their order, whatever the answer.
+/// Each caller has its pass of the object, unused. Afterwards the passes are in their order,
+/// whatever the answer.
 pub fn replay_fresh<B: BlackBox, K: Sink>(
     alloc: Global,
     script: &Script,
@@ -87,13 +94,15 @@ pub fn replay_fresh<B: BlackBox, K: Sink>(
     // The passes are those of the callers, in order.
     ensures passes { AreInOrder (IsOwnPass (B.is_own object.now) B.Pass.caller) passes.new.items }
 
-    // The headline: what was written, by the status, is of a lawful report, in which the passes are told.
+    // The headline: what was written, by the status, is of a lawful report, in which the passes are
+    // told.
     ensures ends { RunEnds (object_of_kind script.now.kind)
         (IsToldReport B.Pass.made B.Pass.told passes.new.items script.now
         (replay_allotments script.now))
         form result (K.taken sink.old) (K.taken sink.new) }
 
-    // A fault has its cause in a count that rose in this call, and every other answer comes where none rose.
+    // A fault has its cause in a count that rose in this call, and every other answer comes where
+    // none rose.
     ensures faults { LeavesSink K.faults result sink.old sink.new }
 {
     let Ok((rows, mut bench)) = Rows::open(alloc, Outside, script.callers(), MAX_CALLS) else {
@@ -105,12 +114,13 @@ pub fn replay_fresh<B: BlackBox, K: Sink>(
     status
 }
 
-/// Runs all callers of a script over an object, each in a thread of its own where one can be had, while two
-/// monitors watch them, and writes what is right of the records that they published. The table of rows is opened
-/// for the run, with two callers more and the greatest cap, and closed after it.
+/// Runs all callers of a script over an object, each in a thread of its own where one can be had,
+/// while two monitors watch them, and writes what is right of the records that they published. The
+/// table of rows is opened for the run, with two callers more and the greatest cap, and closed
+/// after it.
 ///
-/// Each of the script's callers has its pass of the object, unused. Afterwards the passes are in their order,
-/// whatever the answer.
+/// Each of the script's callers has its pass of the object, unused. Afterwards the passes are in
+/// their order, whatever the answer.
 pub fn monitor_fresh<R: Threads + Sync, B: BlackBox + Sync, K: Sink>(
     rt: &R,
     alloc: Global,
@@ -134,11 +144,14 @@ where
     // The passes are those of the callers, in order.
     ensures passes { AreInOrder (IsOwnPass (B.is_own object.now) B.Pass.caller) passes.new.items }
 
-    // The headline: what was written, by the status, is right of callers in whose calls the passes are told.
-    ensures ends { EndsWriting (IsMonitorOutput (AreToldMonitored B.Pass.told passes.new.items script.now)
+    // The headline: what was written, by the status, is right of callers in whose calls the passes
+    // are told.
+    ensures ends { EndsWriting
+        (IsMonitorOutput (AreToldMonitored B.Pass.told passes.new.items script.now)
         script.now.kind) result (K.taken sink.old) (K.taken sink.new) }
 
-    // A fault has its cause in a count that rose in this call, and every other answer comes where none rose.
+    // A fault has its cause in a count that rose in this call, and every other answer comes where
+    // none rose.
     ensures faults { LeavesSink K.faults result sink.old sink.new }
 {
     let Ok((rows, mut bench)) = Rows::open(alloc, Outside, script.callers() + 2, MAX_CALLS) else {

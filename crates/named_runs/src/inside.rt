@@ -15,8 +15,9 @@ pub(crate) enum Inside {
     Cell,
 }
 
-/// The object inside the world over which a script of this kind is run for a behaviour: the lawful one for every kind, the tally
-/// for a counter and the cell for a register. Every other run is over an object outside the world.
+/// The object inside the world over which a script of this kind is run for a behaviour: the lawful
+/// one for every kind, the tally for a counter and the cell for a register. Every other run is over
+/// an object outside the world.
 pub(crate) fn object_inside(behaviour: Behaviour, kind: Kind) -> Option<Inside>
     ensures inside { result ≡ inside_of behaviour kind }
     ensures serves { IfSome result (λ inside. Serves inside behaviour kind) }

@@ -16,8 +16,9 @@ use reports::Report;
 use std::alloc::Global;
 use std::thread::Threads;
 
-// Runs all callers of a script over an object inside the world, each in a thread of its own where one can be had. No line of their
-// report is an error. The object and the table of rows are opened for the run, with the greatest cap.
+// Runs all callers of a script over an object inside the world, each in a thread of its own where
+// one can be had. No line of their report is an error. The object and the table of rows are opened
+// for the run, with the greatest cap.
 pub(crate) fn run_inside<R: Threads + Sync>(
     rt: &R,
     alloc: Global,

@@ -1,5 +1,5 @@
-//! Runs, replays and monitored runs over an object outside the world that has a name. The object is opened for the run, and closed
-//! after it.
+//! Runs, replays and monitored runs over an object outside the world that has a name. The object is
+//! opened for the run, and closed after it.
 
 ghost use Rattle.std.specs.Prelude.{◌≡◌, ◌≤◌, ◌+◌, ◌++◌, ℕ, List, [], ◌∷◌, Some, length, vec_len, vec_capacity};
 ghost use Rattle.book_base.specs.declared.TheConstants.{MAX_CALLERS};
@@ -112,11 +112,13 @@ where
     B::Pass: Send,
     requires few { length script.now.operations + 2 ≤ MAX_CALLERS }
     requires all_passes { length passes.old.items ≡ length script.now.operations + 2 }
-    requires passes { AreInOrder (IsUnusedPass (B.is_own object.now) B.Pass.caller B.Pass.made B.Pass.cap
+    requires passes { AreInOrder
+        (IsUnusedPass (B.is_own object.now) B.Pass.caller B.Pass.made B.Pass.cap
         script.now.operations) passes.old.items }
     ensures all_passes { length passes.new.items ≡ length script.now.operations + 2 }
     ensures passes { AreInOrder (IsOwnPass (B.is_own object.now) B.Pass.caller) passes.new.items }
-    ensures ends { EndsWriting (IsMonitorOutput (AreToldMonitored B.Pass.told passes.new.items script.now)
+    ensures ends { EndsWriting
+        (IsMonitorOutput (AreToldMonitored B.Pass.told passes.new.items script.now)
         script.now.kind) result (K.taken sink.old) (K.taken sink.new) }
     ensures faults { LeavesSink K.faults result sink.old sink.new }
 {
@@ -127,7 +129,8 @@ where
     status
 }
 
-/// Runs a script over the object that this behaviour names, while two monitors watch. It is opened for them too.
+/// Runs a script over the object that this behaviour names, while two monitors watch. It is opened
+/// for them too.
 pub(crate) fn monitor_named<O: NamedObject + Sync, R: Threads + Sync, K: Sink>(
     rt: &R,
     alloc: Global,
@@ -139,7 +142,8 @@ where
     O::Pass: Send,
     requires few { length script.now.operations + 2 ≤ MAX_CALLERS }
     requires named { _behaviour ≡ O.behaviour }
-    ensures ends { EndsWriting (IsMonitorOutput (AreNamedMonitored _behaviour script.now) script.now.kind)
+    ensures ends { EndsWriting
+        (IsMonitorOutput (AreNamedMonitored _behaviour script.now) script.now.kind)
         result (K.taken sink.old) (K.taken sink.new) }
     ensures faults { LeavesSink K.faults result sink.old sink.new }
 {

@@ -19,7 +19,8 @@ pub(crate) trait NamedMachine: Machine + Drop + Sized {
     /// The machine for the object of this kind.
     fn for_kind(kind: Kind) -> Self
         ensures { (n : ℕ) (phases : ℕ → ℕ) (calls : ℕ → List Made)
-            → IsLoggedBy (Self.reply_to result) n phases calls → IsOfBehaviour behaviour kind n phases calls };
+            → IsLoggedBy (Self.reply_to result) n phases calls
+            → IsOfBehaviour behaviour kind n phases calls };
 }
 
 impl NamedMachine for Plain<Kind> {

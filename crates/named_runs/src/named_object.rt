@@ -16,8 +16,9 @@ use seq_objects::Kind;
 use shared_words::WordsPass;
 use std::alloc::Global;
 
-/// An object that a name stands for. It is opened with a pass for each of its callers, and once they are through it is closed
-/// with these passes: then it is the object of its behaviour that answered their calls.
+/// An object that a name stands for. It is opened with a pass for each of its callers, and once
+/// they are through it is closed with these passes: then it is the object of its behaviour that
+/// answered their calls.
 pub(crate) trait NamedObject: BlackBox + Sized {
     /// The behaviour that names it.
     ghost behaviour: { TheBehaviour };
@@ -25,7 +26,8 @@ pub(crate) trait NamedObject: BlackBox + Sized {
     /// The object was opened for scripts of this kind, and for this many callers.
     ghost is_opened_for: { Self → TheKind → ℕ → Type 0 } = { λ object kind n. Unit {0} };
 
-    /// An object for scripts of a kind, with `n` callers and `cap` calls each, and a pass for each caller, in order.
+    /// An object for scripts of a kind, with `n` callers and `cap` calls each, and a pass for each
+    /// caller, in order.
     fn open_for(
         alloc: Global,
         kind: Kind,
@@ -37,15 +39,18 @@ pub(crate) trait NamedObject: BlackBox + Sized {
         requires some_calls { 1 ≤ cap }
         requires few_calls { cap ≤ MAX_CALLS }
         ensures opened { IfOk result (λ r. is_opened_for r.0 kind n) }
-        ensures passes { IfOk result (λ r. AreOwnPasses (Self.is_own r.0) Self.Pass.caller n r.1.items) }
+        ensures passes { IfOk result
+            (λ r. AreOwnPasses (Self.is_own r.0) Self.Pass.caller n r.1.items) }
         ensures fresh { IfOk result (λ r. All
             (λ pass. (Self.Pass.made pass ≡ 0) × (Self.Pass.cap pass ≡ cap)) r.1.items) };
 
-    /// Takes the passes of all callers back. Whatever calls the passes are told in, the object answered them.
+    /// Takes the passes of all callers back. Whatever calls the passes are told in, the object
+    /// answered them.
     fn close_with(self, passes: Vec<Self::Pass>)
         requires { (kind : TheKind) × (n : ℕ) × is_opened_for self kind n
             × AreOwnPasses (Self.is_own self) Self.Pass.caller n passes.items }
-        ensures { HasAnswered behaviour (is_opened_for self) (Self.is_own self) Self.Pass.caller Self.Pass.told
+        ensures { HasAnswered behaviour (is_opened_for self)
+            (Self.is_own self) Self.Pass.caller Self.Pass.told
             passes.items };
 }
 
@@ -67,10 +72,14 @@ impl<M: NamedMachine> NamedObject for LogBox<M> {
     }
 
     fn close_with(self, passes: Vec<LogPass>)
-        requires { (kind : TheKind) × (n : ℕ) × IsLogFor M.behaviour (M.reply_to (machine_in self)) (callers_in self) kind n
-            × AreOwnPasses (⟦<LogBox<M> as BlackBox>⟧.is_own self) ⟦<LogPass as ObjectPass>⟧.caller n passes.items }
-        ensures { HasAnswered M.behaviour (IsLogFor M.behaviour (M.reply_to (machine_in self)) (callers_in self))
-            (⟦<LogBox<M> as BlackBox>⟧.is_own self) ⟦<LogPass as ObjectPass>⟧.caller ⟦<LogPass as ObjectPass>⟧.told
+        requires { (kind : TheKind) × (n : ℕ)
+            × IsLogFor M.behaviour (M.reply_to (machine_in self)) (callers_in self) kind n
+            × AreOwnPasses (⟦<LogBox<M> as BlackBox>⟧.is_own self) ⟦<LogPass as ObjectPass>⟧.caller
+            n passes.items }
+        ensures { HasAnswered M.behaviour
+            (IsLogFor M.behaviour (M.reply_to (machine_in self)) (callers_in self))
+            (⟦<LogBox<M> as BlackBox>⟧.is_own self) ⟦<LogPass as ObjectPass>⟧.caller
+            ⟦<LogPass as ObjectPass>⟧.told
             passes.items }
     {
         self.close(passes);
@@ -90,7 +99,8 @@ impl NamedObject for Tally {
     }
 
     fn close_with(self, passes: Vec<WordsPass>)
-        ensures { HasAnswered behaviours.Tally (λ kind n. Unit {0}) (⟦<Tally as BlackBox>⟧.is_own self)
+        ensures { HasAnswered behaviours.Tally (λ kind n. Unit {0})
+            (⟦<Tally as BlackBox>⟧.is_own self)
             ⟦<WordsPass as ObjectPass>⟧.caller ⟦<WordsPass as ObjectPass>⟧.told passes.items }
     {
         let _passes = passes;
@@ -110,7 +120,8 @@ impl NamedObject for WordCell {
     }
 
     fn close_with(self, passes: Vec<WordsPass>)
-        ensures { HasAnswered behaviours.Cell (λ kind n. Unit {0}) (⟦<WordCell as BlackBox>⟧.is_own self)
+        ensures { HasAnswered behaviours.Cell (λ kind n. Unit {0})
+            (⟦<WordCell as BlackBox>⟧.is_own self)
             ⟦<WordsPass as ObjectPass>⟧.caller ⟦<WordsPass as ObjectPass>⟧.told passes.items }
     {
         let _passes = passes;
@@ -130,7 +141,8 @@ impl NamedObject for SplitTally {
     }
 
     fn close_with(self, passes: Vec<WordsPass>)
-        ensures { HasAnswered behaviours.Split (λ kind n. Unit {0}) (⟦<SplitTally as BlackBox>⟧.is_own self)
+        ensures { HasAnswered behaviours.Split (λ kind n. Unit {0})
+            (⟦<SplitTally as BlackBox>⟧.is_own self)
             ⟦<WordsPass as ObjectPass>⟧.caller ⟦<WordsPass as ObjectPass>⟧.told passes.items }
     {
         let _passes = passes;
@@ -150,7 +162,8 @@ impl NamedObject for OnePass {
     }
 
     fn close_with(self, passes: Vec<WordsPass>)
-        ensures { HasAnswered behaviours.Onepass (λ kind n. Unit {0}) (⟦<OnePass as BlackBox>⟧.is_own self)
+        ensures { HasAnswered behaviours.Onepass (λ kind n. Unit {0})
+            (⟦<OnePass as BlackBox>⟧.is_own self)
             ⟦<WordsPass as ObjectPass>⟧.caller ⟦<WordsPass as ObjectPass>⟧.told passes.items }
     {
         let _passes = passes;

@@ -7,8 +7,8 @@ ghost use Rattle.book_base.specs.Pruning.{IsLeast, MarksAllNext, ViewsAreWithin}
 
 use book_base::{Book, Call, Cut, Marks};
 
-/// Of the callers with an answered call outside a cut the one whose first such call has the least view;
-/// there is none where the cut holds all answered calls.
+/// Of the callers with an answered call outside a cut the one whose first such call has the least
+/// view; there is none where the cut holds all answered calls.
 pub fn least_open(book: &Book, counts: &[u16]) -> Option<u32>
     // The cut has a count for each caller of the book.
     requires { length counts.now ≡ length book.now }
@@ -29,13 +29,14 @@ pub fn least_open(book: &Book, counts: &[u16]) -> Option<u32>
     least
 }
 
-// Whether the view of a caller's first call outside a cut is within that of another's, where there is
-// another.
+// Whether the view of a caller's first call outside a cut is within that of another's, where there
+// is another.
 fn is_before(book: &Book, counts: &[u16], caller: u32, other: Option<u32>) -> bool
     requires wide { length counts.now ≡ length book.now }
     requires answered { IsAnswered book.now (next_call counts.now caller) }
     requires other { IfSome other (λ o. IsAnswered book.now (next_call counts.now o)) }
-    ensures { IsTrue result ↔ IfSome other (λ o. ViewsAreWithin book.now (next_call counts.now caller) (next_call counts.now o)) }
+    ensures { IsTrue result ↔ IfSome other
+        (λ o. ViewsAreWithin book.now (next_call counts.now caller) (next_call counts.now o)) }
 {
     match other {
         None => true,
@@ -53,7 +54,8 @@ pub fn first_view(book: &Book, counts: &[u16], caller: u32) -> Cut
     // The caller's first call outside the cut is answered.
     requires answered { IsAnswered book.now (next_call counts.now caller) }
     // The answer is the view that this call recorded.
-    ensures view { (r : Record) → record_of book.now (next_call counts.now caller) ≡ Some r → r.view ≡ result }
+    ensures view { (r : Record) → record_of book.now (next_call counts.now caller) ≡ Some r
+        → r.view ≡ result }
     // It has a count for each caller of the book.
     ensures wide { length result ≡ length book.now }
 {
@@ -61,15 +63,16 @@ pub fn first_view(book: &Book, counts: &[u16], caller: u32) -> Cut
     book.record(Call { caller, number }).view
 }
 
-/// The callers whose next calls may come next after a cut. The caller's first call outside the cut has the least
-/// view of all such calls.
+/// The callers whose next calls may come next after a cut. The caller's first call outside the cut
+/// has the least view of all such calls.
 pub fn all_next(book: &Book, cut: &Cut, view: &Cut, first: u32) -> Marks
     // The cut has a count for each caller of the book.
     requires wide { length cut.now ≡ length book.now }
     // Of all answered calls outside the cut the first caller's first one has the least view.
     requires first { IsLeast book.now cut.now (length book.now) first }
     // This is its view.
-    requires view { (r : Record) → record_of book.now (next_call cut.now first) ≡ Some r → r.view ≡ view.now }
+    requires view { (r : Record) → record_of book.now (next_call cut.now first) ≡ Some r
+        → r.view ≡ view.now }
     // The view has a count for each caller of the book.
     requires views { length view.now ≡ length book.now }
     // The answer marks the callers whose next calls may come next, and no others.

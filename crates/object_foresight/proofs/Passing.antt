@@ -18,15 +18,21 @@ use Rattle.object_foresight.specs.Pasts.{raised_to, last_held, IsPast}
 use Rattle.object_foresight.proofs.Counting.{call_of}
 
 -- a call of a small book has a small caller and a small number
-pub small_call : (book : List Page) (call : Call) → IsSmall book → IsCall book call → (call.caller < MAX_CALLERS) × (call.number < MAX_CALLS)
-small_call book call small is =
-    (omega (arith, small.callers, caller_from_call book call.caller call.number is), omega (arith, small.calls call.caller, is))
+pub small_call : (book : List Page) (call : Call) → IsSmall book → IsCall book call
+    → (call.caller < MAX_CALLERS) × (call.number < MAX_CALLS)
+small_call book call small is = (
+  omega (arith, small.callers, caller_from_call book call.caller call.number is),
+  omega (arith, small.calls call.caller, is),
+)
 
 -- no call was passed
-pub none_is_past : (P : Call → Type 0) (book : List Page) (links : Links) (past : Past) → past.passed ≡ replicate (length book) 0 → past.floor ≡ replicate (length book) 0 → past.limit ≡ 0
+pub none_is_past : (P : Call → Type 0) (book : List Page) (links : Links) (past : Past)
+    → past.passed ≡ replicate (length book) 0 → past.floor ≡ replicate (length book) 0
+    → past.limit ≡ 0
     → IsPast P book links past
 none_is_past P book links past passed floor limit =
-    let at : (i : ℕ) → get_or past.floor i 0 ≡ 0 = λ i. ap (λ (xs : List ℕ). get_or xs i 0) floor ∙ get_or-replicate_default {X = ℕ} (length book) i 0 in
+    let at : (i : ℕ) → get_or past.floor i 0 ≡ 0 = λ i. ap (λ (xs : List ℕ). get_or xs i 0) floor
+    ∙ get_or-replicate_default {X = ℕ} (length book) i 0 in
     record {
       wide = ap length floor ∙ length-replicate (length book) 0;
       counts = ap length passed ∙ length-replicate (length book) 0;
@@ -37,14 +43,17 @@ none_is_past P book links past passed floor limit =
 
 -- what a raised floor has at a caller
 raised_at : (floor : List ℕ) (first : Call) (i : ℕ) → first.caller < length floor
-    → (get_or (raised_to floor (Some first)) i 0 ≡ get_or floor i 0) ⊎ ((first.caller ≡ i) × (get_or (raised_to floor (Some first)) i 0 ≡ first.number + 1))
+    → (get_or (raised_to floor (Some first)) i 0 ≡ get_or floor i 0)
+    ⊎ ((first.caller ≡ i) × (get_or (raised_to floor (Some first)) i 0 ≡ first.number + 1))
 raised_at floor first i inside =
     let old : ℕ = get_or floor first.caller 0 in
     let top : ℕ = max old (first.number + 1) in
     elim (cases_eq i first.caller) [
       | inr apart ↦ inl (get_or-set_other floor first.caller i top 0 apart)
       | inl same ↦
-          let here : get_or (set floor first.caller top) i 0 ≡ top = ap (λ (j : ℕ). get_or (set floor first.caller top) j 0) same ∙ get_or-set_same floor first.caller top 0 inside in
+          let here : get_or (set floor first.caller top) i 0 ≡ top =
+          ap (λ (j : ℕ). get_or (set floor first.caller top) j 0) same
+          ∙ get_or-set_same floor first.caller top 0 inside in
           elim (cases_lt old (first.number + 1)) [
             | inl lt ↦ inr (sym same, omega (arith, here))
             | inr le ↦ inl (omega (arith, here, ap (λ (j : ℕ). get_or floor j 0) same))
@@ -52,24 +61,32 @@ raised_at floor first i inside =
     ]
 
 -- the last call that a floor holds, where its count is known
-last_is : (floor : List ℕ) (i : ℕ) (first : Call) → first.caller ≡ i → get_or floor i 0 ≡ first.number + 1 → first ≡ last_held floor i
-last_is floor i first caller count = same_call first (last_held floor i) caller (omega (arith, count))
+last_is : (floor : List ℕ) (i : ℕ) (first : Call) → first.caller ≡ i
+    → get_or floor i 0 ≡ first.number + 1 → first ≡ last_held floor i
+last_is floor i first caller count =
+    same_call first (last_held floor i) caller (omega (arith, count))
 
-last_same : (floor old : List ℕ) (i : ℕ) → get_or floor i 0 ≡ get_or old i 0 → last_held old i ≡ last_held floor i
+last_same : (floor old : List ℕ) (i : ℕ) → get_or floor i 0 ≡ get_or old i 0
+    → last_held old i ≡ last_held floor i
 last_same floor old i same = ap (λ (n : ℕ). call_of i (n - 1)) (sym same)
 
 -- a passed call
 record IsPassed (P : Call → Type 0) (links : Links) (floor : List ℕ) : Type 0 where
   few : (i : ℕ) → get_or floor i 0 ≤ MAX_CALLS
-  leads : (i : ℕ) → 0 < get_or floor i 0 → (a : Call) × P a × ((link_at links a).before ≡ Some (last_held floor i))
+  leads : (i : ℕ) → 0 < get_or floor i 0 → (a : Call) × P a
+      × ((link_at links a).before ≡ Some (last_held floor i))
 
-raised_passed : (P : Call → Type 0) (book : List Page) (links : Links) (floor : List ℕ) (a : Call) (before : Option Call) → IsSmall book → AreLinksOf book links → length floor ≡ length book → P a
-    → (link_at links a).before ≡ before → ((i : ℕ) → get_or floor i 0 ≤ MAX_CALLS) → ((i : ℕ) → 0 < get_or floor i 0 → (b : Call) × P b × ((link_at links b).before ≡ Some (last_held floor i)))
+raised_passed : (P : Call → Type 0) (book : List Page) (links : Links) (floor : List ℕ) (a : Call)
+    (before : Option Call) → IsSmall book → AreLinksOf book links → length floor ≡ length book → P a
+    → (link_at links a).before ≡ before → ((i : ℕ) → get_or floor i 0 ≤ MAX_CALLS) → ((i : ℕ) → 0
+    < get_or floor i 0 → (b : Call) × P b × ((link_at links b).before ≡ Some (last_held floor i)))
     → IsPassed P links (raised_to floor before)
-raised_passed P book links floor a None small calls wide passed is few leads = record { few = few; leads = leads }
+raised_passed P book links floor a None small calls wide passed is few leads =
+    record { few = few; leads = leads }
 raised_passed P book links floor a (Some first) small calls wide passed is few leads =
     let there : IsCall book first = calls a first (inl is) in
-    let inside : first.caller < length floor = omega (arith, wide, caller_from_call book first.caller first.number there) in
+    let inside : first.caller < length floor =
+    omega (arith, wide, caller_from_call book first.caller first.number there) in
     let new : List ℕ = raised_to floor (Some first) in
     record {
       few = λ i. elim (raised_at floor first i inside) [
@@ -84,19 +101,26 @@ raised_passed P book links floor a (Some first) small calls wide passed is few l
       ];
     }
 
-length-raised : (floor : List ℕ) (before : Option Call) → length (raised_to floor before) ≡ length floor
+length-raised : (floor : List ℕ) (before : Option Call)
+    → length (raised_to floor before) ≡ length floor
 length-raised floor None = refl
 length-raised floor (Some first) = length-set floor first.caller _
 
 -- the greatest of two limits is one of them
 limit_either : (a b c : ℕ) → c ≡ max a b → (c ≡ a) ⊎ (c ≡ b)
-limit_either a b c e = elim (cases_lt a b) [ inl lt ↦ inr (omega arith) | inr le ↦ inl (omega arith) ]
+limit_either a b c e = elim (cases_lt a b) [
+  | inl lt ↦ inr (omega arith)
+  | inr le ↦ inl (omega arith)
+]
 
 -- one more call was passed
-pub past_more : (P : Call → Type 0) (book : List Page) (links : Links) (old new : Past) (a : Call) (link : Link) → IsSmall book → AreLinksOf book links → IsPast P book links old → P a
-    → link ≡ link_at links a → new.floor ≡ raised_to old.floor link.before → new.limit ≡ max old.limit link.reach → length new.passed ≡ length old.passed → IsPast P book links new
+pub past_more : (P : Call → Type 0) (book : List Page) (links : Links) (old new : Past) (a : Call)
+    (link : Link) → IsSmall book → AreLinksOf book links → IsPast P book links old → P a
+    → link ≡ link_at links a → new.floor ≡ raised_to old.floor link.before → new.limit
+    ≡ max old.limit link.reach → length new.passed ≡ length old.passed → IsPast P book links new
 past_more P book links old new a link small calls is passed at floor limit counts =
-    let made = raised_passed P book links old.floor a link.before small calls is.wide passed (sym (ap (λ (l : Link). l.before) at)) is.few is.floor in
+    let made = raised_passed P book links old.floor a link.before small calls is.wide passed
+    (sym (ap (λ (l : Link). l.before) at)) is.few is.floor in
     let now : IsPassed P links new.floor = subst (IsPassed P links) (sym floor) made in
     record {
       wide = ap length floor ∙ (length-raised old.floor link.before ∙ is.wide);
@@ -113,47 +137,71 @@ past_more P book links old new a link small calls is passed at floor limit count
     }
 
 -- what a passed call's link needs of a floor
-pub may_pass : (book : List Page) (links : Links) (a : Call) (link : Link) (floor : List ℕ) → IsSmall book → AreLinksOf book links → link ≡ link_at links a → length floor ≡ length book
+pub may_pass : (book : List Page) (links : Links) (a : Call) (link : Link) (floor : List ℕ)
+    → IsSmall book → AreLinksOf book links → link ≡ link_at links a → length floor ≡ length book
     → IfSome link.before (λ first. (first.caller < length floor) × (first.number < MAX_CALLS))
 may_pass book links a link floor small calls at wide = elim (cases_Option link.before) [
-  | inl none ↦ subst (λ (o : Option Call). IfSome o (λ first. (first.caller < length floor) × (first.number < MAX_CALLS))) (sym none) tt
+  | inl none ↦ subst (λ (o : Option Call).
+      IfSome o (λ first. (first.caller < length floor) × (first.number < MAX_CALLS))) (sym none) tt
   | inr found ↦
-      let there : IsCall book found.0 = calls a found.0 (inl (sym (ap (λ (l : Link). l.before) at) ∙ found.1)) in
-      subst (λ (o : Option Call). IfSome o (λ first. (first.caller < length floor) × (first.number < MAX_CALLS))) (sym found.1)
-      (omega (arith, wide, caller_from_call book found.0.caller found.0.number there), (small_call book found.0 small there).1)
+      let there : IsCall book found.0 =
+      calls a found.0 (inl (sym (ap (λ (l : Link). l.before) at) ∙ found.1)) in
+      subst (λ (o : Option Call).
+      IfSome o (λ first. (first.caller < length floor) × (first.number < MAX_CALLS)))
+      (sym found.1) (
+        omega (arith, wide, caller_from_call book found.0.caller found.0.number there),
+        (small_call book found.0 small there).1,
+      )
 ]
 
 -- a past of some calls is one of more
-pub past_wider : (P Q : Call → Type 0) (book : List Page) (links : Links) (past : Past) → ((a : Call) → P a → Q a) → IsPast P book links past → IsPast Q book links past
+pub past_wider : (P Q : Call → Type 0) (book : List Page) (links : Links) (past : Past)
+    → ((a : Call) → P a → Q a) → IsPast P book links past → IsPast Q book links past
 past_wider P Q book links past grows is = record {
   wide = is.wide;
   counts = is.counts;
   few = is.few;
   floor = λ i some. let from = is.floor i some in (from.0, grows from.0 from.1, from.2);
-  limit = elim is.limit [ inl none ↦ inl none | inr from ↦ inr (from.0, grows from.0 from.1, from.2) ];
+  limit = elim is.limit [
+    | inl none ↦ inl none
+    | inr from ↦ inr (from.0, grows from.0 from.1, from.2)
+  ];
 }
 
 -- a past with other counts of what was passed
-pub past_counted : (P : Call → Type 0) (book : List Page) (links : Links) (old new : Past) → IsPast P book links old → new.floor ≡ old.floor → new.limit ≡ old.limit → length new.passed ≡ length old.passed → IsPast P book links new
+pub past_counted : (P : Call → Type 0) (book : List Page) (links : Links) (old new : Past)
+    → IsPast P book links old → new.floor ≡ old.floor → new.limit ≡ old.limit
+    → length new.passed ≡ length old.passed → IsPast P book links new
 past_counted P book links old new is floor limit counts = record {
   wide = ap length floor ∙ is.wide;
   counts = counts ∙ is.counts;
   few = λ i. omega (arith, is.few i, ap (λ (xs : List ℕ). get_or xs i 0) floor);
-  floor = λ i some. let from = is.floor i (omega (arith, some, ap (λ (xs : List ℕ). get_or xs i 0) floor)) in (from.0, from.1, from.2 ∙ ap (λ (xs : List ℕ). Some (last_held xs i)) (sym floor));
-  limit = elim is.limit [ inl none ↦ inl (limit ∙ none) | inr from ↦ inr (from.0, from.1, limit ∙ from.2) ];
+  floor = λ i some. let from =
+      is.floor i (omega (arith, some, ap (λ (xs : List ℕ). get_or xs i 0) floor)) in
+      (from.0, from.1, from.2 ∙ ap (λ (xs : List ℕ). Some (last_held xs i)) (sym floor));
+  limit = elim is.limit [
+    | inl none ↦ inl (limit ∙ none)
+    | inr from ↦ inr (from.0, from.1, limit ∙ from.2)
+  ];
 }
 
 -- what precedes a call precedes its caller's next one
-pub precedes_next : (book : List Page) (a : Call) (i n : ℕ) → Precedes book a (call_of i n) → Precedes book a (call_of i (n + 1))
+pub precedes_next : (book : List Page) (a : Call) (i n : ℕ) → Precedes book a (call_of i n)
+    → Precedes book a (call_of i (n + 1))
 precedes_next book a i n (inl seen) =
-    let found = some_from_is_some_and (record_of book a) (λ (r : Record). get_or r.view i 0 ≤ n) seen in
-    let now : get_or found.0.view i 0 ≤ n = subst (λ (o : Option Record). IsSomeAnd o (λ r. get_or r.view i 0 ≤ n)) found.1 seen in
-    inl (subst (λ (o : Option Record). IsSomeAnd o (λ r. get_or r.view i 0 ≤ n + 1)) (sym found.1) (omega (arith, now)))
+    let found =
+    some_from_is_some_and (record_of book a) (λ (r : Record). get_or r.view i 0 ≤ n) seen in
+    let now : get_or found.0.view i 0 ≤ n =
+    subst (λ (o : Option Record). IsSomeAnd o (λ r. get_or r.view i 0 ≤ n)) found.1 seen in
+    inl (subst (λ (o : Option Record). IsSomeAnd o (λ r. get_or r.view i 0 ≤ n + 1)) (sym found.1)
+    (omega (arith, now)))
 precedes_next book a i n (inr own) = inr (own.0, omega (arith, own.1))
 
 -- how many calls a caller made, as the announced counts have it
 pub announced_at : (book : List Page) (i : ℕ) → get_or (announced book) i 0 ≡ calls_of book i
 announced_at book i = elim (cases_lt i (length book)) [
   | inl lt ↦ get_or-map (λ (page : Page). length page.operations) book i empty 0 lt
-  | inr le ↦ get_or_past (announced book) i 0 (omega (arith, length-map book (λ (page : Page). length page.operations))) ∙ ap (λ (page : Page). length page.operations) (sym (page_past book i le))
+  | inr le ↦ get_or_past (announced book) i 0
+      (omega (arith, length-map book (λ (page : Page). length page.operations)))
+      ∙ ap (λ (page : Page). length page.operations) (sym (page_past book i le))
 ]

@@ -17,20 +17,28 @@ use Rattle.object_foresight.proofs.Dealing.{takes_by_deal}
 use Rattle.object_foresight.proofs.Linking.{alone_by_put}
 
 -- one more value has a rank
-pub ranked_more : (reading : Reading) (book : List Page) (uses : Uses) (old new : List (ℕ × ℕ)) (take : Call) (v rank : ℕ) (put : Option Call) → AreCounted reading book (length book) 0 uses → AreRanks reading book old
-    → deal_of reading book take ≡ deals.Took v → put ≡ only_put uses v → is_some put ≡ true → rank ≡ reach_of book take - 1
-    → ((other : ℕ) → rank_of new other ≡ (if other == v then Some rank else rank_of old other)) → AreRanks reading book new
-ranked_more reading book uses old new take v rank put counted are took is there rank_is ranks x r at = elim (cases_Bool (x == v)) [
-  | inl so ↦
-      let same : x ≡ v = eqb-true x v so in
-      let value : rank ≡ r = same_Some rank r (sym (ranks x ∙ cond-true (x == v) (Some rank) (rank_of old x) so) ∙ at) in
-      let found = some_from_is_some put there in
-      subst (λ (y : ℕ). IsRanked reading book y r) (sym same) (record {
-        take = take;
-        put = found.0;
-        takes = takes_by_deal reading book take v took;
-        alone = alone_by_put reading book uses v found.0 counted (sym is ∙ found.1);
-        rank_is = sym value ∙ rank_is;
-      })
-  | inr other ↦ are x r (sym (ranks x ∙ cond-false (x == v) (Some rank) (rank_of old x) other) ∙ at)
-]
+pub ranked_more : (reading : Reading) (book : List Page) (uses : Uses) (old new : List (ℕ × ℕ))
+    (take : Call) (v rank : ℕ) (put : Option Call) → AreCounted reading book (length book) 0 uses
+    → AreRanks reading book old
+    → deal_of reading book take ≡ deals.Took v → put ≡ only_put uses v → is_some put ≡ true
+    → rank ≡ reach_of book take - 1
+    → ((other : ℕ) → rank_of new other ≡ (if other == v then Some rank else rank_of old other))
+    → AreRanks reading book new
+ranked_more reading book uses old new take v rank put counted are took is there rank_is ranks x r
+    at = elim (cases_Bool (x == v)) [
+      | inl so ↦
+          let same : x ≡ v = eqb-true x v so in
+          let value : rank ≡ r =
+          same_Some rank r
+          (sym (ranks x ∙ cond-true (x == v) (Some rank) (rank_of old x) so) ∙ at) in
+          let found = some_from_is_some put there in
+          subst (λ (y : ℕ). IsRanked reading book y r) (sym same) (record {
+            take = take;
+            put = found.0;
+            takes = takes_by_deal reading book take v took;
+            alone = alone_by_put reading book uses v found.0 counted (sym is ∙ found.1);
+            rank_is = sym value ∙ rank_is;
+          })
+      | inr other ↦
+          are x r (sym (ranks x ∙ cond-false (x == v) (Some rank) (rank_of old x) other) ∙ at)
+    ]

@@ -4,4 +4,5 @@ use Rattle.history_rules.specs.Container.{Reading}
 
 -- A word of a list that a reply may show as a value is one of the values that the list holds.
 abbrev pub HoldsItsWords : Reading → Type 0
-HoldsItsWords reading = (list : List ℕ) (v reply : ℕ) → Contains list v → reading.shown reply ≡ Some v → Contains (reading.values list) v
+HoldsItsWords reading = (list : List ℕ) (v reply : ℕ) → Contains list v
+    → reading.shown reply ≡ Some v → Contains (reading.values list) v

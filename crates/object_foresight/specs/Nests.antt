@@ -7,7 +7,8 @@ use Rattle.object_foresight.specs.declared.links.Links.{Links}
 use Rattle.object_foresight.specs.Uses.{IsEarly}
 use Rattle.object_foresight.specs.Links.{link_at}
 
--- The value that a call puts in is taken after a take, or no answered call takes it and the take precedes each unanswered one.
+-- The value that a call puts in is taken after a take, or no answered call takes it and the take
+-- precedes each unanswered one.
 abbrev pub Outlasts : List Page → Links → List ℕ → Call → Call → Type 0
 Outlasts book links open_from first take =
     ((later : Call) × ((link_at links later).after ≡ Some first) × Precedes book take later)
@@ -15,5 +16,6 @@ Outlasts book links open_from first take =
 
 -- A put that precedes a take and outlasts it stands before the put of what is taken.
 abbrev pub AreNested : List ℕ → (List ℕ → ℕ → List ℕ × ℕ) → List Page → Links → List ℕ → Type 0
-AreNested init next book links open_from = (take put first : Call) → (link_at links take).after ≡ Some put → Precedes book first take
+AreNested init next book links open_from = (take put first : Call)
+    → (link_at links take).after ≡ Some put → Precedes book first take
     → Outlasts book links open_from first take → MustComeFirst init next book first put

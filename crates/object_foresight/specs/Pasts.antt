@@ -10,17 +10,20 @@ use Rattle.object_foresight.specs.Links.{link_at}
 -- a cut that holds a call too
 abbrev pub raised_to : List ℕ → Option Call → List ℕ
 raised_to floor None = floor
-raised_to floor (Some first) = slice_set floor first.caller (max (slice_index floor first.caller) (first.number + 1))
+raised_to floor (Some first) =
+    slice_set floor first.caller (max (slice_index floor first.caller) (first.number + 1))
 
 -- the last call of a caller that a cut holds
 abbrev pub last_held : List ℕ → ℕ → Call
 last_held floor i = record { caller = i; number = slice_index floor i - 1 }
 
--- What a past says comes from the calls that were passed: the last call of each caller in the floor leads from one of them, and the
--- limit is the reach of one of them.
-pub record IsPast (passed : Call → Type 0) (book : List Page) (links : Links) (past : Past) : Type 0 where
+-- What a past says comes from the calls that were passed: the last call of each caller in the floor
+-- leads from one of them, and the limit is the reach of one of them.
+pub record IsPast (passed : Call → Type 0) (book : List Page) (links : Links)
+    (past : Past) : Type 0 where
   pub wide : length past.floor ≡ length book
   pub counts : length past.passed ≡ length book
   pub few : (i : ℕ) → slice_index past.floor i ≤ MAX_CALLS
-  pub floor : (i : ℕ) → 0 < slice_index past.floor i → (a : Call) × passed a × ((link_at links a).before ≡ Some (last_held past.floor i))
+  pub floor : (i : ℕ) → 0 < slice_index past.floor i → (a : Call) × passed a
+      × ((link_at links a).before ≡ Some (last_held past.floor i))
   pub limit : (past.limit ≡ 0) ⊎ ((a : Call) × passed a × (past.limit ≡ (link_at links a).reach))

@@ -17,4 +17,5 @@ pub record IsRanked (reading : Reading) (book : List Page) (v rank : ℕ) : Type
 
 -- each rank is right
 abbrev pub AreRanks : Reading → List Page → List (ℕ × ℕ) → Type 0
-AreRanks reading book ranks = (v rank : ℕ) → rank_of ranks v ≡ Some rank → IsRanked reading book v rank
+AreRanks reading book ranks = (v rank : ℕ) → rank_of ranks v ≡ Some rank
+    → IsRanked reading book v rank

@@ -7,4 +7,5 @@ use Rattle.book_base.specs.Foresight.{Known, bar_of, IsBelow}
 
 -- The cut lacks a call of the call's floor, or one that precedes it.
 abbrev pub IsBlocked : List Page → Known → List ℕ → Call → Type 0
-IsBlocked book known cut call = IsBelow cut (bar_of known call).floor ⊎ ((a : Call) × Precedes book a call × (¬ Holds cut a))
+IsBlocked book known cut call = IsBelow cut (bar_of known call).floor
+    ⊎ ((a : Call) × Precedes book a call × (¬ Holds cut a))

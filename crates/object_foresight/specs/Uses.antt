@@ -17,7 +17,8 @@ use Rattle.object_foresight.specs.Deals.{deal_of}
 
 -- the calls of the first callers, and the first so many of the next one
 abbrev pub IsReadTo : ℕ → ℕ → Call → Type 0
-IsReadTo caller number call = (call.caller < caller) ⊎ ((call.caller ≡ caller) × (call.number < number))
+IsReadTo caller number call = (call.caller < caller)
+    ⊎ ((call.caller ≡ caller) × (call.number < number))
 
 -- no call uses the value
 abbrev pub no_use : Use
@@ -32,23 +33,30 @@ pub record IsCounted (deal : Call → Deal) (read : Call → Type 0) (v : ℕ) (
   -- the calls that put it in
   pub putters : List Call
   pub puts : length putters ≡ used.puts
-  pub all_putters : (call : Call) → read call → deal call ≡ deals.Put v → (k : ℕ) × (slice_get putters k ≡ Some call)
+  pub all_putters : (call : Call) → read call → deal call ≡ deals.Put v → (k : ℕ)
+      × (slice_get putters k ≡ Some call)
   -- one of them
   pub put : 1 ≤ used.puts → deal used.put ≡ deals.Put v
   -- the calls that take it out
   pub takers : List Call
   pub takes : length takers ≡ used.takes
-  pub all_takers : (call : Call) → read call → deal call ≡ deals.Took v → (k : ℕ) × (slice_get takers k ≡ Some call)
-  pub only_takers : (k : ℕ) (call : Call) → slice_get takers k ≡ Some call → read call × (deal call ≡ deals.Took v)
+  pub all_takers : (call : Call) → read call → deal call ≡ deals.Took v → (k : ℕ)
+      × (slice_get takers k ≡ Some call)
+  pub only_takers : (k : ℕ) (call : Call) → slice_get takers k ≡ Some call → read call
+      × (deal call ≡ deals.Took v)
   pub different : AreDifferent takers
 
 -- The uses are those of the calls that were read.
-pub record AreCounted (reading : Reading) (book : List Page) (caller number : ℕ) (uses : Uses) : Type 0 where
-  pub each : (v : ℕ) → IsCounted (deal_of reading book) (IsReadTo caller number) v (use_of uses.by_value.entries v)
+pub record AreCounted (reading : Reading) (book : List Page) (caller number : ℕ)
+    (uses : Uses) : Type 0 where
+  pub each : (v : ℕ)
+      → IsCounted (deal_of reading book) (IsReadTo caller number) v (use_of uses.by_value.entries v)
   -- no value is used more often than calls were read
-  pub few : (v : ℕ) → ((use_of uses.by_value.entries v).puts ≤ caller * MAX_CALLS + number) × ((use_of uses.by_value.entries v).takes ≤ caller * MAX_CALLS + number)
+  pub few : (v : ℕ) → ((use_of uses.by_value.entries v).puts ≤ caller * MAX_CALLS + number)
+      × ((use_of uses.by_value.entries v).takes ≤ caller * MAX_CALLS + number)
   -- no take of a caller is unanswered before the number from which on they may be
-  pub answered : (call : Call) → IsReadTo caller number call → deal_of reading book call ≡ deals.OpenTake → slice_index uses.open_from call.caller ≤ call.number
+  pub answered : (call : Call) → IsReadTo caller number call → deal_of reading book call
+      ≡ deals.OpenTake → slice_index uses.open_from call.caller ≤ call.number
 
 -- An answered call's view counts no call of a caller from that number on.
 abbrev pub IsEarly : List Page → List ℕ → Call → Type 0

@@ -12,11 +12,11 @@ use crate::uses::Uses;
 use book_base::{Book, Foresight, NoMemory};
 use std::alloc::Global;
 
-/// What a queue foresees of a book (after Henzinger, Sezgin and Vafeiadis 2013): where the take of x
-/// precedes the take of v, x is put in before v; a take that finds nothing and precedes the take of v
-/// stands before the put of v; what no answered call takes is put in after whatever is taken, and after
-/// the takes that find nothing, of those takes that precede each unanswered one; and no value is taken more
-/// often than it is put in.
+/// What a queue foresees of a book (after Henzinger, Sezgin and Vafeiadis 2013): where the take of
+/// x precedes the take of v, x is put in before v; a take that finds nothing and precedes the take
+/// of v stands before the put of v; what no answered call takes is put in after whatever is taken,
+/// and after the takes that find nothing, of those takes that precede each unanswered one; and no
+/// value is taken more often than it is put in.
 pub fn foresee_queue<R: Reader>(
     alloc: Global,
     reader: &R,
@@ -24,7 +24,8 @@ pub fn foresee_queue<R: Reader>(
 ) -> Result<Foresight, NoMemory>
     // For each object that reads as a queue and begins empty, each call that the answer forbids is
     // infeasible there.
-    ensures { IfOk result (λ known. (init : List ℕ) (next : List ℕ → ℕ → List ℕ × ℕ) → IsQueue (R.reading reader.now) next
+    ensures { IfOk result (λ known. (init : List ℕ) (next : List ℕ → ℕ → List ℕ × ℕ)
+        → IsQueue (R.reading reader.now) next
         → (R.reading reader.now).values init ≡ [] → IsForesight init next book.now known) }
 {
     let uses = Uses::of(alloc, reader, book)?;
@@ -34,10 +35,11 @@ pub fn foresee_queue<R: Reader>(
     Ok(known)
 }
 
-/// What a stack foresees of a book: where the take of x precedes the take of v, v isn't put on x, so
-/// that a put of v which precedes the take of x stands before the put of x; a take that finds nothing and precedes the take of v stands before the put of v; what no answered call takes is
-/// put on nothing that is taken, and after the takes that find nothing, of those takes that precede each
-/// unanswered one; and no value is taken more often than it is put in.
+/// What a stack foresees of a book: where the take of x precedes the take of v, v isn't put on x,
+/// so that a put of v which precedes the take of x stands before the put of x; a take that finds
+/// nothing and precedes the take of v stands before the put of v; what no answered call takes is
+/// put on nothing that is taken, and after the takes that find nothing, of those takes that precede
+/// each unanswered one; and no value is taken more often than it is put in.
 pub fn foresee_stack<R: Reader>(
     alloc: Global,
     reader: &R,
@@ -45,8 +47,10 @@ pub fn foresee_stack<R: Reader>(
 ) -> Result<Foresight, NoMemory>
     // For each object that reads as a stack, holds its words and begins empty, each call that the
     // answer forbids is infeasible there.
-    ensures { IfOk result (λ known. (init : List ℕ) (next : List ℕ → ℕ → List ℕ × ℕ) → IsStack (R.reading reader.now) next
-        → HoldsItsWords (R.reading reader.now) → (R.reading reader.now).values init ≡ [] → IsForesight init next book.now known) }
+    ensures { IfOk result (λ known. (init : List ℕ) (next : List ℕ → ℕ → List ℕ × ℕ)
+        → IsStack (R.reading reader.now) next
+        → HoldsItsWords (R.reading reader.now)
+        → (R.reading reader.now).values init ≡ [] → IsForesight init next book.now known) }
 {
     let uses = Uses::of(alloc, reader, book)?;
     let links = Links::of(alloc, reader, book, &uses, Discipline::Stack)?;
@@ -57,9 +61,9 @@ pub fn foresee_stack<R: Reader>(
     Ok(known)
 }
 
-/// What any container foresees of a book: a take that finds nothing and precedes the take of v stands
-/// before the put of v, and before the put of what no answered call takes, where it precedes each
-/// unanswered take; and no value is taken more often than it is put in.
+/// What any container foresees of a book: a take that finds nothing and precedes the take of v
+/// stands before the put of v, and before the put of what no answered call takes, where it precedes
+/// each unanswered take; and no value is taken more often than it is put in.
 pub fn foresee_container<R: Reader>(
     alloc: Global,
     reader: &R,
@@ -67,7 +71,8 @@ pub fn foresee_container<R: Reader>(
 ) -> Result<Foresight, NoMemory>
     // For each object that reads as a container and begins empty, each call that the answer forbids
     // is infeasible there.
-    ensures { IfOk result (λ known. (init : List ℕ) (next : List ℕ → ℕ → List ℕ × ℕ) → IsContainer (R.reading reader.now) next
+    ensures { IfOk result (λ known. (init : List ℕ) (next : List ℕ → ℕ → List ℕ × ℕ)
+        → IsContainer (R.reading reader.now) next
         → (R.reading reader.now).values init ≡ [] → IsForesight init next book.now known) }
 {
     let uses = Uses::of(alloc, reader, book)?;

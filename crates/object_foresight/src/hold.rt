@@ -18,9 +18,11 @@ use book_base::{Book, Call, Foresight};
 pub fn hold(book: &Book, links: &Links, uses: &Uses, known: &mut Foresight)
     requires links { AreLinksOf book.now links.now }
     requires bars { (c : Call) → IsCall book.now c → HasBar known.old c }
-    ensures right { (init : List ℕ) (next : List ℕ → ℕ → List ℕ × ℕ) → IsForesight init next book.now known.old
+    ensures right { (init : List ℕ) (next : List ℕ → ℕ → List ℕ × ℕ)
+        → IsForesight init next book.now known.old
         → (links.now.is_refused ≡ true → ¬ HasLegalOrder init next book.now)
-        → AreFollowed init next book.now links.now known.old.ranks → AreKept init next book.now links.now uses.now.open_from known.old.ranks
+        → AreFollowed init next book.now links.now known.old.ranks
+        → AreKept init next book.now links.now uses.now.open_from known.old.ranks
         → IsForesight init next book.now known.new }
 {
     if links.is_refused {
@@ -40,8 +42,10 @@ fn follow(book: &Book, links: &Links, known: &mut Foresight)
     requires bars { (c : Call) → IsCall book.now c → HasBar known.old c }
     ensures bars { (c : Call) → IsCall book.now c → HasBar known.new c }
     ensures ranks { known.new.ranks ≡ known.old.ranks }
-    ensures right { (init : List ℕ) (next : List ℕ → ℕ → List ℕ × ℕ) → IsForesight init next book.now known.old
-        → AreFollowed init next book.now links.now known.old.ranks → IsForesight init next book.now known.new }
+    ensures right { (init : List ℕ) (next : List ℕ → ℕ → List ℕ × ℕ)
+        → IsForesight init next book.now known.old
+        → AreFollowed init next book.now links.now known.old.ranks
+        → IsForesight init next book.now known.new }
 {
     for caller in 0..book.callers() {
         follow_caller(book, links, known, caller);
@@ -57,8 +61,10 @@ fn follow_caller(book: &Book, links: &Links, known: &mut Foresight, caller: u32)
     requires caller { caller < length book.now }
     ensures bars { (c : Call) → IsCall book.now c → HasBar known.new c }
     ensures ranks { known.new.ranks ≡ known.old.ranks }
-    ensures right { (init : List ℕ) (next : List ℕ → ℕ → List ℕ × ℕ) → IsForesight init next book.now known.old
-        → AreFollowed init next book.now links.now known.old.ranks → IsForesight init next book.now known.new }
+    ensures right { (init : List ℕ) (next : List ℕ → ℕ → List ℕ × ℕ)
+        → IsForesight init next book.now known.old
+        → AreFollowed init next book.now links.now known.old.ranks
+        → IsForesight init next book.now known.new }
 {
     let mut past = Past::none(book);
     for number in 0..book.answers(caller) {
@@ -76,8 +82,10 @@ fn keep(book: &Book, links: &Links, uses: &Uses, known: &mut Foresight)
     requires links { AreLinksOf book.now links.now }
     requires bars { (c : Call) → IsCall book.now c → HasBar known.old c }
     ensures bars { (c : Call) → IsCall book.now c → HasBar known.new c }
-    ensures right { (init : List ℕ) (next : List ℕ → ℕ → List ℕ × ℕ) → IsForesight init next book.now known.old
-        → AreKept init next book.now links.now uses.now.open_from known.old.ranks → IsForesight init next book.now known.new }
+    ensures right { (init : List ℕ) (next : List ℕ → ℕ → List ℕ × ℕ)
+        → IsForesight init next book.now known.old
+        → AreKept init next book.now links.now uses.now.open_from known.old.ranks
+        → IsForesight init next book.now known.new }
 {
     let past = Past::early(book, links, uses);
     for caller in 0..book.callers() {
@@ -100,8 +108,10 @@ fn keep_caller(
     requires past { IsPast (IsEarly book.now uses.now.open_from) book.now links.now past.now }
     ensures bars { (c : Call) → IsCall book.now c → HasBar known.new c }
     ensures ranks { known.new.ranks ≡ known.old.ranks }
-    ensures right { (init : List ℕ) (next : List ℕ → ℕ → List ℕ × ℕ) → IsForesight init next book.now known.old
-        → AreKept init next book.now links.now uses.now.open_from known.old.ranks → IsForesight init next book.now known.new }
+    ensures right { (init : List ℕ) (next : List ℕ → ℕ → List ℕ × ℕ)
+        → IsForesight init next book.now known.old
+        → AreKept init next book.now links.now uses.now.open_from known.old.ranks
+        → IsForesight init next book.now known.new }
 {
     for number in 0..book.calls(caller) {
         let put = Call { caller, number };
@@ -139,9 +149,12 @@ fn hold_after(known: &mut Foresight, put: Call, past: &Past)
     requires few { (i : ℕ) → slice_index past.now.floor i ≤ MAX_CALLS }
     ensures bars { (c : Call) → HasBar known.old c → HasBar known.new c }
     ensures ranks { known.new.ranks ≡ known.old.ranks }
-    ensures right { (init : List ℕ) (next : List ℕ → ℕ → List ℕ × ℕ) (book : List Page) → IsForesight init next book known.old
-        → ((i : ℕ) → 0 < slice_index past.now.floor i → MustComeFirst init next book (last_held past.now.floor i) put)
-        → ((cut list : List ℕ) → HasEarly known.old.ranks list past.now.limit → IsInfeasible init next book cut list put)
+    ensures right { (init : List ℕ) (next : List ℕ → ℕ → List ℕ × ℕ) (book : List Page)
+        → IsForesight init next book known.old
+        → ((i : ℕ) → 0 < slice_index past.now.floor i
+        → MustComeFirst init next book (last_held past.now.floor i) put)
+        → ((cut list : List ℕ) → HasEarly known.old.ranks list past.now.limit
+        → IsInfeasible init next book cut list put)
         → IsForesight init next book known.new }
 {
     for caller in 0..past.floor.n() {

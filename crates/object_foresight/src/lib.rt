@@ -1,4 +1,5 @@
-//! What containers foresee of a book before a search: the rules of histories, prepared in near linear time.
+//! What containers foresee of a book before a search: the rules of histories, prepared in near
+//! linear time.
 #![tactic(auto)]
 
 mod deal;

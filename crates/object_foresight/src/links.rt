@@ -92,7 +92,8 @@ impl Links {
         requires caller { caller < length book.now }
         requires counted { AreCounted (R.reading reader.now) book.now (length book.now) 0 uses.now }
         requires links { AreLinksTo (R.reading reader.now) book.now discipline caller self.old }
-        ensures links { OnOk result (AreLinksTo (R.reading reader.now) book.now discipline (caller + 1) self.new) }
+        ensures links { OnOk result
+            (AreLinksTo (R.reading reader.now) book.now discipline (caller + 1) self.new) }
     {
         let mut row = Vec::new(alloc);
         for number in 0..book.calls(caller) {

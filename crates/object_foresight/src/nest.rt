@@ -10,8 +10,8 @@ use crate::uses::Uses;
 use book_base::{Book, Call, Foresight, MAX_CALLS, NoMemory};
 use std::alloc::Global;
 
-/// For each put the call that takes its value, as far as it is known. Each use of it is tried, so that no
-/// clause says what it is.
+/// For each put the call that takes its value, as far as it is known. Each use of it is tried, so
+/// that no clause says what it is.
 #[derive(Drop)]
 struct Takers {
     rows: Vec<Vec<Option<Call>>>,
@@ -53,8 +53,9 @@ impl Takers {
     }
 }
 
-/// The puts of each caller that precede a take and may outlast it, the last one last, and how many of its
-/// calls were looked at. Each of them is tried before it is used, so that no clause says what they are.
+/// The puts of each caller that precede a take and may outlast it, the last one last, and how many
+/// of its calls were looked at. Each of them is tried before it is used, so that no clause says
+/// what they are.
 #[derive(Drop)]
 struct Nests {
     passed: Vec<u64>,
@@ -120,8 +121,10 @@ pub fn nest(
     requires bars { (c : Call) → IsCall book.now c → HasBar known.old c }
     ensures bars { OnOk result ((c : Call) → IsCall book.now c → HasBar known.new c) }
     ensures ranks { OnOk result (known.new.ranks ≡ known.old.ranks) }
-    ensures right { OnOk result ((init : List ℕ) (next : List ℕ → ℕ → List ℕ × ℕ) → IsForesight init next book.now known.old
-        → AreNested init next book.now links.now uses.now.open_from → IsForesight init next book.now known.new) }
+    ensures right { OnOk result
+        ((init : List ℕ) (next : List ℕ → ℕ → List ℕ × ℕ) → IsForesight init next book.now known.old
+        → AreNested init next book.now links.now uses.now.open_from
+        → IsForesight init next book.now known.new) }
 {
     let takers = Takers::of(alloc, book, links)?;
     for caller in 0..book.callers() {
@@ -147,8 +150,10 @@ fn nest_caller(
     requires caller { caller < length book.now }
     ensures bars { OnOk result ((c : Call) → IsCall book.now c → HasBar known.new c) }
     ensures ranks { OnOk result (known.new.ranks ≡ known.old.ranks) }
-    ensures right { OnOk result ((init : List ℕ) (next : List ℕ → ℕ → List ℕ × ℕ) → IsForesight init next book.now known.old
-        → AreNested init next book.now links.now uses.now.open_from → IsForesight init next book.now known.new) }
+    ensures right { OnOk result
+        ((init : List ℕ) (next : List ℕ → ℕ → List ℕ × ℕ) → IsForesight init next book.now known.old
+        → AreNested init next book.now links.now uses.now.open_from
+        → IsForesight init next book.now known.new) }
 {
     let mut nests = Nests::none(alloc, book)?;
     for number in 0..book.answers(caller) {
@@ -175,8 +180,10 @@ fn nest_take(
     requires answered { IsAnswered book.now take }
     ensures bars { OnOk result ((c : Call) → IsCall book.now c → HasBar known.new c) }
     ensures ranks { OnOk result (known.new.ranks ≡ known.old.ranks) }
-    ensures right { OnOk result ((init : List ℕ) (next : List ℕ → ℕ → List ℕ × ℕ) → IsForesight init next book.now known.old
-        → AreNested init next book.now links.now uses.now.open_from → IsForesight init next book.now known.new) }
+    ensures right { OnOk result
+        ((init : List ℕ) (next : List ℕ → ℕ → List ℕ × ℕ) → IsForesight init next book.now known.old
+        → AreNested init next book.now links.now uses.now.open_from
+        → IsForesight init next book.now known.new) }
 {
     let Some(put) = links.at(take).after else {
         return Ok(());
@@ -190,8 +197,8 @@ fn nest_take(
     Ok(())
 }
 
-// The last put of a caller that precedes a take and outlasts it. One that doesn't outlast it outlasts no
-// later take of its caller either, and is dropped.
+// The last put of a caller that precedes a take and outlasts it. One that doesn't outlast it
+// outlasts no later take of its caller either, and is dropped.
 fn last_outlasting(
     book: &Book,
     links: &Links,
@@ -204,7 +211,9 @@ fn last_outlasting(
     requires call { IsCall book.now take }
     requires answered { IsAnswered book.now take }
     requires caller { caller < length book.now }
-    ensures { IfOk result (λ found. IfSome found (λ first. IsCall book.now first × (Precedes book.now first take × Outlasts book.now links.now uses.now.open_from first take))) }
+    ensures { IfOk result
+        (λ found. IfSome found (λ first. IsCall book.now first × (Precedes book.now first take
+        × Outlasts book.now links.now uses.now.open_from first take))) }
 {
     nests.look_on(book, take, caller)?;
     for _ in 0..MAX_CALLS {
@@ -232,7 +241,8 @@ fn outlasts(
     requires caller { first.caller < length book.now }
     requires call { IsCall book.now take }
     requires answered { IsAnswered book.now take }
-    ensures { IsTrue result → IsCall book.now first × (Precedes book.now first take × Outlasts book.now links.now uses.now.open_from first take) }
+    ensures { IsTrue result → IsCall book.now first × (Precedes book.now first take
+        × Outlasts book.now links.now uses.now.open_from first take) }
 {
     if first.number >= book.calls(first.caller) || !book.precedes(first, take) {
         return false;
@@ -246,7 +256,8 @@ fn outlasts(
 // Whether a call takes what a put puts in, after a take.
 fn is_taken_later(book: &Book, links: &Links, first: Call, take: Call, later: Call) -> bool
     requires { IsCall book.now take }
-    ensures { IsTrue result → ((link_at links.now later).after ≡ Some first) × Precedes book.now take later }
+    ensures { IsTrue result → ((link_at links.now later).after ≡ Some first)
+        × Precedes book.now take later }
 {
     if later.caller >= book.callers() || later.number >= book.calls(later.caller) {
         return false;

@@ -9,7 +9,8 @@ use crate::links::{Link, Links};
 use crate::uses::Uses;
 use book_base::{Book, Call, Cut};
 
-/// What the calls that were passed say: a floor that must stand before a put, and the greatest reach.
+/// What the calls that were passed say: a floor that must stand before a put, and the greatest
+/// reach.
 #[derive(Clone, Copy)]
 pub struct Past {
     /// How many of each caller's calls were passed.
@@ -99,7 +100,8 @@ impl Past {
 
     // Passes a call with this link.
     fn pass(&mut self, link: Link)
-        requires { IfSome link.before (λ first. (first.caller < length self.old.floor) × (first.number < MAX_CALLS)) }
+        requires { IfSome link.before
+            (λ first. (first.caller < length self.old.floor) × (first.number < MAX_CALLS)) }
         ensures floor { self.new.floor ≡ raised_to self.old.floor link.before }
         ensures limit { self.new.limit ≡ max self.old.limit link.reach }
         ensures passed { self.new.passed ≡ self.old.passed }

@@ -10,8 +10,9 @@ use crate::reader::Reader;
 use crate::uses::Uses;
 use book_base::{Book, Call, Foresight, NoMemory};
 
-/// Gives each value that one call puts in and an answered call takes what the take's view counts as its
-/// rank: so takes with a less rank precede what one of a greater rank precedes, since views are a chain.
+/// Gives each value that one call puts in and an answered call takes what the take's view counts as
+/// its rank: so takes with a less rank precede what one of a greater rank precedes, since views are
+/// a chain.
 pub fn rank_takes<R: Reader>(
     reader: &R,
     book: &Book,

@@ -9,11 +9,13 @@ ghost use Rattle.object_foresight.specs.Stuck.{IsBlocked};
 
 use book_base::{Book, Call, Cut, Foresight, MAX_CALLERS, MAX_CALLS};
 
-/// Whether each order of a book ends too early: the calls that floors and precedence let stand, one after
-/// another, don't reach all answered ones. So puts of which each must stand before the other are found
-/// before a search.
+/// Whether each order of a book ends too early: the calls that floors and precedence let stand, one
+/// after another, don't reach all answered ones. So puts of which each must stand before the other
+/// are found before a search.
 pub fn is_stuck(book: &Book, known: &Foresight) -> bool
-    ensures { (init : List ℕ) (next : List ℕ → ℕ → List ℕ × ℕ) → IsForesight init next book.now known.now → IsTrue result → ¬ HasLegalOrder init next book.now }
+    ensures { (init : List ℕ) (next : List ℕ → ℕ → List ℕ × ℕ)
+        → IsForesight init next book.now known.now → IsTrue result
+        → ¬ HasLegalOrder init next book.now }
 {
     let mut cut = Cut::zero(book.callers());
     grow(book, known, &mut cut);
@@ -50,9 +52,9 @@ fn grow_once(book: &Book, known: &Foresight, cut: &mut Cut) -> bool
     has_grown
 }
 
-// Whether a call can't stand while the calls outside a cut don't: the cut lacks one of its floor, or an
-// answered one that precedes it. A caller's first call outside the cut has its least view there, so that
-// no other one is asked.
+// Whether a call can't stand while the calls outside a cut don't: the cut lacks one of its floor,
+// or an answered one that precedes it. A caller's first call outside the cut has its least view
+// there, so that no other one is asked.
 fn is_blocked(book: &Book, known: &Foresight, cut: &Cut, call: Call) -> bool
     requires wide { length cut.now ≡ length book.now }
     requires call { IsCall book.now call }
@@ -86,7 +88,8 @@ fn lacks_an_answer(book: &Book, cut: &Cut) -> bool
 // Whether each caller's next call after a cut is blocked.
 fn is_end(book: &Book, known: &Foresight, cut: &Cut) -> bool
     requires { length cut.now ≡ length book.now }
-    ensures { IsTrue result → ((i : ℕ) → IsCall book.now (next_call cut.now i) → IsBlocked book.now known.now cut.now (next_call cut.now i)) }
+    ensures { IsTrue result → ((i : ℕ) → IsCall book.now (next_call cut.now i)
+        → IsBlocked book.now known.now cut.now (next_call cut.now i)) }
 {
     for caller in 0..book.callers() {
         let number = cut.get(caller);

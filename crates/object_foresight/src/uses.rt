@@ -19,8 +19,8 @@ pub struct Use {
     pub takes: u64,
 }
 
-/// How often each value of a book is put in and taken out, and for each caller the number from which on its
-/// takes may be unanswered.
+/// How often each value of a book is put in and taken out, and for each caller the number from
+/// which on its takes may be unanswered.
 #[derive(Drop)]
 pub struct Uses {
     pub by_value: BTreeMap<u64, Use>,
@@ -52,7 +52,8 @@ impl Uses {
         requires small { IsSmall book.now }
         requires caller { caller < length book.now }
         requires counted { AreCounted (R.reading reader.now) book.now caller 0 self.old }
-        ensures counted { OnOk result (AreCounted (R.reading reader.now) book.now (caller + 1) 0 self.new) }
+        ensures counted { OnOk result
+            (AreCounted (R.reading reader.now) book.now (caller + 1) 0 self.new) }
     {
         for number in 0..book.calls(caller) {
             self.count(reader, book, Call { caller, number })?;
@@ -63,8 +64,10 @@ impl Uses {
     // Counts what a call did.
     fn count<R: Reader>(&mut self, reader: &R, book: &Book, call: Call) -> Result<(), NoMemory>
         requires call { IsCall book.now call }
-        requires counted { AreCounted (R.reading reader.now) book.now call.caller call.number self.old }
-        ensures counted { OnOk result (AreCounted (R.reading reader.now) book.now call.caller (call.number + 1) self.new) }
+        requires counted { AreCounted (R.reading reader.now) book.now call.caller
+            call.number self.old }
+        ensures counted { OnOk result
+            (AreCounted (R.reading reader.now) book.now call.caller (call.number + 1) self.new) }
     {
         let callers = book.callers();
         prove!(call.caller < callers);
@@ -79,10 +82,12 @@ impl Uses {
         }
     }
 
-    // Lowers the number of a caller from which on takes may be unanswered to that of an unanswered take.
+    // Lowers the number of a caller from which on takes may be unanswered to that of an unanswered
+    // take.
     fn open_at(&mut self, call: Call)
         requires { call.caller < MAX_CALLERS }
-        ensures lowered { self.new.open_from ≡ slice_set self.old.open_from call.caller (min (slice_index self.old.open_from call.caller) call.number) }
+        ensures lowered { self.new.open_from ≡ slice_set self.old.open_from call.caller
+            (min (slice_index self.old.open_from call.caller) call.number) }
         ensures uses { self.new.by_value ≡ self.old.by_value }
     {
         let number = &mut self.open_from[call.caller as usize];
@@ -93,7 +98,8 @@ impl Uses {
     fn count_put(&mut self, value: u64, call: Call) -> Result<(), NoMemory>
         requires { (use_of self.old.by_value.entries value).puts < MAX_CALLERS * MAX_CALLS }
         ensures uses { OnOk result ((v : ℕ) → use_of self.new.by_value.entries v ≡ (if v == value
-            then record (use_of self.old.by_value.entries value) { puts = (use_of self.old.by_value.entries value).puts + 1; put = call }
+            then record (use_of self.old.by_value.entries value)
+            { puts = (use_of self.old.by_value.entries value).puts + 1; put = call }
             else use_of self.old.by_value.entries v)) }
         ensures answered { self.new.open_from ≡ self.old.open_from }
     {
@@ -108,7 +114,8 @@ impl Uses {
     fn count_take(&mut self, value: u64) -> Result<(), NoMemory>
         requires { (use_of self.old.by_value.entries value).takes < MAX_CALLERS * MAX_CALLS }
         ensures uses { OnOk result ((v : ℕ) → use_of self.new.by_value.entries v ≡ (if v == value
-            then record (use_of self.old.by_value.entries value) { takes = (use_of self.old.by_value.entries value).takes + 1 }
+            then record (use_of self.old.by_value.entries value)
+            { takes = (use_of self.old.by_value.entries value).takes + 1 }
             else use_of self.old.by_value.entries v)) }
         ensures answered { self.new.open_from ≡ self.old.open_from }
     {
@@ -135,8 +142,8 @@ impl Uses {
         }
     }
 
-    /// Whether an answered call precedes each unanswered take. No clause says that each such call is found:
-    /// that costs time alone.
+    /// Whether an answered call precedes each unanswered take. No clause says that each such call
+    /// is found: that costs time alone.
     pub fn is_early(&self, book: &Book, call: Call) -> bool
         requires { IsAnswered book.now call }
         ensures { IsTrue result → IsEarly book.now self.now.open_from call }

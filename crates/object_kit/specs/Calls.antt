@@ -1,4 +1,5 @@
--- The operation words of calls: a code, which is the number of the operation among its kind's, and its arguments.
+-- The operation words of calls: a code, which is the number of the operation among its kind's, and
+-- its arguments.
 use Rattle.std.specs.Prelude.{ℕ}
 use Rattle.seq_objects.specs.Words.{word_of}
 use Rattle.object_kit.specs.declared.queue_call.QueueCall.{QueueCall}

@@ -15,27 +15,41 @@ use Rattle.seq_objects.proofs.Reading.{queue_is_read, stack_is_read}
 use Rattle.object_laws.specs.Removals.{put_in, given_out, TakesTakeWhatWasPut}
 use Rattle.object_laws.proofs.Stepping.{replied, runs_before}
 
-module _ (reading : Reading) (next : List ℕ → ℕ → List ℕ × ℕ) (is : IsContainer reading next) (init : List ℕ) (none : reading.values init ≡ []) where
+module _ (reading : Reading) (next : List ℕ → ℕ → List ℕ × ℕ) (is : IsContainer reading next)
+    (init : List ℕ) (none : reading.values init ≡ []) where
   -- what was put in more often than given out is in the list
   pub held : (steps : List (ℕ × ℕ)) → IsRunFrom next init steps → (w : ℕ)
-      → times w (put_in reading steps) ≡ times w (given_out reading steps) + times w (reading.values (list_after_run next init steps))
+      → times w (put_in reading steps) ≡ times w (given_out reading steps)
+      + times w (reading.values (list_after_run next init steps))
   held steps run w =
-      omega (arith, ap (times w) none, holds_what_was_put reading next is w init steps run, times-shown (put_by reading) w steps, times-shown (taken_by reading) w steps)
+      omega (
+        arith,
+        ap (times w) none,
+        holds_what_was_put reading next is w init steps run,
+        times-shown (put_by reading) w steps,
+        times-shown (taken_by reading) w steps,
+      )
 
-  taken_was_held : (list : List ℕ) (step : ℕ × ℕ) (value : ℕ) (deed : Deed) → (next list step.0).1 ≡ step.1 → reading.deed step.0 ≡ deed → value_taken deed (reading.shown step.1) ≡ Some value
+  taken_was_held : (list : List ℕ) (step : ℕ × ℕ) (value : ℕ) (deed : Deed) → (next list step.0).1
+      ≡ step.1 → reading.deed step.0 ≡ deed → value_taken deed (reading.shown step.1) ≡ Some value
       → 1 ≤ times value (reading.values list)
   taken_was_held list step value (Puts w) reply deed taken = absurd cc
   taken_was_held list step value Takes reply deed taken =
-      let gives : GivesOne (reading.values list) (Some value) (reading.values (next list step.0).0) =
-      subst (λ (o : Option ℕ). GivesOne (reading.values list) o (reading.values (next list step.0).0)) (ap reading.shown reply ∙ taken) (is.take list step.0 deed) in
+      let gives : GivesOne (reading.values list) (Some value)
+      (reading.values (next list step.0).0) =
+      subst
+      (λ (o : Option ℕ). GivesOne (reading.values list) o (reading.values (next list step.0).0))
+      (ap reading.shown reply ∙ taken) (is.take list step.0 deed) in
       omega (arith, gives value, ap one_if (eq-eqb value value refl))
   taken_was_held list step value Neither reply deed taken = absurd cc
 
-  pub takes : (before rest : List (ℕ × ℕ)) (step : ℕ × ℕ) (value : ℕ) → IsRunFrom next init (before ++ step ∷ rest) → taken_by reading step ≡ Some value
+  pub takes : (before rest : List (ℕ × ℕ)) (step : ℕ × ℕ) (value : ℕ)
+      → IsRunFrom next init (before ++ step ∷ rest) → taken_by reading step ≡ Some value
       → times value (given_out reading before) < times value (put_in reading before)
   takes before rest step value run taken =
       let list : List ℕ = list_after_run next init before in
-      let some = taken_was_held list step value (reading.deed step.0) (replied next init before rest step run) refl taken in
+      let some = taken_was_held list step value (reading.deed step.0)
+      (replied next init before rest step run) refl taken in
       omega (arith, some, held before (runs_before next init before (step ∷ rest) run) value)
 
 pub queues_take_what_was_put : TakesTakeWhatWasPut Queue queue_reading

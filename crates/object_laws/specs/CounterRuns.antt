@@ -7,5 +7,6 @@ use Rattle.object_laws.specs.Runs.{IsRunOf, does}
 
 -- The reply to an increment is the number of increments before it, modulo 2 ^ 32.
 abbrev pub IncrementsAreCounted : Type 0
-IncrementsAreCounted = (before rest : List (ℕ × ℕ)) (step : ℕ × ℕ) → IsRunOf Counter (before ++ step ∷ rest) → does inc step ≡ true
+IncrementsAreCounted = (before rest : List (ℕ × ℕ)) (step : ℕ × ℕ)
+    → IsRunOf Counter (before ++ step ∷ rest) → does inc step ≡ true
     → step.1 ≡ reply_value (count_by (does inc) before)

@@ -16,27 +16,33 @@ put_in reading steps = filter_map (put_by reading) steps
 abbrev pub given_out : Reading → List (ℕ × ℕ) → List ℕ
 given_out reading steps = filter_map (taken_by reading) steps
 
--- What a take gives out was put in before it, more often than it was given out before: so each value comes out at most as often as it
--- was put in.
+-- What a take gives out was put in before it, more often than it was given out before: so each
+-- value comes out at most as often as it was put in.
 abbrev pub TakesTakeWhatWasPut : Kind → Reading → Type 0
-TakesTakeWhatWasPut kind reading = (before rest : List (ℕ × ℕ)) (step : ℕ × ℕ) (value : ℕ) → IsRunOf kind (before ++ step ∷ rest)
-    → taken_by reading step ≡ Some value → times value (given_out reading before) < times value (put_in reading before)
+TakesTakeWhatWasPut kind reading = (before rest : List (ℕ × ℕ)) (step : ℕ × ℕ) (value : ℕ)
+    → IsRunOf kind (before ++ step ∷ rest)
+    → taken_by reading step ≡ Some value
+    → times value (given_out reading before) < times value (put_in reading before)
 
 -- The reply that gives a value, where there is one.
 abbrev pub reply_with : Option ℕ → ℕ
 reply_with (Some value) = reply_value value
 reply_with None = reply_none
 
--- A dequeue gives the first of the values put in that isn't out, or none where each is out: as many values were put in before that
--- one as were given out.
+-- A dequeue gives the first of the values put in that isn't out, or none where each is out: as many
+-- values were put in before that one as were given out.
 abbrev pub DequeuesGiveTheOldest : Type 0
-DequeuesGiveTheOldest = (before rest : List (ℕ × ℕ)) (step : ℕ × ℕ) → IsRunOf Queue (before ++ step ∷ rest) → does deq step ≡ true
-    → step.1 ≡ reply_with (slice_get (put_in queue_reading before) (length (given_out queue_reading before)))
+DequeuesGiveTheOldest = (before rest : List (ℕ × ℕ)) (step : ℕ × ℕ)
+    → IsRunOf Queue (before ++ step ∷ rest) → does deq step ≡ true
+    → step.1
+    ≡ reply_with (slice_get (put_in queue_reading before) (length (given_out queue_reading before)))
 
--- The steps give out just what they put in, of the values of a stack: as many values, and in no first part of them more.
+-- The steps give out just what they put in, of the values of a stack: as many values, and in no
+-- first part of them more.
 pub record AreEven (steps : List (ℕ × ℕ)) : Type 0 where
   pub all : length (given_out stack_reading steps) ≡ length (put_in stack_reading steps)
-  pub first : (prefix rest : List (ℕ × ℕ)) → steps ≡ prefix ++ rest → length (given_out stack_reading prefix) ≤ length (put_in stack_reading prefix)
+  pub first : (prefix rest : List (ℕ × ℕ)) → steps ≡ prefix ++ rest
+      → length (given_out stack_reading prefix) ≤ length (put_in stack_reading prefix)
 
 -- The last value put in that isn't out: what was put in after it is out.
 pub record IsNewest (steps : List (ℕ × ℕ)) (value : ℕ) : Type 0 where
@@ -49,23 +55,27 @@ pub record IsNewest (steps : List (ℕ × ℕ)) (value : ℕ) : Type 0 where
 
 -- A pop gives the last value put in that isn't out, or none where the steps before it are even.
 abbrev pub GivesTheNewest : List (ℕ × ℕ) → ℕ → Type 0
-GivesTheNewest before reply = ((reply ≡ reply_none) × AreEven before) ⊎ ((value : ℕ) × (reply ≡ reply_value value) × IsNewest before value)
+GivesTheNewest before reply = ((reply ≡ reply_none) × AreEven before)
+    ⊎ ((value : ℕ) × (reply ≡ reply_value value) × IsNewest before value)
 
 abbrev pub PopsGiveTheNewest : Type 0
-PopsGiveTheNewest = (before rest : List (ℕ × ℕ)) (step : ℕ × ℕ) → IsRunOf Stack (before ++ step ∷ rest) → does pop step ≡ true
+PopsGiveTheNewest = (before rest : List (ℕ × ℕ)) (step : ℕ × ℕ)
+    → IsRunOf Stack (before ++ step ∷ rest) → does pop step ≡ true
     → GivesTheNewest before step.1
 
 -- How priority queues are read: an insert puts in, a min takes.
 abbrev pub pqueue_deed : ℕ → Deed
 pqueue_deed word =
-    if is_operation_of word insert then Puts (argument_of word) else if is_operation_of word min then Takes else Neither
+    if is_operation_of word insert then Puts (argument_of word) else if is_operation_of word min
+    then Takes else Neither
 
 abbrev pub pqueue_reading : Reading
 pqueue_reading = record { deed = pqueue_deed; shown = shown_value; values = map value_of }
 
 -- A value is in a priority queue after these steps: it was put in more often than given out.
 abbrev pub IsIn : List (ℕ × ℕ) → ℕ → Type 0
-IsIn steps value = times value (given_out pqueue_reading steps) < times value (put_in pqueue_reading steps)
+IsIn steps value =
+    times value (given_out pqueue_reading steps) < times value (put_in pqueue_reading steps)
 
 -- The value is in, and no value that is in is less.
 pub record IsLeast (steps : List (ℕ × ℕ)) (value : ℕ) : Type 0 where
@@ -75,10 +85,12 @@ pub record IsLeast (steps : List (ℕ × ℕ)) (value : ℕ) : Type 0 where
 
 -- A min gives the least value that is in, or none where no value is in.
 abbrev pub GivesTheLeast : List (ℕ × ℕ) → ℕ → Type 0
-GivesTheLeast before reply = ((reply ≡ reply_none) × ((value : ℕ) → IsIn before value → ⊥)) ⊎ ((value : ℕ) × (reply ≡ reply_value value) × IsLeast before value)
+GivesTheLeast before reply = ((reply ≡ reply_none) × ((value : ℕ) → IsIn before value → ⊥))
+    ⊎ ((value : ℕ) × (reply ≡ reply_value value) × IsLeast before value)
 
 abbrev pub MinsGiveTheLeast : Type 0
-MinsGiveTheLeast = (before rest : List (ℕ × ℕ)) (step : ℕ × ℕ) → IsRunOf Pqueue (before ++ step ∷ rest) → does min step ≡ true
+MinsGiveTheLeast = (before rest : List (ℕ × ℕ)) (step : ℕ × ℕ)
+    → IsRunOf Pqueue (before ++ step ∷ rest) → does min step ≡ true
     → GivesTheLeast before step.1
 
 -- Each value comes out of a priority queue at most as often as it was put in.

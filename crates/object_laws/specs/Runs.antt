@@ -1,4 +1,5 @@
--- Runs of the sequential objects, from the first list of a kind on. A step of a run is an operation word and its reply.
+-- Runs of the sequential objects, from the first list of a kind on. A step of a run is an operation
+-- word and its reply.
 use Rattle.std.specs.Prelude.{◌≡◌, ℕ, ◌==◌, ◌&&◌, Bool, true, false, List, ◌∷◌, ◌++◌}
 use Rattle.std.specs.List.{AllByRecursion}
 use Rattle.book_base.specs.Sequential.{IsLegalRun}
@@ -25,5 +26,6 @@ NonePass test steps = AllByRecursion (λ step. test step ≡ false) steps
 
 -- In each run of this kind the reply to an operation of this entry is `done`.
 abbrev pub AreDone : Kind → Entry → Type 0
-AreDone kind entry = (before rest : List (ℕ × ℕ)) (step : ℕ × ℕ) → IsRunOf kind (before ++ step ∷ rest) → does entry step ≡ true
+AreDone kind entry = (before rest : List (ℕ × ℕ)) (step : ℕ × ℕ)
+    → IsRunOf kind (before ++ step ∷ rest) → does entry step ≡ true
     → step.1 ≡ reply_done

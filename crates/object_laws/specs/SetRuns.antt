@@ -20,15 +20,18 @@ Tells reply P = ((reply ≡ reply_yes) × P) ⊎ ((reply ≡ reply_no) × (P →
 
 -- The reply to `has` tells whether an add of the value stands.
 abbrev pub HasTells : Type 0
-HasTells = (before rest : List (ℕ × ℕ)) (step : ℕ × ℕ) (value : ℕ) → IsRunOf IntSet (before ++ step ∷ rest)
+HasTells = (before rest : List (ℕ × ℕ)) (step : ℕ × ℕ) (value : ℕ)
+    → IsRunOf IntSet (before ++ step ∷ rest)
     → does_with words.has value step ≡ true → Tells step.1 (AddStands value before)
 
 -- The reply to `remove` tells whether an add of the value stands before it.
 abbrev pub RemoveTells : Type 0
-RemoveTells = (before rest : List (ℕ × ℕ)) (step : ℕ × ℕ) (value : ℕ) → IsRunOf IntSet (before ++ step ∷ rest)
+RemoveTells = (before rest : List (ℕ × ℕ)) (step : ℕ × ℕ) (value : ℕ)
+    → IsRunOf IntSet (before ++ step ∷ rest)
     → does_with words.remove value step ≡ true → Tells step.1 (AddStands value before)
 
 -- The reply to `add` tells whether no add of the value stands before it.
 abbrev pub AddTells : Type 0
-AddTells = (before rest : List (ℕ × ℕ)) (step : ℕ × ℕ) (value : ℕ) → IsRunOf IntSet (before ++ step ∷ rest)
+AddTells = (before rest : List (ℕ × ℕ)) (step : ℕ × ℕ) (value : ℕ)
+    → IsRunOf IntSet (before ++ step ∷ rest)
     → does_with words.add value step ≡ true → Tells step.1 (AddStands value before → ⊥)

@@ -1,4 +1,5 @@
-//! The laws, each the contract of a function with nothing in it. A run begins with an object's first list.
+//! The laws, each the contract of a function with nothing in it. A run begins with an object's
+//! first list.
 
 ghost use Rattle.seq_objects.specs.declared.kind.Kind.TheVariants as kinds;
 ghost use Rattle.seq_objects.specs.Words as words;
@@ -52,7 +53,8 @@ pub fn stacks_give_the_newest()
     ensures done { AreDone kinds.Stack words.push }
 {}
 
-/// A priority queue gives the least value that is in, and each value at most as often as it was put in.
+/// A priority queue gives the least value that is in, and each value at most as often as it was put
+/// in.
 pub fn priority_queues_give_the_least()
     // The reply to `min` is the least value that is in, or none where no value is in.
     ensures least { MinsGiveTheLeast }
@@ -62,8 +64,8 @@ pub fn priority_queues_give_the_least()
     ensures done { AreDone kinds.Pqueue words.insert }
 {}
 
-/// What is taken was put in before, and isn't taken yet: it was put in more often than it was given out. So each
-/// value comes out at most as often as it was put in.
+/// What is taken was put in before, and isn't taken yet: it was put in more often than it was given
+/// out. So each value comes out at most as often as it was put in.
 pub fn takes_take_what_was_put()
     // A dequeue gives a value that was put in before it more often than it was given out.
     ensures queues { TakesTakeWhatWasPut kinds.Queue queue_reading }

@@ -1,4 +1,5 @@
-//! Laws of the sequential objects on their runs, each in its subject's words, and steps and runs that are worked by hand.
+//! Laws of the sequential objects on their runs, each in its subject's words, and steps and runs
+//! that are worked by hand.
 #![tactic(auto)]
 
 pub mod laws;

@@ -1,5 +1,5 @@
-//! Runs that are worked by hand, and beside them steps that are no run: a reply of another operation of the run, or one too early or
-//! too late.
+//! Runs that are worked by hand, and beside them steps that are no run: a reply of another
+//! operation of the run, or one too early or too late.
 
 ghost use Rattle.std.specs.Prelude.{[], ◌∷◌};
 ghost use Rattle.seq_objects.specs.declared.kind.Kind.TheVariants as kinds;

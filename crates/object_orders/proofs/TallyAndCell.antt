@@ -19,16 +19,20 @@ use Rattle.object_orders.proofs.OneWords.{one_words_linearize}
 counts_agree : (x : ℕ) → (x % 2 ^ 32 + 1) % 2 ^ 32 ≡ (x + 1) % 2 ^ 64 % 2 ^ 32
 counts_agree x = omega arith
 
-counts : (operation x : ℕ) → tally.makes_step operation ≡ true → kind_next Counter (count_in x) operation ≡ (count_in (tally.leaves operation x), tally.replies operation x)
+counts : (operation x : ℕ) → tally.makes_step operation ≡ true → kind_next Counter
+    (count_in x) operation ≡ (count_in (tally.leaves operation x), tally.replies operation x)
 unfolding kind_next
 counts operation x inc =
-    let list : (x % 2 ^ 32 + 1) % 2 ^ 32 ∷ [] ≡ count_in ((x + 1) % 2 ^ 64) = ap (λ (y : ℕ). y ∷ []) (counts_agree x) in
+    let list : (x % 2 ^ 32 + 1) % 2 ^ 32 ∷ [] ≡ count_in ((x + 1) % 2 ^ 64) =
+    ap (λ (y : ℕ). y ∷ []) (counts_agree x) in
     let word : x % 2 ^ 32 % 2 ^ 32 ≡ x % 2 ^ 32 = omega arith in
     let reply : reply_value (x % 2 ^ 32) ≡ reply_value x = ap (λ (y : ℕ). 2 * 2 ^ 32 + y) word in
     counter_after-inc (count_in x) operation inc
-    ∙ ap (λ (l : List ℕ). (l, reply_value (x % 2 ^ 32))) list ∙ ap (λ (r : ℕ). (count_in ((x + 1) % 2 ^ 64), r)) reply
+    ∙ ap (λ (l : List ℕ). (l, reply_value (x % 2 ^ 32))) list
+    ∙ ap (λ (r : ℕ). (count_in ((x + 1) % 2 ^ 64), r)) reply
 
-counts_nothing : (operation x : ℕ) → tally.makes_step operation ≡ false → kind_next Counter (count_in x) operation ≡ (count_in x, BAD)
+counts_nothing : (operation x : ℕ) → tally.makes_step operation ≡ false
+    → kind_next Counter (count_in x) operation ≡ (count_in x, BAD)
 unfolding kind_next
 counts_nothing operation x other = counter_after-other (count_in x) operation other
 
@@ -37,36 +41,50 @@ tally_serves_counter = record { first = refl; step = counts; no_step = counts_no
 
 pub tallies_linearize : TalliesLinearize
 tallies_linearize n cap steps run =
-    one_words_linearize tally count_in (kind_init Counter) (kind_next Counter) tally_serves_counter n cap steps run
+    one_words_linearize tally count_in (kind_init Counter)
+    (kind_next Counter) tally_serves_counter n cap steps run
 
 -- the law by what the counter does, as its sequential object has it
-pub tallies_linearize_counters : (n cap : ℕ) (steps : List Step) → IsRun (one_word_shape n cap tally) steps
-    → IsLinearizable (0 ∷ []) (λ list op. counter_after list (counter_operation op)) (history_of (one_word_shape n cap tally) steps)
+pub tallies_linearize_counters : (n cap : ℕ) (steps : List Step)
+    → IsRun (one_word_shape n cap tally) steps
+    → IsLinearizable (0 ∷ []) (λ list op. counter_after list (counter_operation op))
+    (history_of (one_word_shape n cap tally) steps)
 unfolding kind_next
 tallies_linearize_counters n cap steps run = tallies_linearize n cap steps run
 
 -- an operation that makes a step and is no write is a read
-holds_value : (operation x : ℕ) → cell.makes_step operation ≡ true → kind_next Register (value_in x) operation ≡ (value_in (cell.leaves operation x), cell.replies operation x)
+holds_value : (operation x : ℕ) → cell.makes_step operation ≡ true → kind_next Register
+    (value_in x) operation ≡ (value_in (cell.leaves operation x), cell.replies operation x)
 unfolding kind_next
 holds_value operation x known =
     elim (cases_Bool (is_operation_of operation words.write)) [
       | inl write ↦
           register_after-write (value_in x) operation write
-          ∙ sym (ap (λ b. (value_in (if b then argument_of operation else x), if b then reply_done else reply_value x)) write)
+          ∙ sym (ap (λ b. (
+            value_in (if b then argument_of operation else x),
+            if b then reply_done else reply_value x,
+          )) write)
       | inr other ↦
-          let read : is_operation_of operation words.read ≡ true = sym (ap (λ b. b || is_operation_of operation words.read) other) ∙ known in
+          let read : is_operation_of operation words.read ≡ true =
+          sym (ap (λ b. b || is_operation_of operation words.read) other) ∙ known in
           register_after-read (value_in x) operation other read
-          ∙ sym (ap (λ b. (value_in (if b then argument_of operation else x), if b then reply_done else reply_value x)) other)
+          ∙ sym (ap (λ b. (
+            value_in (if b then argument_of operation else x),
+            if b then reply_done else reply_value x,
+          )) other)
     ]
 
-holds_nothing : (operation x : ℕ) → cell.makes_step operation ≡ false → kind_next Register (value_in x) operation ≡ (value_in x, BAD)
+holds_nothing : (operation x : ℕ) → cell.makes_step operation ≡ false
+    → kind_next Register (value_in x) operation ≡ (value_in x, BAD)
 unfolding kind_next
 holds_nothing operation x unknown =
     elim (cases_Bool (is_operation_of operation words.write)) [
       | inl write ↦
-          let never : true ≡ false = sym (ap (λ b. b || is_operation_of operation words.read) write) ∙ unknown in absurd cc
+          let never : true ≡ false =
+          sym (ap (λ b. b || is_operation_of operation words.read) write) ∙ unknown in absurd cc
       | inr other ↦
-          register_after-other (value_in x) operation other (sym (ap (λ b. b || is_operation_of operation words.read) other) ∙ unknown)
+          register_after-other (value_in x) operation other
+          (sym (ap (λ b. b || is_operation_of operation words.read) other) ∙ unknown)
     ]
 
 pub cell_serves_register : CellServesRegister
@@ -74,10 +92,13 @@ cell_serves_register = record { first = refl; step = holds_value; no_step = hold
 
 pub cells_linearize : CellsLinearize
 cells_linearize n cap steps run =
-    one_words_linearize cell value_in (kind_init Register) (kind_next Register) cell_serves_register n cap steps run
+    one_words_linearize cell value_in (kind_init Register)
+    (kind_next Register) cell_serves_register n cap steps run
 
 -- the law by what the register does, as its sequential object has it
-pub cells_linearize_registers : (n cap : ℕ) (steps : List Step) → IsRun (one_word_shape n cap cell) steps
-    → IsLinearizable (0 ∷ []) (λ list op. register_after list (register_operation op)) (history_of (one_word_shape n cap cell) steps)
+pub cells_linearize_registers : (n cap : ℕ) (steps : List Step)
+    → IsRun (one_word_shape n cap cell) steps
+    → IsLinearizable (0 ∷ []) (λ list op. register_after list (register_operation op))
+    (history_of (one_word_shape n cap cell) steps)
 unfolding kind_next
 cells_linearize_registers n cap steps run = cells_linearize n cap steps run

@@ -18,7 +18,8 @@ tally_alone = one_word_shape 1 1 tally
 abbrev pub cell_pair : Shape
 cell_pair = one_word_shape 2 1 cell
 
--- The words of operations and replies: an increment, a write of 9, a read, an operation of code 3, done, and a value.
+-- The words of operations and replies: an increment, a write of 9, a read, an operation of code 3,
+-- done, and a value.
 abbrev pub increment : ℕ
 increment = 2 ^ 32
 
@@ -40,7 +41,8 @@ value x = 2 * 2 ^ 32 + x
 abbrev pub bad : ℕ
 bad = 4 * 2 ^ 32
 
--- A caller makes an object step that finds one word and leaves another; and gets a reply, where this many calls of caller 0 are counted.
+-- A caller makes an object step that finds one word and leaves another; and gets a reply, where
+-- this many calls of caller 0 are counted.
 abbrev pub finds_and_leaves : ℕ → ℕ → ℕ → Step
 finds_and_leaves who old new = by who (Object (object_step 0 old new))
 
@@ -64,11 +66,14 @@ counted_by_both =
 
 -- A caller alone increments.
 abbrev pub counted_alone : List Step
-counted_alone = announcement 0 increment (0 ∷ []) ++ finds_and_leaves 0 0 1 ∷ gets 0 1 (value 0) ∷ []
+counted_alone =
+    announcement 0 increment (0 ∷ []) ++ finds_and_leaves 0 0 1 ∷ gets 0 1 (value 0) ∷ []
 
--- What the tally refuses to caller 0 once both have announced: another sum, another word, a reply before the step, and bad.
+-- What the tally refuses to caller 0 once both have announced: another sum, another word, a reply
+-- before the step, and bad.
 abbrev pub refused_before_adding : List Step
-refused_before_adding = finds_and_leaves 0 0 2 ∷ finds_and_leaves 0 0 0 ∷ finds_and_leaves 0 1 2 ∷ gets 0 1 (value 0) ∷ gets 0 1 bad ∷ []
+refused_before_adding = finds_and_leaves 0 0 2 ∷ finds_and_leaves 0 0 0 ∷ finds_and_leaves 0 1 2
+    ∷ gets 0 1 (value 0) ∷ gets 0 1 bad ∷ []
 
 -- What the tally refuses to caller 1 once it has added: to add again, and to reply the new word.
 abbrev pub refused_after_adding : List Step
@@ -79,7 +84,8 @@ abbrev pub unknown_announced : List Step
 unknown_announced = announcement 0 unknown (0 ∷ 0 ∷ [])
 
 abbrev pub refused_to_unknown : List Step
-refused_to_unknown = finds_and_leaves 0 0 1 ∷ finds_and_leaves 0 0 0 ∷ gets 0 1 done ∷ gets 0 1 (value 0) ∷ []
+refused_to_unknown =
+    finds_and_leaves 0 0 1 ∷ finds_and_leaves 0 0 0 ∷ gets 0 1 done ∷ gets 0 1 (value 0) ∷ []
 
 -- Caller 0 announces a write of 9 and caller 1 a read, which finds the 9.
 abbrev pub write_and_read : List Step
@@ -91,8 +97,8 @@ written = write_and_read ++ finds_and_leaves 0 0 9 ∷ []
 abbrev pub written_and_read : List Step
 written_and_read = written ++ finds_and_leaves 1 9 9 ∷ gets 1 1 (value 9) ∷ gets 0 1 done ∷ []
 
--- What the cell refuses once both have announced: to store the whole operation word, to store another value, to change the word as it
--- is read, and a reply before the step.
+-- What the cell refuses once both have announced: to store the whole operation word, to store
+-- another value, to change the word as it is read, and a reply before the step.
 abbrev pub refused_before_writing : List Step
 refused_before_writing =
     finds_and_leaves 0 0 write_nine

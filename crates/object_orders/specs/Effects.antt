@@ -6,8 +6,8 @@ use Rattle.world_core.specs.World.{World, Step, start, after, local_of, is_possi
 use Rattle.world_core.specs.History.{Done, IsLinearization, IsLinearizable, history_of, call_of}
 use Rattle.world_laws.specs.Views.{return_of}
 
--- How an object's effects are read off a world: the list that the sequential object has there, and the reply of each call that has
--- taken effect.
+-- How an object's effects are read off a world: the list that the sequential object has there, and
+-- the reply of each call that has taken effect.
 pub record Effects : Type 0 where
   pub list : World → List ℕ
   pub reply : World → Call → Option ℕ
@@ -22,9 +22,10 @@ pub record IsAnnounced (s : Shape) (w : World) (call : Call) (operation : ℕ) :
   pub caller : call.caller < s.callers
   pub is : slice_get (local_of w call.caller).operations call.number ≡ Some operation
 
--- One call takes effect between two worlds: it has been announced, it had no reply before, and the sequential object makes its
--- operation on the list and gives its reply.
-pub record TakesEffect (next : List ℕ → ℕ → List ℕ × ℕ) (s : Shape) (e : Effects) (w v : World) (d : Done) : Type 0 where
+-- One call takes effect between two worlds: it has been announced, it had no reply before, and the
+-- sequential object makes its operation on the list and gives its reply.
+pub record TakesEffect (next : List ℕ → ℕ → List ℕ × ℕ) (s : Shape) (e : Effects) (w v : World)
+    (d : Done) : Type 0 where
   pub announced : IsAnnounced s v d.call d.operation
   pub before : e.reply w d.call ≡ None
   pub now : e.reply v d.call ≡ Some d.reply
@@ -33,22 +34,27 @@ pub record TakesEffect (next : List ℕ → ℕ → List ℕ × ℕ) (s : Shape)
   pub reply : (next (e.list w) d.operation).1 ≡ d.reply
 
 -- At most one call takes effect between two worlds.
-abbrev pub IsQuietOrTakesEffect : (List ℕ → ℕ → List ℕ × ℕ) → Shape → Effects → World → World → Type 0
+abbrev pub IsQuietOrTakesEffect : (List ℕ → ℕ → List ℕ × ℕ) → Shape → Effects → World
+    → World → Type 0
 IsQuietOrTakesEffect next s e w v = IsQuiet e w v ⊎ ((d : Done) × TakesEffect next s e w v d)
 
 -- The calls of every run take effect one at a time.
-pub record HasEffects (init : List ℕ) (next : List ℕ → ℕ → List ℕ × ℕ) (s : Shape) (e : Effects) : Type 0 where
+pub record HasEffects (init : List ℕ) (next : List ℕ → ℕ → List ℕ × ℕ) (s : Shape)
+    (e : Effects) : Type 0 where
   -- at the start the sequential object has its first list, and no call has taken effect
   pub first : e.list (start s) ≡ init
   pub none : (call : Call) → e.reply (start s) call ≡ None
   -- at most one call takes effect at each step
-  pub step : (w : World) (step : Step) → IsReachable s w → IsTrue (is_possible s w step) → IsQuietOrTakesEffect next s e w (after s w step)
+  pub step : (w : World) (step : Step) → IsReachable s w → IsTrue (is_possible s w step)
+      → IsQuietOrTakesEffect next s e w (after s w step)
   -- a call that returns has taken effect, with the reply that it returns
-  pub returns : (w : World) (i x reply : ℕ) → IsReachable s w → IsTrue (is_possible s w (return_of i x reply))
+  pub returns : (w : World) (i x reply : ℕ) → IsReachable s w
+      → IsTrue (is_possible s w (return_of i x reply))
       → e.reply w (call_of i (length (local_of w i).replies)) ≡ Some reply
 
 -- At some moment of a run one call has taken effect and the other hasn't.
-pub record TakesEffectBefore (s : Shape) (e : Effects) (steps : List Step) (a b : Call) : Type 0 where
+pub record TakesEffectBefore (s : Shape) (e : Effects) (steps : List Step)
+    (a b : Call) : Type 0 where
   pub before : List Step
   pub later : List Step
   pub run : before ++ later ≡ steps
@@ -56,26 +62,34 @@ pub record TakesEffectBefore (s : Shape) (e : Effects) (steps : List Step) (a b 
   pub first : e.reply (end_of s before) a ≡ Some reply
   pub second : e.reply (end_of s before) b ≡ None
 
--- An order is that of a run's effects: it has just the calls that have taken effect, each with its reply, and a call that comes
--- before another took effect before it.
-pub record IsOrderOfEffects (s : Shape) (e : Effects) (steps : List Step) (order : List Done) : Type 0 where
+-- An order is that of a run's effects: it has just the calls that have taken effect, each with its
+-- reply, and a call that comes before another took effect before it.
+pub record IsOrderOfEffects (s : Shape) (e : Effects) (steps : List Step)
+    (order : List Done) : Type 0 where
   pub replied : (d : Done) → Contains order d → e.reply (end_of s steps) d.call ≡ Some d.reply
   pub stands : (call : Call) (reply : ℕ) → e.reply (end_of s steps) call ≡ Some reply
-      → (operation : ℕ) × Contains order (record { call = call; operation = operation; reply = reply })
-  pub ordered : (p q : ℕ) (a b : Done) → p < q → slice_get order p ≡ Some a → slice_get order q ≡ Some b → TakesEffectBefore s e steps a.call b.call
+      → (operation : ℕ)
+      × Contains order (record { call = call; operation = operation; reply = reply })
+  pub ordered : (p q : ℕ) (a b : Done) → p < q → slice_get order p ≡ Some a
+      → slice_get order q ≡ Some b → TakesEffectBefore s e steps a.call b.call
 
 -- A history has a linearization in the order of the run's effects.
-abbrev pub IsLinearizedByEffects : List ℕ → (List ℕ → ℕ → List ℕ × ℕ) → Shape → Effects → List Step → Type 0
+abbrev pub IsLinearizedByEffects : List ℕ → (List ℕ → ℕ → List ℕ × ℕ) → Shape → Effects
+    → List Step → Type 0
 IsLinearizedByEffects init next s e steps =
-    (order : List Done) × IsLinearization init next (history_of s steps) order × IsOrderOfEffects s e steps order
+    (order : List Done) × IsLinearization init next (history_of s steps) order
+    × IsOrderOfEffects s e steps order
 
--- Where calls take effect one at a time, the object history of each run is linearizable, and the order of effects linearizes it.
+-- Where calls take effect one at a time, the object history of each run is linearizable, and the
+-- order of effects linearizes it.
 abbrev pub EffectsLinearize : Type 0
 EffectsLinearize =
-    (init : List ℕ) (next : List ℕ → ℕ → List ℕ × ℕ) (s : Shape) (e : Effects) → HasEffects init next s e
+    (init : List ℕ) (next : List ℕ → ℕ → List ℕ × ℕ) (s : Shape) (e : Effects)
+    → HasEffects init next s e
     → (steps : List Step) → IsRun s steps → IsLinearizable init next (history_of s steps)
 
 abbrev pub TheOrderIsOfEffects : Type 0
 TheOrderIsOfEffects =
-    (init : List ℕ) (next : List ℕ → ℕ → List ℕ × ℕ) (s : Shape) (e : Effects) → HasEffects init next s e
+    (init : List ℕ) (next : List ℕ → ℕ → List ℕ × ℕ) (s : Shape) (e : Effects)
+    → HasEffects init next s e
     → (steps : List Step) → IsRun s steps → IsLinearizedByEffects init next s e steps

@@ -8,8 +8,8 @@ use Rattle.world_core.specs.World.{Step, IsRun, local_of, object_word}
 use Rattle.world_core.specs.History.{IsLinearizable, history_of}
 use Rattle.object_orders.specs.Effects.{Effects, IsLinearizedByEffects}
 
--- An object of one word: which operations make a step, and which word the step leaves and which reply it gives, by the word that
--- it finds.
+-- An object of one word: which operations make a step, and which word the step leaves and which
+-- reply it gives, by the word that it finds.
 pub record OneWord : Type 0 where
   pub makes_step : ℕ → Bool
   pub leaves : ℕ → ℕ → ℕ
@@ -20,9 +20,11 @@ abbrev pub reply_by_step : OneWord → ℕ → List Object_step → Option ℕ
 reply_by_step o operation [] = None
 reply_by_step o operation (step ∷ more) = Some (o.replies operation step.old)
 
--- The reply of a call that has made these steps, where it has one yet: a call whose operation makes no step replies bad at once.
+-- The reply of a call that has made these steps, where it has one yet: a call whose operation makes
+-- no step replies bad at once.
 abbrev pub reply_of : OneWord → ℕ → List Object_step → Option ℕ
-reply_of o operation steps = if o.makes_step operation then reply_by_step o operation steps else Some BAD
+reply_of o operation steps =
+    if o.makes_step operation then reply_by_step o operation steps else Some BAD
 
 -- A call has made no step yet.
 abbrev pub is_without_steps : List Object_step → Bool
@@ -39,7 +41,8 @@ abbrev pub one_word_program : OneWord → Meaning
 one_word_program o =
     record {
       objects = 1;
-      may_step = λ i l step. o.makes_step (operation_now l) && (is_without_steps (steps_now l) && step.new == o.leaves (operation_now l) step.old);
+      may_step = λ i l step. o.makes_step (operation_now l)
+          && (is_without_steps (steps_now l) && step.new == o.leaves (operation_now l) step.old);
       may_reply = λ i l reply. is_reply (reply_of o (operation_now l) (steps_now l)) reply;
     }
 
@@ -47,12 +50,16 @@ one_word_program o =
 abbrev pub one_word_shape : ℕ → ℕ → OneWord → Shape
 one_word_shape n cap o = record { callers = n; cap = cap; program = one_word_program o }
 
--- An object of one word serves a sequential object, whose list is read off the word: the word 0 has the first list, a step makes the
--- operation, and an operation without a step leaves each such list and replies bad.
-pub record Serves (o : OneWord) (list : ℕ → List ℕ) (init : List ℕ) (next : List ℕ → ℕ → List ℕ × ℕ) : Type 0 where
+-- An object of one word serves a sequential object, whose list is read off the word: the word 0 has
+-- the first list, a step makes the operation, and an operation without a step leaves each such list
+-- and replies bad.
+pub record Serves (o : OneWord) (list : ℕ → List ℕ) (init : List ℕ)
+    (next : List ℕ → ℕ → List ℕ × ℕ) : Type 0 where
   pub first : list 0 ≡ init
-  pub step : (operation x : ℕ) → o.makes_step operation ≡ true → next (list x) operation ≡ (list (o.leaves operation x), o.replies operation x)
-  pub no_step : (operation x : ℕ) → o.makes_step operation ≡ false → next (list x) operation ≡ (list x, BAD)
+  pub step : (operation x : ℕ) → o.makes_step operation ≡ true
+      → next (list x) operation ≡ (list (o.leaves operation x), o.replies operation x)
+  pub no_step : (operation x : ℕ) → o.makes_step operation ≡ false
+      → next (list x) operation ≡ (list x, BAD)
 
 -- The reply of a call of this operation, where it has been announced, by its steps.
 abbrev pub reply_if_announced : OneWord → Option ℕ → List Object_step → Option ℕ
@@ -61,9 +68,11 @@ reply_if_announced o (Some operation) steps = reply_of o operation steps
 
 -- The reply of call k of a local, where it has one yet.
 abbrev pub reply_in : OneWord → Local → ℕ → Option ℕ
-reply_in o l k = reply_if_announced o (slice_get l.operations k) (slice_index_or l.object_steps k [])
+reply_in o l k =
+    reply_if_announced o (slice_get l.operations k) (slice_index_or l.object_steps k [])
 
--- A call takes effect at its step, or at its announcement where its operation makes none; the list is read off the word.
+-- A call takes effect at its step, or at its announcement where its operation makes none; the list
+-- is read off the word.
 abbrev pub one_word_effects : Shape → OneWord → (ℕ → List ℕ) → Effects
 one_word_effects s o list =
     record {
@@ -71,15 +80,20 @@ one_word_effects s o list =
       reply = λ w call. reply_in o (local_of w call.caller) call.number;
     }
 
--- The object history of every run of an object of one word is linearizable for the sequential object that it serves, in the order of
--- the calls' steps and, for calls without a step, announcements.
+-- The object history of every run of an object of one word is linearizable for the sequential
+-- object that it serves, in the order of the calls' steps and, for calls without a step,
+-- announcements.
 abbrev pub OneWordsLinearize : Type 0
 OneWordsLinearize =
-    (o : OneWord) (list : ℕ → List ℕ) (init : List ℕ) (next : List ℕ → ℕ → List ℕ × ℕ) → Serves o list init next
-    → (n cap : ℕ) (steps : List Step) → IsRun (one_word_shape n cap o) steps → IsLinearizable init next (history_of (one_word_shape n cap o) steps)
+    (o : OneWord) (list : ℕ → List ℕ) (init : List ℕ) (next : List ℕ → ℕ → List ℕ × ℕ)
+    → Serves o list init next
+    → (n cap : ℕ) (steps : List Step) → IsRun (one_word_shape n cap o) steps
+    → IsLinearizable init next (history_of (one_word_shape n cap o) steps)
 
 abbrev pub OneWordOrdersAreOfSteps : Type 0
 OneWordOrdersAreOfSteps =
-    (o : OneWord) (list : ℕ → List ℕ) (init : List ℕ) (next : List ℕ → ℕ → List ℕ × ℕ) → Serves o list init next
+    (o : OneWord) (list : ℕ → List ℕ) (init : List ℕ) (next : List ℕ → ℕ → List ℕ × ℕ)
+    → Serves o list init next
     → (n cap : ℕ) (steps : List Step) → IsRun (one_word_shape n cap o) steps
-    → IsLinearizedByEffects init next (one_word_shape n cap o) (one_word_effects (one_word_shape n cap o) o list) steps
+    → IsLinearizedByEffects init next (one_word_shape n cap o)
+    (one_word_effects (one_word_shape n cap o) o list) steps

@@ -1,4 +1,5 @@
--- Two objects of one word: the tally, which serves the counter, and the cell, which serves the register.
+-- Two objects of one word: the tally, which serves the counter, and the cell, which serves the
+-- register.
 use Rattle.std.specs.Prelude.{ℕ, ◌+◌, ◌%◌, ◌^◌, ◌||◌, if◌then◌else◌, List, [], ◌∷◌}
 use Rattle.seq_objects.specs.declared.kind.Kind.TheVariants.{Counter, Register}
 use Rattle.seq_objects.specs.Objects.{kind_init, kind_next}
@@ -26,9 +27,12 @@ count_in x = x % 2 ^ 32 ∷ []
 abbrev pub cell : OneWord
 cell =
     record {
-      makes_step = λ operation. is_operation_of operation words.write || is_operation_of operation words.read;
-      leaves = λ operation x. if is_operation_of operation words.write then argument_of operation else x;
-      replies = λ operation x. if is_operation_of operation words.write then reply_done else reply_value x;
+      makes_step = λ operation. is_operation_of operation words.write
+          || is_operation_of operation words.read;
+      leaves =
+          λ operation x. if is_operation_of operation words.write then argument_of operation else x;
+      replies = λ operation x. if is_operation_of operation words.write then reply_done
+          else reply_value x;
     }
 
 -- The list of the register that a word of the cell represents.
@@ -42,13 +46,16 @@ TallyServesCounter = Serves tally count_in (kind_init Counter) (kind_next Counte
 abbrev pub CellServesRegister : Type 0
 CellServesRegister = Serves cell value_in (kind_init Register) (kind_next Register)
 
--- The object history of every run of the tally is linearizable for the counter, and that of the cell for the register.
+-- The object history of every run of the tally is linearizable for the counter, and that of the
+-- cell for the register.
 abbrev pub TalliesLinearize : Type 0
 TalliesLinearize =
     (n cap : ℕ) (steps : List Step) → IsRun (one_word_shape n cap tally) steps
-    → IsLinearizable (kind_init Counter) (kind_next Counter) (history_of (one_word_shape n cap tally) steps)
+    → IsLinearizable (kind_init Counter) (kind_next Counter)
+    (history_of (one_word_shape n cap tally) steps)
 
 abbrev pub CellsLinearize : Type 0
 CellsLinearize =
     (n cap : ℕ) (steps : List Step) → IsRun (one_word_shape n cap cell) steps
-    → IsLinearizable (kind_init Register) (kind_next Register) (history_of (one_word_shape n cap cell) steps)
+    → IsLinearizable (kind_init Register) (kind_next Register)
+    (history_of (one_word_shape n cap cell) steps)

@@ -1,11 +1,13 @@
-//! What makes the object histories of a program linearizable. Each law is the contract of a function with nothing in it.
+//! What makes the object histories of a program linearizable. Each law is the contract of a
+//! function with nothing in it.
 
 ghost use Rattle.object_orders.specs.Effects.{EffectsLinearize, TheOrderIsOfEffects};
 ghost use Rattle.object_orders.specs.OneWord.{OneWordsLinearize, OneWordOrdersAreOfSteps};
 ghost use Rattle.object_orders.specs.TallyAndCell.{TallyServesCounter, CellServesRegister, TalliesLinearize, CellsLinearize};
 
-/// Where the calls of all runs take effect one at a time, each between its announcement and its return, the
-/// object history of every run is linearizable, in the order of effects (Herlihy and Wing 1990).
+/// Where the calls of all runs take effect one at a time, each between its announcement and its
+/// return, the object history of every run is linearizable, in the order of effects (Herlihy and
+/// Wing 1990).
 pub fn effects_linearize()
     // Where calls take effect one at a time, the object history of each run is linearizable.
     ensures linearizable { EffectsLinearize }
@@ -14,8 +16,8 @@ pub fn effects_linearize()
     ensures order { TheOrderIsOfEffects }
 {}
 
-/// Every run of an object of one word is linearizable, where each call makes at most one step: a call takes
-/// effect at its step, or at its announcement where its operation makes none.
+/// Every run of an object of one word is linearizable, where each call makes at most one step: a
+/// call takes effect at its step, or at its announcement where its operation makes none.
 pub fn one_words_linearize()
     // The object history of each run of an object of one word is linearizable.
     ensures linearizable { OneWordsLinearize }

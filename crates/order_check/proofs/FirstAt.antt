@@ -15,102 +15,166 @@ use Rattle.order_check.proofs.Faults.{stands_here, same_stands}
 use Rattle.order_check.proofs.Placing.{PassesTest, first_at, late_ties}
 
 -- the call at the place is known
-known : (book : List Page) (order : List Place) (p : ℕ) (place : Place) → slice_get order p ≡ Some place → IsCall book (call_at place) → (c : Call) → StandsAt order p c → IsCall book c
-known book order p place at is c here = subst (IsCall book) (same_stands order p (call_at place) c (stands_here order p place at) here) is
+known : (book : List Page) (order : List Place) (p : ℕ) (place : Place) → slice_get order p
+    ≡ Some place → IsCall book (call_at place) → (c : Call) → StandsAt order p c → IsCall book c
+known book order p place at is c here = subst (IsCall book)
+    (same_stands order p (call_at place) c (stands_here order p place at) here) is
 
 -- it stands at no earlier place, where the cut doesn't hold it
-once : (book : List Page) (order : List Place) (p : ℕ) (standing : List ℕ) (place : Place) → IsStanding book order p standing → slice_get order p ≡ Some place
-    → get_or standing place.caller 0 ≤ place.number → (j : ℕ) (c : Call) → StandsAt order p c → j < p → StandsAt order j c → ⊥
+once : (book : List Page) (order : List Place) (p : ℕ) (standing : List ℕ) (place : Place)
+    → IsStanding book order p standing → slice_get order p ≡ Some place
+    → get_or standing place.caller 0 ≤ place.number → (j : ℕ) (c : Call) → StandsAt order p c
+    → j < p → StandsAt order j c → ⊥
 once book order p standing place h at out j c here less bt =
-    let held : Holds standing (call_at place) = subst (Holds standing) (sym (same_stands order p (call_at place) c (stands_here order p place at) here)) (h.stands j c less bt) in
+    let held : Holds standing (call_at place) = subst (Holds standing)
+    (sym (same_stands order p (call_at place) c (stands_here order p place at) here))
+    (h.stands j c less bt) in
     absurd (omega (arith, held, out))
 
 -- the previous call of its caller stands earlier, where it is the next one after the cut
-in_turn : (book : List Page) (order : List Place) (p : ℕ) (standing : List ℕ) (place : Place) → IsStanding book order p standing → slice_get order p ≡ Some place
-    → place.number ≡ get_or standing place.caller 0 → (c : Call) → StandsAt order p c → (n : ℕ) → n + 1 ≡ c.number
+in_turn : (book : List Page) (order : List Place) (p : ℕ) (standing : List ℕ) (place : Place)
+    → IsStanding book order p standing → slice_get order p ≡ Some place
+    → place.number ≡ get_or standing place.caller 0 → (c : Call) → StandsAt order p c → (n : ℕ)
+    → n + 1 ≡ c.number
     → (j : ℕ) × (j < p) × StandsAt order j (record { caller = c.caller; number = n })
 in_turn book order p standing place h at number c here n e =
-    let one : c ≡ call_at place = same_stands order p c (call_at place) here (stands_here order p place at) in
+    let one : c ≡ call_at place =
+    same_stands order p c (call_at place) here (stands_here order p place at) in
     let it : Call = record { caller = c.caller; number = n } in
-    h.held it (omega (arith, e, number, ap (λ (x : Call). x.number) one, ap (λ (x : Call). get_or standing x.caller 0) one))
+    h.held it (omega (
+      arith,
+      e,
+      number,
+      ap (λ (x : Call). x.number) one,
+      ap (λ (x : Call). get_or standing x.caller 0) one,
+    ))
 
 -- nothing is tried before within a turn that has one test
-alone : (init : List ℕ) (next : List ℕ → ℕ → List ℕ × ℕ) (book : List Page) (order : List Place) (p : ℕ) (fault : OrderFault) → step_of fault ≡ 0
-    → (other : OrderFault) → place_of order other ≡ p → turn_of other ≡ turn_of fault → step_of other < step_of fault → FailsTest init next book order other → ⊥
-alone init next book order p fault one other here turn less failed = absurd (omega (arith, one, less))
+alone : (init : List ℕ) (next : List ℕ → ℕ → List ℕ × ℕ) (book : List Page) (order : List Place)
+    (p : ℕ) (fault : OrderFault) → step_of fault ≡ 0
+    → (other : OrderFault) → place_of order other ≡ p → turn_of other ≡ turn_of fault
+    → step_of other < step_of fault → FailsTest init next book order other → ⊥
+alone init next book order p fault one other here turn less failed =
+    absurd (omega (arith, one, less))
 
-pub unknown_first : (init : List ℕ) (next : List ℕ → ℕ → List ℕ × ℕ) (book : List Page) (order : List Place) (p : ℕ) (place : Place) → slice_get order p ≡ Some place
+pub unknown_first : (init : List ℕ) (next : List ℕ → ℕ → List ℕ × ℕ) (book : List Page)
+    (order : List Place) (p : ℕ) (place : Place) → slice_get order p ≡ Some place
     → (IsCall book (call_at place) → ⊥) → IsFirstAt init next book order p (Unknown p)
 unknown_first init next book order p place at unknown =
-    first_at init next book order p (Unknown p) (slice_get_within order p place at) (call_at place, stands_here order p place at, unknown) refl
+    first_at init next book order p (Unknown p) (slice_get_within order p place at)
+    (call_at place, stands_here order p place at, unknown) refl
     (λ s less. absurd (omega (arith, less))) (alone init next book order p (Unknown p) refl)
 
 -- the first test is passed
-passes_one : (init : List ℕ) (next : List ℕ → ℕ → List ℕ × ℕ) (book : List Page) (order : List Place) (p : ℕ) (place : Place) → slice_get order p ≡ Some place
+passes_one : (init : List ℕ) (next : List ℕ → ℕ → List ℕ × ℕ) (book : List Page)
+    (order : List Place) (p : ℕ) (place : Place) → slice_get order p ≡ Some place
     → IsCall book (call_at place) → (s : ℕ) → s < 1 → PassesTest init next book order p s
 passes_one init next book order p place at is zero less = known book order p place at is
 passes_one init next book order p place at is (suc s) less = absurd (omega arith)
 
-pub twice_first : (init : List ℕ) (next : List ℕ → ℕ → List ℕ × ℕ) (book : List Page) (order : List Place) (p : ℕ) (standing : List ℕ) (place : Place)
-    → IsStanding book order p standing → slice_get order p ≡ Some place → IsCall book (call_at place) → place.number < get_or standing place.caller 0
+pub twice_first : (init : List ℕ) (next : List ℕ → ℕ → List ℕ × ℕ) (book : List Page)
+    (order : List Place) (p : ℕ) (standing : List ℕ) (place : Place)
+    → IsStanding book order p standing → slice_get order p ≡ Some place
+    → IsCall book (call_at place) → place.number < get_or standing place.caller 0
     → IsFirstAt init next book order p (Twice p)
 twice_first init next book order p standing place h at is held =
     let before = h.held (call_at place) held in
-    first_at init next book order p (Twice p) (slice_get_within order p place at) (call_at place, stands_here order p place at, before.0, before.1, before.2) refl
+    first_at init next book order p (Twice p) (slice_get_within order p place at)
+    (call_at place, stands_here order p place at, before.0, before.1, before.2) refl
     (passes_one init next book order p place at is) (alone init next book order p (Twice p) refl)
 
 -- the first two tests are passed
-passes_two : (init : List ℕ) (next : List ℕ → ℕ → List ℕ × ℕ) (book : List Page) (order : List Place) (p : ℕ) (standing : List ℕ) (place : Place)
-    → IsStanding book order p standing → slice_get order p ≡ Some place → IsCall book (call_at place) → get_or standing place.caller 0 ≤ place.number
+passes_two : (init : List ℕ) (next : List ℕ → ℕ → List ℕ × ℕ) (book : List Page)
+    (order : List Place) (p : ℕ) (standing : List ℕ) (place : Place)
+    → IsStanding book order p standing → slice_get order p ≡ Some place
+    → IsCall book (call_at place) → get_or standing place.caller 0 ≤ place.number
     → (s : ℕ) → s < 2 → PassesTest init next book order p s
-passes_two init next book order p standing place h at is out zero less = known book order p place at is
-passes_two init next book order p standing place h at is out (suc zero) less = once book order p standing place h at out
-passes_two init next book order p standing place h at is out (suc (suc s)) less = absurd (omega arith)
+passes_two init next book order p standing place h at is out zero less =
+    known book order p place at is
+passes_two init next book order p standing place h at is out (suc zero) less =
+    once book order p standing place h at out
+passes_two init next book order p standing place h at is out (suc (suc s)) less =
+    absurd (omega arith)
 
-pub skipped_first : (init : List ℕ) (next : List ℕ → ℕ → List ℕ × ℕ) (book : List Page) (order : List Place) (p : ℕ) (standing : List ℕ) (place : Place)
-    → IsStanding book order p standing → slice_get order p ≡ Some place → IsCall book (call_at place) → get_or standing place.caller 0 < place.number
+pub skipped_first : (init : List ℕ) (next : List ℕ → ℕ → List ℕ × ℕ) (book : List Page)
+    (order : List Place) (p : ℕ) (standing : List ℕ) (place : Place)
+    → IsStanding book order p standing → slice_get order p ≡ Some place
+    → IsCall book (call_at place) → get_or standing place.caller 0 < place.number
     → IsFirstAt init next book order p (Skipped p)
 skipped_first init next book order p standing place h at is more =
     let previous : ℕ = place.number - 1 in
     let it : Call = record { caller = place.caller; number = previous } in
-    first_at init next book order p (Skipped p) (slice_get_within order p place at)
-    (call_at place, stands_here order p place at, previous, omega (arith, more), λ (j : ℕ) (less : j < p) (bt : StandsAt order j it). absurd (omega (arith, h.stands j it less bt, more))) refl
-    (passes_two init next book order p standing place h at is (omega (arith, more))) (alone init next book order p (Skipped p) refl)
+    first_at init next book order p (Skipped p) (slice_get_within order p place at) (
+      call_at place,
+      stands_here order p place at,
+      previous,
+      omega (arith, more),
+      λ (j : ℕ) (less : j < p) (bt : StandsAt order j it).
+          absurd (omega (arith, h.stands j it less bt, more)),
+    ) refl
+    (passes_two init next book order p standing place h at is (omega (arith, more)))
+    (alone init next book order p (Skipped p) refl)
 
 -- the first three tests are passed
-passes_three : (init : List ℕ) (next : List ℕ → ℕ → List ℕ × ℕ) (book : List Page) (order : List Place) (p : ℕ) (standing : List ℕ) (place : Place)
-    → IsStanding book order p standing → slice_get order p ≡ Some place → IsCall book (call_at place) → place.number ≡ get_or standing place.caller 0
+passes_three : (init : List ℕ) (next : List ℕ → ℕ → List ℕ × ℕ) (book : List Page)
+    (order : List Place) (p : ℕ) (standing : List ℕ) (place : Place)
+    → IsStanding book order p standing → slice_get order p ≡ Some place
+    → IsCall book (call_at place) → place.number ≡ get_or standing place.caller 0
     → (s : ℕ) → s < 3 → PassesTest init next book order p s
-passes_three init next book order p standing place h at is number zero less = known book order p place at is
-passes_three init next book order p standing place h at is number (suc zero) less = once book order p standing place h at (omega (arith, number))
-passes_three init next book order p standing place h at is number (suc (suc zero)) less = in_turn book order p standing place h at number
-passes_three init next book order p standing place h at is number (suc (suc (suc s))) less = absurd (omega arith)
+passes_three init next book order p standing place h at is number zero less =
+    known book order p place at is
+passes_three init next book order p standing place h at is number (suc zero) less =
+    once book order p standing place h at (omega (arith, number))
+passes_three init next book order p standing place h at is number (suc (suc zero)) less =
+    in_turn book order p standing place h at number
+passes_three init next book order p standing place h at is number (suc (suc (suc s))) less =
+    absurd (omega arith)
 
-pub late_first : (init : List ℕ) (next : List ℕ → ℕ → List ℕ × ℕ) (book : List Page) (order : List Place) (p q : ℕ) (standing : List ℕ) (place : Place)
-    → IsStanding book order p standing → slice_get order p ≡ Some place → IsCall book (call_at place) → place.number ≡ get_or standing place.caller 0 → q < p
-    → (b : Call) → StandsAt order q b → Precedes book (call_at place) b → ((j : ℕ) (other : Call) → j < q → StandsAt order j other → Precedes book (call_at place) other → ⊥)
+pub late_first : (init : List ℕ) (next : List ℕ → ℕ → List ℕ × ℕ) (book : List Page)
+    (order : List Place) (p q : ℕ) (standing : List ℕ) (place : Place)
+    → IsStanding book order p standing → slice_get order p ≡ Some place
+    → IsCall book (call_at place) → place.number ≡ get_or standing place.caller 0 → q < p
+    → (b : Call) → StandsAt order q b → Precedes book (call_at place) b → ((j : ℕ) (other : Call)
+    → j < q → StandsAt order j other → Precedes book (call_at place) other → ⊥)
     → IsFirstAt init next book order p (Late q p)
 late_first init next book order p q standing place h at is number less b bt before least =
     let inside = slice_get_within order p place at in
     let here = stands_here order p place at in
-    first_at init next book order p (Late q p) inside (call_at place, b, here, bt, less, before) refl
-    (passes_three init next book order p standing place h at is number) (late_ties init next book order p q (call_at place) inside here least)
+    first_at init next book order p (Late q p) inside
+    (call_at place, b, here, bt, less, before) refl
+    (passes_three init next book order p standing place h at is number)
+    (late_ties init next book order p q (call_at place) inside here least)
 
 -- the first four tests are passed
-passes_four : (init : List ℕ) (next : List ℕ → ℕ → List ℕ × ℕ) (book : List Page) (order : List Place) (p : ℕ) (standing : List ℕ) (place : Place)
-    → IsStanding book order p standing → slice_get order p ≡ Some place → IsCall book (call_at place) → place.number ≡ get_or standing place.caller 0
-    → ((j : ℕ) (b : Call) → j < p → StandsAt order j b → Precedes book (call_at place) b → ⊥) → (s : ℕ) → s < 4 → PassesTest init next book order p s
-passes_four init next book order p standing place h at is number in_time zero less = known book order p place at is
-passes_four init next book order p standing place h at is number in_time (suc zero) less = once book order p standing place h at (omega (arith, number))
-passes_four init next book order p standing place h at is number in_time (suc (suc zero)) less = in_turn book order p standing place h at number
-passes_four init next book order p standing place h at is number in_time (suc (suc (suc zero))) less = λ (j : ℕ) (a b : Call) (here : StandsAt order p a) (fewer : j < p) (bt : StandsAt order j b) (prec : Precedes book a b).
-    in_time j b fewer bt (subst (λ (x : Call). Precedes book x b) (same_stands order p a (call_at place) here (stands_here order p place at)) prec)
-passes_four init next book order p standing place h at is number in_time (suc (suc (suc (suc s)))) less = absurd (omega arith)
+passes_four : (init : List ℕ) (next : List ℕ → ℕ → List ℕ × ℕ) (book : List Page)
+    (order : List Place) (p : ℕ) (standing : List ℕ) (place : Place)
+    → IsStanding book order p standing → slice_get order p ≡ Some place
+    → IsCall book (call_at place) → place.number ≡ get_or standing place.caller 0
+    → ((j : ℕ) (b : Call) → j < p → StandsAt order j b → Precedes book (call_at place) b → ⊥)
+    → (s : ℕ) → s < 4 → PassesTest init next book order p s
+passes_four init next book order p standing place h at is number in_time zero less =
+    known book order p place at is
+passes_four init next book order p standing place h at is number in_time (suc zero) less =
+    once book order p standing place h at (omega (arith, number))
+passes_four init next book order p standing place h at is number in_time (suc (suc zero)) less =
+    in_turn book order p standing place h at number
+passes_four init next book order p standing place h at is number in_time
+    (suc (suc (suc zero))) less = λ (j : ℕ) (a b : Call) (here : StandsAt order p a) (fewer : j < p)
+    (bt : StandsAt order j b) (prec : Precedes book a b).
+    in_time j b fewer bt (subst (λ (x : Call). Precedes book x b)
+    (same_stands order p a (call_at place) here (stands_here order p place at)) prec)
+passes_four init next book order p standing place h at is number in_time
+    (suc (suc (suc (suc s)))) less = absurd (omega arith)
 
-pub record_first : (init : List ℕ) (next : List ℕ → ℕ → List ℕ × ℕ) (book : List Page) (order : List Place) (p : ℕ) (standing : List ℕ) (place : Place) (r : Answer)
-    → IsStanding book order p standing → slice_get order p ≡ Some place → IsCall book (call_at place) → place.number ≡ get_or standing place.caller 0
-    → ((j : ℕ) (b : Call) → j < p → StandsAt order j b → Precedes book (call_at place) b → ⊥) → record_of book (call_at place) ≡ Some r → r.reply ≢ place.reply
+pub record_first : (init : List ℕ) (next : List ℕ → ℕ → List ℕ × ℕ) (book : List Page)
+    (order : List Place) (p : ℕ) (standing : List ℕ) (place : Place) (r : Answer)
+    → IsStanding book order p standing → slice_get order p ≡ Some place
+    → IsCall book (call_at place) → place.number ≡ get_or standing place.caller 0
+    → ((j : ℕ) (b : Call) → j < p → StandsAt order j b → Precedes book (call_at place) b → ⊥)
+    → record_of book (call_at place) ≡ Some r → r.reply ≢ place.reply
     → IsFirstAt init next book order p (Record p r.reply place.reply)
 record_first init next book order p standing place r h at is number in_time answered other =
-    first_at init next book order p (Record p r.reply place.reply) (slice_get_within order p place at) (place, r, at, answered, refl, refl, other) refl
-    (passes_four init next book order p standing place h at is number in_time) (alone init next book order p (Record p r.reply place.reply) refl)
+    first_at init next book order p (Record p r.reply place.reply)
+    (slice_get_within order p place at) (place, r, at, answered, refl, refl, other) refl
+    (passes_four init next book order p standing place h at is number in_time)
+    (alone init next book order p (Record p r.reply place.reply) refl)

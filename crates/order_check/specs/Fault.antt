@@ -1,4 +1,5 @@
--- Why a list of places is no legal order of a book: the tests that it may fail, and the order in which they are tried.
+-- Why a list of places is no legal order of a book: the tests that it may fail, and the order in
+-- which they are tried.
 use Rattle.std.specs.Prelude.{◌≡◌, ◌≢◌, ℕ, ◌+◌, ◌<◌, ◌⊎◌, List, length, take, fold, Some, slice_get}
 use Rattle.book_base.specs.declared.call.Call.{Call}
 use Rattle.book_base.specs.declared.call.Record.{Record as Answer}
@@ -15,28 +16,39 @@ list_before init next book order p = fold (list_after book next) init (take p or
 
 -- the reply that the object gives to the operation of a place, after those of the first p places
 abbrev pub reply_at : List ℕ → (List ℕ → ℕ → List ℕ × ℕ) → List Page → List Place → ℕ → Place → ℕ
-reply_at init next book order p place = (next (list_before init next book order p) (step_at book place).0).1
+reply_at init next book order p place =
+    (next (list_before init next book order p) (step_at book place).0).1
 
--- The list of places fails the test that a fault names, for the sequential object that begins with init and goes on by next.
-abbrev pub FailsTest : List ℕ → (List ℕ → ℕ → List ℕ × ℕ) → List Page → List Place → OrderFault → Type 0
+-- The list of places fails the test that a fault names, for the sequential object that begins with
+-- init and goes on by next.
+abbrev pub FailsTest : List ℕ → (List ℕ → ℕ → List ℕ × ℕ) → List Page → List Place
+    → OrderFault → Type 0
 -- the call at place p isn't in the book
-FailsTest init next book order (Unknown p) = (call : Call) × StandsAt order p call × (IsCall book call → ⊥)
+FailsTest init next book order (Unknown p) = (call : Call) × StandsAt order p call
+    × (IsCall book call → ⊥)
 -- the call at place p stands at an earlier place
-FailsTest init next book order (Twice p) = (call : Call) × StandsAt order p call × (j : ℕ) × (j < p) × StandsAt order j call
+FailsTest init next book order (Twice p) = (call : Call) × StandsAt order p call × (j : ℕ) × (j < p)
+    × StandsAt order j call
 -- the call at place p isn't its caller's first, and the one before it stands at no earlier place
-FailsTest init next book order (Skipped p) = (call : Call) × StandsAt order p call × (number : ℕ) × (number + 1 ≡ call.number)
+FailsTest init next book order (Skipped p) = (call : Call) × StandsAt order p call × (number : ℕ)
+    × (number + 1 ≡ call.number)
     × ((j : ℕ) → j < p → StandsAt order j (record { caller = call.caller; number = number }) → ⊥)
 -- the call at place p precedes the call at the earlier place q
-FailsTest init next book order (Late q p) = (a : Call) × (b : Call) × StandsAt order p a × StandsAt order q b × (q < p) × Precedes book a b
+FailsTest init next book order (Late q p) = (a : Call) × (b : Call) × StandsAt order p a
+    × StandsAt order q b × (q < p) × Precedes book a b
 -- the call at place p is answered with a reply that isn't the one at the place
-FailsTest init next book order (Record p wanted found) = (place : Place) × (r : Answer) × (slice_get order p ≡ Some place)
-    × (record_of book (call_at place) ≡ Some r) × (wanted ≡ r.reply) × (found ≡ place.reply) × (wanted ≢ found)
+FailsTest init next book order (Record p wanted found) = (place : Place) × (r : Answer)
+    × (slice_get order p ≡ Some place)
+    × (record_of book (call_at place) ≡ Some r) × (wanted ≡ r.reply) × (found ≡ place.reply)
+    × (wanted ≢ found)
 -- the object gives a reply there that isn't the one at the place
-FailsTest init next book order (Run p wanted found) = (place : Place) × (slice_get order p ≡ Some place)
+FailsTest init next book order (Run p wanted found) = (place : Place)
+    × (slice_get order p ≡ Some place)
     × (wanted ≡ reply_at init next book order p place) × (found ≡ place.reply) × (wanted ≢ found)
 -- the call is answered, and stands at no place
 FailsTest init next book order (Missing caller number) =
-    let call : Call = record { caller = caller; number = number } in IsAnswered book call × ((k : ℕ) → StandsAt order k call → ⊥)
+    let call : Call = record { caller = caller; number = number } in
+    IsAnswered book call × ((k : ℕ) → StandsAt order k call → ⊥)
 
 -- the place at which a test is tried; what is missing is looked for after all places
 abbrev pub place_of : List Place → OrderFault → ℕ
@@ -58,7 +70,8 @@ turn_of (Record p wanted found) = 4
 turn_of (Run p wanted found) = 5
 turn_of (Missing caller number) = caller
 
--- what is tried in turn within a turn: earlier places for a late call, and numbers for a missing one
+-- what is tried in turn within a turn: earlier places for a late call, and numbers for a missing
+-- one
 abbrev pub step_of : OrderFault → ℕ
 step_of (Late q p) = q
 step_of (Missing caller number) = number
@@ -70,9 +83,12 @@ HasTurnBefore e f = (turn_of e < turn_of f) ⊎ ((turn_of e ≡ turn_of f) × (s
 
 -- One test is tried before another: at an earlier place, or before it at the same one.
 abbrev pub IsTriedBefore : List Place → OrderFault → OrderFault → Type 0
-IsTriedBefore order e f = (place_of order e < place_of order f) ⊎ ((place_of order e ≡ place_of order f) × HasTurnBefore e f)
+IsTriedBefore order e f = (place_of order e < place_of order f)
+    ⊎ ((place_of order e ≡ place_of order f) × HasTurnBefore e f)
 
 -- The fault names the first test that the list of places fails.
-pub record IsFirstFault (init : List ℕ) (next : List ℕ → ℕ → List ℕ × ℕ) (book : List Page) (order : List Place) (fault : OrderFault) : Type 0 where
+pub record IsFirstFault (init : List ℕ) (next : List ℕ → ℕ → List ℕ × ℕ) (book : List Page)
+    (order : List Place) (fault : OrderFault) : Type 0 where
   pub fails : FailsTest init next book order fault
-  pub first : (other : OrderFault) → IsTriedBefore order other fault → FailsTest init next book order other → ⊥
+  pub first : (other : OrderFault) → IsTriedBefore order other fault
+      → FailsTest init next book order other → ⊥

@@ -8,10 +8,13 @@ use Rattle.order_check.specs.Fault.{FailsTest, IsFirstFault}
 
 -- A legal order of a book fails no test.
 abbrev pub LegalOrdersFailNoTest : Type 0
-LegalOrdersFailNoTest = (init : List ℕ) (next : List ℕ → ℕ → List ℕ × ℕ) (book : List Page) (order : List Place) → IsLegalOrder init next book order
+LegalOrdersFailNoTest =
+    (init : List ℕ) (next : List ℕ → ℕ → List ℕ × ℕ) (book : List Page) (order : List Place)
+    → IsLegalOrder init next book order
     → (fault : OrderFault) → FailsTest init next book order fault → ⊥
 
 -- A list of places has at most one first fault.
 abbrev pub FirstFaultsAreOne : Type 0
-FirstFaultsAreOne = (init : List ℕ) (next : List ℕ → ℕ → List ℕ × ℕ) (book : List Page) (order : List Place) (e f : OrderFault)
+FirstFaultsAreOne = (init : List ℕ) (next : List ℕ → ℕ → List ℕ × ℕ) (book : List Page)
+    (order : List Place) (e f : OrderFault)
     → IsFirstFault init next book order e → IsFirstFault init next book order f → e ≡ f

@@ -10,7 +10,8 @@ use Rattle.order_check.specs.declared.fault.OrderFault.{OrderFault}
 use Rattle.order_check.specs.Fault.{FailsTest, place_of, HasTurnBefore}
 
 -- Before place p stand calls of the book, exactly those that the cut holds.
-pub record IsStanding (book : List Page) (order : List Place) (p : ℕ) (standing : List ℕ) : Type 0 where
+pub record IsStanding (book : List Page) (order : List Place) (p : ℕ)
+    (standing : List ℕ) : Type 0 where
   pub wide : length standing ≡ length book
   pub calls : (j : ℕ) (call : Call) → j < p → StandsAt order j call → IsCall book call
   pub held : (call : Call) → Holds standing call → (j : ℕ) × (j < p) × StandsAt order j call
@@ -26,12 +27,16 @@ pub record IsInPlace (book : List Page) (order : List Place) (p : ℕ) : Type 0 
   pub in_turn : (call : Call) → StandsAt order p call → (number : ℕ) → number + 1 ≡ call.number
       → (j : ℕ) × (j < p) × StandsAt order j (record { caller = call.caller; number = number })
   -- it precedes none of them
-  pub in_time : (j : ℕ) (a b : Call) → StandsAt order p a → j < p → StandsAt order j b → Precedes book a b → ⊥
+  pub in_time : (j : ℕ) (a b : Call) → StandsAt order p a → j < p → StandsAt order j b
+      → Precedes book a b → ⊥
   -- and it has its recorded reply, where it is answered
-  pub recorded : (place : Place) (r : Record) → slice_get order p ≡ Some place → record_of book (call_at place) ≡ Some r → r.reply ≡ place.reply
+  pub recorded : (place : Place) (r : Record) → slice_get order p ≡ Some place
+      → record_of book (call_at place) ≡ Some r → r.reply ≡ place.reply
 
 -- The fault names the first of the tests of place p that the list fails.
-pub record IsFirstAt (init : List ℕ) (next : List ℕ → ℕ → List ℕ × ℕ) (book : List Page) (order : List Place) (p : ℕ) (fault : OrderFault) : Type 0 where
+pub record IsFirstAt (init : List ℕ) (next : List ℕ → ℕ → List ℕ × ℕ) (book : List Page)
+    (order : List Place) (p : ℕ) (fault : OrderFault) : Type 0 where
   pub fails : FailsTest init next book order fault
   pub there : place_of order fault ≡ p
-  pub first : (other : OrderFault) → place_of order other ≡ p → HasTurnBefore other fault → FailsTest init next book order other → ⊥
+  pub first : (other : OrderFault) → place_of order other ≡ p → HasTurnBefore other fault
+      → FailsTest init next book order other → ⊥

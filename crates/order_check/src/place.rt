@@ -19,8 +19,8 @@ pub fn call_at(place: Place) -> Call
 
 /// The first of the tests on calls and records that a place fails, where those before it stand.
 ///
-/// Each caller's calls stand in their order, so that `standing`, the cut of the calls before the place,
-/// decides all but the place that a late call should have come before.
+/// Each caller's calls stand in their order, so that `standing`, the cut of the calls before the
+/// place, decides all but the place that a late call should have come before.
 pub fn first_fault_at(book: &Book, order: &[Place], at: usize, standing: &Cut) -> Option<OrderFault>
     requires valid { IsValid book.now }
     requires place { at < length order.now }

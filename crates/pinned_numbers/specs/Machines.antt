@@ -14,15 +14,18 @@ use Rattle.faulty_machines.specs.Invent.{invent_reply}
 
 -- Each operation of these entries is a put, and no take.
 abbrev pub ArePuts : List words.Entry → Type 0
-ArePuts table = AllByRecursion (λ e. (word : ℕ) → is_operation_of word e ≡ true → (is_put word ≡ true) × (is_take word ≡ false)) table
+ArePuts table = AllByRecursion (λ e. (word : ℕ) → is_operation_of word e ≡ true
+    → (is_put word ≡ true) × (is_take word ≡ false)) table
 
 -- Each is a take, and no put.
 abbrev pub AreTakes : List words.Entry → Type 0
-AreTakes table = AllByRecursion (λ e. (word : ℕ) → is_operation_of word e ≡ true → (is_put word ≡ false) × (is_take word ≡ true)) table
+AreTakes table = AllByRecursion (λ e. (word : ℕ) → is_operation_of word e ≡ true
+    → (is_put word ≡ false) × (is_take word ≡ true)) table
 
 -- Each is neither.
 abbrev pub AreNeither : List words.Entry → Type 0
-AreNeither table = AllByRecursion (λ e. (word : ℕ) → is_operation_of word e ≡ true → (is_put word ≡ false) × (is_take word ≡ false)) table
+AreNeither table = AllByRecursion (λ e. (word : ℕ) → is_operation_of word e ≡ true
+    → (is_put word ≡ false) × (is_take word ≡ false)) table
 
 -- A log of calls, each by its caller, its operation's entry and its argument.
 abbrev pub log_of : List (ℕ × words.Entry × ℕ) → List Entry
@@ -32,6 +35,8 @@ log_of calls = map (λ call. entry call.0 (word_of call.1.code call.2 0)) calls
 abbrev pub late_text : List (ℕ × words.Entry × ℕ) → List ℕ
 late_text calls = reply_word (late_reply (kind_next Queue) (kind_init Queue) (log_of calls))
 
--- The text of an inventing counter's reply to the last increment of a log, of which these are the callers.
+-- The text of an inventing counter's reply to the last increment of a log, of which these are the
+-- callers.
 abbrev pub invented_text : List ℕ → List ℕ
-invented_text callers = reply_word (invent_reply (kind_next Counter) (kind_init Counter) (map (λ i. entry i (word_of words.inc.code 0 0)) callers))
+invented_text callers = reply_word (invent_reply (kind_next Counter) (kind_init Counter)
+    (map (λ i. entry i (word_of words.inc.code 0 0)) callers))

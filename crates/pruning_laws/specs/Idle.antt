@@ -6,9 +6,12 @@ use Rattle.book_base.specs.Order.{call_at}
 use Rattle.book_base.specs.Next.{list_after, Continues}
 use Rattle.book_base.specs.Pruning.{HasOneOpen}
 
--- In a book with one open, where an order goes on with an unanswered read-only call, one goes on without it that is no longer
--- than what follows it.
+-- In a book with one open, where an order goes on with an unanswered read-only call, one goes on
+-- without it that is no longer than what follows it.
 abbrev pub IdleMayBeLeftOut : Type 0
-IdleMayBeLeftOut = (book : List Page) (next : List ℕ → ℕ → List ℕ × ℕ) (cut list : List ℕ) (place : Place) (rest : List Place)
-    → length book ≤ length cut → HasOneOpen book → (IsAnswered book (call_at place) → ⊥) → list_after book next list place ≡ list
-    → Continues book next cut list (place ∷ rest) → (other : List Place) × Continues book next cut list other × (length other ≤ length rest)
+IdleMayBeLeftOut = (book : List Page) (next : List ℕ → ℕ → List ℕ × ℕ) (cut list : List ℕ)
+    (place : Place) (rest : List Place)
+    → length book ≤ length cut → HasOneOpen book → (IsAnswered book (call_at place) → ⊥)
+    → list_after book next list place ≡ list
+    → Continues book next cut list (place ∷ rest) → (other : List Place)
+    × Continues book next cut list other × (length other ≤ length rest)

@@ -1,4 +1,5 @@
--- Objects of keys: operations on different keys don't touch one another (after Herlihy and Wing 1990, on locality).
+-- Objects of keys: operations on different keys don't touch one another (after Herlihy and Wing
+-- 1990, on locality).
 use Rattle.std.specs.Prelude.{◌≡◌, ◌≢◌, ℕ, ◌≤◌, List, ◌∷◌, length, Option, None, Some, unwrap_or}
 use Rattle.book_base.specs.declared.call.Call.{Call}
 use Rattle.book_base.specs.declared.call.Place.{Place}
@@ -7,18 +8,27 @@ use Rattle.book_base.specs.Order.{call_at, step_at}
 use Rattle.book_base.specs.Next.{next_call, Continues}
 use Rattle.book_base.specs.Pruning.{HasOneOpen, IsForced}
 
--- An object of keys: each key has its part of a list. An operation on a key sees and changes that key's part alone, and the reply to
--- an operation on no key is always the same.
-pub record IsKeyed (key : ℕ → Option ℕ) (part : ℕ → List ℕ → List ℕ) (next : List ℕ → ℕ → List ℕ × ℕ) : Type 0 where
-  pub reply : (one other : List ℕ) (op k : ℕ) → key op ≡ Some k → part k one ≡ part k other → (next one op).1 ≡ (next other op).1
-  pub own : (one other : List ℕ) (op k : ℕ) → key op ≡ Some k → part k one ≡ part k other → part k (next one op).0 ≡ part k (next other op).0
+-- An object of keys: each key has its part of a list. An operation on a key sees and changes that
+-- key's part alone, and the reply to an operation on no key is always the same.
+pub record IsKeyed (key : ℕ → Option ℕ) (part : ℕ → List ℕ → List ℕ)
+    (next : List ℕ → ℕ → List ℕ × ℕ) : Type 0 where
+  pub reply : (one other : List ℕ) (op k : ℕ) → key op ≡ Some k → part k one ≡ part k other
+      → (next one op).1 ≡ (next other op).1
+  pub own : (one other : List ℕ) (op k : ℕ) → key op ≡ Some k → part k one ≡ part k other
+      → part k (next one op).0 ≡ part k (next other op).0
   pub others : (list : List ℕ) (op k : ℕ) → key op ≢ Some k → part k (next list op).0 ≡ part k list
   pub unkeyed : (one other : List ℕ) (op : ℕ) → key op ≡ None → (next one op).1 ≡ (next other op).1
 
--- In a book with one open, where an order goes on, one as long goes on by a call with the forced call's key.
+-- In a book with one open, where an order goes on, one as long goes on by a call with the forced
+-- call's key.
 abbrev pub ForcedKeyGoesFirst : Type 0
-ForcedKeyGoesFirst = (key : ℕ → Option ℕ) (part : ℕ → List ℕ → List ℕ) (next : List ℕ → ℕ → List ℕ × ℕ) → IsKeyed key part next
-    → (book : List Page) (cut list : List ℕ) (forced k : ℕ) (rest : List Place) → length book ≤ length cut → IsValid book → HasOneOpen book
-    → IsForced book cut forced → key (unwrap_or (operation_of book (next_call cut forced)) 0) ≡ Some k → Continues book next cut list rest
-    → (place : Place) × (other : List Place) × Continues book next cut list (place ∷ other) × (key (step_at book place).0 ≡ Some k)
+ForcedKeyGoesFirst =
+    (key : ℕ → Option ℕ) (part : ℕ → List ℕ → List ℕ) (next : List ℕ → ℕ → List ℕ × ℕ)
+    → IsKeyed key part next
+    → (book : List Page) (cut list : List ℕ) (forced k : ℕ) (rest : List Place)
+    → length book ≤ length cut → IsValid book → HasOneOpen book
+    → IsForced book cut forced → key (unwrap_or (operation_of book (next_call cut forced)) 0)
+    ≡ Some k → Continues book next cut list rest
+    → (place : Place) × (other : List Place) × Continues book next cut list (place ∷ other)
+    × (key (step_at book place).0 ≡ Some k)
     × (length (place ∷ other) ≤ length rest)

@@ -8,16 +8,19 @@ use Rattle.book_base.specs.Order.{call_at}
 use Rattle.book_base.specs.Next.{MayComeNext, Continues}
 use Rattle.book_base.specs.Pruning.{HasOneOpen, ViewsAreWithin}
 
--- An answered call does what another one does: the other call has the same reply and no lesser view, or it is unanswered and the
--- object gives the reply.
-abbrev pub DoesTheSame : List Page → (List ℕ → ℕ → List ℕ × ℕ) → List ℕ → Call → Record → Call → Type 0
+-- An answered call does what another one does: the other call has the same reply and no lesser
+-- view, or it is unanswered and the object gives the reply.
+abbrev pub DoesTheSame : List Page → (List ℕ → ℕ → List ℕ × ℕ) → List ℕ → Call → Record
+    → Call → Type 0
 DoesTheSame book next list a r b =
     ((s : Record) × (record_of book b ≡ Some s) × (s.reply ≡ r.reply) × ViewsAreWithin book a b)
     ⊎ ((IsAnswered book b → ⊥) × ((next list (unwrap_or (operation_of book a) 0)).1 ≡ r.reply))
 
--- A call is a twin that serves for another one, after a cut and at a list: both may come next, they have one operation word, and the
--- first is answered and does what the other does, or neither is answered.
-pub record IsTwin (book : List Page) (next : List ℕ → ℕ → List ℕ × ℕ) (cut list : List ℕ) (a b : Call) : Type 0 where
+-- A call is a twin that serves for another one, after a cut and at a list: both may come next, they
+-- have one operation word, and the first is answered and does what the other does, or neither is
+-- answered.
+pub record IsTwin (book : List Page) (next : List ℕ → ℕ → List ℕ × ℕ) (cut list : List ℕ)
+    (a b : Call) : Type 0 where
   pub apart : a.caller ≢ b.caller
   pub first : MayComeNext book cut a
   pub second : MayComeNext book cut b
@@ -25,8 +28,13 @@ pub record IsTwin (book : List Page) (next : List ℕ → ℕ → List ℕ × �
   pub serves : ((r : Record) × (record_of book a ≡ Some r) × DoesTheSame book next list a r b)
       ⊎ ((IsAnswered book a → ⊥) × (IsAnswered book b → ⊥))
 
--- In a book with one open, where an order goes on with a call, one that is no longer goes on with a twin that serves for it.
+-- In a book with one open, where an order goes on with a call, one that is no longer goes on with a
+-- twin that serves for it.
 abbrev pub TwinServes : Type 0
-TwinServes = (book : List Page) (next : List ℕ → ℕ → List ℕ × ℕ) (cut list : List ℕ) (a : Call) (place : Place) (rest : List Place)
-    → length book ≤ length cut → IsValid book → HasOneOpen book → IsTwin book next cut list a (call_at place) → Continues book next cut list (place ∷ rest)
-    → (other : List Place) × Continues book next cut list (record { caller = a.caller; number = a.number; reply = place.reply } ∷ other) × (length other ≤ length rest)
+TwinServes = (book : List Page) (next : List ℕ → ℕ → List ℕ × ℕ) (cut list : List ℕ) (a : Call)
+    (place : Place) (rest : List Place)
+    → length book ≤ length cut → IsValid book → HasOneOpen book
+    → IsTwin book next cut list a (call_at place) → Continues book next cut list (place ∷ rest)
+    → (other : List Place) × Continues book next cut list
+    (record { caller = a.caller; number = a.number; reply = place.reply } ∷ other)
+    × (length other ≤ length rest)

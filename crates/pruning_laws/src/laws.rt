@@ -4,9 +4,9 @@ ghost use Rattle.pruning_laws.specs.Twins.{TwinServes};
 ghost use Rattle.pruning_laws.specs.Idle.{IdleMayBeLeftOut};
 ghost use Rattle.pruning_laws.specs.Keys.{ForcedKeyGoesFirst};
 
-/// Of two calls of one operation that may come next, the one that is answered serves for the other: with
-/// the same reply and no greater view, or where the other is unanswered. Of two unanswered ones either
-/// serves.
+/// Of two calls of one operation that may come next, the one that is answered serves for the other:
+/// with the same reply and no greater view, or where the other is unanswered. Of two unanswered
+/// ones either serves.
 #[tactic(auto, using(crate::proofs::Exchanging::twin_serves))]
 pub fn twins_serve_for_one_another()
     ensures { TwinServes }

@@ -98,8 +98,13 @@ pub first-held : (book : List Page) (caller : ℕ) (call : Call) (first : ℕ) (
     → AreHolding book caller call first first
     → record_of book (record { caller = caller; number = first }) ≡ Some r
     → IsHeldBy book call (moment_of r)
-first-held book caller call first r h at =
-    (record { caller = caller; number = first }, r, at, h.above first r (omega arith) at, omega arith)
+first-held book caller call first r h at = (
+  record { caller = caller; number = first },
+  r,
+  at,
+  h.above first r (omega arith) at,
+  omega arith,
+)
 
 pub first-least : (book : List Page) (caller : ℕ) (call : Call) (first number : ℕ) (r s : Record)
     → IsValid book → AreHolding book caller call first first
@@ -139,18 +144,21 @@ pub first-more : (book : List Page) (call : Call) (caller first own : ℕ)
     → IsFirstBelow book call (caller + 1) (min first own)
 first-more book call caller first own h few held least = record {
   few = omega (arith, h.few);
-  held = elim (cases_lt own first) as (λ _. min first own < NEVER → IsHeldBy book call (min first own)) [
-    | inl less ↦
-        let same : own ≡ min first own = omega arith in
-        λ lt. subst (IsHeldBy book call) same (held (omega arith))
-    | inr more ↦
-        let same : first ≡ min first own = omega arith in
-        λ lt. subst (IsHeldBy book call) same (h.held (omega arith))
-  ];
+  held = elim (cases_lt own first) as
+      (λ _. min first own < NEVER → IsHeldBy book call (min first own)) [
+        | inl less ↦
+            let same : own ≡ min first own = omega arith in
+            λ lt. subst (IsHeldBy book call) same (held (omega arith))
+        | inr more ↦
+            let same : first ≡ min first own = omega arith in
+            λ lt. subst (IsHeldBy book call) same (h.held (omega arith))
+      ];
   least = λ other r lt at holds. elim (cases_eq other.caller caller) [
     | inl same ↦
         let there : record_of book (record { caller = caller; number = other.number }) ≡ Some r
-        = ap (record_of book) (same_call (record { caller = caller; number = other.number }) other (sym same) refl) ∙ at in
+        = ap (record_of book)
+        (same_call (record { caller = caller; number = other.number }) other (sym same) refl)
+        ∙ at in
         let low : own ≤ moment_of r = least other.number r there holds in
         omega arith
     | inr apart ↦
@@ -170,7 +178,8 @@ span-is book call first last valid small h answered unanswered = record {
   held = h.held;
   least = λ m held.
       let inside : held.0.caller < length book
-      = caller_from_answer book held.0.caller held.0.number (slice_get_within _ held.0.number held.1 held.2) in
+      = caller_from_answer book held.0.caller held.0.number
+      (slice_get_within _ held.0.number held.1 held.2) in
       let low : first ≤ moment_of held.1 = h.least held.0 held.1 inside held.2 held.3 in
       let few : moment_of held.1 < NEVER = moment-small book held.0 held.1 valid small held.2 in
       (omega (arith, held.4), omega arith);

@@ -19,7 +19,8 @@ use Rattle.queue_pairs.specs.NextEntries.{IsLeastOf}
 
 -- ---- rows
 
-pub row-none : (reading : Reading) (book : List Page) (caller : ℕ) → IsRowTo reading book caller 0 []
+pub row-none : (reading : Reading) (book : List Page) (caller : ℕ)
+    → IsRowTo reading book caller 0 []
 row-none reading book caller = record { size = refl; calls = λ n t at. absurd (none-some t at) }
 
 pub row-more : (reading : Reading) (book : List Page) (caller below : ℕ) (row : List TimedCall)
@@ -33,7 +34,9 @@ row-more reading book caller below row t h new = record {
     | inr last ↦
         let number : below ≡ n = omega (arith, last.0, h.size) in
         subst (λ (k : ℕ). IsTimed reading book (record { caller = caller; number = k }) u) number
-        (subst (λ (v : TimedCall). IsTimed reading book (record { caller = caller; number = below }) v) (sym last.1) new)
+        (subst
+        (λ (v : TimedCall). IsTimed reading book (record { caller = caller; number = below }) v)
+        (sym last.1) new)
   ];
 }
 
@@ -51,7 +54,8 @@ rows-more reading book below rows row h new = record {
     | inr last ↦
         let number : below ≡ i = omega (arith, last.0, h.size) in
         subst (λ (k : ℕ). IsRowTo reading book k (calls_of book k) other) number
-        (subst (λ (r : List TimedCall). IsRowTo reading book below (calls_of book below) r) (sym last.1) new)
+        (subst (λ (r : List TimedCall). IsRowTo reading book below (calls_of book below) r)
+        (sym last.1) new)
   ];
 }
 
@@ -76,23 +80,32 @@ finds-more reading book caller below finds t h new nothing = record {
   right = λ k u at. elim (slice_get-push_cases finds t k u at) [
     | inl old ↦ h.right k u old
     | inr last ↦
-        let here : IsTimed reading book t.call t = subst (λ (c : Call). IsTimed reading book c t) (sym new.call) new in
-        subst (λ (v : TimedCall). IsTimed reading book v.call v × (deal_of reading book v.call ≡ deals.FoundNothing)) (sym last.1)
+        let here : IsTimed reading book t.call t =
+        subst (λ (c : Call). IsTimed reading book c t) (sym new.call) new in
+        subst (λ (v : TimedCall). IsTimed reading book v.call v
+        × (deal_of reading book v.call ≡ deals.FoundNothing)) (sym last.1)
         (here, sym here.deal ∙ nothing)
   ];
   all = λ e before is. elim (cases_eq e.caller caller) [
     | inl own ↦
         elim (cases_eq e.number below) [
           | inl number ↦
-              let call : t.call ≡ e = new.call ∙ same_call (record { caller = caller; number = below }) e (sym own) (sym number) in
+              let call : t.call ≡ e = new.call
+              ∙ same_call (record { caller = caller; number = below }) e (sym own) (sym number) in
               (length finds, t, slice_get-push_last finds t, call)
           | inr apart ↦
-              let less : e.number < below = elim before [ inl lt ↦ omega (arith, lt, own) | inr same ↦ omega (arith, same.1, apart) ] in
+              let less : e.number < below = elim before [
+                | inl lt ↦ omega (arith, lt, own)
+                | inr same ↦ omega (arith, same.1, apart)
+              ] in
               let there = h.all e (inr (own, less)) is in
               (there.0, there.1, slice_get-push_old finds t there.0 there.1 there.2, there.3)
         ]
     | inr apart ↦
-        let less : e.caller < caller = elim before [ inl lt ↦ lt | inr same ↦ absurd (apart same.0) ] in
+        let less : e.caller < caller = elim before [
+          | inl lt ↦ lt
+          | inr same ↦ absurd (apart same.0)
+        ] in
         let there = h.all e (inl less) is in
         (there.0, there.1, slice_get-push_old finds t there.0 there.1 there.2, there.3)
   ];
@@ -110,7 +123,8 @@ finds-other reading book caller below finds h not = record {
     | inr same ↦
         elim (cases_eq e.number below) [
           | inl number ↦
-              let call : e ≡ record { caller = caller; number = below } = same_call e (record { caller = caller; number = below }) same.0 number in
+              let call : e ≡ record { caller = caller; number = below } =
+              same_call e (record { caller = caller; number = below }) same.0 number in
               absurd (not (ap (deal_of reading book) (sym call) ∙ is))
           | inr apart ↦ h.all e (inr (same.0, omega (arith, same.1, apart))) is
         ]
@@ -166,8 +180,10 @@ finds-caller reading book caller finds h = record {
           | inl less ↦ h.all e (inl less) is
           | inr ge ↦
               let own : e.caller ≡ caller = omega (arith, lt, ge) in
-              let call : IsCall book e = call_by_deal reading book e (λ other. let wrong : deals.FoundNothing ≡ deals.Other = sym is ∙ other in cc) in
-              let inside : e.number < calls_of book caller = subst (λ (i : ℕ). e.number < calls_of book i) own call in
+              let call : IsCall book e = call_by_deal reading book e
+              (λ other. let wrong : deals.FoundNothing ≡ deals.Other = sym is ∙ other in cc) in
+              let inside : e.number < calls_of book caller =
+              subst (λ (i : ℕ). e.number < calls_of book i) own call in
               h.all e (inr (own, inside)) is
         ]
   ];
@@ -176,7 +192,8 @@ finds-caller reading book caller finds h = record {
 -- ---- the first from a number on
 
 -- what isn't in a list isn't found there
-pub past-none : (row : List TimedCall) (from : ℕ) (find : Option TimedCall → Option TimedCall) → find None ≡ None
+pub past-none : (row : List TimedCall) (from : ℕ) (find : Option TimedCall → Option TimedCall)
+    → find None ≡ None
     → ((k : ℕ) → from ≤ k → k < length row → find (slice_get row k) ≡ None)
     → (n : ℕ) → from ≤ n → find (slice_get row n) ≡ None
 past-none row from find none before n low =
@@ -198,7 +215,8 @@ least-more values below least value h is = record {
     | inr apart ↦ let low : least ≤ values k = h.least k (omega arith) in omega arith
   ];
   some = elim (cases_lt value least) [
-    | inl less ↦ inr (below, omega arith, (let small : min least value ≡ value = omega arith in small ∙ is))
+    | inl less ↦
+        inr (below, omega arith, (let small : min least value ≡ value = omega arith in small ∙ is))
     | inr ge ↦
         let same : min least value ≡ least = omega arith in
         elim h.some [

@@ -51,11 +51,15 @@ first_after found (Some t) = if nat_lt found t.span.first then t.span.first else
 -- and don't stand, and the latest moments of all that don't stand.
 pub record AreNextEntries (table : Table) (s : Standing) (next_entries : NextEntries) : Type 0 where
   pub puts : (i : ℕ) → i < MAX_CALLERS
-      → IsFirstFrom (λ n. put_at table i n) (slice_index s.puts i) (slice_index_or next_entries.puts i None)
+      → IsFirstFrom (λ n. put_at table i n) (slice_index s.puts i)
+      (slice_index_or next_entries.puts i None)
   pub takes : (i : ℕ) → i < MAX_CALLERS
-      → IsFirstFrom (λ n. take_at table i n) (slice_index s.takes i) (slice_index_or next_entries.takes i None)
-  pub put_limit : IsLeastOf (λ i. last_of (slice_index_or next_entries.puts i None)) MAX_CALLERS next_entries.put_limit
-  pub take_limit : IsLeastOf (λ i. last_of (slice_index_or next_entries.takes i None)) MAX_CALLERS next_entries.take_limit
+      → IsFirstFrom (λ n. take_at table i n) (slice_index s.takes i)
+      (slice_index_or next_entries.takes i None)
+  pub put_limit : IsLeastOf
+      (λ i. last_of (slice_index_or next_entries.puts i None)) MAX_CALLERS next_entries.put_limit
+  pub take_limit : IsLeastOf
+      (λ i. last_of (slice_index_or next_entries.takes i None)) MAX_CALLERS next_entries.take_limit
   pub find_first : IsLeastOf (λ k. first_after s.found (slice_get table.finds.items k))
       (length table.finds.items) next_entries.find_first
   pub find_limit : IsLeastOf (λ k. last_after s.found (slice_get table.finds.items k))

@@ -8,5 +8,7 @@ use Rattle.queue_pairs.specs.Pairs.{HasPairs}
 
 -- A queue's book with one open that has a legal order has pairs.
 abbrev pub LegalOrdersHavePairs : Type 0
-LegalOrdersHavePairs = (reading : Reading) (init : List ℕ) (next : List ℕ → ℕ → List ℕ × ℕ) (book : List Page) → IsQueue reading next → reading.values init ≡ []
+LegalOrdersHavePairs =
+    (reading : Reading) (init : List ℕ) (next : List ℕ → ℕ → List ℕ × ℕ) (book : List Page)
+    → IsQueue reading next → reading.values init ≡ []
     → IsValid book → HasOneOpen book → HasLegalOrder init next book → HasPairs reading book

@@ -1,5 +1,5 @@
--- Pairs: what a queue's book has instead of an order. The k-th put and the k-th take of an order are a pair, since the first value that
--- is put in is the first that is taken out.
+-- Pairs: what a queue's book has instead of an order. The k-th put and the k-th take of an order
+-- are a pair, since the first value that is put in is the first that is taken out.
 use Rattle.std.specs.Prelude.{◌≡◌, ℕ, ◌+◌, ◌<◌, ◌≤◌, ◌⊎◌, List, [], ◌∷◌, length, replicate, Some, slice_index, slice_set}
 use Rattle.book_base.specs.declared.call.Call.{Call}
 use Rattle.book_base.specs.declared.call.Record.{Record}
@@ -9,8 +9,9 @@ use Rattle.object_foresight.specs.declared.deal.Deal.TheVariants as deals
 use Rattle.object_foresight.specs.Deals.{deal_of}
 use Rattle.queue_pairs.specs.Moments.{moment_of, IsHeldBy, MayTakeEffect}
 
--- What stands of a queue's book: of each caller the puts and the takes below a number, and the takes that find nothing and that some view
--- holds up to a moment; and the moments of the last put and of the last take.
+-- What stands of a queue's book: of each caller the puts and the takes below a number, and the
+-- takes that find nothing and that some view holds up to a moment; and the moments of the last put
+-- and of the last take.
 pub record Paired : Type 0 where
   pub puts : List ℕ
   pub takes : List ℕ
@@ -39,7 +40,8 @@ IsPut reading book call = (v : ℕ) × IsPutOf reading book v call
 
 -- the call takes out a value, or it is an unanswered take
 abbrev pub MayTakeOut : Reading → List Page → ℕ → Call → Type 0
-MayTakeOut reading book v call = (deal_of reading book call ≡ deals.Took v) ⊎ (deal_of reading book call ≡ deals.OpenTake)
+MayTakeOut reading book v call = (deal_of reading book call ≡ deals.Took v)
+    ⊎ (deal_of reading book call ≡ deals.OpenTake)
 
 abbrev pub IsTake : Reading → List Page → Call → Type 0
 IsTake reading book call = (v : ℕ) × MayTakeOut reading book v call
@@ -47,10 +49,12 @@ IsTake reading book call = (v : ℕ) × MayTakeOut reading book v call
 -- Of its caller's calls that don't stand, from these numbers on, the call is the first of a kind.
 pub record IsNext (kind : Call → Type 0) (numbers : List ℕ) (call : Call) : Type 0 where
   pub outside : slice_index numbers call.caller ≤ call.number
-  pub first : (n : ℕ) → slice_index numbers call.caller ≤ n → n < call.number → kind (record { caller = call.caller; number = n }) → ⊥
+  pub first : (n : ℕ) → slice_index numbers call.caller ≤ n → n < call.number
+      → kind (record { caller = call.caller; number = n }) → ⊥
 
--- A pair may stand next: its calls are the next put and the next take of their callers, the take takes out what is put in, and they take
--- effect no earlier than what stands, the take no earlier than the put.
+-- A pair may stand next: its calls are the next put and the next take of their callers, the take
+-- takes out what is put in, and they take effect no earlier than what stands, the take no earlier
+-- than the put.
 pub record MayPair (reading : Reading) (book : List Page) (s : Paired) (pair : Pair) : Type 0 where
   pub value : ℕ
   pub puts : IsPutOf reading book value pair.put
@@ -63,11 +67,12 @@ pub record MayPair (reading : Reading) (book : List Page) (s : Paired) (pair : P
   pub put_effect : MayTakeEffect book pair.put pair.put_moment
   pub take_effect : MayTakeEffect book pair.take pair.take_moment
 
--- The takes that find nothing and that some view holds at a moment may stand next: it is no earlier than what stands, and no later than
--- the moments of those that don't stand yet.
+-- The takes that find nothing and that some view holds at a moment may stand next: it is no earlier
+-- than what stands, and no later than the moments of those that don't stand yet.
 pub record MayFind (reading : Reading) (book : List Page) (s : Paired) (m : ℕ) : Type 0 where
   pub after_takes : s.take_moment ≤ m
-  pub in_time : (e : Call) (r : Record) → deal_of reading book e ≡ deals.FoundNothing → record_of book e ≡ Some r → IsHeldBy book e m
+  pub in_time : (e : Call) (r : Record) → deal_of reading book e ≡ deals.FoundNothing
+      → record_of book e ≡ Some r → IsHeldBy book e m
       → (IsHeldBy book e s.found → ⊥) → m ≤ moment_of r
 
 abbrev pub MayStep : Reading → List Page → Paired → Step → Type 0
@@ -86,15 +91,18 @@ after s (FindNothing m) = record s { found = m; put_moment = m; take_moment = m 
 
 -- All answered takes stand, and each answered put that doesn't may still take effect.
 pub record IsWhole (reading : Reading) (book : List Page) (s : Paired) : Type 0 where
-  pub taken : (t : Call) (v : ℕ) → deal_of reading book t ≡ deals.Took v → t.number < slice_index s.takes t.caller
+  pub taken : (t : Call) (v : ℕ) → deal_of reading book t ≡ deals.Took v
+      → t.number < slice_index s.takes t.caller
   pub found : (e : Call) → deal_of reading book e ≡ deals.FoundNothing → IsHeldBy book e s.found
-  pub kept : (p : Call) (r : Record) → IsPut reading book p → record_of book p ≡ Some r → slice_index s.puts p.caller ≤ p.number
+  pub kept : (p : Call) (r : Record) → IsPut reading book p → record_of book p ≡ Some r
+      → slice_index s.puts p.caller ≤ p.number
       → s.put_moment ≤ moment_of r
 
 -- The steps may stand one after another, and then all answered takes stand.
 abbrev pub AreSteps : Reading → List Page → Paired → List Step → Type 0
 AreSteps reading book s [] = IsWhole reading book s
-AreSteps reading book s (step ∷ steps) = MayStep reading book s step × AreSteps reading book (after s step) steps
+AreSteps reading book s (step ∷ steps) = MayStep reading book s step
+    × AreSteps reading book (after s step) steps
 
 -- Nothing stands, of this many callers.
 abbrev pub none_paired : ℕ → Paired
@@ -108,4 +116,5 @@ none_paired callers = record {
 
 -- A queue's book has pairs.
 abbrev pub HasPairs : Reading → List Page → Type 0
-HasPairs reading book = (steps : List Step) × AreSteps reading book (none_paired (length book)) steps
+HasPairs reading book = (steps : List Step)
+    × AreSteps reading book (none_paired (length book)) steps

@@ -1,4 +1,5 @@
--- Choices that needn't be tried: of two puts of one value, and of two takes, one serves for the other.
+-- Choices that needn't be tried: of two puts of one value, and of two takes, one serves for the
+-- other.
 use Rattle.std.specs.Prelude.{◌≡◌, ◌≢◌, ℕ, ◌≤◌, List, ◌∷◌, length, Some}
 use Rattle.book_base.specs.declared.call.Call.{Call}
 use Rattle.book_base.specs.declared.call.Record.{Record}
@@ -11,25 +12,32 @@ use Rattle.queue_pairs.specs.Pairs.{Paired, Pair, Step, Pairs, IsPutOf, IsPut, I
 
 -- Where a call is answered, so is another one, with no later moment.
 abbrev pub IsDueNoLater : List Page → Call → Call → Type 0
-IsDueNoLater book other call = (r : Record) → record_of book call ≡ Some r → (o : Record) × (record_of book other ≡ Some o) × (moment_of o ≤ moment_of r)
+IsDueNoLater book other call = (r : Record) → record_of book call ≡ Some r → (o : Record)
+    × (record_of book other ≡ Some o) × (moment_of o ≤ moment_of r)
 
 -- As many steps go on from what stands, with this pair first.
 abbrev pub GoesOnWith : Reading → List Page → Paired → Pair → List Step → Type 0
-GoesOnWith reading book s pair steps = (other : List Step) × AreSteps reading book s (Pairs pair ∷ other) × (length other ≡ length steps)
+GoesOnWith reading book s pair steps = (other : List Step)
+    × AreSteps reading book s (Pairs pair ∷ other) × (length other ≡ length steps)
 
--- Where steps go on with a pair, as many go on with another caller's next put of the same value, if that may take effect no later and is due
--- no later.
+-- Where steps go on with a pair, as many go on with another caller's next put of the same value, if
+-- that may take effect no later and is due no later.
 abbrev pub EarlierPutServes : Type 0
-EarlierPutServes = (reading : Reading) (book : List Page) (s : Paired) (pair : Pair) (p : Call) (m : ℕ) (steps : List Step) → IsValid book → HasOneOpen book
+EarlierPutServes = (reading : Reading) (book : List Page) (s : Paired) (pair : Pair) (p : Call)
+    (m : ℕ) (steps : List Step) → IsValid book → HasOneOpen book
     → length book ≤ length s.puts → AreSteps reading book s (Pairs pair ∷ steps)
-    → ((v : ℕ) → IsPutOf reading book v pair.put → IsPutOf reading book v p) → IsNext (IsPut reading book) s.puts p → s.put_moment ≤ m → p.caller ≢ pair.put.caller
+    → ((v : ℕ) → IsPutOf reading book v pair.put → IsPutOf reading book v p)
+    → IsNext (IsPut reading book) s.puts p → s.put_moment ≤ m → p.caller ≢ pair.put.caller
     → MayTakeEffect book p m → m ≤ pair.put_moment → IsDueNoLater book p pair.put
     → GoesOnWith reading book s (record pair { put = p; put_moment = m }) steps
 
 -- And so with another caller's next take of the same deal.
 abbrev pub EarlierTakeServes : Type 0
-EarlierTakeServes = (reading : Reading) (book : List Page) (s : Paired) (pair : Pair) (p : Call) (m : ℕ) (steps : List Step) → IsValid book → HasOneOpen book
+EarlierTakeServes = (reading : Reading) (book : List Page) (s : Paired) (pair : Pair) (p : Call)
+    (m : ℕ) (steps : List Step) → IsValid book → HasOneOpen book
     → length book ≤ length s.takes → AreSteps reading book s (Pairs pair ∷ steps)
-    → deal_of reading book p ≡ deal_of reading book pair.take → IsNext (IsTake reading book) s.takes p → (s.take_moment ≤ m) × (pair.put_moment ≤ m) → p.caller ≢ pair.take.caller
+    → deal_of reading book p ≡ deal_of reading book pair.take
+    → IsNext (IsTake reading book) s.takes p → (s.take_moment ≤ m) × (pair.put_moment ≤ m)
+    → p.caller ≢ pair.take.caller
     → MayTakeEffect book p m → m ≤ pair.take_moment → IsDueNoLater book p pair.take
     → GoesOnWith reading book s (record pair { take = p; take_moment = m }) steps

@@ -1,5 +1,5 @@
-//! Pairs of a queue's book: the k-th put and the k-th take are looked for together, as pairs that may take effect one
-//! after another, with no list and no order.
+//! Pairs of a queue's book: the k-th put and the k-th take are looked for together, as pairs that
+//! may take effect one after another, with no list and no order.
 #![tactic(auto)]
 
 pub mod laws;
@@ -21,5 +21,6 @@ pub use surplus::Surplus;
 pub use table::{Deal, Table, TimedCall};
 pub use walk::{Choice, Level, Step, Walk};
 
-/// A moment later than all others, which no call has: a view counts at most the calls of all callers.
+/// A moment later than all others, which no call has: a view counts at most the calls of all
+/// callers.
 pub const NEVER: u64 = MAX_CALLERS as u64 * MAX_CALLS + 1;

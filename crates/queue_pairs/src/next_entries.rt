@@ -7,8 +7,8 @@ use crate::standing::Standing;
 use crate::table::{Table, TimedCall};
 use book_base::MAX_CALLERS;
 
-/// The next calls that don't stand, and the latest moments that they may have: the least `last` of all puts, of all
-/// takes that show a value, and of all takes that find nothing that don't stand.
+/// The next calls that don't stand, and the latest moments that they may have: the least `last` of
+/// all puts, of all takes that show a value, and of all takes that find nothing that don't stand.
 #[derive(Clone, Copy)]
 pub struct NextEntries {
     pub puts: [Option<TimedCall>; MAX_CALLERS],
@@ -41,7 +41,8 @@ impl TimedPair {
         ensures put_moment { result.put_moment ≡ max standing.now.put_moment put.span.first }
         // The take takes effect at the first moment that is no earlier than that of its put and
         // those of the takes that stand, at which a view holds it.
-        ensures take_moment { result.take_moment ≡ max (max standing.now.take_moment result.put_moment) take.span.first }
+        ensures take_moment { result.take_moment ≡ max
+            (max standing.now.take_moment result.put_moment) take.span.first }
     {
         let put_moment = standing.put_moment.max(put.span.first);
         TimedPair {
@@ -52,8 +53,8 @@ impl TimedPair {
         }
     }
 
-    /// Whether a pair serves for another one: its calls did the same, it has no later moments, and its calls are due no
-    /// later, so that the two may be exchanged wherever they stand.
+    /// Whether a pair serves for another one: its calls did the same, it has no later moments, and
+    /// its calls are due no later, so that the two may be exchanged wherever they stand.
     pub fn serves(&self, other: &TimedPair) -> bool
         ensures { IsTrue result → Serves self.now other.now }
     {
@@ -120,8 +121,8 @@ impl NextEntries {
             && standing.put_moment <= self.put_limit
     }
 
-    /// Whether some call that doesn't stand is due before its part of these moments, so that nothing may stand next at
-    /// them.
+    /// Whether some call that doesn't stand is due before its part of these moments, so that
+    /// nothing may stand next at them.
     pub fn is_past(&self, put_moment: u64, take_moment: u64) -> bool
         ensures { IsTrue result ↔ IsPast self.now put_moment take_moment }
     {

@@ -16,8 +16,8 @@ struct Event {
     call: Call,
 }
 
-/// The calls of a walk's pairs, and all other answered calls, in the order of their moments: at one moment as they
-/// stand in the walk, and the puts that nobody takes last.
+/// The calls of a walk's pairs, and all other answered calls, in the order of their moments: at one
+/// moment as they stand in the walk, and the puts that nobody takes last.
 pub fn calls_in_order(alloc: Global, table: &Table, walk: &Walk) -> Result<Vec<Call>, NoMemory> {
     let mut events = Vec::new(alloc);
     for level in &walk.levels {
@@ -70,8 +70,8 @@ fn add_step(table: &Table, choice: Choice, events: &mut Vec<Event>) -> Result<()
     Ok(())
 }
 
-// The moment of an answered call that is in no step of a walk, if it is none: a put that nobody takes, or neither a put
-// nor a take.
+// The moment of an answered call that is in no step of a walk, if it is none: a put that nobody
+// takes, or neither a put nor a take.
 fn left_moment(walk: &Walk, caller: usize, timed: TimedCall) -> Option<u64> {
     if caller >= MAX_CALLERS || !timed.is_answered() {
         return None;
@@ -85,8 +85,8 @@ fn left_moment(walk: &Walk, caller: usize, timed: TimedCall) -> Option<u64> {
     }
 }
 
-/// The places of calls in an order, each with the reply that the object gives there; there are none where a call
-/// isn't the book's.
+/// The places of calls in an order, each with the reply that the object gives there; there are none
+/// where a call isn't the book's.
 pub fn places_of<S: SeqObject>(
     alloc: Global,
     object: &S,

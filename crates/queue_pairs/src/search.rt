@@ -26,8 +26,8 @@ pub struct PairSearch<'a> {
     pub alloc: Global,
     pub table: &'a Table,
     pub surplus: &'a Surplus,
-    /// Whether unanswered takes take only what the answered ones leave. Otherwise they may take any value, so that more
-    /// is tried.
+    /// Whether unanswered takes take only what the answered ones leave. Otherwise they may take any
+    /// value, so that more is tried.
     pub by_surplus: bool,
     /// How many steps the search has.
     pub steps: u64,
@@ -90,7 +90,8 @@ impl PairSearch<'_> {
         Ok(next_entries.is_whole(&choice.to))
     }
 
-    // What may be tried where these stand, with the best choice last: the one whose take is due first.
+    // What may be tried where these stand, with the best choice last: the one whose take is due
+    // first.
     fn choices(
         &self,
         walk: &Walk,
@@ -123,7 +124,8 @@ impl PairSearch<'_> {
         Ok(choices)
     }
 
-    // Adds the pairs of a take with each put that it may take out, but for those that another pair serves for.
+    // Adds the pairs of a take with each put that it may take out, but for those that another pair
+    // serves for.
     fn add_pairs(
         &self,
         walk: &Walk,
@@ -145,8 +147,8 @@ impl PairSearch<'_> {
         Ok(())
     }
 
-    // Whether a take may take out what a put puts in. An unanswered one takes only what the answered ones leave,
-    // and no unanswered put.
+    // Whether a take may take out what a put puts in. An unanswered one takes only what the
+    // answered ones leave, and no unanswered put.
     fn may_pair(&self, walk: &Walk, put: TimedCall, take: TimedCall) -> bool {
         match (put.deal, take.deal) {
             (Deal::Put(value), Deal::Took(shown)) => value == shown,

@@ -6,11 +6,12 @@ ghost use Rattle.queue_pairs.specs.Pairs.{Pairs, FindNothing, after, none_paired
 use crate::next_entries::TimedPair;
 use book_base::{Call, MAX_CALLERS, MAX_CALLS};
 
-/// What stands of a queue's book: of each caller the puts and the takes below a number, and the takes that find
-/// nothing and that some view holds up to a moment; and the moments of the last put and of the last take.
+/// What stands of a queue's book: of each caller the puts and the takes below a number, and the
+/// takes that find nothing and that some view holds up to a moment; and the moments of the last put
+/// and of the last take.
 ///
-/// Each pair has the earliest moments that it may have, so that what goes on from the same calls at later
-/// moments goes on from here too.
+/// Each pair has the earliest moments that it may have, so that what goes on from the same calls at
+/// later moments goes on from here too.
 #[derive(Clone, Copy, Debug, PartialEq, Eq, Hash)]
 pub struct Standing {
     pub puts: [u16; MAX_CALLERS],
@@ -48,8 +49,8 @@ impl Standing {
         standing
     }
 
-    /// The takes that find nothing stand that some view holds at a moment. What is put in or taken afterwards is
-    /// so no earlier.
+    /// The takes that find nothing stand that some view holds at a moment. What is put in or taken
+    /// afterwards is so no earlier.
     pub fn with_finds(self, moment: u64) -> Standing
         ensures { paired result ≡ after (paired self) (FindNothing moment) }
     {

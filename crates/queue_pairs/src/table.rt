@@ -11,7 +11,8 @@ use book_base::{Book, Call, MAX_CALLERS, NoMemory, Span};
 use object_foresight::{Reader, Role};
 use std::alloc::Global;
 
-/// What a call did: it put a value in, it took one out or found nothing, it is an unanswered take, or it is neither.
+/// What a call did: it put a value in, it took one out or found nothing, it is an unanswered take,
+/// or it is neither.
 #[derive(Clone, Copy)]
 pub enum Deal {
     Put(u64),
@@ -185,7 +186,8 @@ impl Table {
     /// The first put of each caller from a number of it on.
     pub fn next_puts(&self, from: &[u16; MAX_CALLERS]) -> [Option<TimedCall>; MAX_CALLERS]
         ensures { (i : ℕ) → i < MAX_CALLERS
-            → IsFirstFrom (λ n. put_at self.now i n) (slice_index from.now i) (slice_index_or result i None) }
+            → IsFirstFrom (λ n. put_at self.now i n) (slice_index from.now i)
+            (slice_index_or result i None) }
     {
         let mut puts: [Option<TimedCall>; MAX_CALLERS] = [None; MAX_CALLERS];
         for caller in 0..MAX_CALLERS {
@@ -197,7 +199,8 @@ impl Table {
     /// The first take of each caller, from a number of it on, that shows a value or is unanswered.
     pub fn next_takes(&self, from: &[u16; MAX_CALLERS]) -> [Option<TimedCall>; MAX_CALLERS]
         ensures { (i : ℕ) → i < MAX_CALLERS
-            → IsFirstFrom (λ n. take_at self.now i n) (slice_index from.now i) (slice_index_or result i None) }
+            → IsFirstFrom (λ n. take_at self.now i n) (slice_index from.now i)
+            (slice_index_or result i None) }
     {
         let mut takes: [Option<TimedCall>; MAX_CALLERS] = [None; MAX_CALLERS];
         for caller in 0..MAX_CALLERS {
@@ -206,9 +209,11 @@ impl Table {
         takes
     }
 
-    /// The least first moment of all calls that take and find nothing and that no view holds up to a moment.
+    /// The least first moment of all calls that take and find nothing and that no view holds up to
+    /// a moment.
     pub fn find_first(&self, found: u64) -> u64
-        ensures { IsLeastOf (λ k. first_after found (slice_get self.now.finds.items k)) (length self.now.finds.items) result }
+        ensures { IsLeastOf (λ k. first_after found (slice_get self.now.finds.items k))
+            (length self.now.finds.items) result }
     {
         let mut least = NEVER;
         for k in 0..self.finds.len() {
@@ -217,9 +222,11 @@ impl Table {
         least
     }
 
-    /// The least moment of all calls that take and find nothing and that no view holds up to a moment.
+    /// The least moment of all calls that take and find nothing and that no view holds up to a
+    /// moment.
     pub fn find_limit(&self, found: u64) -> u64
-        ensures { IsLeastOf (λ k. last_after found (slice_get self.now.finds.items k)) (length self.now.finds.items) result }
+        ensures { IsLeastOf (λ k. last_after found (slice_get self.now.finds.items k))
+            (length self.now.finds.items) result }
     {
         let mut least = NEVER;
         for k in 0..self.finds.len() {
@@ -271,8 +278,10 @@ fn row_of<R: Reader>(
 ) -> Result<Vec<TimedCall>, NoMemory>
     requires caller { caller < length book.now }
     requires finds { AreFindsTo (R.reading reader.now) book.now caller 0 finds.old.items }
-    ensures row { IfOk result (λ row. IsRowTo (R.reading reader.now) book.now caller (calls_of book.now caller) row.items) }
-    ensures finds { OnOk result (AreFindsTo (R.reading reader.now) book.now (caller + 1) 0 finds.new.items) }
+    ensures row { IfOk result (λ row.
+        IsRowTo (R.reading reader.now) book.now caller (calls_of book.now caller) row.items) }
+    ensures finds { OnOk result
+        (AreFindsTo (R.reading reader.now) book.now (caller + 1) 0 finds.new.items) }
 {
     let mut row = Vec::new(alloc);
     for number in 0..book.calls(caller) {
@@ -285,7 +294,8 @@ fn row_of<R: Reader>(
 
 // Adds a call that takes and finds nothing.
 fn add_find(timed: TimedCall, finds: &mut Vec<TimedCall>) -> Result<(), NoMemory>
-    ensures found { OnOk result (is_find timed.deal ≡ true → finds.new.items ≡ finds.old.items ++ timed ∷ []) }
+    ensures found { OnOk result
+        (is_find timed.deal ≡ true → finds.new.items ≡ finds.old.items ++ timed ∷ []) }
     ensures other { OnOk result (is_find timed.deal ≡ false → finds.new.items ≡ finds.old.items) }
 {
     if !timed.deal.is_find() {

@@ -10,7 +10,8 @@ use std::mem;
 pub enum Step {
     /// A put, and the take that takes its value out.
     Pair(TimedPair),
-    /// The takes that find nothing and whose first moments lie after one moment, and not after another one.
+    /// The takes that find nothing and whose first moments lie after one moment, and not after
+    /// another one.
     Finds(u64, u64),
 }
 
@@ -22,8 +23,8 @@ pub struct Choice {
     pub to: Standing,
 }
 
-/// A standing on the way to where a walk stands: the step that was put next there, and what is still to be
-/// tried there besides it.
+/// A standing on the way to where a walk stands: the step that was put next there, and what is
+/// still to be tried there besides it.
 #[derive(Drop)]
 pub struct Level {
     pub from: Standing,
@@ -31,8 +32,9 @@ pub struct Level {
     pub choices: Vec<Choice>,
 }
 
-/// Where a walk stands: the levels that lead there, its standing, what is still to be tried there with the
-/// best choice last, the values that unanswered takes took on the way, and all standings that were entered.
+/// Where a walk stands: the levels that lead there, its standing, what is still to be tried there
+/// with the best choice last, the values that unanswered takes took on the way, and all standings
+/// that were entered.
 #[derive(Drop)]
 pub struct Walk {
     pub levels: Vec<Level>,

@@ -1,4 +1,5 @@
--- Where the values put in by a moment and those taken out by another one don't both begin one list, there are no pairs.
+-- Where the values put in by a moment and those taken out by another one don't both begin one list,
+-- there are no pairs.
 use Rattle.std.proofs.Common.{◌≡◌, ℕ, ◌+◌, ◌<◌, ◌≤◌, ◌⊎◌, ◌∙◌, Bool, true, false, nat_le, cond, List, [], ◌∷◌, length, Some, refl, sym, ap, subst, inl, inr, slice_get, arith}
 use Rattle.std.proofs.lemmas.Bool.{cases_lt, cond-true, eq-eqb, eqb-true, leb-true, le-leb}
 use Rattle.std.proofs.lemmas.List.{length-set, length-replicate}
@@ -167,7 +168,8 @@ entered reading book table s pair is may =
     }
 
 -- The pair's calls are counted no more after it.
-record IsCountedOff (reading : Reading) (book : List Page) (table : Table) (s : Paired) (pair : Pair)
+record IsCountedOff (reading : Reading) (book : List Page) (table : Table) (s : Paired)
+    (pair : Pair)
     (v u m n : ℕ) (put take : TimedCall) : Type 0 where
   due_puts : left_in (is_counted counted.DuePuts u m) table s.puts
       ≡ bit (is_counted counted.DuePuts u m put)
@@ -406,7 +408,8 @@ takes_follow_puts reading book table v u m n is has few_m few_n takes =
       elim (cases_lt m n) [
         | inl low ↦ low
         | inr late ↦
-            absurd (takes-clash reading book table v u m n is few_m few_n start has.0 wide wide has.1
+            absurd
+            (takes-clash reading book table v u m n is few_m few_n start has.0 wide wide has.1
             ahead (inr late))
       ],
       λ puts. takes-clash reading book table v u m n is few_m few_n start has.0 wide wide has.1
@@ -438,7 +441,8 @@ find-refutes table place u m t at before few_t few ahead reading book is has =
     let right = is.finds.right place t at in
     let there = answered-last reading book t right.0 few_t in
     finds_leave_nothing reading book table t.call there.0 u m t.span.last is has right.1 there.1
-    (λ held. omega (arith, before, (right.0.span.least m held).0)) (omega (arith, there.2)) few ahead
+    (λ held. omega (arith, before, (right.0.span.least m held).0))
+    (omega (arith, there.2)) few ahead
 
 -- without pairs there is no order
 pub unpaired : (table : Table) (book : List Page)

@@ -111,7 +111,8 @@ outside-same : (test : TimedCall → Bool) (one other : List ℕ) (i : ℕ)
     → outside test one i rows ≡ outside test other i rows
 outside-same test one other i [] same = refl
 outside-same test one other i (row ∷ rows) same =
-    let first : count_by test (drop (get_or one i 0) row) ≡ count_by test (drop (get_or other i 0) row)
+    let first : count_by test (drop (get_or one i 0) row)
+    ≡ count_by test (drop (get_or other i 0) row)
     = ap (λ (k : ℕ). count_by test (drop k row)) (same i (omega arith)) in
     let rest : outside test one (i + 1) rows ≡ outside test other (i + 1) rows
     = outside-same test one other (i + 1) rows (λ j low. same j (omega (arith, low))) in

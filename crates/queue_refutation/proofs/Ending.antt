@@ -61,26 +61,34 @@ serves-for reading book table s mine other pair is own it serves of may =
     let own_take = next-take reading book table s.takes own.take.0 mine.take is own.take.2 in
     let put = next-put reading book table s.puts it.put.0 other.put is it.put.2 in
     let take = next-take reading book table s.takes it.take.0 other.take is it.take.2 in
-    let first_put = held-first reading book mine.put pair.put pair.put_moment own_put.timed of.0 may.put_effect.first in
-    let first_take = held-first reading book mine.take pair.take pair.take_moment own_take.timed of.1 may.take_effect.first in
+    let first_put = held-first reading book mine.put pair.put pair.put_moment own_put.timed of.0
+    may.put_effect.first in
+    let first_take = held-first reading book mine.take pair.take pair.take_moment own_take.timed
+    of.1 may.take_effect.first in
     let put_moment : mine.put_moment ≤ pair.put_moment
     = omega (arith, own.put_moment, may.after_puts, first_put.0) in
     let take_moment : mine.take_moment ≤ pair.take_moment
     = omega (arith, own.take_moment, may.after_takes, put_moment, may.in_turn, first_take.0) in
     record {
-      puts = λ v puts. same-deal reading book other.put mine.put pair.put put.timed own_put.timed of.0 serves.put ∙ puts;
-      takes = same-deal reading book other.take mine.take pair.take take.timed own_take.timed of.1 serves.take;
+      puts = λ v puts. same-deal reading book other.put mine.put pair.put put.timed own_put.timed
+          of.0 serves.put ∙ puts;
+      takes = same-deal reading book other.take mine.take pair.take take.timed own_take.timed of.1
+          serves.take;
       put = put.next;
       take = take.next;
       after_puts = omega (arith, it.put_moment);
       after_takes = omega (arith, it.take_moment);
       in_turn = omega (arith, it.take_moment);
-      put_held = held_later book other.put.call other.put.span.first other.put_moment (omega (arith, it.put_moment)) (put.timed.span.held it.put_held);
-      take_held = held_later book other.take.call other.take.span.first other.take_moment (omega (arith, it.take_moment)) (take.timed.span.held it.take_held);
+      put_held = held_later book other.put.call other.put.span.first other.put_moment
+          (omega (arith, it.put_moment)) (put.timed.span.held it.put_held);
+      take_held = held_later book other.take.call other.take.span.first other.take_moment
+          (omega (arith, it.take_moment)) (take.timed.span.held it.take_held);
       put_moment = omega (arith, serves.put_moment, put_moment);
       take_moment = omega (arith, serves.take_moment, take_moment);
-      put_due = due-no-later reading book other.put mine.put pair.put put.timed own_put.timed of.0 serves.put_due;
-      take_due = due-no-later reading book other.take mine.take pair.take take.timed own_take.timed of.1 serves.take_due;
+      put_due = due-no-later reading book other.put mine.put pair.put put.timed own_put.timed of.0
+          serves.put_due;
+      take_due = due-no-later reading book other.take mine.take pair.take take.timed own_take.timed
+          of.1 serves.take_due;
     }
 
 pub serves-itself : (pair : TimedPair) → Serves pair pair
@@ -101,14 +109,17 @@ pub next-pair : (table : Table) (s : Standing) (put take : TimedCall) (pair : Ti
     → pair.put_moment ≡ max s.put_moment put.span.first
     → pair.take_moment ≡ max (max s.take_moment pair.put_moment) take.span.first
     → IsNextPair table s pair
-next-pair table s put take pair put_is take_is put_held take_held same_put same_take put_moment take_moment = record {
-  put = subst (IsNextEntry (λ i n. put_at table i n) s.puts) (sym same_put) put_is;
-  take = subst (IsNextEntry (λ i n. take_at table i n) s.takes) (sym same_take) take_is;
-  put_held = subst (λ (t : TimedCall). t.span.first < NEVER) (sym same_put) put_held;
-  take_held = subst (λ (t : TimedCall). t.span.first < NEVER) (sym same_take) take_held;
-  put_moment = put_moment ∙ ap (λ (t : TimedCall). max s.put_moment t.span.first) (sym same_put);
-  take_moment = take_moment ∙ ap (λ (t : TimedCall). max (max s.take_moment pair.put_moment) t.span.first) (sym same_take);
-}
+next-pair table s put take pair put_is take_is put_held take_held same_put same_take put_moment
+    take_moment = record {
+      put = subst (IsNextEntry (λ i n. put_at table i n) s.puts) (sym same_put) put_is;
+      take = subst (IsNextEntry (λ i n. take_at table i n) s.takes) (sym same_take) take_is;
+      put_held = subst (λ (t : TimedCall). t.span.first < NEVER) (sym same_put) put_held;
+      take_held = subst (λ (t : TimedCall). t.span.first < NEVER) (sym same_take) take_held;
+      put_moment =
+          put_moment ∙ ap (λ (t : TimedCall). max s.put_moment t.span.first) (sym same_put);
+      take_moment = take_moment ∙ ap
+          (λ (t : TimedCall). max (max s.take_moment pair.put_moment) t.span.first) (sym same_take);
+    }
 
 -- ---- pairs that lead on
 
@@ -124,16 +135,19 @@ lead-served table standings s mine own served reading book pair is of may =
     )
 
 -- a pair with which some call is overdue
-pub lead-past : (table : Table) (standings : List Paired) (s : Standing) (next_entries : NextEntries)
+pub lead-past : (table : Table) (standings : List Paired) (s : Standing)
+    (next_entries : NextEntries)
     (mine : TimedPair) → AreNextEntries table s next_entries → IsNextPair table s mine
     → mine.put_moment ≤ NEVER → mine.take_moment ≤ NEVER
     → IsPast next_entries mine.put_moment mine.take_moment
     → Lead (IsOf mine.put.call mine.take.call) table standings s
-lead-past table standings s next_entries mine h own few_put few_take past reading book pair is of may =
+lead-past table standings s next_entries mine h own few_put few_take past reading book
+    pair is of may =
     inl (
       pair_of mine,
       serves-for reading book table s mine mine pair is own own (serves-itself mine) of may,
-      inr (is-overdue reading book table s next_entries mine.put_moment mine.take_moment is h few_put few_take past),
+      inr (is-overdue reading book table s next_entries mine.put_moment mine.take_moment is h
+          few_put few_take past),
     )
 
 -- a pair of which neither call is answered
@@ -153,19 +167,23 @@ lead-idle table standings s put take put_is take_is put_late take_late reading b
     })
 
 -- a pair of a call that no view holds may not stand
-pub lead-unheld_put : (table : Table) (standings : List Paired) (s : Standing) (put take : TimedCall)
+pub lead-unheld_put : (table : Table) (standings : List Paired) (s : Standing)
+    (put take : TimedCall)
     → IsNextEntry (λ i n. put_at table i n) s.puts put → (put.span.first < NEVER → ⊥)
     → Lead (IsOf put.call take.call) table standings s
 lead-unheld_put table standings s put take put_is not reading book pair is of may =
     let the_put = next-put reading book table s.puts put_is.0 put is put_is.2 in
-    absurd (not (held-first reading book put pair.put pair.put_moment the_put.timed of.0 may.put_effect.first).1)
+    absurd (not (held-first reading book put pair.put pair.put_moment the_put.timed of.0
+    may.put_effect.first).1)
 
-pub lead-unheld_take : (table : Table) (standings : List Paired) (s : Standing) (put take : TimedCall)
+pub lead-unheld_take : (table : Table) (standings : List Paired) (s : Standing)
+    (put take : TimedCall)
     → IsNextEntry (λ i n. take_at table i n) s.takes take → (take.span.first < NEVER → ⊥)
     → Lead (IsOf put.call take.call) table standings s
 lead-unheld_take table standings s put take take_is not reading book pair is of may =
     let the_take = next-take reading book table s.takes take_is.0 take is take_is.2 in
-    absurd (not (held-first reading book take pair.take pair.take_moment the_take.timed of.1 may.take_effect.first).1)
+    absurd (not (held-first reading book take pair.take pair.take_moment the_take.timed of.1
+    may.take_effect.first).1)
 
 -- a pair whose take doesn't take out what is put in may not stand
 pub lead-apart : (table : Table) (standings : List Paired) (s : Standing) (put take : TimedCall)
@@ -227,15 +245,18 @@ pub all-closed : (table : Table) (keys : List Standing)
     → (reading : Reading) (book : List Page) → IsTable reading book table
     → AreClosed reading book (listed keys)
 all-closed table keys each reading book is s one =
-    let found = map_some (slice_get keys one.0) paired s (sym (slice_get-map paired keys one.0) ∙ one.1) in
+    let found =
+    map_some (slice_get keys one.0) paired s (sym (slice_get-map paired keys one.0) ∙ one.1) in
     let inside : one.0 < length keys = slice_get_within keys one.0 found.0 found.1 in
-    subst (IsClosedAt reading book (listed keys)) found.2 (each one.0 inside found.0 found.1 reading book is)
+    subst (IsClosedAt reading book (listed keys)) found.2
+    (each one.0 inside found.0 found.1 reading book is)
 
 -- a closed list with the start refutes
 pub refuted : (table : Table) (book : List Page) (standings : List Paired)
     → ((reading : Reading) → IsTable reading book table → HasOneOpen book)
     → IsOneOf standings (none_paired MAX_CALLERS)
-    → ((reading : Reading) (book : List Page) → IsTable reading book table → AreClosed reading book standings)
+    → ((reading : Reading) (book : List Page) → IsTable reading book table
+    → AreClosed reading book standings)
     → HasNoOrder table book
 refuted table book standings one start closed reading init next is queue empty has =
     closed_starts_have_no_order reading init next book MAX_CALLERS standings queue empty is.valid
@@ -260,7 +281,8 @@ one-open_of reading book table caller call r is known unheld =
           let entry = timed-there reading book table second is there in
           let timed : IsTimed reading book second entry.0
           = timed-is reading book table caller number entry.0 is entry.1 in
-          absurd (unheld entry.0 entry.1 (timed.span.least (moment_of r) (call, r, known, holds, omega arith)).1)
+          absurd (unheld entry.0 entry.1
+          (timed.span.least (moment_of r) (call, r, known, holds, omega arith)).1)
     ]
 
 pub one-open_all : (book : List Page) (below : ℕ) → length book ≤ below
@@ -271,5 +293,6 @@ pub one-open_all : (book : List Page) (below : ℕ) → length book ≤ below
 one-open_all book below all wide each call r i known =
     elim (cases_lt i below) [
       | inl inside ↦ each i inside call r known
-      | inr past ↦ omega (arith, get_or_past r.view i 0 (omega (arith, wide call r known, all, past)))
+      | inr past ↦
+          omega (arith, get_or_past r.view i 0 (omega (arith, wide call r known, all, past)))
     ]

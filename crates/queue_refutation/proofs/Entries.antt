@@ -34,7 +34,8 @@ timed-is reading book table i n t is at =
     elim (slice_get_cases rows i).1 [
       | inl here ↦
           let row : get_or rows i [] ≡ here.0 = get_or_from_slice_get rows i here.0 [] here.2 in
-          (is.rows.rows i here.0 here.2).calls n t (ap (λ (r : List TimedCall). slice_get r n) (sym row) ∙ at)
+          (is.rows.rows i here.0 here.2).calls n t
+          (ap (λ (r : List TimedCall). slice_get r n) (sym row) ∙ at)
       | inr past ↦
           let none : get_or rows i [] ≡ [] = get_or_past rows i [] past.0 in
           absurd (none-some t (ap (λ (r : List TimedCall). slice_get r n) (sym none) ∙ at))
@@ -54,7 +55,8 @@ timed-there reading book table call is there =
           let size : length here.0 ≡ calls_of book call.caller
           = (is.rows.rows call.caller here.0 here.2).size in
           elim (slice_get_cases here.0 call.number).1 [
-            | inl found ↦ (found.0, ap (λ (r : List TimedCall). slice_get r call.number) row ∙ found.2)
+            | inl found ↦
+                (found.0, ap (λ (r : List TimedCall). slice_get r call.number) row ∙ found.2)
             | inr past ↦ absurd (omega (arith, past.0, size, there))
           ]
       | inr past ↦ absurd (omega (arith, past.0, inside))
@@ -140,8 +142,13 @@ takes-read reading book = record {
     | inr unseen ↦ inr (timed.deal ∙ unseen)
   ]);
   is = λ t timed told.
-      let d = is-take t.deal told in
-      (d.0, elim d.1 [ inl took ↦ inl (sym timed.deal ∙ took) | inr unseen ↦ inr (sym timed.deal ∙ unseen) ]);
+      let d = is-take t.deal told in (
+        d.0,
+        elim d.1 [
+          | inl took ↦ inl (sym timed.deal ∙ took)
+          | inr unseen ↦ inr (sym timed.deal ∙ unseen)
+        ],
+      );
   call = λ call take. call_by_deal reading book call (λ other. elim take.1 [
     | inl took ↦ (let wrong : deals.Took take.0 ≡ deals.Other = sym took ∙ other in cc)
     | inr unseen ↦ (let wrong : deals.OpenTake ≡ deals.Other = sym unseen ∙ other in cc)
@@ -213,14 +220,16 @@ pub next-put : (reading : Reading) (book : List Page) (table : Table) (numbers :
     → IsFirstFrom (λ n. put_at table i n) (get_or numbers i 0) (Some t)
     → IsNextCall reading book (IsPut reading book) numbers i t
 next-put reading book table numbers i t is found =
-    next-is reading book table is_put (IsPut reading book) numbers i t is (puts-read reading book) found
+    next-is reading book table is_put (IsPut reading book) numbers i t is
+    (puts-read reading book) found
 
 pub next-take : (reading : Reading) (book : List Page) (table : Table) (numbers : List ℕ) (i : ℕ)
     (t : TimedCall) → IsTable reading book table
     → IsFirstFrom (λ n. take_at table i n) (get_or numbers i 0) (Some t)
     → IsNextCall reading book (IsTake reading book) numbers i t
 next-take reading book table numbers i t is found =
-    next-is reading book table is_take (IsTake reading book) numbers i t is (takes-read reading book) found
+    next-is reading book table is_take (IsTake reading book) numbers i t is
+    (takes-read reading book) found
 
 -- the entry that is found for a caller is one of a next call
 pub entry-some : (at : ℕ → ℕ → Option TimedCall) (numbers : List ℕ) (i : ℕ) (o : Option TimedCall)

@@ -138,8 +138,11 @@ serve-put reading book s pair p m steps valid one wide are puts next low early h
           earlier_put_serves reading book s pair p m steps valid one wide are puts next low apart
           (record {
             first = held;
-            last = λ r known. omega
-                (arith, early, pair-puts-due reading book s pair steps p r are is known next.outside);
+            last = λ r known. omega (
+              arith,
+              early,
+              pair-puts-due reading book s pair steps p r are is known next.outside,
+            );
           })
           early due
     ]

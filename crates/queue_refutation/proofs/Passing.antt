@@ -75,25 +75,37 @@ due-there found (Some t) m is few = elim (first-cases found t.span.first t.span.
 
 -- some put is due before a moment that is past the latest one of puts
 pub put-past : (reading : Reading) (book : List Page) (table : Table) (s : Standing)
-    (next_entries : NextEntries) (m : ℕ) → IsTable reading book table → AreNextEntries table s next_entries
+    (next_entries : NextEntries) (m : ℕ) → IsTable reading book table
+    → AreNextEntries table s next_entries
     → next_entries.put_limit < m → m ≤ NEVER → HasPutBefore reading book (paired s) m
 put-past reading book table s next_entries m is h past few =
     let there = least-there _ MAX_CALLERS next_entries.put_limit h.put_limit (omega arith) in
-    let entry = last-there (get_or next_entries.puts there.0 None) next_entries.put_limit there.2 (omega arith) in
+    let entry = last-there (get_or next_entries.puts there.0 None) next_entries.put_limit there.2
+    (omega arith) in
     let next = next-put reading book table s.puts there.0 entry.0 is
-    (subst (IsFirstFrom (λ n. put_at table there.0 n) (get_or s.puts there.0 0)) entry.1 (h.puts there.0 there.1)) in
-    let answered = answered-last reading book entry.0 next.timed (omega (arith, entry.2)) in
-    (entry.0.call, answered.0, next.is, answered.1, next.next.outside, omega (arith, answered.2, entry.2))
+    (subst (IsFirstFrom (λ n. put_at table there.0 n) (get_or s.puts there.0 0)) entry.1
+    (h.puts there.0 there.1)) in
+    let answered = answered-last reading book entry.0 next.timed (omega (arith, entry.2)) in (
+      entry.0.call,
+      answered.0,
+      next.is,
+      answered.1,
+      next.next.outside,
+      omega (arith, answered.2, entry.2),
+    )
 
 -- some take is
 pub take-past : (reading : Reading) (book : List Page) (table : Table) (s : Standing)
-    (next_entries : NextEntries) (m : ℕ) → IsTable reading book table → AreNextEntries table s next_entries
+    (next_entries : NextEntries) (m : ℕ) → IsTable reading book table
+    → AreNextEntries table s next_entries
     → next_entries.take_limit < m → m ≤ NEVER → HasTakeBefore reading book (paired s) m
 take-past reading book table s next_entries m is h past few =
     let there = least-there _ MAX_CALLERS next_entries.take_limit h.take_limit (omega arith) in
-    let entry = last-there (get_or next_entries.takes there.0 None) next_entries.take_limit there.2 (omega arith) in
+    let entry = last-there (get_or next_entries.takes there.0 None) next_entries.take_limit there.2
+    (omega arith) in
     let next = next-take reading book table s.takes there.0 entry.0 is
-    (subst (IsFirstFrom (λ n. take_at table there.0 n) (get_or s.takes there.0 0)) entry.1 (h.takes there.0 there.1)) in
+    (subst (IsFirstFrom (λ n. take_at table there.0 n) (get_or s.takes there.0 0)) entry.1
+    (h.takes there.0 there.1)) in
     let answered = answered-last reading book entry.0 next.timed (omega (arith, entry.2)) in
     elim next.is.1 [
       | inl took ↦ (
@@ -108,7 +120,8 @@ take-past reading book table s next_entries m is h past few =
       | inr unseen ↦
           let past_it : answers_of book entry.0.call.caller ≤ entry.0.call.number
           = open_is_unanswered reading book entry.0.call unseen in
-          absurd (omega (arith, past_it, slice_get_within _ entry.0.call.number answered.0 answered.1))
+          absurd
+          (omega (arith, past_it, slice_get_within _ entry.0.call.number answered.0 answered.1))
     ]
 
 -- a take that finds nothing doesn't stand where its first moment is later
@@ -119,12 +132,14 @@ out-later reading book t found timed later held =
 
 -- some take that finds nothing is
 pub find-past : (reading : Reading) (book : List Page) (table : Table) (s : Standing)
-    (next_entries : NextEntries) (m : ℕ) → IsTable reading book table → AreNextEntries table s next_entries
+    (next_entries : NextEntries) (m : ℕ) → IsTable reading book table
+    → AreNextEntries table s next_entries
     → next_entries.find_limit < m → m ≤ NEVER → HasFindBefore reading book (paired s) m
 find-past reading book table s next_entries m is h past few =
     let finds : List TimedCall = table.finds.items in
     let there = least-there _ (length finds) next_entries.find_limit h.find_limit (omega arith) in
-    let entry = due-there s.found (slice_get finds there.0) next_entries.find_limit there.2 (omega arith) in
+    let entry =
+    due-there s.found (slice_get finds there.0) next_entries.find_limit there.2 (omega arith) in
     let right = is.finds.right there.0 entry.0 entry.1 in
     let answered = answered-last reading book entry.0 right.0 (omega (arith, entry.3)) in (
       entry.0.call,
@@ -136,7 +151,8 @@ find-past reading book table s next_entries m is h past few =
     )
 
 pub is-overdue : (reading : Reading) (book : List Page) (table : Table) (s : Standing)
-    (next_entries : NextEntries) (m n : ℕ) → IsTable reading book table → AreNextEntries table s next_entries
+    (next_entries : NextEntries) (m n : ℕ) → IsTable reading book table
+    → AreNextEntries table s next_entries
     → m ≤ NEVER → n ≤ NEVER → IsPast next_entries m n → IsOverdue reading book (paired s) m n
 is-overdue reading book table s next_entries m n is h few_m few_n past = elim past [
   | inl put ↦ inl (put-past reading book table s next_entries m is h put few_m)
@@ -148,7 +164,8 @@ is-overdue reading book table s next_entries m n is h few_m few_n past = elim pa
 
 -- no put is due before the latest moment of puts
 pub puts-in-time : (reading : Reading) (book : List Page) (table : Table) (s : Standing)
-    (next_entries : NextEntries) (m : ℕ) → IsTable reading book table → AreNextEntries table s next_entries
+    (next_entries : NextEntries) (m : ℕ) → IsTable reading book table
+    → AreNextEntries table s next_entries
     → m ≤ next_entries.put_limit → HasPutBefore reading book (paired s) m → ⊥
 puts-in-time reading book table s next_entries m is h low due =
     let p : Call = due.0 in
@@ -162,23 +179,29 @@ puts-in-time reading book table s next_entries m is h low due =
     let o : Option TimedCall = get_or next_entries.puts p.caller None in
     elim (cases_Option o) [
       | inl none ↦
-          none-is reading book table is_put (IsPut reading book) p.caller (get_or s.puts p.caller 0) p is (puts-read reading book)
-          (subst (IsFirstFrom (λ n. put_at table p.caller n) (get_or s.puts p.caller 0)) none (h.puts p.caller inside)) put refl out
+          none-is reading book table is_put (IsPut reading book) p.caller
+          (get_or s.puts p.caller 0) p is (puts-read reading book)
+          (subst (IsFirstFrom (λ n. put_at table p.caller n) (get_or s.puts p.caller 0)) none
+          (h.puts p.caller inside)) put refl out
       | inr some ↦
           let t : TimedCall = some.0 in
           let next = next-put reading book table s.puts p.caller t is
-          (subst (IsFirstFrom (λ n. put_at table p.caller n) (get_or s.puts p.caller 0)) some.1 (h.puts p.caller inside)) in
-          let before : t.call.number ≤ p.number = next-least (IsPut reading book) s.puts t.call p next.next put (sym next.caller) out in
+          (subst (IsFirstFrom (λ n. put_at table p.caller n) (get_or s.puts p.caller 0)) some.1
+          (h.puts p.caller inside)) in
+          let before : t.call.number ≤ p.number =
+          next-least (IsPut reading book) s.puts t.call p next.next put (sym next.caller) out in
           let limit : next_entries.put_limit ≤ last_of o = h.put_limit.least p.caller inside in
           let last : last_of o ≡ t.span.last = ap last_of some.1 in
           elim (cases_lt t.span.last NEVER) [
             | inl few ↦
                 let answered = answered-last reading book t next.timed few in
                 let rise : moment_of answered.0 ≤ moment_of r
-                = moments-grow book t.call p answered.0 r is.valid answered.1 known next.caller before in
+                = moments-grow book t.call p answered.0 r is.valid answered.1 known
+                next.caller before in
                 omega (arith, limit, last, answered.2, rise, early, low)
             | inr never ↦
-                let there : p.number < answers_of book p.caller = slice_get_within _ p.number r known in
+                let there : p.number < answers_of book p.caller =
+                slice_get_within _ p.number r known in
                 let answers : t.call.number < answers_of book t.call.caller
                 = omega (arith, there, before, ap (answers_of book) next.caller) in
                 let stands = answer_stands book t.call answers in
@@ -189,26 +212,31 @@ puts-in-time reading book table s next_entries m is h low due =
 -- ---- standings that aren't finished
 
 pub not-whole : (reading : Reading) (book : List Page) (table : Table) (s : Standing)
-    (next_entries : NextEntries) → IsTable reading book table → AreNextEntries table s next_entries → s.put_moment ≤ NEVER
-    → ((NEVER ≤ next_entries.find_first) × (NEVER ≤ next_entries.take_limit) × (s.put_moment ≤ next_entries.put_limit) → ⊥)
+    (next_entries : NextEntries) → IsTable reading book table → AreNextEntries table s next_entries
+    → s.put_moment ≤ NEVER
+    → ((NEVER ≤ next_entries.find_first) × (NEVER ≤ next_entries.take_limit)
+    × (s.put_moment ≤ next_entries.put_limit) → ⊥)
     → IsWhole reading book (paired s) → ⊥
 not-whole reading book table s next_entries is h few not whole =
     elim (cases_lt next_entries.find_first NEVER) [
       | inl find ↦
           let finds : List TimedCall = table.finds.items in
           let there = least-there _ (length finds) next_entries.find_first h.find_first find in
-          let entry = first-there s.found (slice_get finds there.0) next_entries.find_first there.2 find in
+          let entry =
+          first-there s.found (slice_get finds there.0) next_entries.find_first there.2 find in
           let right = is.finds.right there.0 entry.0 entry.1 in
           out-later reading book entry.0 s.found right.0 entry.2 (whole.found entry.0.call right.1)
       | inr no_find ↦
           elim (cases_lt next_entries.take_limit NEVER) [
             | inl take ↦
-                let due = take-past reading book table s next_entries NEVER is h take (omega arith) in
+                let due =
+                take-past reading book table s next_entries NEVER is h take (omega arith) in
                 omega (arith, whole.taken due.0 due.1 due.3, due.5)
             | inr no_take ↦
                 elim (cases_lt next_entries.put_limit s.put_moment) [
                   | inl put ↦
-                      let due = put-past reading book table s next_entries s.put_moment is h put few in
+                      let due =
+                      put-past reading book table s next_entries s.put_moment is h put few in
                       omega (arith, whole.kept due.0 due.1 due.2 due.3 due.4, due.5)
                   | inr in_time ↦ not (no_find, no_take, in_time)
                 ]
@@ -218,12 +246,14 @@ not-whole reading book table s next_entries is h few not whole =
 -- ---- takes that find nothing
 
 -- all that find nothing at a moment stand, or the first moment of those that don't is no later
-finds-cases : (reading : Reading) (book : List Page) (table : Table) (s : Standing) (next_entries : NextEntries)
+finds-cases : (reading : Reading) (book : List Page) (table : Table) (s : Standing)
+    (next_entries : NextEntries)
     (e : Call) (m : ℕ) → IsTable reading book table → AreNextEntries table s next_entries
     → deal_of reading book e ≡ deals.FoundNothing → IsHeldBy book e m
     → IsHeldBy book e s.found ⊎ ((next_entries.find_first ≤ m) × (next_entries.find_first < NEVER))
 finds-cases reading book table s next_entries e m is h nothing held =
-    let call : IsCall book e = call_by_deal reading book e (λ other. let wrong : deals.FoundNothing ≡ deals.Other = sym nothing ∙ other in cc) in
+    let call : IsCall book e = call_by_deal reading book e
+    (λ other. let wrong : deals.FoundNothing ≡ deals.Other = sym nothing ∙ other in cc) in
     let entry = is.finds.all e (inl (caller_from_call book e.caller e.number call)) nothing in
     let t : TimedCall = entry.1 in
     let right = is.finds.right entry.0 t entry.2 in
@@ -231,7 +261,8 @@ finds-cases reading book table s next_entries e m is h nothing held =
     elim (first-cases s.found t.span.first t.span.first) [
       | inl out ↦
           let inside : entry.0 < length table.finds.items = slice_get_within _ entry.0 t entry.2 in
-          let low : next_entries.find_first ≤ first_after s.found (slice_get table.finds.items entry.0) = h.find_first.least entry.0 inside in
+          let low : next_entries.find_first ≤ first_after s.found
+          (slice_get table.finds.items entry.0) = h.find_first.least entry.0 inside in
           let value : first_after s.found (slice_get table.finds.items entry.0) ≡ t.span.first
           = ap (first_after s.found) entry.2 ∙ out.1 in
           inr (omega (arith, low, value, first.0), omega (arith, low, value, first.1))
@@ -246,13 +277,15 @@ pub finds-none : (reading : Reading) (book : List Page) (table : Table) (s : Sta
     → AreNextEntries table s next_entries → NEVER ≤ next_entries.find_first
     → FindsLead reading book standings (paired s) m
 finds-none reading book table s next_entries standings m is h none =
-    inl (λ e nothing held. elim (finds-cases reading book table s next_entries e m is h nothing held) [
+    inl
+    (λ e nothing held. elim (finds-cases reading book table s next_entries e m is h nothing held) [
       | inl stands ↦ stands
       | inr first ↦ absurd (omega (arith, first.1, none))
     ])
 
 -- the first moment of those that are left is later than that of those that stand
-first-later : (table : Table) (s : Standing) (next_entries : NextEntries) → AreNextEntries table s next_entries
+first-later : (table : Table) (s : Standing) (next_entries : NextEntries)
+    → AreNextEntries table s next_entries
     → next_entries.find_first < NEVER → s.found < next_entries.find_first
 first-later table s next_entries h few =
     let finds : List TimedCall = table.finds.items in
@@ -263,7 +296,8 @@ first-later table s next_entries h few =
 -- those that find nothing lead on where the earliest moment of them does
 pub finds-some : (reading : Reading) (book : List Page) (table : Table) (s : Standing)
     (next_entries : NextEntries) (standings : List Paired) (g m : ℕ) → IsTable reading book table
-    → AreNextEntries table s next_entries → next_entries.find_first < NEVER → g ≡ max s.take_moment next_entries.find_first
+    → AreNextEntries table s next_entries → next_entries.find_first < NEVER
+    → g ≡ max s.take_moment next_entries.find_first
     → MayFind reading book (paired s) m
     → IsOneOf standings (after (paired s) (FindNothing g)) ⊎ IsOverdue reading book (paired s) g g
     → FindsLead reading book standings (paired s) m
@@ -271,17 +305,21 @@ finds-some reading book table s next_entries standings g m is h few g_is may lea
     let later : s.found < next_entries.find_first = first-later table s next_entries h few in
     elim (cases_lt m next_entries.find_first) [
       | inl early ↦
-          inl (λ e nothing held. elim (finds-cases reading book table s next_entries e m is h nothing held) [
+          inl (λ e nothing held.
+          elim (finds-cases reading book table s next_entries e m is h nothing held) [
             | inl stands ↦ stands
             | inr first ↦ absurd (omega (arith, first.0, early))
           ])
-      | inr late ↦ inr (g, omega (arith, later, g_is), omega (arith, late, g_is, may.after_takes), leads)
+      | inr late ↦
+          inr (g, omega (arith, later, g_is), omega (arith, late, g_is, may.after_takes), leads)
     ]
 
 -- they stand at once
 pub finds-at-once : (reading : Reading) (book : List Page) (table : Table) (s : Standing)
-    (next_entries : NextEntries) (standings : List Paired) → IsTable reading book table → AreNextEntries table s next_entries
-    → s.take_moment < NEVER → next_entries.find_first ≤ s.take_moment → s.take_moment ≤ next_entries.put_limit
+    (next_entries : NextEntries) (standings : List Paired) → IsTable reading book table
+    → AreNextEntries table s next_entries
+    → s.take_moment < NEVER → next_entries.find_first ≤ s.take_moment
+    → s.take_moment ≤ next_entries.put_limit
     → IsOneOf standings (after (paired s) (FindNothing s.take_moment))
     → FindsStandAtOnce reading book standings (paired s)
 finds-at-once reading book table s next_entries standings is h few first in_time leads = record {

@@ -1,4 +1,5 @@
--- Counts and pairs: the values put in by a moment and those taken out by another one both begin one list.
+-- Counts and pairs: the values put in by a moment and those taken out by another one both begin one
+-- list.
 use Rattle.std.specs.Prelude.{◌≡◌, ℕ, ◌<◌, ◌≤◌, List, Some}
 use Rattle.book_base.specs.declared.call.Call.{Call}
 use Rattle.book_base.specs.declared.call.Record.{Record}

@@ -1,4 +1,5 @@
--- Counts of a table's calls: the puts and takes of a value that have taken effect by a moment, and those that may have.
+-- Counts of a table's calls: the puts and takes of a value that have taken effect by a moment, and
+-- those that may have.
 use Rattle.std.specs.Prelude.{ℕ, ◌<◌, Bool, true, false, nat_eq, nat_le, List, count_by, if◌then◌else◌}
 use Rattle.std.specs.List.{sum_by}
 use Rattle.book_base.specs.Book.{Page}

@@ -1,5 +1,5 @@
--- Standings that a search entered, looked at once more: what is said of them holds in whatever book has
--- the table.
+-- Standings that a search entered, looked at once more: what is said of them holds in whatever book
+-- has the table.
 use Rattle.std.specs.Prelude.{◌≡◌, ℕ, List, [], map}
 use Rattle.book_base.specs.declared.call.Call.{Call}
 use Rattle.book_base.specs.Book.{Page}

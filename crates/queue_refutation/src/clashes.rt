@@ -8,11 +8,13 @@ use book_base::{Book, NoMemory};
 use queue_pairs::{Deal, NEVER, Table, TimedCall};
 use std::alloc::Global;
 
-// How many different values are counted at most. Where there are more, few calls share one, and pairs leave few choices.
+// How many different values are counted at most. Where there are more, few calls share one, and
+// pairs leave few choices.
 const MOST_VALUES: usize = 64;
 
-/// The moments of a value's calls, each list in order: its answered puts by their own views, its puts by the first views
-/// that hold them, and so the takes that show it; unanswered takes are among the last.
+/// The moments of a value's calls, each list in order: its answered puts by their own views, its
+/// puts by the first views that hold them, and so the takes that show it; unanswered takes are
+/// among the last.
 #[derive(Drop)]
 struct Moments {
     value: u64,
@@ -22,10 +24,11 @@ struct Moments {
     early_takes: Vec<u64>,
 }
 
-/// Whether counts of calls show that a queue's book has no legal order: by some moment more has been taken out than put
-/// in, or other values, or a take finds nothing where something was left.
+/// Whether counts of calls show that a queue's book has no legal order: by some moment more has
+/// been taken out than put in, or other values, or a take finds nothing where something was left.
 ///
-/// Where to count is looked for by lists of moments, which aren't trusted: what they say is counted once more.
+/// Where to count is looked for by lists of moments, which aren't trusted: what they say is counted
+/// once more.
 pub fn refute_by_counts(alloc: Global, table: &Table, book: &Book) -> Result<bool, NoMemory>
     ensures { IfOk result (λ refuted. IsTrue refuted → HasNoOrder table.now book.now) }
 {
@@ -94,8 +97,8 @@ fn finds_refute(table: &Table, left: &Moments) -> bool
     false
 }
 
-// Whether takes of one value are ahead of its puts, which are counted up to no earlier moment, or puts of another value are
-// ahead of its takes.
+// Whether takes of one value are ahead of its puts, which are counted up to no earlier moment, or
+// puts of another value are ahead of its takes.
 fn refutes(table: &Table, ahead: u64, other: u64, put_moment: u64, take_moment: u64) -> bool
     ensures { IsTrue result → HasNoPairs table.now }
 {
@@ -144,7 +147,8 @@ fn overtaken(ahead: &Moments) -> Option<u64> {
     None
 }
 
-// Up to which moments puts and takes are counted so that the first value's puts are ahead, and the second one's takes.
+// Up to which moments puts and takes are counted so that the first value's puts are ahead, and the
+// second one's takes.
 fn clash_of(other: &Moments, ahead: &Moments) -> Option<(u64, u64)> {
     for place in 0..other.due_puts.len() {
         let put_moment = other.due_puts[place];
@@ -203,7 +207,8 @@ fn moments_of(alloc: Global, table: &Table) -> Result<Option<Vec<Moments>>, NoMe
     Ok(Some(moments))
 }
 
-// Adds the moments of a call that some view holds, and tells whether there is still room for its value.
+// Adds the moments of a call that some view holds, and tells whether there is still room for its
+// value.
 fn add(alloc: Global, timed: TimedCall, moments: &mut Vec<Moments>) -> Result<bool, NoMemory> {
     if !timed.is_held() {
         return Ok(true);

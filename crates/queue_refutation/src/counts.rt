@@ -17,7 +17,8 @@ pub enum Counted {
     EarlyTakes,
 }
 
-/// Whether more puts of a value have taken effect by one moment than takes of it may have by another one.
+/// Whether more puts of a value have taken effect by one moment than takes of it may have by
+/// another one.
 pub fn puts_are_ahead(table: &Table, value: u64, put_moment: u64, take_moment: u64) -> bool
     ensures { IsTrue result → PutsAhead table.now value put_moment take_moment }
 {
@@ -27,7 +28,8 @@ pub fn puts_are_ahead(table: &Table, value: u64, put_moment: u64, take_moment: u
     )
 }
 
-/// Whether more takes of a value have taken effect by the second moment than puts of it may have by the first one.
+/// Whether more takes of a value have taken effect by the second moment than puts of it may have by
+/// the first one.
 pub fn takes_are_ahead(table: &Table, value: u64, put_moment: u64, take_moment: u64) -> bool
     ensures { IsTrue result → TakesAhead table.now value put_moment take_moment }
 {
@@ -39,7 +41,8 @@ pub fn takes_are_ahead(table: &Table, value: u64, put_moment: u64, take_moment: 
 
 // Whether both counts are known, and the first is the lesser one.
 fn is_less(one: Option<usize>, other: Option<usize>) -> bool
-    ensures { IsTrue result → (low high : ℕ) × (one ≡ Some low) × (other ≡ Some high) × (low < high) }
+    ensures { IsTrue result → (low high : ℕ) × (one ≡ Some low) × (other ≡ Some high)
+        × (low < high) }
 {
     match (one, other) {
         (Some(low), Some(high)) => low < high,
@@ -61,7 +64,8 @@ fn count(table: &Table, what: Counted, value: u64, moment: u64) -> Option<usize>
 
 // How many calls of a caller are counted.
 fn count_of(table: &Table, caller: usize, what: Counted, value: u64, moment: u64) -> usize
-    ensures { result ≡ count_by (is_counted what value moment) (slice_index_or (rows_of table.now) caller []) }
+    ensures { result ≡ count_by (is_counted what value moment)
+        (slice_index_or (rows_of table.now) caller []) }
 {
     match table.rows.get(caller) {
         Some(row) => count_row(row, what, value, moment),

@@ -15,8 +15,8 @@ use book_base::{Book, Call, MAX_CALLERS, MAX_CALLS};
 use indexmap::IndexSet;
 use queue_pairs::{Deal, NEVER, NextEntries, Standing, Table, TimedCall, TimedPair};
 
-/// Standings that a search entered, to be looked at once more. Where all that may stand next at each of them leads to
-/// one of them, or to none, no pairs go on from any.
+/// Standings that a search entered, to be looked at once more. Where all that may stand next at
+/// each of them leads to one of them, or to none, no pairs go on from any.
 pub struct DeadEnds<'a> {
     pub table: &'a Table,
     pub standings: &'a IndexSet<Standing>,
@@ -32,8 +32,8 @@ impl Drop for DeadEnds<'_> {
 }
 
 impl DeadEnds<'_> {
-    /// Whether the standings show that a queue's book has no legal order: they have the start, and lead to one another
-    /// alone. No clause says that they do so wherever there is none.
+    /// Whether the standings show that a queue's book has no legal order: they have the start, and
+    /// lead to one another alone. No clause says that they do so wherever there is none.
     pub fn refute(&self, book: &Book) -> bool
         ensures { IsTrue result → HasNoOrder self.now.table.now book.now }
     {
@@ -48,7 +48,8 @@ impl DeadEnds<'_> {
 
     // Whether each of the standings leads to one of them alone.
     fn are_closed(&self) -> bool
-        ensures { IsTrue result → (reading : Reading) (book : List Page) → IsTable reading book self.now.table.now
+        ensures { IsTrue result → (reading : Reading) (book : List Page)
+            → IsTable reading book self.now.table.now
             → AreClosed reading book (listed self.now.standings.now.keys) }
     {
         for place in 0..self.standings.len() {
@@ -61,7 +62,8 @@ impl DeadEnds<'_> {
 
     // Whether the standing at a place leads to one of them alone.
     fn is_closed_at(&self, place: usize) -> bool
-        ensures { IsTrue result → (s : Standing) → slice_get self.now.standings.now.keys place ≡ Some s
+        ensures { IsTrue result → (s : Standing)
+            → slice_get self.now.standings.now.keys place ≡ Some s
             → ClosedAt self.now.table.now (listed self.now.standings.now.keys) s }
     {
         match self.standings.get_index(place) {
@@ -72,7 +74,8 @@ impl DeadEnds<'_> {
 
     // Whether a standing leads to one of them alone.
     fn is_closed(&self, standing: &Standing) -> bool
-        ensures { IsTrue result → ClosedAt self.now.table.now (listed self.now.standings.now.keys) standing.now }
+        ensures { IsTrue result
+            → ClosedAt self.now.table.now (listed self.now.standings.now.keys) standing.now }
     {
         let _here = *standing;
         if standing.take_moment >= NEVER {
@@ -96,7 +99,8 @@ impl DeadEnds<'_> {
 
     // Whether one of the standings is this one.
     fn has(&self, standing: &Standing) -> bool
-        ensures { IsTrue result → IsOneOf (listed self.now.standings.now.keys) (paired standing.now) }
+        ensures { IsTrue result
+            → IsOneOf (listed self.now.standings.now.keys) (paired standing.now) }
     {
         match self.standings.get_full(standing) {
             Some((_, kept)) => kept.is_same(standing),
@@ -104,11 +108,13 @@ impl DeadEnds<'_> {
         }
     }
 
-    // Whether takes that find nothing stand at once, which delays nothing, and lead to one of the standings.
+    // Whether takes that find nothing stand at once, which delays nothing, and lead to one of the
+    // standings.
     fn finds_stand_at_once(&self, standing: &Standing, next_entries: &NextEntries) -> bool
         requires next_entries { AreNextEntries self.now.table.now standing.now next_entries.now }
         requires few { standing.now.take_moment < NEVER }
-        ensures { IsTrue result → StandAtOnce self.now.table.now (listed self.now.standings.now.keys) standing.now }
+        ensures { IsTrue result
+            → StandAtOnce self.now.table.now (listed self.now.standings.now.keys) standing.now }
     {
         if next_entries.find_first > standing.take_moment {
             return false;
@@ -119,11 +125,13 @@ impl DeadEnds<'_> {
         self.has(&standing.with_finds(standing.take_moment))
     }
 
-    // Whether the takes that find nothing and may stand next lead to one of the standings, or to none.
+    // Whether the takes that find nothing and may stand next lead to one of the standings, or to
+    // none.
     fn finds_lead(&self, standing: &Standing, next_entries: &NextEntries) -> bool
         requires next_entries { AreNextEntries self.now.table.now standing.now next_entries.now }
         requires few { standing.now.take_moment < NEVER }
-        ensures { IsTrue result → FindsLeadOn self.now.table.now (listed self.now.standings.now.keys) standing.now }
+        ensures { IsTrue result
+            → FindsLeadOn self.now.table.now (listed self.now.standings.now.keys) standing.now }
     {
         if next_entries.find_first >= NEVER {
             return true;
@@ -140,7 +148,8 @@ impl DeadEnds<'_> {
         requires next_entries { AreNextEntries self.now.table.now standing.now next_entries.now }
         requires turn { standing.now.put_moment ≤ standing.now.take_moment }
         requires few { standing.now.take_moment < NEVER }
-        ensures { IsTrue result → Lead IsAny self.now.table.now (listed self.now.standings.now.keys) standing.now }
+        ensures { IsTrue result
+            → Lead IsAny self.now.table.now (listed self.now.standings.now.keys) standing.now }
     {
         for caller in 0..MAX_CALLERS {
             if !self.putter_leads(standing, next_entries, caller) {
@@ -156,7 +165,8 @@ impl DeadEnds<'_> {
         requires turn { standing.now.put_moment ≤ standing.now.take_moment }
         requires few { standing.now.take_moment < NEVER }
         requires caller { caller < MAX_CALLERS }
-        ensures { IsTrue result → Lead (IsOfPutter caller) self.now.table.now (listed self.now.standings.now.keys) standing.now }
+        ensures { IsTrue result → Lead (IsOfPutter caller) self.now.table.now
+            (listed self.now.standings.now.keys) standing.now }
     {
         match next_entries.put(caller) {
             Some(put) => self.put_leads(standing, next_entries, put),
@@ -170,7 +180,8 @@ impl DeadEnds<'_> {
         requires turn { standing.now.put_moment ≤ standing.now.take_moment }
         requires few { standing.now.take_moment < NEVER }
         requires put { IsNextEntry (λ i n. put_at self.now.table.now i n) standing.now.puts put }
-        ensures { IsTrue result → Lead (IsOfPut put.call) self.now.table.now (listed self.now.standings.now.keys) standing.now }
+        ensures { IsTrue result → Lead (IsOfPut put.call) self.now.table.now
+            (listed self.now.standings.now.keys) standing.now }
     {
         for caller in 0..MAX_CALLERS {
             if !self.taker_leads(standing, next_entries, put, caller) {
@@ -193,7 +204,8 @@ impl DeadEnds<'_> {
         requires few { standing.now.take_moment < NEVER }
         requires put { IsNextEntry (λ i n. put_at self.now.table.now i n) standing.now.puts put }
         requires caller { caller < MAX_CALLERS }
-        ensures { IsTrue result → Lead (IsOfTaker put.call caller) self.now.table.now (listed self.now.standings.now.keys) standing.now }
+        ensures { IsTrue result → Lead (IsOfTaker put.call caller) self.now.table.now
+            (listed self.now.standings.now.keys) standing.now }
     {
         match next_entries.take(caller) {
             Some(take) => self.calls_lead(standing, next_entries, put, take),
@@ -201,8 +213,8 @@ impl DeadEnds<'_> {
         }
     }
 
-    // Whether the pair of a put and a take leads to one of the standings, or to none. A pair of which neither call is
-    // answered is idle.
+    // Whether the pair of a put and a take leads to one of the standings, or to none. A pair of
+    // which neither call is answered is idle.
     fn calls_lead(
         &self,
         standing: &Standing,
@@ -214,8 +226,10 @@ impl DeadEnds<'_> {
         requires turn { standing.now.put_moment ≤ standing.now.take_moment }
         requires few { standing.now.take_moment < NEVER }
         requires put { IsNextEntry (λ i n. put_at self.now.table.now i n) standing.now.puts put }
-        requires take { IsNextEntry (λ i n. take_at self.now.table.now i n) standing.now.takes take }
-        ensures { IsTrue result → Lead (IsOf put.call take.call) self.now.table.now (listed self.now.standings.now.keys) standing.now }
+        requires take { IsNextEntry (λ i n. take_at self.now.table.now i n)
+            standing.now.takes take }
+        ensures { IsTrue result → Lead (IsOf put.call take.call) self.now.table.now
+            (listed self.now.standings.now.keys) standing.now }
     {
         if !put.is_held() {
             return true;
@@ -239,7 +253,8 @@ impl DeadEnds<'_> {
         requires turn { standing.now.put_moment ≤ standing.now.take_moment }
         requires few { standing.now.take_moment < NEVER }
         requires pair { IsNextPair self.now.table.now standing.now pair.now }
-        ensures { IsTrue result → Lead (IsOf pair.now.put.call pair.now.take.call) self.now.table.now (listed self.now.standings.now.keys) standing.now }
+        ensures { IsTrue result → Lead (IsOf pair.now.put.call pair.now.take.call)
+            self.now.table.now (listed self.now.standings.now.keys) standing.now }
     {
         if next_entries.is_past(pair.put_moment, pair.take_moment) {
             return true;
@@ -252,7 +267,8 @@ impl DeadEnds<'_> {
 
     // Whether one of the standings stands after a pair.
     fn leads(&self, standing: &Standing, pair: &TimedPair) -> bool
-        ensures { IsTrue result → IsOneOf (listed self.now.standings.now.keys) (after (paired standing.now) (Pairs (pair_of pair.now))) }
+        ensures { IsTrue result → IsOneOf (listed self.now.standings.now.keys)
+            (after (paired standing.now) (Pairs (pair_of pair.now))) }
     {
         if !is_small(pair.put.call) {
             return false;
@@ -266,7 +282,8 @@ impl DeadEnds<'_> {
     // Whether a pair of next calls that serves for this one leads to one of the standings.
     fn is_served(&self, standing: &Standing, next_entries: &NextEntries, pair: &TimedPair) -> bool
         requires next_entries { AreNextEntries self.now.table.now standing.now next_entries.now }
-        ensures { IsTrue result → IsServed self.now.table.now (listed self.now.standings.now.keys) standing.now pair.now }
+        ensures { IsTrue result → IsServed self.now.table.now
+            (listed self.now.standings.now.keys) standing.now pair.now }
     {
         for caller in 0..MAX_CALLERS {
             if self.putter_serves(standing, next_entries, pair, caller) {
@@ -276,7 +293,8 @@ impl DeadEnds<'_> {
         false
     }
 
-    // Whether a pair of a caller's next put serves for a given pair, and leads to one of the standings.
+    // Whether a pair of a caller's next put serves for a given pair, and leads to one of the
+    // standings.
     fn putter_serves(
         &self,
         standing: &Standing,
@@ -286,7 +304,8 @@ impl DeadEnds<'_> {
     ) -> bool
         requires next_entries { AreNextEntries self.now.table.now standing.now next_entries.now }
         requires caller { caller < MAX_CALLERS }
-        ensures { IsTrue result → IsServed self.now.table.now (listed self.now.standings.now.keys) standing.now pair.now }
+        ensures { IsTrue result → IsServed self.now.table.now
+            (listed self.now.standings.now.keys) standing.now pair.now }
     {
         match next_entries.put(caller) {
             Some(put) => self.put_serves(standing, next_entries, pair, put),
@@ -304,7 +323,8 @@ impl DeadEnds<'_> {
     ) -> bool
         requires next_entries { AreNextEntries self.now.table.now standing.now next_entries.now }
         requires put { IsNextEntry (λ i n. put_at self.now.table.now i n) standing.now.puts put }
-        ensures { IsTrue result → IsServed self.now.table.now (listed self.now.standings.now.keys) standing.now pair.now }
+        ensures { IsTrue result → IsServed self.now.table.now
+            (listed self.now.standings.now.keys) standing.now pair.now }
     {
         if !put.is_held() {
             return false;
@@ -320,8 +340,8 @@ impl DeadEnds<'_> {
         false
     }
 
-    // Whether the pair of a put and a caller's next take serves for a given pair, and leads to one of the
-    // standings.
+    // Whether the pair of a put and a caller's next take serves for a given pair, and leads to one
+    // of the standings.
     fn taker_serves(
         &self,
         standing: &Standing,
@@ -334,7 +354,8 @@ impl DeadEnds<'_> {
         requires put { IsNextEntry (λ i n. put_at self.now.table.now i n) standing.now.puts put }
         requires held { put.span.first < NEVER }
         requires caller { caller < MAX_CALLERS }
-        ensures { IsTrue result → IsServed self.now.table.now (listed self.now.standings.now.keys) standing.now pair.now }
+        ensures { IsTrue result → IsServed self.now.table.now
+            (listed self.now.standings.now.keys) standing.now pair.now }
     {
         match next_entries.take(caller) {
             Some(take) => self.calls_serve(standing, pair, put, take),
@@ -342,7 +363,8 @@ impl DeadEnds<'_> {
         }
     }
 
-    // Whether the pair of a put and a take serves for a given pair, and leads to one of the standings.
+    // Whether the pair of a put and a take serves for a given pair, and leads to one of the
+    // standings.
     fn calls_serve(
         &self,
         standing: &Standing,
@@ -352,8 +374,10 @@ impl DeadEnds<'_> {
     ) -> bool
         requires put { IsNextEntry (λ i n. put_at self.now.table.now i n) standing.now.puts put }
         requires held { put.span.first < NEVER }
-        requires take { IsNextEntry (λ i n. take_at self.now.table.now i n) standing.now.takes take }
-        ensures { IsTrue result → IsServed self.now.table.now (listed self.now.standings.now.keys) standing.now pair.now }
+        requires take { IsNextEntry (λ i n. take_at self.now.table.now i n)
+            standing.now.takes take }
+        ensures { IsTrue result → IsServed self.now.table.now
+            (listed self.now.standings.now.keys) standing.now pair.now }
     {
         if !take.is_held() {
             return false;
@@ -368,7 +392,8 @@ impl DeadEnds<'_> {
 
 // Whether a take may take out what a put puts in.
 fn may_take(put: Deal, take: Deal) -> bool
-    ensures { (v : ℕ) → put ≡ Deal.Put v → (take ≡ Deal.Took v) ⊎ (take ≡ Deal.OpenTake) → IsTrue result }
+    ensures { (v : ℕ) → put ≡ Deal.Put v → (take ≡ Deal.Took v) ⊎ (take ≡ Deal.OpenTake)
+        → IsTrue result }
 {
     match (put, take) {
         (Deal::Put(value), Deal::Took(shown)) => value == shown,

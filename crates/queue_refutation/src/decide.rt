@@ -12,19 +12,20 @@ use order_check::check_order;
 use queue_pairs::{Found, PairSearch, Standing, Surplus, Table, Walk, calls_in_order, places_of};
 use std::alloc::Global;
 
-// How many steps the search for pairs has, and how many it has once more, where unanswered takes may take any value.
+// How many steps the search for pairs has, and how many it has once more, where unanswered takes
+// may take any value.
 const STEPS: u64 = 500_000;
 
 const STEPS_ANEW: u64 = 200_000;
 
-/// What the pairs of a queue's book say of it (after Henzinger, Sezgin and Vafeiadis 2013, whose order of puts and
-/// takes they keep).
+/// What the pairs of a queue's book say of it (after Henzinger, Sezgin and Vafeiadis 2013, whose
+/// order of puts and takes they keep).
 ///
 /// Counts of puts and takes are compared first: where they clash, there is no order, and no search.
 ///
-/// The search isn't trusted: the order that it finds is judged, and one that isn't legal isn't delivered; and the
-/// standings that it entered without finding any are looked at once more. No clause says how often anything is said:
-/// that costs time alone.
+/// The search isn't trusted: the order that it finds is judged, and one that isn't legal isn't
+/// delivered; and the standings that it entered without finding any are looked at once more. No
+/// clause says how often anything is said: that costs time alone.
 pub fn decide_queue<Q: SeqObject + Reader>(
     alloc: Global,
     queue: &Q,
@@ -64,7 +65,8 @@ pub fn decide_queue<Q: SeqObject + Reader>(
     }
 }
 
-// Whether the standings of a search in which unanswered takes may take any value show that there is no order.
+// Whether the standings of a search in which unanswered takes may take any value show that there is
+// no order.
 fn refute_anew(
     alloc: Global,
     book: &Book,

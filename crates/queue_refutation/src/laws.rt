@@ -1,4 +1,5 @@
-//! Laws of closed lists of standings, and of counts of calls. Each is the contract of a function with nothing in it.
+//! Laws of closed lists of standings, and of counts of calls. Each is the contract of a function
+//! with nothing in it.
 
 ghost use Rattle.queue_refutation.specs.CountLaws.{TakesFollowPuts, FindsLeaveNothing};
 ghost use Rattle.queue_refutation.specs.RefutationLaws.{

@@ -1,5 +1,6 @@
-//! Queues decided by pairs, without a search of orders: an order that pairs make is judged, and there is none where all
-//! that may stand next at each of a list of standings leads to one of them, or where counts of puts and takes clash.
+//! Queues decided by pairs, without a search of orders: an order that pairs make is judged, and
+//! there is none where all that may stand next at each of a list of standings leads to one of them,
+//! or where counts of puts and takes clash.
 #![tactic(auto)]
 
 mod clashes;

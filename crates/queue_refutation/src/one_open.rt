@@ -11,7 +11,8 @@ use queue_pairs::Table;
 
 /// Looks in the table of a book whether each view holds at most one unanswered call of each caller.
 pub fn has_one_open(table: &Table, book: &Book) -> bool
-    ensures { IsTrue result → (reading : Reading) → IsTable reading book.now table.now → HasOneOpen book.now }
+    ensures { IsTrue result → (reading : Reading) → IsTable reading book.now table.now
+        → HasOneOpen book.now }
 {
     for caller in 0..book.callers() {
         if second_is_held(table, book, caller) {

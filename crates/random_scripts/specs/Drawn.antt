@@ -25,9 +25,11 @@ pub record IsWorkload (w : Workload) : Type 0 where
 abbrev pub chosen : Weights → ℕ → Choice
 chosen w draw =
     let share = draw % (w.first + w.second + w.third) in
-    if nat_lt share w.first then First else (if nat_lt share (w.first + w.second) then Second else Third)
+    if nat_lt share w.first then First
+    else (if nat_lt share (w.first + w.second) then Second else Third)
 
--- The operation of a kind that is chosen, with these arguments, of which it leaves out those that it doesn't take.
+-- The operation of a kind that is chosen, with these arguments, of which it leaves out those that
+-- it doesn't take.
 abbrev pub operation_of : Kind → Choice → ℕ → ℕ → ℕ
 operation_of Queue First value further = operation words.enq value 0
 operation_of Queue _ value further = operation words.deq 0 0
@@ -56,7 +58,8 @@ first_draw caller number = (caller * 256 + number) * 4
 abbrev pub drawn_operation : Workload → ℕ → ℕ → ℕ → ℕ
 drawn_operation w key caller number =
     let first = first_draw caller number in
-    operation_of w.kind (chosen w.weights (drawn key first)) (drawn key (first + 1) % w.values) (drawn key (first + 2) % w.values)
+    operation_of w.kind (chosen w.weights (drawn key first)) (drawn key (first + 1) % w.values)
+    (drawn key (first + 2) % w.values)
 
 -- The operations of a caller under a key.
 abbrev pub drawn_operations : Workload → ℕ → ℕ → List ℕ

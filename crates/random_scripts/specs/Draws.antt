@@ -15,7 +15,9 @@ squared word more = (((word * word) % 2 ^ 64) + more) % 2 ^ 64
 
 -- Four rounds over a first word and a second one.
 abbrev pub four_rounds : ℕ → ℕ → ℕ
-four_rounds first second = squared (turned (squared (turned (squared (turned (squared first first)) second)) first)) second / 2 ^ 32
+four_rounds first second =
+    squared (turned (squared (turned (squared (turned (squared first first)) second)) first))
+    second / 2 ^ 32
 
 -- The draw with this number under a key: 32 bits.
 abbrev pub drawn : ℕ → ℕ → ℕ

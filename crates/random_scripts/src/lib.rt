@@ -1,4 +1,5 @@
-//! Random scripts: what the callers of a run do, drawn by a seed, with weights for the operations of a kind.
+//! Random scripts: what the callers of a run do, drawn by a seed, with weights for the operations
+//! of a kind.
 #![tactic(auto)]
 
 mod draws;

@@ -24,7 +24,8 @@ pub(crate) fn draw_operation(workload: &Workload, key: u64, call: Call) -> OpWor
     operation(workload.kind, choice, u64::from(value), u64::from(further))
 }
 
-/// The operation of a kind that is chosen, with these arguments, of which it leaves out those that it doesn't take.
+/// The operation of a kind that is chosen, with these arguments, of which it leaves out those that
+/// it doesn't take.
 fn operation(kind: Kind, choice: Choice, value: u64, further: u64) -> OpWord
     requires value { value < 2 ^ 32 }
     requires further { further < 2 ^ 32 }

@@ -9,8 +9,9 @@ use book_base::{NoMemory, ReadFault};
 use client_scripts::{Script, read_script};
 use std::alloc::Global;
 
-/// The script of a seed: each caller makes as many calls as the workload says, none stops, and there are no turns.
-/// The operation of each call is drawn by itself, so a seed with more calls begins with the same ones.
+/// The script of a seed: each caller makes as many calls as the workload says, none stops, and
+/// there are no turns. The operation of each call is drawn by itself, so a seed with more calls
+/// begins with the same ones.
 pub fn random_script(alloc: Global, workload: &Workload, seed: u64) -> Result<Script, NoMemory>
     // The workload is one that texts of scripts have room for, with a value and an operation to
     // draw.

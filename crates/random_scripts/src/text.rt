@@ -24,7 +24,8 @@ pub(crate) fn script_text(
     seed: u64,
 ) -> Result<Vec<u8>, NoMemory>
     requires { IsWorkload workload.now }
-    ensures { IfOk result (λ bytes. IsScriptText Second bytes.items (drawn_plan workload.now seed)) }
+    ensures { IfOk result
+        (λ bytes. IsScriptText Second bytes.items (drawn_plan workload.now seed)) }
 {
     let mut out = Vec::new(alloc);
     put_head(&mut out, b"script", workload.kind, &counts(workload))?;

@@ -10,7 +10,8 @@ pub enum Came {
     Ordinary,
     /// Want of memory. Nothing was written, and the bench holds all callers.
     NoMemory,
-    /// A call was made, and not judged for want of memory: its reply, its view and its seen cut are told, and its caller is halted.
+    /// A call was made, and not judged for want of memory: its reply, its view and its seen cut are
+    /// told, and its caller is halted.
     Unjudged,
     /// Anything else.
     Wrong,

@@ -70,7 +70,8 @@ impl Enforced {
         self.found = Some(queue_calls::<Brand, Brand, _>(rt, alloc, first, second, self.turns));
     }
 
-    /// What came of them. The call after one that wasn't judged has its record in the seen cut and in the order.
+    /// What came of them. The call after one that wasn't judged has its record in the seen cut and
+    /// in the order.
     pub fn came(&self) -> Came {
         let Some(found) = &self.found else {
             return Came::Nothing;
@@ -109,7 +110,8 @@ impl Wanted {
     }
 }
 
-// What came of two calls, the one after the other. Whatever became of the first, its record is in the order of the second.
+// What came of two calls, the one after the other. Whatever became of the first, its record is in
+// the order of the second.
 fn came_of(first: &Found, second: &Found, wanted: [Wanted; 2]) -> Came {
     let [a, b] = wanted;
     let order = [a.place(), b.place()];

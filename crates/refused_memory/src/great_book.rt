@@ -32,8 +32,9 @@ pub fn great_book(alloc: Global) -> Result<Vec<u8>> {
     Ok(text)
 }
 
-/// A book of rounds: in each all callers of a queue call beside one another, and each view counts all calls up to its round. In
-/// every other round each caller dequeues what it enqueued in the round before.
+/// A book of rounds: in each all callers of a queue call beside one another, and each view counts
+/// all calls up to its round. In every other round each caller dequeues what it enqueued in the
+/// round before.
 pub fn book_of_rounds(alloc: Global) -> Result<Vec<u8>> {
     let mut text = Vec::new(alloc);
     write_head(&mut text, ROUNDS)?;

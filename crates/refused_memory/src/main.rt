@@ -1,8 +1,9 @@
-//! Works that take memory, and what comes where some allocation is refused: by itself it refuses none, and whoever runs it says
-//! which one the system is to refuse.
+//! Works that take memory, and what comes where some allocation is refused: by itself it refuses
+//! none, and whoever runs it says which one the system is to refuse.
 //!
-//! Each line of standard input names a work, how many allocations are used up before it, and `do` or `leave`, which only prepares
-//! it. After the work allocations are used up until one is refused, or 4,000 were had. A line is printed for each:
+//! Each line of standard input names a work, how many allocations are used up before it, and `do`
+//! or `leave`, which only prepares it. After the work allocations are used up until one is refused,
+//! or 4,000 were had. A line is printed for each:
 //!
 //! | Line | Meaning |
 //! |---|---|
@@ -10,8 +11,8 @@
 //! | `WORK: CAME, and N suffix it` | the work had all memory that it wanted, and N more allocations were had before one was refused |
 //! | `WORK: refused before` | an allocation before the work was refused |
 //!
-//! CAME is the ordinary answer, want of memory with nothing written, or a call without a judgement, which leaves its record; and
-//! what is none of these is `WRONG`, and the status is then 1.
+//! CAME is the ordinary answer, want of memory with nothing written, or a call without a judgement,
+//! which leaves its record; and what is none of these is `WRONG`, and the status is then 1.
 #![tactic(auto)]
 
 mod came;

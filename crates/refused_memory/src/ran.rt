@@ -54,7 +54,8 @@ fn run_box<R: Threads + Sync>(rt: &R, alloc: Global, script: &Script) -> Result<
     came
 }
 
-// Runs a script over an object, and says what came, which is wrong where a caller isn't back on the bench or a pass not in its place.
+// Runs a script over an object, and says what came, which is wrong where a caller isn't back on the
+// bench or a pass not in its place.
 fn run_beside<R: Threads + Sync, B: BlackBox + Sync>(
     rt: &R,
     alloc: Global,

@@ -25,36 +25,52 @@ pub lawful_reports_have_an_order : LawfulReportsHaveAnOrder
 lawful_reports_have_an_order init next s operations allotments lines lawful = (
   book_at (delivered_cut_of lines) (book_of_lines lines),
   book_at_is_the_book_at (book_of_lines lines) (delivered_cut_of lines) lawful.valid,
-  subst (λ (n : ℕ). HasLegalOrder init next (book_at (delivered_cut n lines) (book_of_lines lines))) (sym lawful.callers) lawful.one_order,
+  subst (λ (n : ℕ). HasLegalOrder init next (book_at (delivered_cut n lines) (book_of_lines lines)))
+      (sym lawful.callers) lawful.one_order,
 )
 
 pub certificates_need_an_order : CertificatesNeedAnOrder
-certificates_need_an_order init next report bytes certificate = (certificate.book, certificate.at, (certificate.order, certificate.legal))
+certificates_need_an_order init next report bytes certificate =
+    (certificate.book, certificate.at, (certificate.order, certificate.legal))
 
 pub delivered_replies_stand_in_the_order : DeliveredRepliesStandInTheOrder
-delivered_replies_stand_in_the_order init next s operations allotments lines lawful book order at legal call line r cut there delivered =
+delivered_replies_stand_in_the_order init next s operations allotments lines lawful book order at
+    legal call line r cut there delivered =
     let own : List Line = lines_at lines call.caller in
-    let inside : call.caller < s.callers = omega (arith, lawful.callers, caller_within lines call line there) in
-    let led : (k : ℕ) (l : Line) → slice_get own k ≡ Some l → k + 1 < length own → IsSome (delivered_in l.end) =
+    let inside : call.caller < s.callers =
+    omega (arith, lawful.callers, caller_within lines call line there) in
+    let led : (k : ℕ) (l : Line) → slice_get own k ≡ Some l → k + 1 < length own
+    → IsSome (delivered_in l.end) =
     λ k l here low.
-    let d = lines_before_the_last_are_delivered (operations_at operations call.caller) (slice_index allotments call.caller) own k l (lawful.allotted call.caller inside) here low in
+    let d = lines_before_the_last_are_delivered (operations_at operations call.caller)
+    (slice_index allotments call.caller) own k l (lawful.allotted call.caller inside) here low in
     subst (λ (end : LineEnd). IsSome (delivered_in end)) (sym d.2) refl in
     let told : record_of (book_of_lines lines) call ≡ Some r =
-    ap (λ (p : Page). slice_get p.records call.number) (page_of-lines lines call.caller) ∙ record_at own (delivered_led own led) call.number line there ∙ ap answer_in delivered in
-    let saw : delivered_at lines call ≡ Some cut = ap (λ (o : Option Line). option_and_then (λ (l : Line). delivered_in l.end) o) there ∙ ap delivered_in delivered in
-    let held : Holds (delivered_cut_of lines) call = subst (λ (n : ℕ). Holds (delivered_cut n lines) call) (sym lawful.callers) (lawful.holds call cut saw) in
-    legal.answered call r (record_of-part (book_of_lines lines) (delivered_cut_of lines) book at call held ∙ told)
+    ap (λ (p : Page). slice_get p.records call.number) (page_of-lines lines call.caller)
+    ∙ record_at own (delivered_led own led) call.number line there ∙ ap answer_in delivered in
+    let saw : delivered_at lines call ≡ Some cut =
+    ap (λ (o : Option Line). option_and_then (λ (l : Line). delivered_in l.end) o) there
+    ∙ ap delivered_in delivered in
+    let held : Holds (delivered_cut_of lines) call =
+    subst (λ (n : ℕ). Holds (delivered_cut n lines) call) (sym lawful.callers)
+    (lawful.holds call cut saw) in
+    legal.answered call r
+    (record_of-part (book_of_lines lines) (delivered_cut_of lines) book at call held ∙ told)
 
 pub certificates_are_read : CertificatesAreRead
 certificates_are_read init next report bytes kind book order certificate read =
-    let own = (a_text_is_its_lines bytes report.kind certificate.book certificate.order).0 certificate.text in
-    let one = one_certificate bytes kind report.kind book certificate.book order certificate.order read own in
+    let own =
+    (a_text_is_its_lines bytes report.kind certificate.book certificate.order).0 certificate.text in
+    let one =
+    one_certificate bytes kind report.kind book certificate.book order certificate.order read own in
     record {
       kinds = one.kinds;
       at = subst (IsDeliveredBook report.lines) (sym one.books) certificate.at;
       legal = subst (λ (o : List Place). IsLegalOrder init next book o) (sym one.orders)
-          (subst (λ (b : List Page). IsLegalOrder init next b certificate.order) (sym one.books) certificate.legal);
+          (subst (λ (b : List Page). IsLegalOrder init next b certificate.order)
+          (sym one.books) certificate.legal);
     }
 
 pub certificates_have_one_book : CertificatesHaveOneBook
-certificates_have_one_book init next report k l a b p q one other = books_at_are_one _ _ a b one.at other.at
+certificates_have_one_book init next report k l a b p q one other =
+    books_at_are_one _ _ a b one.at other.at

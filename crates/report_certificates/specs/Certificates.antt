@@ -15,7 +15,8 @@ use Rattle.certificate_text.specs.Grammar.{IsWrittenCertificate}
 abbrev pub delivered_cuts_in : List Line → List (List ℕ)
 delivered_cuts_in own = filter_map (λ (line : Line). delivered_in line.end) own
 
--- The greatest seen cut of a delivered line, by all callers of these lines: the cut of zeros where no line is delivered.
+-- The greatest seen cut of a delivered line, by all callers of these lines: the cut of zeros where
+-- no line is delivered.
 abbrev pub delivered_cut_of : List (List Line) → List ℕ
 delivered_cut_of lines = delivered_cut (length lines) lines
 
@@ -25,11 +26,15 @@ IsDeliveredBook lines book = IsBookAt (book_of_lines lines) (delivered_cut_of li
 
 -- The book of what was delivered has a legal order, for the sequential object with this first list
 -- and this transition function.
-abbrev pub HasDeliveredOrder : (init : List ℕ) → (next : List ℕ → ℕ → List ℕ × ℕ) → List (List Line) → Type 0
-HasDeliveredOrder init next lines = (book : List Page) × IsDeliveredBook lines book × HasLegalOrder init next book
+abbrev pub HasDeliveredOrder : (init : List ℕ) → (next : List ℕ → ℕ → List ℕ × ℕ)
+    → List (List Line) → Type 0
+HasDeliveredOrder init next lines = (book : List Page) × IsDeliveredBook lines book
+    × HasLegalOrder init next book
 
--- The bytes are a certificate of a report: the text of the book of what was delivered, and of a legal order of it.
-pub record IsCertificate (init : List ℕ) (next : List ℕ → ℕ → List ℕ × ℕ) (report : Findings) (bytes : List ℕ) : Type 0 where
+-- The bytes are a certificate of a report: the text of the book of what was delivered, and of a
+-- legal order of it.
+pub record IsCertificate (init : List ℕ) (next : List ℕ → ℕ → List ℕ × ℕ) (report : Findings)
+    (bytes : List ℕ) : Type 0 where
   pub book : List Page
   pub order : List Place
   pub at : IsDeliveredBook report.lines book

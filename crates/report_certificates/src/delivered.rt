@@ -55,7 +55,8 @@ fn raise_by_lines(greatest: &mut Cut, report: &Report, caller: u32)
 fn raise(cut: &mut Cut, other: &Cut)
     requires { length other.now ≡ length cut.old }
     ensures wide { length cut.new ≡ length cut.old }
-    ensures counts { (i : ℕ) → slice_index cut.new i ≡ max (slice_index cut.old i) (slice_index other.now i) }
+    ensures counts { (i : ℕ)
+        → slice_index cut.new i ≡ max (slice_index cut.old i) (slice_index other.now i) }
 {
     for caller in 0..cut.n() {
         cut.set(caller, cut.get(caller).max(other.get(caller)));

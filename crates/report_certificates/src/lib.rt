@@ -1,4 +1,5 @@
-//! Certificates of reports: the book of what was delivered, with a legal order of it, as a text that anyone can judge.
+//! Certificates of reports: the book of what was delivered, with a legal order of it, as a text
+//! that anyone can judge.
 #![tactic(auto)]
 
 mod certificate;

@@ -11,20 +11,28 @@ use Rattle.call_lines.specs.Lawful.{delivered_cut, IsLawful}
 use Rattle.report_laws.specs.Reporting.{ErrorsAreFinal}
 use Rattle.report_laws.proofs.Lines.{seen_from_delivered, seen_from_error}
 
-module _ (init : List ℕ) (next : List ℕ → ℕ → List ℕ × ℕ) (s : Shape) (operations : List (List ℕ)) (allotments : List ℕ) (lines : List (List Line)) (h : IsLawful init next s operations allotments lines) where
-  never : (a b : Call) (x y : List ℕ) → delivered_at lines a ≡ Some x → error_at lines b ≡ Some y → IsWithin y x → ⊥
+module _ (init : List ℕ) (next : List ℕ → ℕ → List ℕ × ℕ) (s : Shape) (operations : List (List ℕ))
+    (allotments : List ℕ) (lines : List (List Line))
+    (h : IsLawful init next s operations allotments lines) where
+  never : (a b : Call) (x y : List ℕ) → delivered_at lines a ≡ Some x → error_at lines b ≡ Some y
+      → IsWithin y x → ⊥
   never a b x y d e within =
       let top : List ℕ = delivered_cut s.callers lines in
       let book : List Page = book_of_lines lines in
       h.no_order b y e
-      (smaller_has_one init next book y x h.valid within (smaller_has_one init next book x top h.valid (h.contains a x d) h.one_order))
+      (smaller_has_one init next book y x h.valid within
+      (smaller_has_one init next book x top h.valid (h.contains a x d) h.one_order))
 
-  apart : (a b : Call) (x y : List ℕ) → delivered_at lines a ≡ Some x → error_at lines b ≡ Some y → IsWithin x y
-  apart a b x y d e = elim (h.seen.comparable a b x y (seen_from_delivered lines a x d) (seen_from_error lines b y e)) [
-    | inl within ↦ within
-    | inr within ↦ absurd (never a b x y d e within)
-  ]
+  apart : (a b : Call) (x y : List ℕ) → delivered_at lines a ≡ Some x → error_at lines b ≡ Some y
+      → IsWithin x y
+  apart a b x y d e = elim (h.seen.comparable a b x y (seen_from_delivered lines a x d)
+      (seen_from_error lines b y e)) [
+        | inl within ↦ within
+        | inr within ↦ absurd (never a b x y d e within)
+      ]
 
 pub errors_are_final : ErrorsAreFinal
-errors_are_final init next s operations allotments lines a b x y h d e =
-    (apart init next s operations allotments lines h a b x y d e, never init next s operations allotments lines h a b x y d e)
+errors_are_final init next s operations allotments lines a b x y h d e = (
+  apart init next s operations allotments lines h a b x y d e,
+  never init next s operations allotments lines h a b x y d e,
+)

@@ -29,43 +29,62 @@ record IsSeenIn (l : Local) (k : ℕ) (cut : List ℕ) : Type 0 where
   below : k < length l.seen
   is : slice_index_or l.seen k [] ≡ cut
 
-seen_in : (l : Local) (k : ℕ) (r : Record) (cut : List ℕ) → reached_in l k ≡ Has_seen r cut → IsSeenIn l k cut
+seen_in : (l : Local) (k : ℕ) (r : Record) (cut : List ℕ) → reached_in l k ≡ Has_seen r cut
+    → IsSeenIn l k cut
 seen_in l k r cut e =
     let own : List ℕ = slice_index_or l.seen k [] in
-    let other : Reached = cond (nat_lt k (length l.views)) (Has_record (record_in l k)) Is_announced in
+    let other : Reached =
+    cond (nat_lt k (length l.views)) (Has_record (record_in l k)) Is_announced in
     let made : Bool → Reached = λ b. cond b (Has_seen (record_in l k) own) other in
     elim (cases_lt k (length l.seen)) [
       | inl below ↦
-          let one : Has_seen (record_in l k) own ≡ Has_seen r cut = sym (ap made (lt-ltb k (length l.seen) below)) ∙ e in
+          let one : Has_seen (record_in l k) own ≡ Has_seen r cut =
+          sym (ap made (lt-ltb k (length l.seen) below)) ∙ e in
           let same : own ≡ cut = cc in
           record { below = below; is = same }
       | inr past ↦
           let none : other ≡ Has_seen r cut = sym (ap made (le-ltb k (length l.seen) past)) ∙ e in
-          absurd (cond_both (nat_lt k (length l.views)) (Has_record (record_in l k)) Is_announced (λ (v : Reached). v ≡ Has_seen r cut → ⊥) (λ _ h. absurd cc) (λ _ h. absurd cc) none)
+          absurd (cond_both (nat_lt k (length l.views)) (Has_record (record_in l k)) Is_announced
+          (λ (v : Reached). v ≡ Has_seen r cut → ⊥) (λ _ h. absurd cc) (λ _ h. absurd cc) none)
     ]
 
 -- the calls of a caller among those of all
-pub calls_at : (locals : List Local) (i : ℕ) → slice_index_or (map calls_in locals) i [] ≡ calls_in (local_at locals i)
+pub calls_at : (locals : List Local) (i : ℕ)
+    → slice_index_or (map calls_in locals) i [] ≡ calls_in (local_at locals i)
 calls_at [] i = refl
 calls_at (l ∷ ls) zero = refl
 calls_at (l ∷ ls) (suc i) = calls_at ls i
 
-seen_by : (locals : List Local) (call : Call) (cut : List ℕ) → HasSeenCut (map calls_in locals) call cut → IsSeenIn (local_at locals call.caller) call.number cut
+seen_by : (locals : List Local) (call : Call) (cut : List ℕ)
+    → HasSeenCut (map calls_in locals) call cut
+    → IsSeenIn (local_at locals call.caller) call.number cut
 seen_by locals call cut h =
     let l : Local = local_at locals call.caller in
     let made : Made = record { operation = h.operation; reached = Has_seen h.answer cut } in
-    let there : slice_get (calls_in l) call.number ≡ Some made = ap (λ (cs : List Made). slice_get cs call.number) (sym (calls_at locals call.caller)) ∙ h.made in
+    let there : slice_get (calls_in l) call.number ≡ Some made = ap
+    (λ (cs : List Made). slice_get cs call.number) (sym (calls_at locals call.caller)) ∙ h.made in
     let low : call.number < length l.operations =
-    omega (arith, slice_get_within (calls_in l) call.number made there, length-map-range_with_len (λ k. call_in l k) 0 (length l.operations)) in
+    omega (
+      arith,
+      slice_get_within (calls_in l) call.number made there,
+      length-map-range_with_len (λ k. call_in l k) 0 (length l.operations),
+    ) in
     let same : call_in l call.number ≡ made =
-    same_Some (call_in l call.number) made (sym (slice_get-made (λ k. call_in l k) (length l.operations) call.number low) ∙ there) in
+    same_Some (call_in l call.number) made
+    (sym (slice_get-made (λ k. call_in l k) (length l.operations) call.number low) ∙ there) in
     seen_in l call.number h.answer cut (ap (λ (m : Made). m.reached) same)
 
 -- who has seen a cut is one of the callers
-seer : (s : Shape) (locals : List Local) → AreTogether s locals → (i k : ℕ) → k < length (local_at locals i).seen → i < s.callers
+seer : (s : Shape) (locals : List Local) → AreTogether s locals → (i k : ℕ)
+    → k < length (local_at locals i).seen → i < s.callers
 seer s locals t i k below = elim (cases_lt i s.callers) [
   | inl low ↦ low
-  | inr past ↦ absurd (omega (arith, below, ap (λ (l : Local). length l.seen) (get_or_past locals i fresh (omega (arith, past, (locals_have_phases s locals t).0)))))
+  | inr past ↦ absurd (omega (
+    arith,
+    below,
+    ap (λ (l : Local). length l.seen)
+        (get_or_past locals i fresh (omega (arith, past, (locals_have_phases s locals t).0))),
+  ))
 ]
 
 pub seen_cuts_were_published : SeenCutsWerePublished
@@ -75,10 +94,16 @@ seen_cuts_were_published init next s locals lines call cut t are e =
     let given = seen_cuts_are_given s locals call.caller call.number t low seen.below in
     subst (WereOwnCounts s locals M) seen.is
     (given_cuts_were_counts s locals call.caller given.place
-    (record { region = M; cut = slice_index_or (local_at locals call.caller).seen call.number []; since = given.since }) t low given.is)
+    (record {
+      region = M;
+      cut = slice_index_or (local_at locals call.caller).seen call.number [];
+      since = given.since;
+    }) t low given.is)
 
 pub linearizable_runs_have_no_error : LinearizableRunsHaveNoError
 linearizable_runs_have_no_error init next s steps lines call run linearizable are =
     none_from_never (error_at lines call) (λ cut e.
-    no_run_has_this_error_seen init next (calls_of lines) call cut (has_seen_cut lines call cut (seen_from_error lines call cut e))
-    (illegal_at init next (end_of s steps).locals lines are call cut e) s steps run (sym are.calls) linearizable)
+    no_run_has_this_error_seen init next (calls_of lines) call cut
+    (has_seen_cut lines call cut (seen_from_error lines call cut e))
+    (illegal_at init next (end_of s steps).locals lines are call cut e) s steps run
+    (sym are.calls) linearizable)

@@ -16,14 +16,16 @@ use Rattle.call_lines.specs.Lines.{book_of_lines, lines_at, IsJudged, AreLinesOf
 use Rattle.report_laws.specs.Cases.{both_delivered, both_failed, stopped, nothing}
 
 -- what holds of two lines holds of each line of two callers with one line each
-each_line : (P : Line → Type 0) (a b : Line) → P a → P b → (i k : ℕ) (line : Line) → slice_get (lines_at ((a ∷ []) ∷ (b ∷ []) ∷ []) i) k ≡ Some line → P line
+each_line : (P : Line → Type 0) (a b : Line) → P a → P b → (i k : ℕ) (line : Line)
+    → slice_get (lines_at ((a ∷ []) ∷ (b ∷ []) ∷ []) i) k ≡ Some line → P line
 each_line P a b h g zero zero line e = subst P (same_Some a line e) h
 each_line P a b h g zero (suc k) line e = absurd (none-some line e)
 each_line P a b h g (suc zero) zero line e = subst P (same_Some b line e) g
 each_line P a b h g (suc zero) (suc k) line e = absurd (none-some line e)
 each_line P a b h g (suc (suc i)) k line e = absurd (none-some line e)
 
-no_line : (P : Line → Type 0) (i k : ℕ) (line : Line) → slice_get (lines_at nothing i) k ≡ Some line → P line
+no_line : (P : Line → Type 0) (i k : ℕ) (line : Line)
+    → slice_get (lines_at nothing i) k ≡ Some line → P line
 no_line P zero k line e = absurd (none-some line e)
 no_line P (suc zero) k line e = absurd (none-some line e)
 no_line P (suc (suc i)) k line e = absurd (none-some line e)
@@ -36,7 +38,12 @@ pub second_is_legal : HasLegalOrder [] tenfold (book_at (1 ∷ 1 ∷ []) both_an
 second_is_legal = (delivered 1 (1 ∷ 1 ∷ []) refl).2
 
 pub delivered_lines : AreLinesOf [] tenfold (locals_after two_calls) both_delivered
-delivered_lines = record { calls = refl; judged = λ call line e. each_line (λ (line : Line). IsJudged [] tenfold (book_of_lines both_delivered) line.end) _ _ first_is_legal second_is_legal call.caller call.number line e }
+delivered_lines = record {
+  calls = refl;
+  judged = λ call line e.
+      each_line (λ (line : Line). IsJudged [] tenfold (book_of_lines both_delivered) line.end) _ _
+      first_is_legal second_is_legal call.caller call.number line e;
+}
 
 -- with the one that gives 0
 pub first_is_illegal : HasLegalOrder [] silent (book_at (1 ∷ 0 ∷ []) both_answered) → ⊥
@@ -49,20 +56,35 @@ within (suc (suc i)) = omega arith
 
 pub second_is_illegal : HasLegalOrder [] silent (book_at (1 ∷ 1 ∷ []) both_answered) → ⊥
 second_is_illegal =
-    larger_has_none [] silent both_answered (1 ∷ 0 ∷ []) (1 ∷ 1 ∷ []) (books_are_valid pair (locals_after two_calls) both_together) within first_is_illegal
+    larger_has_none [] silent both_answered (1 ∷ 0 ∷ []) (1 ∷ 1 ∷ [])
+    (books_are_valid pair (locals_after two_calls) both_together) within first_is_illegal
 
 pub failed_lines : AreLinesOf [] silent (locals_after two_calls) both_failed
-failed_lines = record { calls = refl; judged = λ call line e. each_line (λ (line : Line). IsJudged [] silent (book_of_lines both_failed) line.end) _ _ first_is_illegal second_is_illegal call.caller call.number line e }
+failed_lines = record {
+  calls = refl;
+  judged = λ call line e.
+      each_line (λ (line : Line). IsJudged [] silent (book_of_lines both_failed) line.end) _ _
+      first_is_illegal second_is_illegal call.caller call.number line e;
+}
 
 -- with stopped callers
 pub stopped_together : AreTogether pair (locals_after (take 24 two_calls))
 stopped_together = (end_of pair (take 24 two_calls), (take 24 two_calls, refl, refl), refl)
 
 pub stopped_lines : AreLinesOf [] silent (locals_after (take 24 two_calls)) stopped
-stopped_lines = record { calls = refl; judged = λ call line e. each_line (λ (line : Line). IsJudged [] silent (book_of_lines stopped) line.end) _ _ tt tt call.caller call.number line e }
+stopped_lines = record {
+  calls = refl;
+  judged = λ call line e. each_line (λ (line : Line).
+      IsJudged [] silent (book_of_lines stopped) line.end) _ _ tt tt call.caller call.number line e;
+}
 
 pub none_together : AreTogether pair (locals_after [])
 none_together = (end_of pair [], ([], refl, refl), refl)
 
 pub no_lines : AreLinesOf [] silent (locals_after []) nothing
-no_lines = record { calls = refl; judged = λ call line e. no_line (λ (line : Line). IsJudged [] silent (book_of_lines nothing) line.end) call.caller call.number line e }
+no_lines = record {
+  calls = refl;
+  judged =
+      λ call line e. no_line (λ (line : Line). IsJudged [] silent (book_of_lines nothing) line.end)
+      call.caller call.number line e;
+}

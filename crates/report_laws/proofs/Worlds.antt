@@ -27,24 +27,34 @@ use Rattle.report_laws.specs.Reporting.{HaveMade, WorldsAreLawful}
 use Rattle.report_laws.proofs.Lines.{has_seen_cut, delivered_line, error_line, seen_from_delivered, seen_from_error, from_delivered_cuts, in_delivered_cuts}
 
 -- A verdict of some lines, as it was judged.
-module _ (init : List ℕ) (next : List ℕ → ℕ → List ℕ × ℕ) (locals : List Local) (lines : List (List Line)) (are : AreLinesOf init next locals lines) where
-  pub legal_at : (call : Call) (cut : List ℕ) → delivered_at lines call ≡ Some cut → HasLegalOrder init next (book_at cut (book_of_lines lines))
+module _ (init : List ℕ) (next : List ℕ → ℕ → List ℕ × ℕ) (locals : List Local)
+    (lines : List (List Line)) (are : AreLinesOf init next locals lines) where
+  pub legal_at : (call : Call) (cut : List ℕ) → delivered_at lines call ≡ Some cut
+      → HasLegalOrder init next (book_at cut (book_of_lines lines))
   legal_at call cut e =
       let v = delivered_line lines call cut e in
       subst (IsJudged init next (book_of_lines lines)) v.end (are.judged call v.line v.there)
 
-  pub illegal_at : (call : Call) (cut : List ℕ) → error_at lines call ≡ Some cut → HasLegalOrder init next (book_at cut (book_of_lines lines)) → ⊥
+  pub illegal_at : (call : Call) (cut : List ℕ) → error_at lines call ≡ Some cut
+      → HasLegalOrder init next (book_at cut (book_of_lines lines)) → ⊥
   illegal_at call cut e =
       let v = error_line lines call cut e in
       subst (IsJudged init next (book_of_lines lines)) v.end (are.judged call v.line v.there)
 
   -- what a call of these lines saw its local has seen
-  pub sees : (call : Call) (cut : List ℕ) → seen_at lines call ≡ Some cut → HasSeenCut (map calls_in locals) call cut
-  sees call cut e = subst (λ (calls : List (List Made)). HasSeenCut calls call cut) are.calls (has_seen_cut lines call cut e)
+  pub sees : (call : Call) (cut : List ℕ) → seen_at lines call ≡ Some cut
+      → HasSeenCut (map calls_in locals) call cut
+  sees call cut e = subst (λ (calls : List (List Made)). HasSeenCut calls call cut) are.calls
+      (has_seen_cut lines call cut e)
 
   pub as_many : length lines ≡ length locals
   as_many =
-      omega (arith, length-map lines (λ (own : List Line). map made_of own), length-map locals calls_in, ap (λ (calls : List (List Made)). length calls) are.calls)
+      omega (
+        arith,
+        length-map lines (λ (own : List Line). map made_of own),
+        length-map locals calls_in,
+        ap (λ (calls : List (List Made)). length calls) are.calls,
+      )
 
   -- the book of the lines is that of the locals
   pub same_book : book_of_lines lines ≡ book_in locals
@@ -66,38 +76,49 @@ module _ (init : List ℕ) (next : List ℕ → ℕ → List ℕ × ℕ) (locals
         let found = from_delivered_cuts lines k cut e in (
           found.0,
           sees found.0 cut (seen_from_delivered lines found.0 cut found.1),
-          subst (λ book. HasLegalOrder init next (book_at cut book)) same_book (legal_at found.0 cut found.1),
+          subst (λ book. HasLegalOrder init next (book_at cut book)) same_book
+              (legal_at found.0 cut found.1),
         )
 
-    pub one : HasAllDelivered init next locals (delivered_cuts lines) (delivered_cut s.callers lines)
+    pub one : HasAllDelivered init next locals (delivered_cuts lines)
+        (delivered_cut s.callers lines)
     one = delivered_calls_stand_in_one init next s locals (delivered_cuts lines) t all_delivered
 
     wide : AreCutsOf s.callers (delivered_cuts lines)
-    wide k cut e = let d = all_delivered k cut e in (fit.published d.0 cut d.1).wide ∙ (locals_have_phases s locals t).0
+    wide k cut e = let d = all_delivered k cut e in
+        (fit.published d.0 cut d.1).wide ∙ (locals_have_phases s locals t).0
 
     compared : AreComparableByTwos (delivered_cuts lines)
-    compared j k a b x y = let d = all_delivered j a x in let e = all_delivered k b y in fit.comparable d.0 e.0 a b d.1 e.1
+    compared j k a b x y = let d = all_delivered j a x in let e = all_delivered k b y in
+        fit.comparable d.0 e.0 a b d.1 e.1
 
     -- where there is a delivered call, the greatest counts are one of the cuts
-    top_of : (cuts : List (List ℕ)) (k : ℕ) (cut : List ℕ) → slice_get cuts k ≡ Some cut → AreCutsOf s.callers cuts → AreComparableByTwos cuts
+    top_of : (cuts : List (List ℕ)) (k : ℕ) (cut : List ℕ) → slice_get cuts k ≡ Some cut
+        → AreCutsOf s.callers cuts → AreComparableByTwos cuts
         → (j : ℕ) × (slice_get cuts j ≡ Some (greatest_counts s.callers cuts))
     top_of [] k cut e w c = absurd (none-some cut e)
     top_of (first ∷ others) k cut e w c = greatest_is_one s.callers first others w c
 
-    pub greatest : (call : Call) (cut : List ℕ) → delivered_at lines call ≡ Some cut → (top : Call) × (delivered_at lines top ≡ Some (delivered_cut s.callers lines))
+    pub greatest : (call : Call) (cut : List ℕ) → delivered_at lines call ≡ Some cut → (top : Call)
+        × (delivered_at lines top ≡ Some (delivered_cut s.callers lines))
     greatest call cut e =
         let there = in_delivered_cuts lines call cut e in
         let top = top_of (delivered_cuts lines) there.0 cut there.1 wide compared in
         from_delivered_cuts lines top.0 (delivered_cut s.callers lines) top.1
 
     -- What the callers published is what their lines say.
-    module _ (operations : List (List ℕ)) (allotments : List ℕ) (have : HaveMade s operations allotments locals lines) where
-      published_at : (i : ℕ) → i < length lines → slice_index (published_in allotments lines) i ≡ (local_at locals i).published
+    module _ (operations : List (List ℕ)) (allotments : List ℕ)
+        (have : HaveMade s operations allotments locals lines) where
+      published_at : (i : ℕ) → i < length lines
+          → slice_index (published_in allotments lines) i ≡ (local_at locals i).published
       published_at i low =
-          get_or-map-range_with_len (λ i. published_by (phases_of (slice_index allotments i) (lines_at lines i))) 0 (length lines) i i 0 low (omega arith)
+          get_or-map-range_with_len
+          (λ i. published_by (phases_of (slice_index allotments i) (lines_at lines i))) 0
+          (length lines) i i 0 low (omega arith)
           ∙ sym (have.made i (omega (arith, low, callers))).published
 
-      seen_within : (call : Call) (cut : List ℕ) → seen_at lines call ≡ Some cut → IsWithin cut (published_in allotments lines)
+      seen_within : (call : Call) (cut : List ℕ) → seen_at lines call ≡ Some cut
+          → IsWithin cut (published_in allotments lines)
       seen_within call cut e i =
           let p = fit.published call cut (sees call cut e) in
           elim (cases_lt i (length lines)) [
@@ -120,17 +141,24 @@ module _ (init : List ℕ) (next : List ℕ → ℕ → List ℕ × ℕ) (locals
         valid = valid;
         seen = seen_fit;
         greatest = greatest;
-        contains = λ call cut e. let there = in_delivered_cuts lines call cut e in one.contains there.0 cut there.1;
+        contains = λ call cut e. let there = in_delivered_cuts lines call cut e in
+            one.contains there.0 cut there.1;
         holds = λ call cut e.
             let there = in_delivered_cuts lines call cut e in
-            one.holds there.0 cut call there.1 (sees call cut (seen_from_delivered lines call cut e));
-        one_order = subst (λ book. HasLegalOrder init next (book_at (delivered_cut s.callers lines) book)) (sym same_book) one.one_order;
+            one.holds there.0 cut call there.1
+            (sees call cut (seen_from_delivered lines call cut e));
+        one_order =
+            subst (λ book. HasLegalOrder init next (book_at (delivered_cut s.callers lines) book))
+            (sym same_book) one.one_order;
         no_order = illegal_at;
         no_run = λ call cut e other steps run same.
-            no_run_has_this_error_seen init next (calls_of lines) call cut (has_seen_cut lines call cut (seen_from_error lines call cut e)) (illegal_at call cut e)
+            no_run_has_this_error_seen init next (calls_of lines) call cut
+            (has_seen_cut lines call cut (seen_from_error lines call cut e)) (illegal_at call cut e)
             other steps run same;
-        reached = (t.0, t.1, subst (λ (ls : List Local). AreLinesOf init next ls lines) (sym t.2) are);
+        reached =
+            (t.0, t.1, subst (λ (ls : List Local). AreLinesOf init next ls lines) (sym t.2) are);
       }
 
 pub worlds_are_lawful : WorldsAreLawful
-worlds_are_lawful init next s operations allotments locals lines t are have = lawful init next locals lines are s t operations allotments have
+worlds_are_lawful init next s operations allotments locals lines t are have =
+    lawful init next locals lines are s t operations allotments have

@@ -46,7 +46,8 @@ one_unchecked = (unchecked 5 fifty ∷ []) ∷ (delivered 6 sixty (1 ∷ 1 ∷ [
 
 -- A run that leaves these lines: the second caller peeks each word of the book at its seen cut.
 abbrev pub one_judging : List Step
-one_judging = ((announced_both ++ published_one) ++ judged_both) ++ drop (length two_calls) gathering
+one_judging =
+    ((announced_both ++ published_one) ++ judged_both) ++ drop (length two_calls) gathering
 
 -- The first caller alone makes a call, and announces another one.
 abbrev pub second_begun : List (List Line)

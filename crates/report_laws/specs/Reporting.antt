@@ -1,4 +1,5 @@
--- The lines of a reachable world's locals are a lawful report; and what holds of each lawful report.
+-- The lines of a reachable world's locals are a lawful report; and what holds of each lawful
+-- report.
 use Rattle.std.specs.Prelude.{◌≡◌, ℕ, ◌+◌, ◌<◌, List, length, Some, None, slice_get, slice_index}
 use Rattle.book_base.specs.declared.call.Call.{Call}
 use Rattle.book_base.specs.declared.call.Record.{Record}
@@ -19,50 +20,68 @@ use Rattle.call_lines.specs.Allotments.{operations_at, phases_of}
 use Rattle.call_lines.specs.Lawful.{IsAllotted, IsLawful}
 
 -- Each caller has the lines of its allotment, and its local has made the phases that these tell of.
-pub record HaveMade (s : Shape) (operations : List (List ℕ)) (allotments : List ℕ) (locals : List Local) (lines : List (List Line)) : Type 0 where
-  pub allotted : (i : ℕ) → i < s.callers → IsAllotted (operations_at operations i) (slice_index allotments i) (lines_at lines i)
-  pub made : (i : ℕ) → i < s.callers → HasMade (operations_at operations i) (phases_of (slice_index allotments i) (lines_at lines i)) (local_at locals i)
+pub record HaveMade (s : Shape) (operations : List (List ℕ)) (allotments : List ℕ)
+    (locals : List Local) (lines : List (List Line)) : Type 0 where
+  pub allotted : (i : ℕ) → i < s.callers
+      → IsAllotted (operations_at operations i) (slice_index allotments i) (lines_at lines i)
+  pub made : (i : ℕ) → i < s.callers → HasMade (operations_at operations i)
+      (phases_of (slice_index allotments i) (lines_at lines i)) (local_at locals i)
 
--- The lines of locals that are together, where each caller has made all its phases, are a lawful report.
+-- The lines of locals that are together, where each caller has made all its phases, are a lawful
+-- report.
 abbrev pub WorldsAreLawful : Type 0
 WorldsAreLawful =
-    (init : List ℕ) (next : List ℕ → ℕ → List ℕ × ℕ) (s : Shape) (operations : List (List ℕ)) (allotments : List ℕ) (locals : List Local) (lines : List (List Line))
-    → AreTogether s locals → AreLinesOf init next locals lines → HaveMade s operations allotments locals lines
+    (init : List ℕ) (next : List ℕ → ℕ → List ℕ × ℕ) (s : Shape) (operations : List (List ℕ))
+    (allotments : List ℕ) (locals : List Local) (lines : List (List Line))
+    → AreTogether s locals → AreLinesOf init next locals lines
+    → HaveMade s operations allotments locals lines
     → IsLawful init next s operations allotments lines
 
 -- The locals determine their lines, verdicts included.
 abbrev pub LocalsDetermineLines : Type 0
 LocalsDetermineLines =
-    (init : List ℕ) (next : List ℕ → ℕ → List ℕ × ℕ) (locals : List Local) (lines others : List (List Line))
+    (init : List ℕ) (next : List ℕ → ℕ → List ℕ × ℕ) (locals : List Local)
+    (lines others : List (List Line))
     → AreLinesOf init next locals lines → AreLinesOf init next locals others → lines ≡ others
 
--- In a lawful report what a delivered line saw is within what each error line saw, and never contains it.
+-- In a lawful report what a delivered line saw is within what each error line saw, and never
+-- contains it.
 abbrev pub ErrorsAreFinal : Type 0
 ErrorsAreFinal =
-    (init : List ℕ) (next : List ℕ → ℕ → List ℕ × ℕ) (s : Shape) (operations : List (List ℕ)) (allotments : List ℕ) (lines : List (List Line)) (a b : Call) (x y : List ℕ)
-    → IsLawful init next s operations allotments lines → delivered_at lines a ≡ Some x → error_at lines b ≡ Some y
+    (init : List ℕ) (next : List ℕ → ℕ → List ℕ × ℕ) (s : Shape) (operations : List (List ℕ))
+    (allotments : List ℕ) (lines : List (List Line)) (a b : Call) (x y : List ℕ)
+    → IsLawful init next s operations allotments lines → delivered_at lines a ≡ Some x
+    → error_at lines b ≡ Some y
     → IsWithin x y × ¬ IsWithin y x
 
 -- What a line saw is in the book of the lines: no count is above its caller's records.
 abbrev pub SeenCutsAreInTheBook : Type 0
 SeenCutsAreInTheBook =
-    (init : List ℕ) (next : List ℕ → ℕ → List ℕ × ℕ) (s : Shape) (locals : List Local) (lines : List (List Line)) (call : Call) (cut : List ℕ)
-    → AreTogether s locals → AreLinesOf init next locals lines → seen_at lines call ≡ Some cut → IsWithin cut (answered (book_of_lines lines))
+    (init : List ℕ) (next : List ℕ → ℕ → List ℕ × ℕ) (s : Shape) (locals : List Local)
+    (lines : List (List Line)) (call : Call) (cut : List ℕ)
+    → AreTogether s locals → AreLinesOf init next locals lines → seen_at lines call ≡ Some cut
+    → IsWithin cut (answered (book_of_lines lines))
 
 -- Of the lines of an allotment each but the last is delivered.
 abbrev pub LinesBeforeTheLastAreDelivered : Type 0
 LinesBeforeTheLastAreDelivered =
-    (operations : List ℕ) (allotment : ℕ) (own : List Line) (k : ℕ) (line : Line) → IsAllotted operations allotment own → slice_get own k ≡ Some line
+    (operations : List ℕ) (allotment : ℕ) (own : List Line) (k : ℕ) (line : Line)
+    → IsAllotted operations allotment own → slice_get own k ≡ Some line
     → k + 1 < length own → (r : Record) × (cut : List ℕ) × (line.end ≡ Delivered r cut)
 
--- What a line saw was published: at one moment of a run that ends with these locals the callers' published records were exactly those.
+-- What a line saw was published: at one moment of a run that ends with these locals the callers'
+-- published records were exactly those.
 abbrev pub SeenCutsWerePublished : Type 0
 SeenCutsWerePublished =
-    (init : List ℕ) (next : List ℕ → ℕ → List ℕ × ℕ) (s : Shape) (locals : List Local) (lines : List (List Line)) (call : Call) (cut : List ℕ)
-    → AreTogether s locals → AreLinesOf init next locals lines → seen_at lines call ≡ Some cut → WereOwnCounts s locals M cut
+    (init : List ℕ) (next : List ℕ → ℕ → List ℕ × ℕ) (s : Shape) (locals : List Local)
+    (lines : List (List Line)) (call : Call) (cut : List ℕ)
+    → AreTogether s locals → AreLinesOf init next locals lines → seen_at lines call ≡ Some cut
+    → WereOwnCounts s locals M cut
 
 -- Where the object history of a run is linearizable, none of the lines of its locals is an error.
 abbrev pub LinearizableRunsHaveNoError : Type 0
 LinearizableRunsHaveNoError =
-    (init : List ℕ) (next : List ℕ → ℕ → List ℕ × ℕ) (s : Shape) (steps : List Step) (lines : List (List Line)) (call : Call) → IsRun s steps
-    → IsLinearizable init next (history_of s steps) → AreLinesOf init next (end_of s steps).locals lines → error_at lines call ≡ None
+    (init : List ℕ) (next : List ℕ → ℕ → List ℕ × ℕ) (s : Shape) (steps : List Step)
+    (lines : List (List Line)) (call : Call) → IsRun s steps
+    → IsLinearizable init next (history_of s steps)
+    → AreLinesOf init next (end_of s steps).locals lines → error_at lines call ≡ None

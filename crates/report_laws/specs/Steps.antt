@@ -11,28 +11,34 @@ NoPhaseIsMade = (operations : List ℕ) → IsProgressAfter operations 0 no_prog
 -- With k calls judged, a caller that has an operation left announces it.
 abbrev pub AnnouncingIsAPhase : Type 0
 AnnouncingIsAPhase =
-    (operations : List ℕ) (k : ℕ) (progress : Progress) → k < length operations → IsProgressAfter operations (5 * k) progress
+    (operations : List ℕ) (k : ℕ) (progress : Progress) → k < length operations
+    → IsProgressAfter operations (5 * k) progress
     → IsProgressAfter operations (5 * k + 1) (after_announcing (slice_index operations k) progress)
 
 -- To ask the object changes nothing here.
 abbrev pub AskingIsAPhase : Type 0
 AskingIsAPhase =
-    (operations : List ℕ) (k : ℕ) (progress : Progress) → IsProgressAfter operations (5 * k + 1) progress → IsProgressAfter operations (5 * k + 2) progress
+    (operations : List ℕ) (k : ℕ) (progress : Progress)
+    → IsProgressAfter operations (5 * k + 1) progress
+    → IsProgressAfter operations (5 * k + 2) progress
 
 -- The view gives the call its record.
 abbrev pub ViewingIsAPhase : Type 0
 ViewingIsAPhase =
-    (operations : List ℕ) (k : ℕ) (progress : Progress) (r : Record) → IsProgressAfter operations (5 * k + 2) progress
+    (operations : List ℕ) (k : ℕ) (progress : Progress) (r : Record)
+    → IsProgressAfter operations (5 * k + 2) progress
     → IsProgressAfter operations (5 * k + 3) (after_viewing r progress)
 
 -- The record is published.
 abbrev pub PublishingIsAPhase : Type 0
 PublishingIsAPhase =
-    (operations : List ℕ) (k : ℕ) (progress : Progress) → IsProgressAfter operations (5 * k + 3) progress
+    (operations : List ℕ) (k : ℕ) (progress : Progress)
+    → IsProgressAfter operations (5 * k + 3) progress
     → IsProgressAfter operations (5 * k + 4) (after_publishing progress)
 
 -- The call gets its seen cut, and is judged.
 abbrev pub SeeingIsAPhase : Type 0
 SeeingIsAPhase =
-    (operations : List ℕ) (k : ℕ) (progress : Progress) (cut : List ℕ) → IsProgressAfter operations (5 * k + 4) progress
+    (operations : List ℕ) (k : ℕ) (progress : Progress) (cut : List ℕ)
+    → IsProgressAfter operations (5 * k + 4) progress
     → IsProgressAfter operations (5 * (k + 1)) (after_seeing cut progress)

@@ -22,38 +22,50 @@ VerdictsStay =
 -- What a worker leaves that made all phases of its allotment, and met no error.
 abbrev pub WorkersGoThrough : Type 0
 WorkersGoThrough =
-    (init : List ℕ) (next : List ℕ → ℕ → List ℕ × ℕ) (n : ℕ) (operations : List ℕ) (allotment : ℕ) (l : Local) (own : List Line)
-    → map made_of own ≡ calls_in l → any_error own ≡ false → HasMade operations allotment l → All (λ (line : Line). IsJudgedBy init next n l line.end) own
+    (init : List ℕ) (next : List ℕ → ℕ → List ℕ × ℕ) (n : ℕ) (operations : List ℕ) (allotment : ℕ)
+    (l : Local) (own : List Line)
+    → map made_of own ≡ calls_in l → any_error own ≡ false → HasMade operations allotment l
+    → All (λ (line : Line). IsJudgedBy init next n l line.end) own
     → HasWorked init next n operations allotment l own
 
 -- And what it leaves that halted at an error, after lines without one.
 abbrev pub WorkersHalt : Type 0
 WorkersHalt =
-    (init : List ℕ) (next : List ℕ → ℕ → List ℕ × ℕ) (n : ℕ) (operations : List ℕ) (allotment : ℕ) (l : Local) (own : List Line) (line : Line)
+    (init : List ℕ) (next : List ℕ → ℕ → List ℕ × ℕ) (n : ℕ) (operations : List ℕ) (allotment : ℕ)
+    (l : Local) (own : List Line) (line : Line)
     → map made_of (own ++ line ∷ []) ≡ calls_in l → any_error own ≡ false → is_error line ≡ true
     → HasMade operations (5 * (length own + 1)) l → 5 * (length own + 1) ≤ allotment
-    → All (λ (line : Line). IsJudgedBy init next n l line.end) (own ++ line ∷ []) → HasWorked init next n operations allotment l (own ++ line ∷ [])
+    → All (λ (line : Line). IsJudgedBy init next n l line.end) (own ++ line ∷ [])
+    → HasWorked init next n operations allotment l (own ++ line ∷ [])
 
 -- The lines that a worker leaves are those of its allotment.
 abbrev pub WorkersKeepToTheirAllotments : Type 0
 WorkersKeepToTheirAllotments =
-    (init : List ℕ) (next : List ℕ → ℕ → List ℕ × ℕ) (n : ℕ) (operations : List ℕ) (allotment : ℕ) (l : Local) (own : List Line)
+    (init : List ℕ) (next : List ℕ → ℕ → List ℕ × ℕ) (n : ℕ) (operations : List ℕ) (allotment : ℕ)
+    (l : Local) (own : List Line)
     → HasWorked init next n operations allotment l own → IsAllotted operations allotment own
 
 -- Each caller of a world has worked, in these locals and lines.
-pub record HaveWorked (init : List ℕ) (next : List ℕ → ℕ → List ℕ × ℕ) (s : Shape) (operations : List (List ℕ)) (allotments : List ℕ) (locals : List Local) (lines : List (List Line)) : Type 0 where
+pub record HaveWorked (init : List ℕ) (next : List ℕ → ℕ → List ℕ × ℕ) (s : Shape)
+    (operations : List (List ℕ)) (allotments : List ℕ) (locals : List Local)
+    (lines : List (List Line)) : Type 0 where
   pub callers : length lines ≡ s.callers
-  pub worked : (i : ℕ) → i < s.callers → HasWorked init next s.callers (operations_at operations i) (slice_index allotments i) (local_at locals i) (lines_at lines i)
+  pub worked : (i : ℕ) → i < s.callers → HasWorked init next s.callers (operations_at operations i)
+      (slice_index allotments i) (local_at locals i) (lines_at lines i)
 
--- The lines that all workers leave are those of the locals that they leave: the book that each verdict was found by is the book of all
--- lines at the line's seen cut.
+-- The lines that all workers leave are those of the locals that they leave: the book that each
+-- verdict was found by is the book of all lines at the line's seen cut.
 abbrev pub WorkersLeaveTheLines : Type 0
 WorkersLeaveTheLines =
-    (init : List ℕ) (next : List ℕ → ℕ → List ℕ × ℕ) (s : Shape) (operations : List (List ℕ)) (allotments : List ℕ) (locals : List Local) (lines : List (List Line))
-    → AreTogether s locals → HaveWorked init next s operations allotments locals lines → AreLinesOf init next locals lines
+    (init : List ℕ) (next : List ℕ → ℕ → List ℕ × ℕ) (s : Shape) (operations : List (List ℕ))
+    (allotments : List ℕ) (locals : List Local) (lines : List (List Line))
+    → AreTogether s locals → HaveWorked init next s operations allotments locals lines
+    → AreLinesOf init next locals lines
 
 -- And they are lawful.
 abbrev pub WorkersAreLawful : Type 0
 WorkersAreLawful =
-    (init : List ℕ) (next : List ℕ → ℕ → List ℕ × ℕ) (s : Shape) (operations : List (List ℕ)) (allotments : List ℕ) (locals : List Local) (lines : List (List Line))
-    → AreTogether s locals → HaveWorked init next s operations allotments locals lines → IsLawful init next s operations allotments lines
+    (init : List ℕ) (next : List ℕ → ℕ → List ℕ × ℕ) (s : Shape) (operations : List (List ℕ))
+    (allotments : List ℕ) (locals : List Local) (lines : List (List Line))
+    → AreTogether s locals → HaveWorked init next s operations allotments locals lines
+    → IsLawful init next s operations allotments lines

@@ -1,4 +1,5 @@
-//! Worked reports: each law's premises are met by runs that are written out, and what isn't lawful of them.
+//! Worked reports: each law's premises are met by runs that are written out, and what isn't lawful
+//! of them.
 
 ghost use Rattle.std.specs.Prelude.{[], ◌∷◌, take};
 ghost use Rattle.world_core.specs.Schedules.{pair, two_calls, tenfold, silent, local_at as local_after};
@@ -13,9 +14,9 @@ ghost use Rattle.report_laws.specs.Reporting.{HaveMade};
 ghost use Rattle.report_laws.specs.Working.{HaveWorked};
 ghost use Rattle.report_laws.specs.Cases.{five_and_six, both_delivered, both_failed, first_failed, seen_otherwise, sixty, stopped, nothing, one_unchecked, second_begun, one_judging};
 
-/// A run of two whole calls: where the object should give ten times the operation, both are delivered, and
-/// the report is lawful; where it should give 0, both are errors, and that report is lawful. Every other
-/// verdict is wrong.
+/// A run of two whole calls: where the object should give ten times the operation, both are
+/// delivered, and the report is lawful; where it should give 0, both are errors, and that report is
+/// lawful. Every other verdict is wrong.
 pub fn a_run_is_reported()
     // The steps of the two whole calls are a run.
     ensures run { IsRun pair two_calls }
@@ -47,19 +48,23 @@ pub fn a_run_is_reported()
 pub fn an_error_ends_the_lines()
     // Lines that end with errors are a lawful report also where each caller had a second call to
     // make.
-    ensures lawful { IsLawful [] silent pair ((5 ∷ 7 ∷ []) ∷ (6 ∷ 8 ∷ []) ∷ []) (10 ∷ 10 ∷ []) both_failed }
+    ensures lawful { IsLawful [] silent pair ((5 ∷ 7 ∷ []) ∷ (6 ∷ 8 ∷ []) ∷ [])
+        (10 ∷ 10 ∷ []) both_failed }
     // Delivered lines without the second calls are no lawful report where each caller had ten
     // phases to make.
-    ensures left_out { ¬ IsLawful [] tenfold pair ((5 ∷ 7 ∷ []) ∷ (6 ∷ 8 ∷ []) ∷ []) (10 ∷ 10 ∷ []) both_delivered }
+    ensures left_out { ¬ IsLawful [] tenfold pair ((5 ∷ 7 ∷ []) ∷ (6 ∷ 8 ∷ []) ∷ [])
+        (10 ∷ 10 ∷ []) both_delivered }
 {}
 
-/// Stopped callers: one has its record, the other has announced its call; or neither has made a call.
+/// Stopped callers: one has its record, the other has announced its call; or neither has made a
+/// call.
 pub fn stopped_callers_are_reported()
     // The locals after 24 steps are those of one reachable world.
     ensures run { AreTogether pair (locals_after (take 24 two_calls)) }
     // After 24 steps the first caller has made three phases and the second two, and these are their
     // lines.
-    ensures made { HaveMade pair five_and_six (3 ∷ 2 ∷ []) (locals_after (take 24 two_calls)) stopped }
+    ensures made { HaveMade pair five_and_six (3 ∷ 2 ∷ [])
+        (locals_after (take 24 two_calls)) stopped }
     // The lines of the stopped callers are a lawful report.
     ensures lawful { IsLawful [] silent pair five_and_six (3 ∷ 2 ∷ []) stopped }
     // No lines are a lawful report of two callers that were given no phase.
@@ -70,30 +75,34 @@ pub fn stopped_callers_are_reported()
     ensures a_caller_left_out { ¬ IsLawful [] silent pair five_and_six (0 ∷ 0 ∷ []) ([] ∷ []) }
 {}
 
-/// Where a caller has one row, the lines of a second call are those of no reachable world. Else nothing is
-/// wrong with these lines.
+/// Where a caller has one row, the lines of a second call are those of no reachable world. Else
+/// nothing is wrong with these lines.
 pub fn calls_beyond_the_rows_are_of_no_world()
     // The lines of the caller are those of six phases.
     ensures allotted { IsAllotted (5 ∷ 7 ∷ []) 6 (lines_at second_begun 0) }
     // The seen cuts of these lines fit.
     ensures seen { AreSeen (1 ∷ 0 ∷ []) second_begun }
     // Lines of a second call are no lawful report where each caller has one row.
-    ensures unlawful { ¬ IsLawful [] tenfold pair ((5 ∷ 7 ∷ []) ∷ (6 ∷ []) ∷ []) (6 ∷ 0 ∷ []) second_begun }
+    ensures unlawful { ¬ IsLawful [] tenfold pair ((5 ∷ 7 ∷ []) ∷ (6 ∷ []) ∷ [])
+        (6 ∷ 0 ∷ []) second_begun }
 {}
 
-/// What workers leave where one is stopped before it judges: the other has judged by words that it peeked.
-/// What it saw is no cut of a report where the first one is stopped before it published.
+/// What workers leave where one is stopped before it judges: the other has judged by words that it
+/// peeked. What it saw is no cut of a report where the first one is stopped before it published.
 pub fn workers_leave_a_report()
     // The steps after which caller 1 has judged and caller 0 hasn't are a run.
     ensures run { IsRun pair one_judging }
     // Both callers have worked: one was stopped after four phases, and one made five.
-    ensures worked { HaveWorked [] tenfold pair five_and_six (4 ∷ 5 ∷ []) (locals_after one_judging) one_unchecked }
+    ensures worked { HaveWorked [] tenfold pair five_and_six (4 ∷ 5 ∷ [])
+        (locals_after one_judging) one_unchecked }
     // The lines that these workers leave are a lawful report.
     ensures lawful { IsLawful [] tenfold pair five_and_six (4 ∷ 5 ∷ []) one_unchecked }
     // These lines are no lawful report where the first caller was stopped before it published.
     ensures unpublished { ¬ IsLawful [] tenfold pair five_and_six (3 ∷ 5 ∷ []) one_unchecked }
     // The same caller before it peeked a word: no book is one that it gathered at its seen cut.
-    ensures unread { ¬ IsJudgedBy [] tenfold 2 (local_after two_calls 1) (Delivered sixty (1 ∷ 1 ∷ [])) }
+    ensures unread { ¬ IsJudgedBy [] tenfold 2 (local_after two_calls 1)
+        (Delivered sixty (1 ∷ 1 ∷ [])) }
     // Caller 1 found its verdict by words that it had peeked.
-    ensures read { IsJudgedBy [] tenfold 2 (local_after one_judging 1) (Delivered sixty (1 ∷ 1 ∷ [])) }
+    ensures read { IsJudgedBy [] tenfold 2 (local_after one_judging 1)
+        (Delivered sixty (1 ∷ 1 ∷ [])) }
 {}

@@ -23,8 +23,8 @@ pub fn phases_are_made_one_by_one()
     ensures seeing { SeeingIsAPhase }
 {}
 
-/// Phase by phase, an object that tells its pairs tells an operation and a reply for each call that it was
-/// asked.
+/// Phase by phase, an object that tells its pairs tells an operation and a reply for each call that
+/// it was asked.
 pub fn objects_tell_phase_by_phase()
     // Before the first phase an object tells nothing.
     ensures none { NothingIsTold }
@@ -53,13 +53,14 @@ pub fn workers_go_through_or_halt()
     ensures halted { WorkersHalt }
 {}
 
-/// The lines of locals that are together, where each caller has made all its phases, are a lawful report.
+/// The lines of locals that are together, where each caller has made all its phases, are a lawful
+/// report.
 pub fn lawful_from_worlds()
     ensures { WorldsAreLawful }
 {}
 
-/// What the workers of all callers leave, each said of its own caller alone, are the lines of the locals
-/// that they leave, and lawful.
+/// What the workers of all callers leave, each said of its own caller alone, are the lines of the
+/// locals that they leave, and lawful.
 pub fn lawful_from_workers()
     // The lines that a worker leaves are those of its allotment.
     ensures allotted { WorkersKeepToTheirAllotments }
@@ -87,8 +88,8 @@ pub fn lines_fit_a_report()
     ensures delivered { LinesBeforeTheLastAreDelivered }
 {}
 
-/// The book that a verdict speaks of was the table's at one moment: what a line saw was exactly what was
-/// published then (Afek and others 1993).
+/// The book that a verdict speaks of was the table's at one moment: what a line saw was exactly
+/// what was published then (Afek and others 1993).
 pub fn seen_cuts_were_published()
     ensures { SeenCutsWerePublished }
 {}

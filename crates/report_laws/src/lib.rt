@@ -1,4 +1,5 @@
-//! The laws of reports: the lines of a reachable world are lawful, and so is what the workers of all its callers leave.
+//! The laws of reports: the lines of a reachable world are lawful, and so is what the workers of
+//! all its callers leave.
 #![tactic(auto)]
 
 pub mod cases;

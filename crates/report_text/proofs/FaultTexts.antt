@@ -49,7 +49,10 @@ use Rattle.report_text.proofs.ReadTexts.{get_middle}
 
 -- ---- a line that can always come
 
-module _ (kind : Kind) (counts : List ℕ) (told : List Line) (call : Call) (few : length counts ≤ MAX_CALLERS) (calls : AreAtMost TEXT_CALLS counts) (stand : StandBefore counts told call.caller call.number) (lt : call.number < get_or counts call.caller 0) (s : IsSound counts told) where
+module _ (kind : Kind) (counts : List ℕ) (told : List Line) (call : Call)
+    (few : length counts ≤ MAX_CALLERS) (calls : AreAtMost TEXT_CALLS counts)
+    (stand : StandBefore counts told call.caller call.number)
+    (lt : call.number < get_or counts call.caller 0) (s : IsSound counts told) where
   abbrev i : ℕ
   i = call.caller
 
@@ -72,11 +75,14 @@ module _ (kind : Kind) (counts : List ℕ) (told : List Line) (call : Call) (few
   own_size = length-own counts told i k stand (omega arith)
 
   -- the lines of the caller so far are delivered
-  delivered_before : (m : ℕ) (l : Line) → slice_get (get_or (grouped counts told) i []) m ≡ Some l → IsSome (delivered_in l.end)
+  delivered_before : (m : ℕ) (l : Line) → slice_get (get_or (grouped counts told) i []) m ≡ Some l
+      → IsSome (delivered_in l.end)
   delivered_before m l e =
-      let m_lt : m < k = omega (arith, own_size, slice_get_within (get_or (grouped counts told) i []) m l e) in
+      let m_lt : m < k =
+      omega (arith, own_size, slice_get_within (get_or (grouped counts told) i []) m l e) in
       elim (cases_Option (delivered_in l.end)) [
-        | inl none ↦ absurd (s.delivered (record { caller = i; number = m }) l e (none, omega (arith, lt)))
+        | inl none ↦
+            absurd (s.delivered (record { caller = i; number = m }) l e (none, omega (arith, lt)))
         | inr some ↦ subst IsSome (sym some.1) refl
       ]
 
@@ -96,16 +102,19 @@ module _ (kind : Kind) (counts : List ℕ) (told : List Line) (call : Call) (few
   cut = set (replicate (length counts) 0) i (k + 1)
 
   own_cut : get_or cut i 0 ≡ k + 1
-  own_cut = get_or-set_same (replicate (length counts) 0) i (k + 1) 0 (omega (arith, within, length-replicate {A = ℕ} (length counts) 0))
+  own_cut = get_or-set_same (replicate (length counts) 0) i (k + 1) 0
+      (omega (arith, within, length-replicate {A = ℕ} (length counts) 0))
 
   other_cut : (j : ℕ) → j ≢ i → get_or cut j 0 ≡ 0
-  other_cut j other = get_or-set_other (replicate (length counts) 0) i j (k + 1) 0 other ∙ get_or-replicate_default {X = ℕ} (length counts) j 0
+  other_cut j other = get_or-set_other (replicate (length counts) 0) i j (k + 1) 0 other
+      ∙ get_or-replicate_default {X = ℕ} (length counts) j 0
 
   cut_below : (j : ℕ) → get_or cut j 0 ≤ get_or counts j 0
   cut_below j = elim (cases_eq j i) [
     | inl same ↦
         let at : get_or cut j 0 ≡ k + 1 = ap (λ (m : ℕ). get_or cut m 0) same ∙ own_cut in
-        let there : get_or counts j 0 ≡ get_or counts i 0 = ap (λ (m : ℕ). get_or counts m 0) same in
+        let there : get_or counts j 0 ≡ get_or counts i 0 =
+        ap (λ (m : ℕ). get_or counts m 0) same in
         omega arith
     | inr other ↦ omega (arith, other_cut j other)
   ]
@@ -116,7 +125,12 @@ module _ (kind : Kind) (counts : List ℕ) (told : List Line) (call : Call) (few
   view_formed : IsCut (length counts) view
   view_formed = (
     fresh-wide book s.valid i k in_book answers room ∙ length-book_so_far counts told,
-    numbers_from_places view (λ j. omega (arith, fresh-below book s.valid i k in_book answers room j, calls_of-so_far counts told j, at_most TEXT_CALLS counts j calls)),
+    numbers_from_places view (λ j. omega (
+      arith,
+      fresh-below book s.valid i k in_book answers room j,
+      calls_of-so_far counts told j,
+      at_most TEXT_CALLS counts j calls,
+    )),
   )
 
   cut_formed : IsCut (length counts) cut
@@ -127,7 +141,8 @@ module _ (kind : Kind) (counts : List ℕ) (told : List Line) (call : Call) (few
 
   pub fresh-says : SaysLine kind (length counts) call (line_words kind call fresh) fresh
   fresh-says = record {
-    named = (omega (arith, within, few), (omega (arith, lt, at_most TEXT_CALLS counts i calls), tt));
+    named =
+        (omega (arith, within, few), (omega (arith, lt, at_most TEXT_CALLS counts i calls), tt));
     few = few;
     has = omega arith;
     formed = ((omega arith, view_formed), cut_formed);
@@ -140,18 +155,24 @@ module _ (kind : Kind) (counts : List ℕ) (told : List Line) (call : Call) (few
       let other : Call = over.0 in
       elim (cases_eq other.caller i) [
         | inl same ↦
-            let at : slice_get (get_or (grouped counts told) i []) other.number ≡ Some over.1.0 = ap (λ (m : ℕ). slice_get (get_or (grouped counts told) m []) other.number) (sym same) ∙ over.1.1 in
+            let at : slice_get (get_or (grouped counts told) i []) other.number ≡ Some over.1.0 =
+            ap (λ (m : ℕ). slice_get (get_or (grouped counts told) m []) other.number) (sym same)
+            ∙ over.1.1 in
             not_delivered over.1.0.end over.1.2 (delivered_before other.number over.1.0 at)
         | inr apart ↦ absurd (omega (arith, over.2, other_cut other.caller apart))
       ] where
         not_delivered : (end : LineEnd) → end ≡ Pending → IsSome (delivered_in end) → ⊥
-        not_delivered end e h = let none : delivered_in end ≡ None = ap delivered_in e in absurd (cc (none, h))
+        not_delivered end e h = let none : delivered_in end ≡ None = ap delivered_in e in
+            absurd (cc (none, h))
   cut_right (inr (inr low)) = omega (arith, own_cut, low)
 
   pub fresh-fits : Fits counts told call fresh
   fresh-fits = record {
-    view = λ r e. let same : record { reply = 0; view = view } ≡ r = cc in subst (λ (x : Record). MayAnswer book i x.view) same (fresh-may book s.valid i k in_book answers room);
-    seen = λ c e wrong. cut_right (subst (IsWrongCut counts (grouped counts told) call) (same_Some c cut (sym e)) wrong);
+    view = λ r e. let same : record { reply = 0; view = view } ≡ r = cc in
+        subst (λ (x : Record). MayAnswer book i x.view) same
+        (fresh-may book s.valid i k in_book answers room);
+    seen = λ c e wrong. cut_right
+        (subst (IsWrongCut counts (grouped counts told) call) (same_Some c cut (sym e)) wrong);
     pending = λ e. absurd cc;
     last = λ early. absurd (cc early.0);
   }
@@ -161,24 +182,38 @@ module _ (kind : Kind) (counts : List ℕ) (told : List Line) (call : Call) (few
 -- the lines of these calls follow this many lines
 abbrev AreDue : List ℕ → ℕ → List Call → Type 0
 AreDue counts n [] = Unit {0}
-AreDue counts n (call ∷ calls) = (n ≡ before counts call.caller + call.number) × (call.number < get_or counts call.caller 0) × AreDue counts (n + 1) calls
+AreDue counts n (call ∷ calls) = (n ≡ before counts call.caller + call.number)
+    × (call.number < get_or counts call.caller 0) × AreDue counts (n + 1) calls
 
-due-from : (counts : List ℕ) (i k more n : ℕ) (rest : List Call) → n ≡ before counts i + k → k + more ≡ get_or counts i 0 → AreDue counts (n + more) rest → AreDue counts n (calls_from i k more ++ rest)
-due-from counts i k zero n rest at size h = let same : n + 0 ≡ n = omega arith in subst (λ (m : ℕ). AreDue counts m rest) same h
+due-from : (counts : List ℕ) (i k more n : ℕ) (rest : List Call) → n ≡ before counts i + k
+    → k + more ≡ get_or counts i 0 → AreDue counts (n + more) rest
+    → AreDue counts n (calls_from i k more ++ rest)
+due-from counts i k zero n rest at size h = let same : n + 0 ≡ n = omega arith in
+    subst (λ (m : ℕ). AreDue counts m rest) same h
 due-from counts i k (suc more) n rest at size h =
-    let next : n + suc more ≡ n + 1 + more = omega arith in
-    (at, omega arith, due-from counts i (k + 1) more (n + 1) rest (omega arith) (omega arith) (subst (λ (m : ℕ). AreDue counts m rest) next h))
+    let next : n + suc more ≡ n + 1 + more = omega arith in (
+      at,
+      omega arith,
+      due-from counts i (k + 1) more (n + 1) rest (omega arith) (omega arith)
+          (subst (λ (m : ℕ). AreDue counts m rest) next h),
+    )
 
-due-all : (counts done rest : List ℕ) → counts ≡ done ++ rest → AreDue counts (before counts (length done)) (all_calls (length done) rest)
+due-all : (counts done rest : List ℕ) → counts ≡ done ++ rest
+    → AreDue counts (before counts (length done)) (all_calls (length done) rest)
 due-all counts done [] split = tt
 due-all counts done (count ∷ rest) split =
     let i = length done in
-    let at : get_or counts i 0 ≡ count = ap (λ (ns : List ℕ). get_or ns i 0) split ∙ get_middle done count rest in
+    let at : get_or counts i 0 ≡ count =
+    ap (λ (ns : List ℕ). get_or ns i 0) split ∙ get_middle done count rest in
     let size : length (done ++ count ∷ []) ≡ i + 1 = length-append done (count ∷ []) in
-    let later = due-all counts (done ++ count ∷ []) rest (split ∙ sym (append_assoc done (count ∷ []) rest)) in
-    let moved : AreDue counts (before counts (i + 1)) (all_calls (i + 1) rest) = subst (λ (j : ℕ). AreDue counts (before counts j) (all_calls j rest)) size later in
-    let total : before counts (i + 1) ≡ before counts i + count = before-more counts i ∙ ap (λ (m : ℕ). before counts i + m) at in
-    due-from counts i 0 count (before counts i) (all_calls (i + 1) rest) (omega arith) (omega (arith, at)) (subst (λ (m : ℕ). AreDue counts m (all_calls (i + 1) rest)) total moved)
+    let later =
+    due-all counts (done ++ count ∷ []) rest (split ∙ sym (append_assoc done (count ∷ []) rest)) in
+    let moved : AreDue counts (before counts (i + 1)) (all_calls (i + 1) rest) =
+    subst (λ (j : ℕ). AreDue counts (before counts j) (all_calls j rest)) size later in
+    let total : before counts (i + 1) ≡ before counts i + count =
+    before-more counts i ∙ ap (λ (m : ℕ). before counts i + m) at in
+    due-from counts i 0 count (before counts i) (all_calls (i + 1) rest) (omega arith)
+    (omega (arith, at)) (subst (λ (m : ℕ). AreDue counts m (all_calls (i + 1) rest)) total moved)
 
 -- lines that are under way
 record IsUnderWay (counts : List ℕ) (told : List Line) (calls : List Call) : Type 0 where
@@ -196,7 +231,9 @@ CanCome (InHead (HeadRead kind calls)) = ⊥
 CanCome (InLines kind counts told calls) = IsUnderWay counts told calls
 CanCome (AtEnd findings) = Unit {0}
 
-under-way-next : (kind : Kind) (counts : List ℕ) (told : List Line) (call : Call) (calls : List Call) (words : List (List ℕ)) (line : Line) → SaysLine kind (length counts) call words line → Fits counts told call line
+under-way-next : (kind : Kind) (counts : List ℕ) (told : List Line) (call : Call)
+    (calls : List Call) (words : List (List ℕ)) (line : Line)
+    → SaysLine kind (length counts) call words line → Fits counts told call line
     → IsUnderWay counts told (call ∷ calls) → IsUnderWay counts (told ++ line ∷ []) calls
 under-way-next kind counts told call calls words line says fits h = record {
   few = h.few;
@@ -205,16 +242,24 @@ under-way-next kind counts told call calls words line says fits h = record {
   due = subst (λ (n : ℕ). AreDue counts n calls) (sym (length-append told (line ∷ []))) h.due.2;
 }
 
-comes_next : (due after : ReportDue) (words : List (List ℕ)) → CanCome due → ReportPasses due words after → CanCome after
+comes_next : (due after : ReportDue) (words : List (List ℕ)) → CanCome due
+    → ReportPasses due words after → CanCome after
 comes_next (InHead TitleDue) after words can h = subst CanCome (sym (h.2 ∙ ap after_head h.1.1)) tt
 comes_next (InHead ObjectDue) after words can h = subst CanCome (sym (h.2 ∙ ap after_head h.1.3)) tt
-comes_next (InHead (CallersDue kind)) after words can h = subst CanCome (sym (h.2 ∙ ap after_head h.1.3)) h.1.1.few
+comes_next (InHead (CallersDue kind)) after words can h =
+    subst CanCome (sym (h.2 ∙ ap after_head h.1.3)) h.1.1.few
 comes_next (InHead (CountsDue kind n)) after words can h =
     let counts : List ℕ = h.1.0 in
-    subst CanCome (sym (h.2 ∙ ap after_head h.1.3)) (record { few = omega (arith, h.1.1.count, can); small = h.1.1.few; sound = sound-none counts; due = due-all counts [] counts refl })
+    subst CanCome (sym (h.2 ∙ ap after_head h.1.3)) (record {
+      few = omega (arith, h.1.1.count, can);
+      small = h.1.1.few;
+      sound = sound-none counts;
+      due = due-all counts [] counts refl;
+    })
 comes_next (InHead (HeadRead kind calls)) after words can h = absurd can
 comes_next (InLines kind counts told []) after words can h = subst CanCome (sym h.1) tt
-comes_next (InLines kind counts told (call ∷ calls)) after words can h = subst CanCome (sym h.3) (under-way-next kind counts told call calls words h.0 h.1 h.2 can)
+comes_next (InLines kind counts told (call ∷ calls)) after words can h =
+    subst CanCome (sym h.3) (under-way-next kind counts told call calls words h.0 h.1 h.2 can)
 comes_next (AtEnd findings) after words can h = absurd h
 
 -- ---- lines that complete a text
@@ -223,16 +268,21 @@ abbrev Done : ReportDue → Type 0
 Done due = Completes report_rules AtEnd due
 
 -- each call that is due is delivered
-lines_come : (kind : Kind) (counts : List ℕ) (told : List Line) (calls : List Call) → IsUnderWay counts told calls → Done (InLines kind counts told calls)
+lines_come : (kind : Kind) (counts : List ℕ) (told : List Line) (calls : List Call)
+    → IsUnderWay counts told calls → Done (InLines kind counts told calls)
 lines_come kind counts told [] h =
     let findings : Findings = record { kind = kind; lines = grouped counts told } in
-    one_more report_rules AtEnd (InLines kind counts told []) (AtEnd findings) end_words (refl, refl) (record { said = findings; lines = []; right = refl })
+    one_more report_rules AtEnd (InLines kind counts told []) (AtEnd findings) end_words
+    (refl, refl) (record { said = findings; lines = []; right = refl })
 lines_come kind counts told (call ∷ calls) h =
     let says = fresh-says kind counts told call h.few h.small h.due.0 h.due.1 h.sound in
     let fits = fresh-fits kind counts told call h.few h.small h.due.0 h.due.1 h.sound in
     let line : Line = fresh kind counts told call h.few h.small h.due.0 h.due.1 h.sound in
-    one_more report_rules AtEnd (InLines kind counts told (call ∷ calls)) (InLines kind counts (told ++ line ∷ []) calls) (line_words kind call line) (line, says, fits, refl)
-    (lines_come kind counts (told ++ line ∷ []) calls (under-way-next kind counts told call calls (line_words kind call line) line says fits h))
+    one_more report_rules AtEnd (InLines kind counts told (call ∷ calls))
+    (InLines kind counts (told ++ line ∷ []) calls) (line_words kind call line)
+    (line, says, fits, refl)
+    (lines_come kind counts (told ++ line ∷ []) calls
+    (under-way-next kind counts told call calls (line_words kind call line) line says fits h))
 
 no_calls : (i n : ℕ) → all_calls i (replicate n 0) ≡ []
 no_calls i zero = refl
@@ -246,19 +296,35 @@ counts_come : (kind : Kind) (n : ℕ) → n ≤ TEXT_CALLERS → Done (InHead (C
 counts_come kind n few =
     let counts : List ℕ = replicate n 0 in
     let size : length counts ≡ n = length-replicate n 0 in
-    let begun : IsUnderWay counts [] [] = record { few = omega arith; small = no_calls_few TEXT_CALLS n; sound = sound-none counts; due = tt } in
-    one_more report_rules AtEnd (InHead (CountsDue kind n)) (InLines kind counts [] (all_calls 0 counts)) (calls_words counts)
-    (HeadRead kind counts, (counts, record { count = size; few = no_calls_few TEXT_CALLS n }, refl, refl), refl)
-    (subst (λ (calls : List Call). Done (InLines kind counts [] calls)) (sym (no_calls 0 n)) (lines_come kind counts [] [] begun))
+    let begun : IsUnderWay counts [] [] = record {
+      few = omega arith;
+      small = no_calls_few TEXT_CALLS n;
+      sound = sound-none counts;
+      due = tt;
+    } in
+    one_more report_rules AtEnd (InHead (CountsDue kind n))
+    (InLines kind counts [] (all_calls 0 counts)) (calls_words counts) (
+      HeadRead kind counts,
+      (counts, record { count = size; few = no_calls_few TEXT_CALLS n }, refl, refl),
+      refl,
+    )
+    (subst (λ (calls : List Call). Done (InLines kind counts [] calls)) (sym (no_calls 0 n))
+    (lines_come kind counts [] [] begun))
 
 callers_come : (kind : Kind) → Done (InHead (CallersDue kind))
-callers_come kind = one_more report_rules AtEnd (InHead (CallersDue kind)) (InHead (CountsDue kind 1)) (callers_words 1) (CountsDue kind 1, (1, record { some = omega arith; few = omega arith }, refl, refl), refl) (counts_come kind 1 (omega arith))
+callers_come kind = one_more report_rules AtEnd (InHead (CallersDue kind))
+    (InHead (CountsDue kind 1)) (callers_words 1)
+    (CountsDue kind 1, (1, record { some = omega arith; few = omega arith }, refl, refl), refl)
+    (counts_come kind 1 (omega arith))
 
 object_comes : Done (InHead ObjectDue)
-object_comes = one_more report_rules AtEnd (InHead ObjectDue) (InHead (CallersDue Counter)) (object_words Counter) (CallersDue Counter, (Counter, refl, refl, refl), refl) (callers_come Counter)
+object_comes = one_more report_rules AtEnd (InHead ObjectDue) (InHead (CallersDue Counter))
+    (object_words Counter) (CallersDue Counter, (Counter, refl, refl, refl), refl)
+    (callers_come Counter)
 
 completes : (due : ReportDue) → CanCome due → Done due
-completes (InHead TitleDue) can = one_more report_rules AtEnd (InHead TitleDue) (InHead ObjectDue) (title_words Second (codes "report")) (ObjectDue, (refl, refl), refl) object_comes
+completes (InHead TitleDue) can = one_more report_rules AtEnd (InHead TitleDue) (InHead ObjectDue)
+    (title_words Second (codes "report")) (ObjectDue, (refl, refl), refl) object_comes
 completes (InHead ObjectDue) can = object_comes
 completes (InHead (CallersDue kind)) can = callers_come kind
 completes (InHead (CountsDue kind n)) can = counts_come kind n can
@@ -268,16 +334,23 @@ completes (AtEnd findings) can = record { said = findings; lines = []; right = r
 
 -- ---- the names of faults
 
-view_named : (fault : BookFault) (name : What) → view_test fault ≡ Some name → (name ≢ what.Cut) × (name ≢ what.Rest)
+view_named : (fault : BookFault) (name : What) → view_test fault ≡ Some name → (name ≢ what.Cut)
+    × (name ≢ what.Rest)
 view_named tests.TooManyCalls name e = absurd cc
 view_named tests.NoSuchCall name e = absurd cc
-view_named (tests.ViewOutside j) name e = let same : what.ViewOutside ≡ name = cc in (λ f. absurd (cc (same, f)), λ f. absurd (cc (same, f)))
-view_named (tests.ViewLacksOwn count) name e = let same : what.ViewLacksOwn ≡ name = cc in (λ f. absurd (cc (same, f)), λ f. absurd (cc (same, f)))
-view_named (tests.ViewHasLater count) name e = let same : what.ViewHasLater ≡ name = cc in (λ f. absurd (cc (same, f)), λ f. absurd (cc (same, f)))
-view_named (tests.ViewsCross other) name e = let same : what.ViewsCross ≡ name = cc in (λ f. absurd (cc (same, f)), λ f. absurd (cc (same, f)))
+view_named (tests.ViewOutside j) name e = let same : what.ViewOutside ≡ name = cc in
+    (λ f. absurd (cc (same, f)), λ f. absurd (cc (same, f)))
+view_named (tests.ViewLacksOwn count) name e = let same : what.ViewLacksOwn ≡ name = cc in
+    (λ f. absurd (cc (same, f)), λ f. absurd (cc (same, f)))
+view_named (tests.ViewHasLater count) name e = let same : what.ViewHasLater ≡ name = cc in
+    (λ f. absurd (cc (same, f)), λ f. absurd (cc (same, f)))
+view_named (tests.ViewsCross other) name e = let same : what.ViewsCross ≡ name = cc in
+    (λ f. absurd (cc (same, f)), λ f. absurd (cc (same, f)))
 view_named tests.NoMemory name e = absurd cc
 
-call_named : (kind : Kind) (counts : List ℕ) (told : List Line) (call : Call) (words : List (List ℕ)) (name : What) → LineFails kind counts told call words name → (name ≢ what.Cut) × (name ≢ what.Rest)
+call_named : (kind : Kind) (counts : List ℕ) (told : List Line) (call : Call)
+    (words : List (List ℕ)) (name : What) → LineFails kind counts told call words name
+    → (name ≢ what.Cut) × (name ≢ what.Rest)
 call_named kind counts told call words what.Place h = (λ e. absurd cc, λ e. absurd cc)
 call_named kind counts told call words what.Op h = (λ e. absurd cc, λ e. absurd cc)
 call_named kind counts told call words what.Reply h = (λ e. absurd cc, λ e. absurd cc)
@@ -287,21 +360,29 @@ call_named kind counts told call words what.Seen h = (λ e. absurd cc, λ e. abs
 call_named kind counts told call words what.Last h = (λ e. absurd cc, λ e. absurd cc)
 call_named kind counts told call words name h = view_named h.2 name h.4
 
-line_named : (due : ReportDue) (words : List (List ℕ)) (name : What) → ReportFails due words name → (name ≢ what.Cut) × (name ≢ what.Rest)
+line_named : (due : ReportDue) (words : List (List ℕ)) (name : What) → ReportFails due words name
+    → (name ≢ what.Cut) × (name ≢ what.Rest)
 line_named (InHead TitleDue) words name h = (λ e. absurd (cc (h.0, e)), λ e. absurd (cc (h.0, e)))
 line_named (InHead ObjectDue) words name h = (λ e. absurd (cc (h.0, e)), λ e. absurd (cc (h.0, e)))
-line_named (InHead (CallersDue kind)) words name h = (λ e. absurd (cc (h.0, e)), λ e. absurd (cc (h.0, e)))
-line_named (InHead (CountsDue kind n)) words name h = (λ e. absurd (cc (h.0, e)), λ e. absurd (cc (h.0, e)))
+line_named (InHead (CallersDue kind)) words name h =
+    (λ e. absurd (cc (h.0, e)), λ e. absurd (cc (h.0, e)))
+line_named (InHead (CountsDue kind n)) words name h =
+    (λ e. absurd (cc (h.0, e)), λ e. absurd (cc (h.0, e)))
 line_named (InHead (HeadRead kind calls)) words name h = absurd h
-line_named (InLines kind counts told []) words name h = (λ e. absurd (cc (h.0, e)), λ e. absurd (cc (h.0, e)))
-line_named (InLines kind counts told (call ∷ calls)) words name h = call_named kind counts told call words name h
+line_named (InLines kind counts told []) words name h =
+    (λ e. absurd (cc (h.0, e)), λ e. absurd (cc (h.0, e)))
+line_named (InLines kind counts told (call ∷ calls)) words name h =
+    call_named kind counts told call words name h
 line_named (AtEnd findings) words name h = absurd h
 
-line_or_end : (due : ReportDue) → CanCome due → (report_wanted due ≡ ALine) ⊎ ((findings : Findings) × (due ≡ AtEnd findings))
+line_or_end : (due : ReportDue) → CanCome due → (report_wanted due ≡ ALine)
+    ⊎ ((findings : Findings) × (due ≡ AtEnd findings))
 line_or_end (InHead due) can = inl refl
 line_or_end (InLines kind counts told calls) can = inl refl
 line_or_end (AtEnd findings) can = inr (findings, refl)
 
 -- the first fault stands where the bytes leave the texts
-pub report_leaves_texts : (bytes : List ℕ) (fault : TextFault) → IsFirstReportFault bytes fault → LeavesAt IsReportText bytes fault
-report_leaves_texts = leaves_texts report_rules report_sharp (InHead TitleDue) AtEnd same_end (λ findings. refl) CanCome tt comes_next completes line_named line_or_end
+pub report_leaves_texts : (bytes : List ℕ) (fault : TextFault) → IsFirstReportFault bytes fault
+    → LeavesAt IsReportText bytes fault
+report_leaves_texts = leaves_texts report_rules report_sharp (InHead TitleDue) AtEnd same_end
+    (λ findings. refl) CanCome tt comes_next completes line_named line_or_end

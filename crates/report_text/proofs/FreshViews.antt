@@ -46,71 +46,114 @@ module _ (n i k : ℕ) where
   abbrev IsLow : Record → Type 0
   IsLow r = get_or r.view i 0 ≤ k
 
-  low-case : (r : Record) (cut : List ℕ) → ((with_low i k r cut ≡ cut) × (k < get_or r.view i 0)) ⊎ ((with_low i k r cut ≡ both r.view cut) × IsLow r)
+  low-case : (r : Record) (cut : List ℕ) → ((with_low i k r cut ≡ cut) × (k < get_or r.view i 0))
+      ⊎ ((with_low i k r cut ≡ both r.view cut) × IsLow r)
   low-case r cut = elim (cases_lt k (get_or r.view i 0)) [
-    | inl lt ↦ inl (ap (λ (b : Bool). cond b cut (both r.view cut)) (lt-ltb k (get_or r.view i 0) lt), lt)
-    | inr le ↦ inr (ap (λ (b : Bool). cond b cut (both r.view cut)) (le-ltb k (get_or r.view i 0) le), le)
+    | inl lt ↦
+        inl (ap (λ (b : Bool). cond b cut (both r.view cut)) (lt-ltb k (get_or r.view i 0) lt), lt)
+    | inr le ↦
+        inr (ap (λ (b : Bool). cond b cut (both r.view cut)) (le-ltb k (get_or r.view i 0) le), le)
   ]
 
   -- no such view has a greater count
-  above-cut : (rs : List Record) (cut : List ℕ) (j : ℕ) → get_or cut j 0 ≤ get_or (low_records i k rs cut) j 0
+  above-cut : (rs : List Record) (cut : List ℕ) (j : ℕ)
+      → get_or cut j 0 ≤ get_or (low_records i k rs cut) j 0
   above-cut [] cut j = omega arith
   above-cut (r ∷ rs) cut j = elim (low-case r (low_records i k rs cut)) [
     | inl skip ↦ omega (arith, above-cut rs cut j, ap (λ (c : List ℕ). get_or c j 0) skip.0)
-    | inr take ↦ omega (arith, above-cut rs cut j, ap (λ (c : List ℕ). get_or c j 0) take.0, both-at r.view (low_records i k rs cut) j)
+    | inr take ↦ omega (
+      arith,
+      above-cut rs cut j,
+      ap (λ (c : List ℕ). get_or c j 0) take.0,
+      both-at r.view (low_records i k rs cut) j,
+    )
   ]
 
-  above-record : (rs : List Record) (cut : List ℕ) (m : ℕ) (r : Record) (j : ℕ) → slice_get rs m ≡ Some r → IsLow r → get_or r.view j 0 ≤ get_or (low_records i k rs cut) j 0
+  above-record : (rs : List Record) (cut : List ℕ) (m : ℕ) (r : Record) (j : ℕ)
+      → slice_get rs m ≡ Some r → IsLow r → get_or r.view j 0 ≤ get_or (low_records i k rs cut) j 0
   above-record [] cut m r j e low = absurd cc
   above-record (s ∷ rs) cut zero r j e low =
       let same : s ≡ r = cc in
       let low' : IsLow s = subst IsLow (sym same) low in
       elim (low-case s (low_records i k rs cut)) [
         | inl skip ↦ absurd (omega arith)
-        | inr take ↦ omega (arith, ap (λ (c : List ℕ). get_or c j 0) take.0, both-at s.view (low_records i k rs cut) j, ap (λ (x : Record). get_or x.view j 0) same)
+        | inr take ↦ omega (
+          arith,
+          ap (λ (c : List ℕ). get_or c j 0) take.0,
+          both-at s.view (low_records i k rs cut) j,
+          ap (λ (x : Record). get_or x.view j 0) same,
+        )
       ]
   above-record (s ∷ rs) cut (suc m) r j e low = elim (low-case s (low_records i k rs cut)) [
-    | inl skip ↦ omega (arith, above-record rs cut m r j e low, ap (λ (c : List ℕ). get_or c j 0) skip.0)
-    | inr take ↦ omega (arith, above-record rs cut m r j e low, ap (λ (c : List ℕ). get_or c j 0) take.0, both-at s.view (low_records i k rs cut) j)
+    | inl skip ↦
+        omega (arith, above-record rs cut m r j e low, ap (λ (c : List ℕ). get_or c j 0) skip.0)
+    | inr take ↦ omega (
+      arith,
+      above-record rs cut m r j e low,
+      ap (λ (c : List ℕ). get_or c j 0) take.0,
+      both-at s.view (low_records i k rs cut) j,
+    )
   ]
 
-  pub above : (book : List Page) (c m : ℕ) (r : Record) (j : ℕ) → slice_get (page_of book c).records m ≡ Some r → IsLow r → get_or r.view j 0 ≤ get_or (low_views n i k book) j 0
+  pub above : (book : List Page) (c m : ℕ) (r : Record) (j : ℕ)
+      → slice_get (page_of book c).records m ≡ Some r → IsLow r
+      → get_or r.view j 0 ≤ get_or (low_views n i k book) j 0
   above [] c m r j e low = absurd cc
   above (p ∷ book) zero m r j e low = above-record p.records (low_views n i k book) m r j e low
-  above (p ∷ book) (suc c) m r j e low = omega (arith, above book c m r j e low, above-cut p.records (low_views n i k book) j)
+  above (p ∷ book) (suc c) m r j e low =
+      omega (arith, above book c m r j e low, above-cut p.records (low_views n i k book) j)
 
   -- and what no such view goes above, they don't go above together
-  least-record : (rs : List Record) (cut : List ℕ) (j most : ℕ) → get_or cut j 0 ≤ most → ((m : ℕ) (r : Record) → slice_get rs m ≡ Some r → IsLow r → get_or r.view j 0 ≤ most) → get_or (low_records i k rs cut) j 0 ≤ most
+  least-record : (rs : List Record) (cut : List ℕ) (j most : ℕ) → get_or cut j 0 ≤ most
+      → ((m : ℕ) (r : Record) → slice_get rs m ≡ Some r → IsLow r → get_or r.view j 0 ≤ most)
+      → get_or (low_records i k rs cut) j 0 ≤ most
   least-record [] cut j most le h = le
   least-record (r ∷ rs) cut j most le h =
       let rest = least-record rs cut j most le (λ m s e low. h (suc m) s e low) in
       elim (low-case r (low_records i k rs cut)) [
         | inl skip ↦ omega (arith, rest, ap (λ (c : List ℕ). get_or c j 0) skip.0)
-        | inr take ↦ omega (arith, rest, ap (λ (c : List ℕ). get_or c j 0) take.0, both-at r.view (low_records i k rs cut) j, h 0 r refl take.1)
+        | inr take ↦ omega (
+          arith,
+          rest,
+          ap (λ (c : List ℕ). get_or c j 0) take.0,
+          both-at r.view (low_records i k rs cut) j,
+          h 0 r refl take.1,
+        )
       ]
 
-  pub least : (book : List Page) (j most : ℕ) → ((c m : ℕ) (r : Record) → slice_get (page_of book c).records m ≡ Some r → IsLow r → get_or r.view j 0 ≤ most) → get_or (low_views n i k book) j 0 ≤ most
+  pub least : (book : List Page) (j most : ℕ) → ((c m : ℕ) (r : Record)
+      → slice_get (page_of book c).records m ≡ Some r → IsLow r → get_or r.view j 0 ≤ most)
+      → get_or (low_views n i k book) j 0 ≤ most
   least [] j most h = omega (arith, get_or-replicate_default {X = ℕ} n j 0)
-  least (p ∷ book) j most h = least-record p.records (low_views n i k book) j most (least book j most (λ c m r e low. h (suc c) m r e low)) (λ m r e low. h 0 m r e low)
+  least (p ∷ book) j most h = least-record p.records (low_views n i k book) j most
+      (least book j most (λ c m r e low. h (suc c) m r e low)) (λ m r e low. h 0 m r e low)
 
-  length-record : (rs : List Record) (cut : List ℕ) → length cut ≡ n → ((m : ℕ) (r : Record) → slice_get rs m ≡ Some r → length r.view ≡ n) → length (low_records i k rs cut) ≡ n
+  length-record : (rs : List Record) (cut : List ℕ) → length cut ≡ n
+      → ((m : ℕ) (r : Record) → slice_get rs m ≡ Some r → length r.view ≡ n)
+      → length (low_records i k rs cut) ≡ n
   length-record [] cut size h = size
   length-record (r ∷ rs) cut size h =
       let rest = length-record rs cut size (λ m s e. h (suc m) s e) in
       elim (low-case r (low_records i k rs cut)) [
         | inl skip ↦ ap (λ (c : List ℕ). length c) skip.0 ∙ rest
-        | inr take ↦ ap (λ (c : List ℕ). length c) take.0 ∙ length-both n r.view (low_records i k rs cut) (h 0 r refl) rest
+        | inr take ↦ ap (λ (c : List ℕ). length c) take.0
+            ∙ length-both n r.view (low_records i k rs cut) (h 0 r refl) rest
       ]
 
-  pub length-low : (book : List Page) → ((c m : ℕ) (r : Record) → slice_get (page_of book c).records m ≡ Some r → length r.view ≡ n) → length (low_views n i k book) ≡ n
+  pub length-low : (book : List Page)
+      → ((c m : ℕ) (r : Record) → slice_get (page_of book c).records m ≡ Some r → length r.view ≡ n)
+      → length (low_views n i k book) ≡ n
   length-low [] h = length-replicate n 0
-  length-low (p ∷ book) h = length-record p.records (low_views n i k book) (length-low book (λ c m r e. h (suc c) m r e)) (λ m r e. h 0 m r e)
+  length-low (p ∷ book) h = length-record p.records (low_views n i k book)
+      (length-low book (λ c m r e. h (suc c) m r e)) (λ m r e. h 0 m r e)
 
--- a view for the next call of caller i: it holds what the views hold that lack this call, and the call
+-- a view for the next call of caller i: it holds what the views hold that lack this call, and the
+-- call
 abbrev pub fresh_view : ℕ → ℕ → List Page → List ℕ
 fresh_view i k book = set (low_views (length book) i k book) i (k + 1)
 
-module _ (book : List Page) (valid : IsValid book) (i k : ℕ) (inside : i < length book) (answers : answers_of book i ≡ k) (room : k < calls_of book i) where
+module _ (book : List Page) (valid : IsValid book) (i k : ℕ) (inside : i < length book)
+    (answers : answers_of book i ≡ k) (room : k < calls_of book i) where
   abbrev n : ℕ
   n = length book
 
@@ -132,35 +175,48 @@ module _ (book : List Page) (valid : IsValid book) (i k : ℕ) (inside : i < len
   pub fresh-below : (j : ℕ) → get_or (fresh_view i k book) j 0 ≤ calls_of book j
   fresh-below j = elim (cases_eq j i) [
     | inl same ↦
-        let at : get_or (fresh_view i k book) j 0 ≡ k + 1 = ap (λ (m : ℕ). get_or (fresh_view i k book) m 0) same ∙ own in
+        let at : get_or (fresh_view i k book) j 0 ≡ k + 1 =
+        ap (λ (m : ℕ). get_or (fresh_view i k book) m 0) same ∙ own in
         let calls : calls_of book j ≡ calls_of book i = ap (calls_of book) same in
         omega arith
-    | inr other ↦ omega (arith, other_at j other, least n i k book j (calls_of book j) (λ c m r e low'. below_calls book r.view (valid.within (record { caller = c; number = m }) r e) j))
+    | inr other ↦ omega (
+      arith,
+      other_at j other,
+      least n i k book j (calls_of book j) (λ c m r e low'.
+          below_calls book r.view (valid.within (record { caller = c; number = m }) r e) j),
+    )
   ]
 
   -- a view that lacks the call is within it, and it is within one that holds the call
-  comparable : (call : Call) (r : Record) → record_of book call ≡ Some r → AreComparable (fresh_view i k book) r.view
+  comparable : (call : Call) (r : Record) → record_of book call ≡ Some r
+      → AreComparable (fresh_view i k book) r.view
   comparable call r e = elim (cases_lt k (get_or r.view i 0)) [
     | inl holds ↦ inl (λ j. elim (cases_eq j i) [
       | inl same ↦
-          let at : get_or (fresh_view i k book) j 0 ≡ k + 1 = ap (λ (m : ℕ). get_or (fresh_view i k book) m 0) same ∙ own in
-          let there : get_or r.view j 0 ≡ get_or r.view i 0 = ap (λ (m : ℕ). get_or r.view m 0) same in
+          let at : get_or (fresh_view i k book) j 0 ≡ k + 1 =
+          ap (λ (m : ℕ). get_or (fresh_view i k book) m 0) same ∙ own in
+          let there : get_or r.view j 0 ≡ get_or r.view i 0 =
+          ap (λ (m : ℕ). get_or r.view m 0) same in
           omega arith
       | inr other ↦ omega (
         arith,
         other_at j other,
-        least n i k book j (get_or r.view j 0) (λ c m s f low'. elim (valid.comparable (record { caller = c; number = m }) call s r f e) [
-          | inl within ↦ within j
-          | inr without ↦ absurd (omega (arith, without i))
-        ]),
+        least n i k book j (get_or r.view j 0) (λ c m s f low'.
+            elim (valid.comparable (record { caller = c; number = m }) call s r f e) [
+              | inl within ↦ within j
+              | inr without ↦ absurd (omega (arith, without i))
+            ]),
       )
     ])
     | inr lacks ↦ inr (λ j. elim (cases_eq j i) [
       | inl same ↦
-          let at : get_or (fresh_view i k book) j 0 ≡ k + 1 = ap (λ (m : ℕ). get_or (fresh_view i k book) m 0) same ∙ own in
-          let there : get_or r.view j 0 ≡ get_or r.view i 0 = ap (λ (m : ℕ). get_or r.view m 0) same in
+          let at : get_or (fresh_view i k book) j 0 ≡ k + 1 =
+          ap (λ (m : ℕ). get_or (fresh_view i k book) m 0) same ∙ own in
+          let there : get_or r.view j 0 ≡ get_or r.view i 0 =
+          ap (λ (m : ℕ). get_or r.view m 0) same in
           omega arith
-      | inr other ↦ omega (arith, other_at j other, above n i k book call.caller call.number r j e lacks)
+      | inr other ↦
+          omega (arith, other_at j other, above n i k book call.caller call.number r j e lacks)
     ])
   ]
 

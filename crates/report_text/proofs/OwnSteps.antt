@@ -30,24 +30,33 @@ use Rattle.report_text.specs.Parts.{joined, LineIsRead, LineIsStopped, AreOwnRea
 -- ---- one caller
 
 -- of this many calls of a caller the lines of the first are read, and say these
-pub record AreReadTo (kind : Kind) (counts : List ℕ) (told : List Line) (i count number : ℕ) (more : List Call) (text : Unread) (own : List Line) (after : Draft) (left : Unread) : Type 0 where
-  pub goes : GoesTo report_rules (InLines kind counts told (calls_from i 0 count ++ more)) text (InLines kind counts (told ++ own) (calls_from i number (count - number) ++ more)) left
+pub record AreReadTo (kind : Kind) (counts : List ℕ) (told : List Line) (i count number : ℕ)
+    (more : List Call) (text : Unread) (own : List Line) (after : Draft)
+    (left : Unread) : Type 0 where
+  pub goes : GoesTo report_rules (InLines kind counts told (calls_from i 0 count ++ more)) text
+      (InLines kind counts (told ++ own) (calls_from i number (count - number) ++ more)) left
   pub draft : IsDraft counts (told ++ own) after
 
-module _ (kind : Kind) (counts : List ℕ) (told : List Line) (i count : ℕ) (more : List Call) (text : Unread) where
+module _ (kind : Kind) (counts : List ℕ) (told : List Line) (i count : ℕ) (more : List Call)
+    (text : Unread) where
   abbrev start : ReportDue
   start = InLines kind counts told (calls_from i 0 count ++ more)
 
-  pub own-none : (before : Draft) → IsDraft counts told before → AreReadTo kind counts told i count 0 more text [] before text
+  pub own-none : (before : Draft) → IsDraft counts told before
+      → AreReadTo kind counts told i count 0 more text [] before text
   own-none before h =
       let same : count ≡ count - 0 = omega arith in
-      let here = subst (λ (m : ℕ). GoesTo report_rules start text (InLines kind counts told (calls_from i 0 m ++ more)) text) same (goes_nowhere report_rules start text) in
+      let here = subst (λ (m : ℕ). GoesTo report_rules start text (InLines kind counts told
+      (calls_from i 0 m ++ more)) text) same (goes_nowhere report_rules start text) in
       record {
-        goes = subst (λ (ls : List Line). GoesTo report_rules start text (InLines kind counts ls (calls_from i 0 (count - 0) ++ more)) text) (sym (append-nil told)) here;
+        goes = subst (λ (ls : List Line). GoesTo report_rules start text (InLines kind counts ls
+            (calls_from i 0 (count - 0) ++ more)) text) (sym (append-nil told)) here;
         draft = subst (λ (ls : List Line). IsDraft counts ls before) (sym (append-nil told)) h;
       }
 
-  module _ (number : ℕ) (own : List Line) (between : Draft) (at : Unread) (lt : suc number ≤ count) (stand : StandBefore counts told i 0) (size : length own ≡ number) (h : AreReadTo kind counts told i count number more text own between at) where
+  module _ (number : ℕ) (own : List Line) (between : Draft) (at : Unread) (lt : suc number ≤ count)
+      (stand : StandBefore counts told i 0) (size : length own ≡ number)
+      (h : AreReadTo kind counts told i count number more text own between at) where
     abbrev rest : List Call
     rest = calls_from i (number + 1) (count - (number + 1)) ++ more
 
@@ -55,29 +64,42 @@ module _ (kind : Kind) (counts : List ℕ) (told : List Line) (i count : ℕ) (m
     call = record { caller = i; number = number }
 
     here : GoesTo report_rules start text (InLines kind counts (told ++ own) (call ∷ rest)) at
-    here = subst (λ (calls : List Call). GoesTo report_rules start text (InLines kind counts (told ++ own) calls) at) (next_due i number count more lt) h.goes
+    here = subst (λ (calls : List Call). GoesTo report_rules start text
+        (InLines kind counts (told ++ own) calls) at) (next_due i number count more lt) h.goes
 
     stands : StandBefore counts (told ++ own) i number
     stands = omega (arith, stand, length-append told own, size)
 
-    pub own-stops : (e : ReadFault) → LineIsStopped kind between call at e → StopsFor report_rules start text e
-    own-stops e stopped = stops_then report_rules start (InLines kind counts (told ++ own) (call ∷ rest)) text at e here (stopped counts (told ++ own) rest h.draft stands)
+    pub own-stops : (e : ReadFault) → LineIsStopped kind between call at e
+        → StopsFor report_rules start text e
+    own-stops e stopped =
+        stops_then report_rules start (InLines kind counts (told ++ own) (call ∷ rest)) text at e
+        here (stopped counts (told ++ own) rest h.draft stands)
 
-    pub own-more : (line : Line) (items : List Line) (after : Draft) (left : Unread) → items ≡ own ++ line ∷ [] → LineIsRead kind between call at line after left → AreReadTo kind counts told i count (number + 1) more text items after left
+    pub own-more : (line : Line) (items : List Line) (after : Draft) (left : Unread)
+        → items ≡ own ++ line ∷ [] → LineIsRead kind between call at line after left
+        → AreReadTo kind counts told i count (number + 1) more text items after left
     own-more line items after left is read =
         let next = read counts (told ++ own) rest h.draft stands in
-        let all : (told ++ own) ++ line ∷ [] ≡ told ++ items = append_assoc told own (line ∷ []) ∙ ap (λ (ls : List Line). told ++ ls) (sym is) in
+        let all : (told ++ own) ++ line ∷ [] ≡ told ++ items =
+        append_assoc told own (line ∷ []) ∙ ap (λ (ls : List Line). told ++ ls) (sym is) in
         record {
-          goes = subst (λ (ls : List Line). GoesTo report_rules start text (InLines kind counts ls rest) left) all
-              (goes_then report_rules start (InLines kind counts (told ++ own) (call ∷ rest)) (InLines kind counts ((told ++ own) ++ line ∷ []) rest) text at left here next.goes);
+          goes = subst (λ (ls : List Line).
+              GoesTo report_rules start text (InLines kind counts ls rest) left) all
+              (goes_then report_rules start (InLines kind counts (told ++ own) (call ∷ rest))
+              (InLines kind counts ((told ++ own) ++ line ∷ []) rest) text at left here next.goes);
           draft = subst (λ (ls : List Line). IsDraft counts ls after) all next.draft;
         }
 
-  pub own-all : (number : ℕ) (own : List Line) (after : Draft) (left : Unread) → number ≡ count → AreReadTo kind counts told i count number more text own after left → AreOwnRead kind counts told i count more text own after left
+  pub own-all : (number : ℕ) (own : List Line) (after : Draft) (left : Unread) → number ≡ count
+      → AreReadTo kind counts told i count number more text own after left
+      → AreOwnRead kind counts told i count more text own after left
   own-all number own after left e h =
-      let none : calls_from i number (count - number) ≡ [] = let left' : count - number ≡ 0 = omega arith in ap (λ (m : ℕ). calls_from i number m) left' in
+      let none : calls_from i number (count - number) ≡ [] = let left' : count - number ≡ 0 =
+      omega arith in ap (λ (m : ℕ). calls_from i number m) left' in
       record {
-        goes = subst (λ (calls : List Call). GoesTo report_rules start text (InLines kind counts (told ++ own) (calls ++ more)) left) none h.goes;
+        goes = subst (λ (calls : List Call). GoesTo report_rules start text
+            (InLines kind counts (told ++ own) (calls ++ more)) left) none h.goes;
         draft = h.draft;
       }
 
@@ -91,14 +113,18 @@ length-joined (own ∷ lines) =
     ∙ ap (λ (n : ℕ). length own + n) (length-joined lines)
     ∙ sym (sum_by-cons (λ (x : ℕ). x) (length own) (sizes lines))
 
-pub joined-push : (callers : List Own) (own : Own) → joined (lines_in (callers ++ own ∷ [])) ≡ joined (lines_in callers) ++ own.lines.items
+pub joined-push : (callers : List Own) (own : Own)
+    → joined (lines_in (callers ++ own ∷ [])) ≡ joined (lines_in callers) ++ own.lines.items
 joined-push callers own =
     ap joined (map_push (λ (x : Own). x.lines.items) callers own)
     ∙ flat_map-append (λ (x : List Line). x) (lines_in callers) (own.lines.items ∷ [])
-    ∙ ap (λ (ls : List Line). joined (lines_in callers) ++ ls) (flat_map-cons (λ (x : List Line). x) own.lines.items [] ∙ append-nil own.lines.items)
+    ∙ ap (λ (ls : List Line). joined (lines_in callers) ++ ls)
+    (flat_map-cons (λ (x : List Line). x) own.lines.items [] ∙ append-nil own.lines.items)
 
-pub sizes-push : (callers : List Own) (own : Own) → sizes (lines_in (callers ++ own ∷ [])) ≡ sizes (lines_in callers) ++ length own.lines.items ∷ []
-sizes-push callers own = ap sizes (map_push (λ (x : Own). x.lines.items) callers own) ∙ map_push (λ (x : List Line). length x) (lines_in callers) own.lines.items
+pub sizes-push : (callers : List Own) (own : Own) → sizes (lines_in (callers ++ own ∷ []))
+    ≡ sizes (lines_in callers) ++ length own.lines.items ∷ []
+sizes-push callers own = ap sizes (map_push (λ (x : Own). x.lines.items) callers own)
+    ∙ map_push (λ (x : List Line). length x) (lines_in callers) own.lines.items
 
 take-none : (c : ℕ) → take {A = Line} c [] ≡ []
 take-none zero = refl
@@ -113,22 +139,27 @@ so_far-none [] = refl
 so_far-none (c ∷ counts) =
     let same : c - 0 ≡ c = omega arith in
     ap (λ (own : List Line). part_page c own ∷ book_so_far counts (drop c [])) (take-none c)
-    ∙ ap (λ (m : ℕ). record { operations = replicate m 0; records = [] } ∷ book_so_far counts (drop c [])) same
+    ∙ ap (λ (m : ℕ).
+    record { operations = replicate m 0; records = [] } ∷ book_so_far counts (drop c [])) same
     ∙ ap (λ (ls : List Line). unanswered_page c ∷ book_so_far counts ls) (drop-none c)
     ∙ ap (λ (ps : List Page). unanswered_page c ∷ ps) (so_far-none counts)
 
 grouped-none : (counts : List ℕ) (j : ℕ) → get_or (grouped {X = Line} counts []) j [] ≡ []
 grouped-none [] j = refl
 grouped-none (c ∷ counts) zero = take-none c
-grouped-none (c ∷ counts) (suc j) = ap (λ (ls : List Line). get_or (grouped counts ls) j []) (drop-none c) ∙ grouped-none counts j
+grouped-none (c ∷ counts) (suc j) =
+    ap (λ (ls : List Line). get_or (grouped counts ls) j []) (drop-none c) ∙ grouped-none counts j
 
-pub no_line : (counts : List ℕ) (call : Call) (line : Line) → line_at (grouped counts []) call ≡ Some line → ⊥
+pub no_line : (counts : List ℕ) (call : Call) (line : Line)
+    → line_at (grouped counts []) call ≡ Some line → ⊥
 no_line counts call line e =
-    let none : slice_get {X = Line} [] call.number ≡ Some line = ap (λ (ls : List Line). slice_get ls call.number) (sym (grouped-none counts call.caller)) ∙ e in
+    let none : slice_get {X = Line} [] call.number ≡ Some line =
+    ap (λ (ls : List Line). slice_get ls call.number) (sym (grouped-none counts call.caller)) ∙ e in
     absurd cc
 
 -- before all lines
-pub draft-none : (counts : List ℕ) (draft : Draft) → draft.book ≡ unanswered_book counts → draft.limits ≡ counts → draft.seen ≡ replicate (length counts) 0 → IsDraft counts [] draft
+pub draft-none : (counts : List ℕ) (draft : Draft) → draft.book ≡ unanswered_book counts
+    → draft.limits ≡ counts → draft.seen ≡ replicate (length counts) 0 → IsDraft counts [] draft
 draft-none counts draft book limits seen = record {
   book = book ∙ sym (so_far-none counts);
   limits = subst (AreLimits counts (grouped counts [])) (sym limits) (record {
@@ -140,8 +171,11 @@ draft-none counts draft book limits seen = record {
   seen = subst (AreSeenCounts (length counts) (grouped counts [])) (sym seen) (record {
     wide = length-replicate (length counts) 0;
     holds = λ call h. absurd (no_seen h.0 h.1 h.2);
-    held = λ call h. absurd (omega (arith, h, get_or-replicate_default {X = ℕ} (length counts) call.caller 0));
+    held = λ call h.
+        absurd (omega (arith, h, get_or-replicate_default {X = ℕ} (length counts) call.caller 0));
   });
 } where
   no_seen : (call : Call) (cut : List ℕ) → seen_at (grouped counts []) call ≡ Some cut → ⊥
-  no_seen call cut e = let at = and_then_some (line_at (grouped counts []) call) (λ (l : Line). seen_in l.end) cut e in no_line counts call at.0 at.1
+  no_seen call cut e = let at =
+      and_then_some (line_at (grouped counts []) call) (λ (l : Line). seen_in l.end) cut e in
+      no_line counts call at.0 at.1

@@ -25,65 +25,121 @@ use Rattle.report_text.proofs.SharpReports.{report_sharp}
 
 -- ---- the head
 
-head_right : (due after : HeadDue) (words : List (List ℕ)) → HeadPasses Second (codes "report") due words after → ReportPasses (after_head due) words (after_head after)
+head_right : (due after : HeadDue) (words : List (List ℕ))
+    → HeadPasses Second (codes "report") due words after
+    → ReportPasses (after_head due) words (after_head after)
 head_right TitleDue after words h = (after, h, refl)
 head_right ObjectDue after words h = (after, h, refl)
 head_right (CallersDue kind) after words h = (after, h, refl)
 head_right (CountsDue kind n) after words h = (after, h, refl)
 head_right (HeadRead kind calls) after words h = absurd h
 
-head_wrong : (due : HeadDue) (bytes : List ℕ) (what : What) → IsWrong (head_rules Second (codes "report")) due (head_wanted due) bytes what → IsWrong report_rules (after_head due) (report_wanted (after_head due)) bytes what
+head_wrong : (due : HeadDue) (bytes : List ℕ) (what : What)
+    → IsWrong (head_rules Second (codes "report")) due (head_wanted due) bytes what
+    → IsWrong report_rules (after_head due) (report_wanted (after_head due)) bytes what
 head_wrong TitleDue bytes what (inl h) = inl h
-head_wrong TitleDue bytes what (inr h) = inr (record { line = h.line; rest = h.rest; whole = h.whole; test = record { fails = h.test.fails; first = h.test.first } })
+head_wrong TitleDue bytes what (inr h) = inr (record {
+  line = h.line;
+  rest = h.rest;
+  whole = h.whole;
+  test = record { fails = h.test.fails; first = h.test.first };
+})
 head_wrong ObjectDue bytes what (inl h) = inl h
-head_wrong ObjectDue bytes what (inr h) = inr (record { line = h.line; rest = h.rest; whole = h.whole; test = record { fails = h.test.fails; first = h.test.first } })
+head_wrong ObjectDue bytes what (inr h) = inr (record {
+  line = h.line;
+  rest = h.rest;
+  whole = h.whole;
+  test = record { fails = h.test.fails; first = h.test.first };
+})
 head_wrong (CallersDue kind) bytes what (inl h) = inl h
-head_wrong (CallersDue kind) bytes what (inr h) = inr (record { line = h.line; rest = h.rest; whole = h.whole; test = record { fails = h.test.fails; first = h.test.first } })
+head_wrong (CallersDue kind) bytes what (inr h) = inr (record {
+  line = h.line;
+  rest = h.rest;
+  whole = h.whole;
+  test = record { fails = h.test.fails; first = h.test.first };
+})
 head_wrong (CountsDue kind n) bytes what (inl h) = inl h
-head_wrong (CountsDue kind n) bytes what (inr h) = inr (record { line = h.line; rest = h.rest; whole = h.whole; test = record { fails = h.test.fails; first = h.test.first } })
+head_wrong (CountsDue kind n) bytes what (inr h) = inr (record {
+  line = h.line;
+  rest = h.rest;
+  whole = h.whole;
+  test = record { fails = h.test.fails; first = h.test.first };
+})
 head_wrong (HeadRead kind calls) bytes what h = absurd h
 
-pub head_goes : (due after : HeadDue) (text left : Unread) → GoesTo (head_rules Second (codes "report")) due text after left → GoesTo report_rules (after_head due) text (after_head after) left
-head_goes = goes_within (head_rules Second (codes "report")) report_rules after_head head_right head_wrong
+pub head_goes : (due after : HeadDue) (text left : Unread)
+    → GoesTo (head_rules Second (codes "report")) due text after left
+    → GoesTo report_rules (after_head due) text (after_head after) left
+head_goes =
+    goes_within (head_rules Second (codes "report")) report_rules after_head head_right head_wrong
 
-pub head_fault : (due : HeadDue) (text : Unread) (fault : TextFault) → IsFirstFault (head_rules Second (codes "report")) due text fault → IsFirstFault report_rules (after_head due) text fault
-head_fault = fault_within (head_rules Second (codes "report")) report_rules after_head head_right head_wrong
+pub head_fault : (due : HeadDue) (text : Unread) (fault : TextFault)
+    → IsFirstFault (head_rules Second (codes "report")) due text fault
+    → IsFirstFault report_rules (after_head due) text fault
+head_fault =
+    fault_within (head_rules Second (codes "report")) report_rules after_head head_right head_wrong
 
 -- ---- the end
 
-pub report_ends : (kind : Kind) (counts : List ℕ) (told : List Line) (text left : Unread) → IsEnded text left → GoesTo report_rules (InLines kind counts told []) text (AtEnd (record { kind = kind; lines = grouped counts told })) left
-report_ends kind counts told text left h = goes_end report_rules (InLines kind counts told []) (AtEnd (record { kind = kind; lines = grouped counts told })) (refl, refl) text left h
+pub report_ends : (kind : Kind) (counts : List ℕ) (told : List Line) (text left : Unread)
+    → IsEnded text left → GoesTo report_rules (InLines kind counts told []) text
+    (AtEnd (record { kind = kind; lines = grouped counts told })) left
+report_ends kind counts told text left h = goes_end report_rules (InLines kind counts told [])
+    (AtEnd (record { kind = kind; lines = grouped counts told })) (refl, refl) text left h
 
-pub report_no_end : (kind : Kind) (counts : List ℕ) (told : List Line) (text : Unread) (fault : TextFault) → IsNoEnd text fault → IsFirstFault report_rules (InLines kind counts told []) text fault
+pub report_no_end : (kind : Kind) (counts : List ℕ) (told : List Line) (text : Unread)
+    (fault : TextFault) → IsNoEnd text fault
+    → IsFirstFault report_rules (InLines kind counts told []) text fault
 report_no_end kind counts told text fault h =
-    stops_end report_rules (InLines kind counts told []) (AtEnd (record { kind = kind; lines = grouped counts told })) (refl, refl) text fault refl refl
-    (λ words unlike. only_test (ReportFails (InLines kind counts told []) words) End (refl, unlike) (λ other k. k.0)) h
+    stops_end report_rules (InLines kind counts told [])
+    (AtEnd (record { kind = kind; lines = grouped counts told })) (refl, refl) text fault refl refl
+    (λ words unlike. only_test (ReportFails (InLines kind counts told []) words) End (refl, unlike)
+    (λ other k. k.0)) h
 
 -- ---- one reading, or one fault
 
 pub same_end : (a b : Findings) → AtEnd a ≡ AtEnd b → a ≡ b
 same_end a b e = cc
 
-pub one_report : (bytes : List ℕ) (a b : Findings) → IsReportText bytes a → IsReportText bytes b → a ≡ b
-one_report = readings.one_said report_rules report_sharp (InHead TitleDue) AtEnd same_end (λ findings. refl)
+pub one_report : (bytes : List ℕ) (a b : Findings) → IsReportText bytes a
+    → IsReportText bytes b → a ≡ b
+one_report =
+    readings.one_said report_rules report_sharp (InHead TitleDue) AtEnd same_end (λ findings. refl)
 
-pub one_first_fault : (bytes : List ℕ) (a b : TextFault) → IsFirstReportFault bytes a → IsFirstReportFault bytes b → a ≡ b
-one_first_fault = readings.one_first report_rules report_sharp (InHead TitleDue) AtEnd same_end (λ findings. refl)
+pub one_first_fault : (bytes : List ℕ) (a b : TextFault) → IsFirstReportFault bytes a
+    → IsFirstReportFault bytes b → a ≡ b
+one_first_fault =
+    readings.one_first report_rules report_sharp (InHead TitleDue) AtEnd same_end (λ findings. refl)
 
-pub no_first_fault : (bytes : List ℕ) (findings : Findings) (fault : TextFault) → IsReportText bytes findings → IsFirstReportFault bytes fault → ⊥
-no_first_fault = readings.no_first report_rules report_sharp (InHead TitleDue) AtEnd same_end (λ findings. refl)
+pub no_first_fault : (bytes : List ℕ) (findings : Findings) (fault : TextFault)
+    → IsReportText bytes findings → IsFirstReportFault bytes fault → ⊥
+no_first_fault =
+    readings.no_first report_rules report_sharp (InHead TitleDue) AtEnd same_end (λ findings. refl)
 
-pub no_prefix : (bytes more : List ℕ) (a b : Findings) → IsReportText bytes a → IsReportText (bytes ++ more) b → more ≡ []
-no_prefix = readings.no_prefix report_rules report_sharp (InHead TitleDue) AtEnd same_end (λ findings. refl)
+pub no_prefix : (bytes more : List ℕ) (a b : Findings) → IsReportText bytes a
+    → IsReportText (bytes ++ more) b → more ≡ []
+no_prefix =
+    readings.no_prefix report_rules report_sharp (InHead TitleDue) AtEnd same_end (λ findings. refl)
 
-pub only_read : (bytes : List ℕ) (result : Result Findings ReadFault) → IfOk result (λ report. IsReportText bytes report) → IfErr result (λ e. StopsFor report_rules (InHead TitleDue) (whole_text bytes) e)
-    → (findings : Findings) → IsReportText bytes findings → MatchResult result (λ report. report ≡ findings) (λ e. e ≡ NoMemory)
-only_read = readings.only_read report_rules report_sharp (InHead TitleDue) AtEnd same_end (λ findings. refl)
+pub only_read : (bytes : List ℕ) (result : Result Findings ReadFault)
+    → IfOk result (λ report. IsReportText bytes report)
+    → IfErr result (λ e. StopsFor report_rules (InHead TitleDue) (whole_text bytes) e)
+    → (findings : Findings) → IsReportText bytes findings
+    → MatchResult result (λ report. report ≡ findings) (λ e. e ≡ NoMemory)
+only_read =
+    readings.only_read report_rules report_sharp (InHead TitleDue) AtEnd same_end (λ findings. refl)
 
-pub refused_read : (bytes : List ℕ) (result : Result Findings ReadFault) → IfErr result (λ e. StopsFor report_rules (InHead TitleDue) (whole_text bytes) e)
-    → IfErr result (λ e. (e ≡ NoMemory) ⊎ ((fault : TextFault) × (e ≡ Text fault) × IsFirstReportFault bytes fault × IsNoReportText bytes))
-refused_read = readings.refused_read report_rules report_sharp (InHead TitleDue) AtEnd same_end (λ findings. refl)
+pub refused_read : (bytes : List ℕ) (result : Result Findings ReadFault)
+    → IfErr result (λ e. StopsFor report_rules (InHead TitleDue) (whole_text bytes) e)
+    → IfErr result (λ e. (e ≡ NoMemory) ⊎ ((fault : TextFault) × (e ≡ Text fault)
+    × IsFirstReportFault bytes fault × IsNoReportText bytes))
+refused_read = readings.refused_read report_rules report_sharp (InHead TitleDue) AtEnd same_end
+    (λ findings. refl)
 
-pub first_read : (bytes : List ℕ) (result : Result Findings ReadFault) → IfOk result (λ report. IsReportText bytes report) → IfErr result (λ e. StopsFor report_rules (InHead TitleDue) (whole_text bytes) e)
-    → (fault : TextFault) → IsFirstReportFault bytes fault → MatchResult result (λ report. ⊥) (λ e. (e ≡ Text fault) ⊎ (e ≡ NoMemory))
-first_read = readings.first_read report_rules report_sharp (InHead TitleDue) AtEnd same_end (λ findings. refl)
+pub first_read : (bytes : List ℕ) (result : Result Findings ReadFault)
+    → IfOk result (λ report. IsReportText bytes report)
+    → IfErr result (λ e. StopsFor report_rules (InHead TitleDue) (whole_text bytes) e)
+    → (fault : TextFault) → IsFirstReportFault bytes fault
+    → MatchResult result (λ report. ⊥) (λ e. (e ≡ Text fault) ⊎ (e ≡ NoMemory))
+first_read = readings.first_read report_rules report_sharp (InHead TitleDue) AtEnd same_end
+    (λ findings. refl)

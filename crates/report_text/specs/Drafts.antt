@@ -13,15 +13,18 @@ use Rattle.report_text.specs.ReportRules.{book_so_far, IsPendingAt, IsSeenBefore
 abbrev pub StandBefore : List ℕ → List Line → ℕ → ℕ → Type 0
 StandBefore counts told i k = length told ≡ sum (take i counts) + k
 
--- How far seen cuts may go, beside these lines of callers with these numbers of calls: to the number of each caller's calls, or to
--- the number of its pending call.
+-- How far seen cuts may go, beside these lines of callers with these numbers of calls: to the
+-- number of each caller's calls, or to the number of its pending call.
 pub record AreLimits (counts : List ℕ) (lines : List (List Line)) (limits : List ℕ) : Type 0 where
   pub wide : length limits ≡ length counts
   pub within : (j : ℕ) → slice_index limits j ≤ slice_index counts j
-  pub pending : (call : Call) → IsPendingAt lines call → slice_index limits call.caller ≤ call.number
-  pub reached : (j : ℕ) → (slice_index limits j ≡ slice_index counts j) ⊎ IsPendingAt lines (record { caller = j; number = slice_index limits j })
+  pub pending : (call : Call) → IsPendingAt lines call
+      → slice_index limits call.caller ≤ call.number
+  pub reached : (j : ℕ) → (slice_index limits j ≡ slice_index counts j)
+      ⊎ IsPendingAt lines (record { caller = j; number = slice_index limits j })
 
--- The greatest counts of the seen cuts of these lines: they hold exactly the calls that one of the cuts holds.
+-- The greatest counts of the seen cuts of these lines: they hold exactly the calls that one of the
+-- cuts holds.
 pub record AreSeenCounts (n : ℕ) (lines : List (List Line)) (seen : List ℕ) : Type 0 where
   pub wide : length seen ≡ n
   pub holds : (call : Call) → IsSeenBefore lines call → Holds seen call
@@ -42,7 +45,8 @@ pub record IsWide (draft : Draft) : Type 0 where
 
 -- the limits with this pending call
 abbrev pub lowered : List ℕ → Call → List ℕ
-lowered limits call = slice_set limits call.caller (min (slice_index limits call.caller) call.number)
+lowered limits call =
+    slice_set limits call.caller (min (slice_index limits call.caller) call.number)
 
 -- the limits with a line of this call that ends so
 abbrev pub limits_with : List ℕ → Call → LineEnd → List ℕ

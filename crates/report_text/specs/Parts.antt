@@ -32,25 +32,32 @@ use Rattle.report_text.specs.Drafts.{StandBefore, AreLimits, AreSeenCounts, IsDr
 -- after the operation the words are 'pending' alone, or begin with this answer
 abbrev pub SayAnswer : ℕ → List (List ℕ) → Option Record → List (List ℕ) → Type 0
 SayAnswer n words None suffix = words ≡ codes "pending" ∷ []
-SayAnswer n words (Some r) suffix = IsAnswer n r × NoPairFirst suffix × (words ≡ reply_word r.reply ∷ codes "view" ∷ (pair_words 0 r.view ++ suffix))
+SayAnswer n words (Some r) suffix = IsAnswer n r × NoPairFirst suffix
+    × (words ≡ reply_word r.reply ∷ codes "view" ∷ (pair_words 0 r.view ++ suffix))
 
 -- why they don't
 abbrev pub IsNoAnswer : ℕ → List (List ℕ) → What → Type 0
-IsNoAnswer n words what.Reply = (words ≢ codes "pending" ∷ []) × ((reply : ℕ) (others : List (List ℕ)) → reply < 2 ^ 64 → words ≢ reply_word reply ∷ others)
-IsNoAnswer n words what.View = (reply : ℕ) × (suffix : List (List ℕ)) × (reply < 2 ^ 64) × (words ≡ reply_word reply ∷ suffix)
-    × (LacksViewWord suffix ⊎ ((pairs : List (List ℕ)) × (suffix ≡ codes "view" ∷ pairs) × HasBadPair n 0 pairs))
+IsNoAnswer n words what.Reply = (words ≢ codes "pending" ∷ [])
+    × ((reply : ℕ) (others : List (List ℕ)) → reply < 2 ^ 64 → words ≢ reply_word reply ∷ others)
+IsNoAnswer n words what.View = (reply : ℕ) × (suffix : List (List ℕ)) × (reply < 2 ^ 64)
+    × (words ≡ reply_word reply ∷ suffix)
+    × (LacksViewWord suffix
+    ⊎ ((pairs : List (List ℕ)) × (suffix ≡ codes "view" ∷ pairs) × HasBadPair n 0 pairs))
 IsNoAnswer n words _ = ⊥
 
 -- the line begins with its call, this operation and this answer, where it has one
-pub record IsPrefix (kind : Kind) (n : ℕ) (call : Call) (words : List (List ℕ)) (op : ℕ) (answer : Option Record) (suffix : List (List ℕ)) : Type 0 where
+pub record IsPrefix (kind : Kind) (n : ℕ) (call : Call) (words : List (List ℕ)) (op : ℕ)
+    (answer : Option Record) (suffix : List (List ℕ)) : Type 0 where
   pub has : IsOperationWord op
   pub rest : List (List ℕ)
   pub text : words ≡ place_words call ++ (operation_words kind op ++ rest)
   pub answered : SayAnswer n rest answer suffix
 
--- the first test that a line fails before the views of other lines are asked, whatever lines stand before it
+-- the first test that a line fails before the views of other lines are asked, whatever lines stand
+-- before it
 abbrev pub IsPrefixRefused : Kind → ℕ → Call → List (List ℕ) → What → Type 0
-IsPrefixRefused kind n call words name = (counts : List ℕ) (told : List Line) → length counts ≡ n → IsFirstTest (LineFails kind counts told call words) name
+IsPrefixRefused kind n call words name = (counts : List ℕ) (told : List Line) → length counts ≡ n
+    → IsFirstTest (LineFails kind counts told call words) name
 
 -- the words after the view, for a line with this end
 abbrev pub verdict_words : LineEnd → List (List ℕ)
@@ -72,8 +79,10 @@ SayVerdict n r words end = HasVerdict n r end × (words ≡ verdict_words end)
 
 -- why they say none
 abbrev pub IsNoVerdict : ℕ → List (List ℕ) → What → Type 0
-IsNoVerdict n words what.Mark = (words ≢ codes "unchecked" ∷ []) × ((others : List (List ℕ)) → ¬ (BeginAsVerdict words others))
-IsNoVerdict n words what.Seen = (pairs : List (List ℕ)) × BeginAsVerdict words pairs × (HasBadPair n 0 pairs ⊎ HasWordAfterPairs pairs)
+IsNoVerdict n words what.Mark = (words ≢ codes "unchecked" ∷ [])
+    × ((others : List (List ℕ)) → ¬ (BeginAsVerdict words others))
+IsNoVerdict n words what.Seen = (pairs : List (List ℕ)) × BeginAsVerdict words pairs
+    × (HasBadPair n 0 pairs ⊎ HasWordAfterPairs pairs)
 IsNoVerdict n words _ = ⊥
 
 -- the record of a line, where it has one
@@ -98,7 +107,8 @@ abbrev pub IsAnswerRefused : List Page → Call → List ℕ → List (List ℕ)
 IsAnswerRefused book call view words number e =
     (e ≡ NoMemory)
     ⊎ ((name : What) × (e ≡ Text (record { line = number; what = name }))
-    × (((fault : BookFault) × (view_test fault ≡ Some name) × IsFirstFault book call.caller view fault)
+    × (((fault : BookFault) × (view_test fault ≡ Some name)
+    × IsFirstFault book call.caller view fault)
     ⊎ (MayAnswer book call.caller view × IsNoVerdict (length book) words name)))
 
 -- The line with this number is refused for want of memory, or for the first test that it fails
@@ -107,69 +117,90 @@ abbrev pub AreWordsRefused : Kind → List Page → Call → List (List ℕ) →
 AreWordsRefused kind book call words number e =
     (e ≡ NoMemory)
     ⊎ ((name : What) × (e ≡ Text (record { line = number; what = name }))
-    × ((counts : List ℕ) (told : List Line) → book ≡ book_so_far counts told → IsFirstTest (LineFails kind counts told call words) name))
+    × ((counts : List ℕ) (told : List Line) → book ≡ book_so_far counts told
+    → IsFirstTest (LineFails kind counts told call words) name))
 
 -- ---- how a line fits
 
--- the seen cut of the line of this call fits the calls and the lines before it, or the call, where it is pending, fits their seen cuts
-pub record FitsCuts (counts : List ℕ) (lines : List (List Line)) (call : Call) (line : Line) : Type 0 where
+-- the seen cut of the line of this call fits the calls and the lines before it, or the call, where
+-- it is pending, fits their seen cuts
+pub record FitsCuts (counts : List ℕ) (lines : List (List Line)) (call : Call)
+    (line : Line) : Type 0 where
   pub seen : (cut : List ℕ) → seen_in line.end ≡ Some cut → ¬ (IsWrongCut counts lines call cut)
   pub pending : line.end ≡ Pending → ¬ (IsSeenBefore lines call)
 
 -- the line of this call fits the lines before it, but for its view, and its caller's further lines
-pub record FitsOthers (counts : List ℕ) (lines : List (List Line)) (call : Call) (line : Line) : Type 0 where
+pub record FitsOthers (counts : List ℕ) (lines : List (List Line)) (call : Call)
+    (line : Line) : Type 0 where
   pub cuts : FitsCuts counts lines call line
   pub last : ¬ (EndsTooEarly counts call line)
 
 -- the first test that it fails, of those that tell of cuts and of its caller's further lines
 abbrev pub IsMisfit : List ℕ → List (List Line) → Call → Line → What → Type 0
 IsMisfit counts lines call line what.Seen =
-    ((cut : List ℕ) × (seen_in line.end ≡ Some cut) × IsWrongCut counts lines call cut) ⊎ ((line.end ≡ Pending) × IsSeenBefore lines call)
-IsMisfit counts lines call line what.Last = FitsCuts counts lines call line × EndsTooEarly counts call line
+    ((cut : List ℕ) × (seen_in line.end ≡ Some cut) × IsWrongCut counts lines call cut)
+    ⊎ ((line.end ≡ Pending) × IsSeenBefore lines call)
+IsMisfit counts lines call line what.Last = FitsCuts counts lines call line
+    × EndsTooEarly counts call line
 IsMisfit counts lines call line _ = ⊥
 
 -- a line fits all lines that come to these cuts
 abbrev pub AlwaysFits : List ℕ → List ℕ → Call → ℕ → Line → Type 0
-AlwaysFits limits seen call count line = (counts : List ℕ) (lines : List (List Line)) → AreLimits counts lines limits → AreSeenCounts (length counts) lines seen → slice_index counts call.caller ≡ count → FitsOthers counts lines call line
+AlwaysFits limits seen call count line = (counts : List ℕ) (lines : List (List Line))
+    → AreLimits counts lines limits → AreSeenCounts (length counts) lines seen
+    → slice_index counts call.caller ≡ count → FitsOthers counts lines call line
 
 -- this is the first test that a line fails, beside all lines that come to these cuts
 abbrev pub IsAlwaysMisfit : List ℕ → List ℕ → Call → ℕ → Line → What → Type 0
-IsAlwaysMisfit limits seen call count line name = (counts : List ℕ) (lines : List (List Line)) → AreLimits counts lines limits → AreSeenCounts (length counts) lines seen → slice_index counts call.caller ≡ count → IsMisfit counts lines call line name
+IsAlwaysMisfit limits seen call count line name = (counts : List ℕ) (lines : List (List Line))
+    → AreLimits counts lines limits → AreSeenCounts (length counts) lines seen
+    → slice_index counts call.caller ≡ count → IsMisfit counts lines call line name
 
 -- ---- lines
 
 -- The next line is that of this call and says this: so it leads from one draft to another, whatever
 -- stands before it and after.
-pub record IsLineRead (kind : Kind) (counts : List ℕ) (told : List Line) (call : Call) (more : List Call) (text : Unread) (line : Line) (after : Draft) (left : Unread) : Type 0 where
-  pub goes : GoesTo report_rules (InLines kind counts told (call ∷ more)) text (InLines kind counts (told ++ line ∷ []) more) left
+pub record IsLineRead (kind : Kind) (counts : List ℕ) (told : List Line) (call : Call)
+    (more : List Call) (text : Unread) (line : Line) (after : Draft) (left : Unread) : Type 0 where
+  pub goes : GoesTo report_rules (InLines kind counts told (call ∷ more)) text
+      (InLines kind counts (told ++ line ∷ []) more) left
   pub draft : IsDraft counts (told ++ line ∷ []) after
 
 -- The next line is read as this line of this call, and takes one draft to another, whatever the
 -- other callers have.
 abbrev pub LineIsRead : Kind → Draft → Call → Unread → Line → Draft → Unread → Type 0
-LineIsRead kind before call text line after left = (counts : List ℕ) (told : List Line) (more : List Call)
-    → IsDraft counts told before → StandBefore counts told call.caller call.number → IsLineRead kind counts told call more text line after left
+LineIsRead kind before call text line after left =
+    (counts : List ℕ) (told : List Line) (more : List Call)
+    → IsDraft counts told before → StandBefore counts told call.caller call.number
+    → IsLineRead kind counts told call more text line after left
 
 -- In the next line, which is to be that of this call, a reader stops.
 abbrev pub LineIsStopped : Kind → Draft → Call → Unread → ReadFault → Type 0
 LineIsStopped kind before call text e = (counts : List ℕ) (told : List Line) (more : List Call)
-    → IsDraft counts told before → StandBefore counts told call.caller call.number → StopsFor report_rules (InLines kind counts told (call ∷ more)) text e
+    → IsDraft counts told before → StandBefore counts told call.caller call.number
+    → StopsFor report_rules (InLines kind counts told (call ∷ more)) text e
 
 -- The next lines are those of this many calls of a caller, and say these.
-pub record AreOwnRead (kind : Kind) (counts : List ℕ) (told : List Line) (i count : ℕ) (more : List Call) (text : Unread) (own : List Line) (after : Draft) (left : Unread) : Type 0 where
-  pub goes : GoesTo report_rules (InLines kind counts told (calls_from i 0 count ++ more)) text (InLines kind counts (told ++ own) more) left
+pub record AreOwnRead (kind : Kind) (counts : List ℕ) (told : List Line) (i count : ℕ)
+    (more : List Call) (text : Unread) (own : List Line) (after : Draft)
+    (left : Unread) : Type 0 where
+  pub goes : GoesTo report_rules (InLines kind counts told (calls_from i 0 count ++ more)) text
+      (InLines kind counts (told ++ own) more) left
   pub draft : IsDraft counts (told ++ own) after
 
 -- The next lines are read as these lines of a caller, and take one draft to another, whatever the
 -- other callers have.
 abbrev pub LinesAreRead : Kind → Draft → ℕ → ℕ → Unread → List Line → Draft → Unread → Type 0
-LinesAreRead kind before i count text own after left = (counts : List ℕ) (told : List Line) (more : List Call)
-    → IsDraft counts told before → StandBefore counts told i 0 → AreOwnRead kind counts told i count more text own after left
+LinesAreRead kind before i count text own after left =
+    (counts : List ℕ) (told : List Line) (more : List Call)
+    → IsDraft counts told before → StandBefore counts told i 0
+    → AreOwnRead kind counts told i count more text own after left
 
 -- In the next lines, which are to be those of this many calls of a caller, a reader stops.
 abbrev pub LinesAreStopped : Kind → Draft → ℕ → ℕ → Unread → ReadFault → Type 0
 LinesAreStopped kind before i count text e = (counts : List ℕ) (told : List Line) (more : List Call)
-    → IsDraft counts told before → StandBefore counts told i 0 → StopsFor report_rules (InLines kind counts told (calls_from i 0 count ++ more)) text e
+    → IsDraft counts told before → StandBefore counts told i 0
+    → StopsFor report_rules (InLines kind counts told (calls_from i 0 count ++ more)) text e
 
 -- the lines of all callers, one after the other
 abbrev pub joined : List (List Line) → List Line
@@ -177,8 +208,10 @@ joined lines = flat_map (λ own. own) lines
 
 -- The next lines are those of all calls of these numbers, and say these.
 abbrev pub AreAllRead : Kind → List ℕ → Unread → List (List Line) → Unread → Type 0
-AreAllRead kind counts text lines left = GoesTo report_rules (InLines kind counts [] (all_calls 0 counts)) text (InLines kind counts (joined lines) []) left
+AreAllRead kind counts text lines left = GoesTo report_rules
+    (InLines kind counts [] (all_calls 0 counts)) text (InLines kind counts (joined lines) []) left
 
 -- In the next lines, which are to be those of all calls of these numbers, a reader stops.
 abbrev pub AreAllStopped : Kind → List ℕ → Unread → ReadFault → Type 0
-AreAllStopped kind counts text e = StopsFor report_rules (InLines kind counts [] (all_calls 0 counts)) text e
+AreAllStopped kind counts text e =
+    StopsFor report_rules (InLines kind counts [] (all_calls 0 counts)) text e

@@ -1,4 +1,5 @@
--- The lines of a report's text, one after the other: which are right, and which test the others fail.
+-- The lines of a report's text, one after the other: which are right, and which test the others
+-- fail.
 use Rattle.std.specs.Prelude.{◌≡◌, ◌≢◌, ℕ, ◌+◌, ◌-◌, ◌<◌, ◌≤◌, ◌^◌, ◌⊎◌, List, [], ◌∷◌, ◌++◌, length, map, take, drop, replicate, codes, Some, None, slice_index}
 use Rattle.std.specs.List.{flat_map}
 use Rattle.book_base.specs.declared.call.Call.{Call}
@@ -35,7 +36,8 @@ use Rattle.reports.specs.Grammar.{line_words}
 
 -- ---- what the lines so far say
 
--- The page of a caller that has so many calls, of which these have their lines: the others have the operation 0 and no answer.
+-- The page of a caller that has so many calls, of which these have their lines: the others have the
+-- operation 0 and no answer.
 abbrev pub part_page : ℕ → List Line → Page
 part_page count own = record {
   operations = map (λ line. line.op) own ++ replicate (count - length own) 0;
@@ -46,7 +48,8 @@ part_page count own = record {
 -- calls.
 abbrev pub book_so_far : List ℕ → List Line → List Page
 book_so_far [] told = []
-book_so_far (count ∷ counts) told = part_page count (take count told) ∷ book_so_far counts (drop count told)
+book_so_far (count ∷ counts) told =
+    part_page count (take count told) ∷ book_so_far counts (drop count told)
 
 -- ---- what the words of a line say
 
@@ -66,7 +69,8 @@ IsFormed n (Delivered r cut) = IsAnswer n r × IsCut n cut
 IsFormed n (Error r cut) = IsAnswer n r × IsCut n cut
 
 -- the words say this line of the call
-pub record SaysLine (kind : Kind) (n : ℕ) (call : Call) (words : List (List ℕ)) (line : Line) : Type 0 where
+pub record SaysLine (kind : Kind) (n : ℕ) (call : Call) (words : List (List ℕ))
+    (line : Line) : Type 0 where
   pub named : IsNamedCall call
   pub few : n ≤ MAX_CALLERS
   pub has : IsOperationWord line.op
@@ -74,14 +78,17 @@ pub record SaysLine (kind : Kind) (n : ℕ) (call : Call) (words : List (List �
   pub text : words ≡ line_words kind call line
 
 -- after the reply the line has this view, and after it these words, which begin with no pair
-pub record IsAfterView (kind : Kind) (n : ℕ) (call : Call) (words : List (List ℕ)) (view : List ℕ) (suffix : List (List ℕ)) : Type 0 where
+pub record IsAfterView (kind : Kind) (n : ℕ) (call : Call) (words : List (List ℕ)) (view : List ℕ)
+    (suffix : List (List ℕ)) : Type 0 where
   pub formed : IsCut n view
   pub plain : NoPairFirst suffix
-  pub text : IsAfterReply (kind_operations Second kind) call words (codes "view" ∷ (pair_words 0 view ++ suffix))
+  pub text : IsAfterReply (kind_operations Second kind) call words
+      (codes "view" ∷ (pair_words 0 view ++ suffix))
 
 -- the words begin with a verdict, and these stand after it
 abbrev pub BeginAsVerdict : List (List ℕ) → List (List ℕ) → Type 0
-BeginAsVerdict words suffix = (words ≡ codes "ok" ∷ codes "seen" ∷ suffix) ⊎ (words ≡ codes "error" ∷ codes "seen" ∷ suffix)
+BeginAsVerdict words suffix = (words ≡ codes "ok" ∷ codes "seen" ∷ suffix)
+    ⊎ (words ≡ codes "error" ∷ codes "seen" ∷ suffix)
 
 -- ---- how a line fits those before it
 
@@ -89,25 +96,31 @@ BeginAsVerdict words suffix = (words ≡ codes "ok" ∷ codes "seen" ∷ suffix)
 abbrev pub IsPendingAt : List (List Line) → Call → Type 0
 IsPendingAt lines call = (line : Line) × (line_at lines call ≡ Some line) × (line.end ≡ Pending)
 
--- A seen cut of a call goes too far, or not far enough: a count is above the calls of its caller, or above the number of an earlier
--- pending line of that caller, or the cut doesn't hold the call itself.
+-- A seen cut of a call goes too far, or not far enough: a count is above the calls of its caller,
+-- or above the number of an earlier pending line of that caller, or the cut doesn't hold the call
+-- itself.
 abbrev pub IsWrongCut : List ℕ → List (List Line) → Call → List ℕ → Type 0
 IsWrongCut counts lines call cut =
     ((j : ℕ) × (slice_index counts j < slice_index cut j))
-    ⊎ (((other : Call) × IsPendingAt lines other × Holds cut other) ⊎ (slice_index cut call.caller ≤ call.number))
+    ⊎ (((other : Call) × IsPendingAt lines other × Holds cut other)
+    ⊎ (slice_index cut call.caller ≤ call.number))
 
 -- an earlier line's seen cut holds this call
 abbrev pub IsSeenBefore : List (List Line) → Call → Type 0
-IsSeenBefore lines call = (other : Call) × (cut : List ℕ) × (seen_at lines other ≡ Some cut) × Holds cut call
+IsSeenBefore lines call = (other : Call) × (cut : List ℕ) × (seen_at lines other ≡ Some cut)
+    × Holds cut call
 
 -- the line isn't delivered, and its caller has a further one
 abbrev pub EndsTooEarly : List ℕ → Call → Line → Type 0
-EndsTooEarly counts call line = (delivered_in line.end ≡ None) × (call.number + 1 < slice_index counts call.caller)
+EndsTooEarly counts call line = (delivered_in line.end ≡ None)
+    × (call.number + 1 < slice_index counts call.caller)
 
 -- a line fits the lines before it
 pub record Fits (counts : List ℕ) (told : List Line) (call : Call) (line : Line) : Type 0 where
-  pub view : (r : Record) → records_of (reached_of line.end) ≡ r ∷ [] → MayAnswer (book_so_far counts told) call.caller r.view
-  pub seen : (cut : List ℕ) → seen_in line.end ≡ Some cut → ¬ (IsWrongCut counts (grouped counts told) call cut)
+  pub view : (r : Record) → records_of (reached_of line.end)
+      ≡ r ∷ [] → MayAnswer (book_so_far counts told) call.caller r.view
+  pub seen : (cut : List ℕ) → seen_in line.end ≡ Some cut
+      → ¬ (IsWrongCut counts (grouped counts told) call cut)
   pub pending : line.end ≡ Pending → ¬ (IsSeenBefore (grouped counts told) call)
   pub last : ¬ (EndsTooEarly counts call line)
 
@@ -116,31 +129,45 @@ pub record Fits (counts : List ℕ) (told : List Line) (call : Call) (line : Lin
 -- A line for this call fails a test, after lines that say these.
 abbrev pub LineFails : Kind → List ℕ → List Line → Call → List (List ℕ) → What → Type 0
 -- the line doesn't begin with the caller and the number that are due
-LineFails kind counts told call words what.Place = (suffix : List (List ℕ)) → words ≢ place_words call ++ suffix
+LineFails kind counts told call words what.Place = (suffix : List (List ℕ))
+    → words ≢ place_words call ++ suffix
 -- the next words are no operation
-LineFails kind counts told call words what.Op = (suffix : List (List ℕ)) × (words ≡ place_words call ++ suffix)
-    × ((op : ℕ) (others : List (List ℕ)) → IsOperationWord op → suffix ≢ operation_words kind op ++ others)
+LineFails kind counts told call words what.Op = (suffix : List (List ℕ))
+    × (words ≡ place_words call ++ suffix)
+    × ((op : ℕ) (others : List (List ℕ)) → IsOperationWord op
+    → suffix ≢ operation_words kind op ++ others)
 -- the words after the operation begin with no reply, and aren't 'pending' alone
-LineFails kind counts told call words what.Reply = (suffix : List (List ℕ)) × IsAfterOperation (kind_operations Second kind) call words suffix × (suffix ≢ codes "pending" ∷ [])
+LineFails kind counts told call words what.Reply = (suffix : List (List ℕ))
+    × IsAfterOperation (kind_operations Second kind) call words suffix
+    × (suffix ≢ codes "pending" ∷ [])
     × ((reply : ℕ) (others : List (List ℕ)) → reply < 2 ^ 64 → suffix ≢ reply_word reply ∷ others)
 -- the next words are no view: the next isn't 'view', or of the pair words after it one is no pair,
 -- or its caller doesn't rise
-LineFails kind counts told call words what.View = (suffix : List (List ℕ)) × IsAfterReply (kind_operations Second kind) call words suffix
-    × (LacksViewWord suffix ⊎ ((pairs : List (List ℕ)) × (suffix ≡ codes "view" ∷ pairs) × HasBadPair (length counts) 0 pairs))
+LineFails kind counts told call words what.View = (suffix : List (List ℕ))
+    × IsAfterReply (kind_operations Second kind) call words suffix
+    × (LacksViewWord suffix ⊎ ((pairs : List (List ℕ)) × (suffix ≡ codes "view" ∷ pairs)
+    × HasBadPair (length counts) 0 pairs))
 -- the words after the view are none of the three forms
-LineFails kind counts told call words what.Mark = (view : List ℕ) × (suffix : List (List ℕ)) × IsAfterView kind (length counts) call words view suffix
-    × (suffix ≢ codes "unchecked" ∷ []) × ((others : List (List ℕ)) → ¬ (BeginAsVerdict suffix others))
+LineFails kind counts told call words what.Mark = (view : List ℕ) × (suffix : List (List ℕ))
+    × IsAfterView kind (length counts) call words view suffix
+    × (suffix ≢ codes "unchecked" ∷ [])
+    × ((others : List (List ℕ)) → ¬ (BeginAsVerdict suffix others))
 -- the words after 'seen' are no cut; or the seen cut is wrong; or the line is pending, and an
 -- earlier seen cut holds its call
 LineFails kind counts told call words what.Seen =
-    ((view : List ℕ) × (suffix : List (List ℕ)) × (pairs : List (List ℕ)) × IsAfterView kind (length counts) call words view suffix × BeginAsVerdict suffix pairs
+    ((view : List ℕ) × (suffix : List (List ℕ)) × (pairs : List (List ℕ))
+    × IsAfterView kind (length counts) call words view suffix × BeginAsVerdict suffix pairs
     × (HasBadPair (length counts) 0 pairs ⊎ HasWordAfterPairs pairs))
-    ⊎ (((line : Line) × (cut : List ℕ) × SaysLine kind (length counts) call words line × (seen_in line.end ≡ Some cut) × IsWrongCut counts (grouped counts told) call cut)
-    ⊎ ((line : Line) × SaysLine kind (length counts) call words line × (line.end ≡ Pending) × IsSeenBefore (grouped counts told) call))
+    ⊎ (((line : Line) × (cut : List ℕ) × SaysLine kind (length counts) call words line
+    × (seen_in line.end ≡ Some cut) × IsWrongCut counts (grouped counts told) call cut)
+    ⊎ ((line : Line) × SaysLine kind (length counts) call words line × (line.end ≡ Pending)
+    × IsSeenBefore (grouped counts told) call))
 -- the line isn't delivered, and its caller has a further one
-LineFails kind counts told call words what.Last = (line : Line) × SaysLine kind (length counts) call words line × EndsTooEarly counts call line
+LineFails kind counts told call words what.Last = (line : Line)
+    × SaysLine kind (length counts) call words line × EndsTooEarly counts call line
 -- the line has a view that the book of the lines before it refuses
-LineFails kind counts told call words name = (view : List ℕ) × (suffix : List (List ℕ)) × (fault : BookFault) × IsAfterView kind (length counts) call words view suffix
+LineFails kind counts told call words name = (view : List ℕ) × (suffix : List (List ℕ))
+    × (fault : BookFault) × IsAfterView kind (length counts) call words view suffix
     × (view_test fault ≡ Some name) × FailsTest (book_so_far counts told) call.caller view fault
 
 -- ---- the rules
@@ -163,16 +190,21 @@ after_head (HeadRead kind counts) = InLines kind counts [] (all_calls 0 counts)
 
 -- the right lines of a report's text
 abbrev pub ReportPasses : ReportDue → List (List ℕ) → ReportDue → Type 0
-ReportPasses (InHead due) words after = (next : HeadDue) × HeadPasses Second (codes "report") due words next × (after ≡ after_head next)
-ReportPasses (InLines kind counts told []) words after = (words ≡ end_words) × (after ≡ AtEnd (record { kind = kind; lines = grouped counts told }))
-ReportPasses (InLines kind counts told (call ∷ calls)) words after = (line : Line) × SaysLine kind (length counts) call words line × Fits counts told call line × (after ≡ InLines kind counts (told ++ line ∷ []) calls)
+ReportPasses (InHead due) words after = (next : HeadDue)
+    × HeadPasses Second (codes "report") due words next × (after ≡ after_head next)
+ReportPasses (InLines kind counts told []) words after = (words ≡ end_words)
+    × (after ≡ AtEnd (record { kind = kind; lines = grouped counts told }))
+ReportPasses (InLines kind counts told (call ∷ calls)) words after = (line : Line)
+    × SaysLine kind (length counts) call words line × Fits counts told call line
+    × (after ≡ InLines kind counts (told ++ line ∷ []) calls)
 ReportPasses (AtEnd findings) words after = ⊥
 
 -- the tests of the lines of a report's text
 abbrev pub ReportFails : ReportDue → List (List ℕ) → What → Type 0
 ReportFails (InHead due) words name = HeadFails Second (codes "report") due words name
 ReportFails (InLines kind counts told []) words name = (name ≡ what.End) × (words ≢ end_words)
-ReportFails (InLines kind counts told (call ∷ calls)) words name = LineFails kind counts told call words name
+ReportFails (InLines kind counts told (call ∷ calls)) words name =
+    LineFails kind counts told call words name
 ReportFails (AtEnd findings) words name = ⊥
 
 -- what is wanted in the text of a report
@@ -187,11 +219,14 @@ report_rules = record { Passes = ReportPasses; Fails = ReportFails; wanted = rep
 
 -- The first fault of bytes that are to be a report's text.
 abbrev pub IsFirstReportFault : List ℕ → TextFault → Type 0
-IsFirstReportFault bytes fault = IsFirstFault report_rules (InHead TitleDue) (whole_text bytes) fault
+IsFirstReportFault bytes fault =
+    IsFirstFault report_rules (InHead TitleDue) (whole_text bytes) fault
 
--- The bytes are the text of the report that says this: right lines from the title to the end of the bytes.
+-- The bytes are the text of the report that says this: right lines from the title to the end of the
+-- bytes.
 abbrev pub IsReportText : List ℕ → Findings → Type 0
-IsReportText bytes findings = (left : Unread) × IsReadTo report_rules (InHead TitleDue) (whole_text bytes) (AtEnd findings) left
+IsReportText bytes findings = (left : Unread)
+    × IsReadTo report_rules (InHead TitleDue) (whole_text bytes) (AtEnd findings) left
 
 -- The bytes are the text of no report.
 abbrev pub IsNoReportText : List ℕ → Type 0

@@ -14,7 +14,8 @@ use call_lines::{Line, LineEnd};
 pub(crate) struct Draft {
     /// The calls and the records of the lines so far, and the calls whose lines are still due.
     pub(crate) book: Book,
-    /// How far seen cuts may go: to the number of each caller's calls, or to that of its pending one.
+    /// How far seen cuts may go: to the number of each caller's calls, or to that of its pending
+    /// one.
     pub(crate) limits: Cut,
     /// For each caller the greatest count in the seen cuts so far.
     pub(crate) seen: Cut,

@@ -1,4 +1,5 @@
-//! The texts of reports: their reader, with the first fault of a text, and their writer, in version 2.
+//! The texts of reports: their reader, with the first fault of a text, and their writer, in version
+//! 2.
 #![tactic(auto)]
 
 mod draft;

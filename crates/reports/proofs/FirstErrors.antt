@@ -18,20 +18,42 @@ use Rattle.reports.proofs.Errors.{no_error_in, no_error_of, first_of_all}
 some_in : (own : List Line) → any_error own ≡ true → (cut : List ℕ) × HasFirstErrorIn own cut
 some_in [] some = absurd cc
 some_in (line ∷ own) some = elim (cases_Bool (is_error line)) [
-  | inl is ↦ let cut = some_from_is_some (error_in line.end) is in (cut.0, (0, line, refl, cut.1, refl))
+  | inl is ↦ let cut = some_from_is_some (error_in line.end) is in
+      (cut.0, (0, line, refl, cut.1, refl))
   | inr isnt ↦
-      let later = some_in own (elim (or_cases (is_error line) (any_error own) some) as (λ _. any_error own ≡ true) [ inl is ↦ absurd cc | inr suffix ↦ suffix ]) in
-      (later.0, (suc later.1.0, later.1.1, later.1.2, later.1.3, or_from (is_error line) (any_error (take later.1.0 own)) isnt later.1.4))
+      let later = some_in own
+      (elim (or_cases (is_error line) (any_error own) some) as (λ _. any_error own ≡ true) [
+        | inl is ↦ absurd cc
+        | inr suffix ↦ suffix
+      ]) in (
+        later.0,
+        (
+          suc later.1.0,
+          later.1.1,
+          later.1.2,
+          later.1.3,
+          or_from (is_error line) (any_error (take later.1.0 own)) isnt later.1.4,
+        ),
+      )
 ]
 
 -- the first caller with an error
-some_caller : (lines : List (List Line)) → list_any any_error lines ≡ true → (i : ℕ) × (any_error (lines_at lines i) ≡ true) × (list_any any_error (take i lines) ≡ false)
+some_caller : (lines : List (List Line)) → list_any any_error lines ≡ true → (i : ℕ)
+    × (any_error (lines_at lines i) ≡ true) × (list_any any_error (take i lines) ≡ false)
 some_caller [] some = absurd cc
 some_caller (own ∷ lines) some = elim (cases_Bool (any_error own)) [
   | inl is ↦ (0, is, refl)
   | inr isnt ↦
-      let later = some_caller lines (elim (or_cases (any_error own) (list_any any_error lines) some) as (λ _. list_any any_error lines ≡ true) [ inl is ↦ absurd cc | inr suffix ↦ suffix ]) in
-      (suc later.0, later.1, or_from (any_error own) (list_any any_error (take later.0 lines)) isnt later.2)
+      let later =
+      some_caller lines (elim (or_cases (any_error own) (list_any any_error lines) some) as
+      (λ _. list_any any_error lines ≡ true) [
+        | inl is ↦ absurd cc
+        | inr suffix ↦ suffix
+      ]) in (
+        suc later.0,
+        later.1,
+        or_from (any_error own) (list_any any_error (take later.0 lines)) isnt later.2,
+      )
 ]
 
 pub some_error_is_first : SomeErrorIsFirst
@@ -45,12 +67,14 @@ first_errors_are_errors lines cut first = elim (cases_Bool (list_any any_error l
   | inl is ↦ is
   | inr isnt ↦
       let call = first.0 in
-      let none : error_at lines call ≡ None = no_error_in (lines_at lines call.caller) call.number (no_error_of lines call.caller isnt) in
+      let none : error_at lines call ≡ None =
+      no_error_in (lines_at lines call.caller) call.number (no_error_of lines call.caller isnt) in
       absurd (none-some cut (sym none ∙ first.1.error))
 ]
 
 -- no first error stands before another one
-not_before : (lines : List (List Line)) (a b : Call) (x y : List ℕ) → IsFirstError lines a x → IsFirstError lines b y → StandsBefore a b → ⊥
+not_before : (lines : List (List Line)) (a b : Call) (x y : List ℕ) → IsFirstError lines a x
+    → IsFirstError lines b y → StandsBefore a b → ⊥
 not_before lines a b x y one other before = none-some x (sym (other.first a before) ∙ one.error)
 
 pub first_error_is_one : FirstErrorIsOne
@@ -74,5 +98,7 @@ first_error_is_one lines a b x y one other =
 
 pub witness_is_one : WitnessIsOne
 witness_is_one lines a b one other =
-    let same = first_error_is_one lines one.call other.call one.cut other.cut one.error other.error in
-    books_at_are_one (book_of_lines lines) one.cut a b one.at (subst (λ (cut : List ℕ). IsBookAt (book_of_lines lines) cut b) (sym same.1) other.at)
+    let same =
+    first_error_is_one lines one.call other.call one.cut other.cut one.error other.error in
+    books_at_are_one (book_of_lines lines) one.cut a b one.at
+    (subst (λ (cut : List ℕ). IsBookAt (book_of_lines lines) cut b) (sym same.1) other.at)

@@ -1,4 +1,5 @@
--- Worked reports: the lines of three callers with all four ends, and lines that are none of a report.
+-- Worked reports: the lines of three callers with all four ends, and lines that are none of a
+-- report.
 use Rattle.std.specs.Prelude.{◌^◌, List, [], ◌∷◌}
 use Rattle.book_base.specs.Book.{Page}
 use Rattle.seq_objects.specs.declared.kind.Kind.TheVariants.{Queue}
@@ -14,7 +15,8 @@ of_queue lines = record { kind = Queue; lines = lines }
 abbrev pub worked : Findings
 worked = of_queue worked_lines
 
--- The book that the error of the second caller saw: its own record and the first caller's, and the two calls that their views hold.
+-- The book that the error of the second caller saw: its own record and the first caller's, and the
+-- two calls that their views hold.
 abbrev pub worked_witness : List Page
 worked_witness = page (5 ∷ []) (first ∷ []) ∷ page (6 ∷ []) (second ∷ []) ∷ page [] [] ∷ []
 
@@ -52,8 +54,10 @@ no_reply = (unchecked 5 (answer (2 ^ 64) (1 ∷ [])) ∷ []) ∷ []
 
 -- Two calls have views of which neither is within the other.
 abbrev pub crossing : List (List Line)
-crossing = (unchecked 5 (answer 50 (1 ∷ 0 ∷ [])) ∷ []) ∷ (unchecked 6 (answer 60 (0 ∷ 1 ∷ [])) ∷ []) ∷ []
+crossing =
+    (unchecked 5 (answer 50 (1 ∷ 0 ∷ [])) ∷ []) ∷ (unchecked 6 (answer 60 (0 ∷ 1 ∷ [])) ∷ []) ∷ []
 
 -- Both callers' calls are errors.
 abbrev pub two_errors : List (List Line)
-two_errors = (failed 5 (answer 50 (1 ∷ 1 ∷ [])) (1 ∷ 0 ∷ []) ∷ []) ∷ (failed 6 (answer 60 (1 ∷ 1 ∷ [])) (1 ∷ 1 ∷ []) ∷ []) ∷ []
+two_errors = (failed 5 (answer 50 (1 ∷ 1 ∷ [])) (1 ∷ 0 ∷ []) ∷ [])
+    ∷ (failed 6 (answer 60 (1 ∷ 1 ∷ [])) (1 ∷ 1 ∷ []) ∷ []) ∷ []

@@ -9,16 +9,20 @@ use Rattle.reports.specs.Findings.{IsFirstError, HasFirstError, IsWitness}
 
 -- Where a line is an error there is a first error.
 abbrev pub SomeErrorIsFirst : Type 0
-SomeErrorIsFirst = (lines : List (List Line)) → list_any any_error lines ≡ true → (cut : List ℕ) × HasFirstError lines cut
+SomeErrorIsFirst = (lines : List (List Line)) → list_any any_error lines ≡ true → (cut : List ℕ)
+    × HasFirstError lines cut
 
 -- Where there is a first error a line is an error.
 abbrev pub FirstErrorsAreErrors : Type 0
-FirstErrorsAreErrors = (lines : List (List Line)) (cut : List ℕ) → HasFirstError lines cut → list_any any_error lines ≡ true
+FirstErrorsAreErrors = (lines : List (List Line)) (cut : List ℕ) → HasFirstError lines cut
+    → list_any any_error lines ≡ true
 
 -- The first error is one line, which saw one cut.
 abbrev pub FirstErrorIsOne : Type 0
-FirstErrorIsOne = (lines : List (List Line)) (a b : Call) (x y : List ℕ) → IsFirstError lines a x → IsFirstError lines b y → (a ≡ b) × (x ≡ y)
+FirstErrorIsOne = (lines : List (List Line)) (a b : Call) (x y : List ℕ) → IsFirstError lines a x
+    → IsFirstError lines b y → (a ≡ b) × (x ≡ y)
 
 -- The witness is one book.
 abbrev pub WitnessIsOne : Type 0
-WitnessIsOne = (lines : List (List Line)) (a b : List Page) → IsWitness lines a → IsWitness lines b → a ≡ b
+WitnessIsOne = (lines : List (List Line)) (a b : List Page) → IsWitness lines a
+    → IsWitness lines b → a ≡ b

@@ -19,10 +19,11 @@ answer_in end = slice_get (records_of (reached_of end)) 0
 
 -- Each line but a caller's last has its record.
 abbrev pub HaveRecords : List (List Line) → Type 0
-HaveRecords lines = (call : Call) (line : Line) → line_at lines call ≡ Some line → call.number + 1 < length (lines_at lines call.caller) → IsSome (answer_in line.end)
+HaveRecords lines = (call : Call) (line : Line) → line_at lines call ≡ Some line
+    → call.number + 1 < length (lines_at lines call.caller) → IsSome (answer_in line.end)
 
--- The lines are those of a book: of no more callers and calls than there may be, each with its record but a caller's last, and their book
--- is valid.
+-- The lines are those of a book: of no more callers and calls than there may be, each with its
+-- record but a caller's last, and their book is valid.
 pub record AreOfABook (lines : List (List Line)) : Type 0 where
   pub some : 1 ≤ length lines
   pub callers : length lines ≤ MAX_CALLERS
@@ -39,7 +40,7 @@ pub record MayTake (book : List Page) (call : Call) (line : Line) : Type 0 where
   pub wide : (r : Record) → answer_in line.end ≡ Some r → length r.view ≡ length book
   pub may : (r : Record) → answer_in line.end ≡ Some r → MayAnswer book call.caller r.view
 
--- The book of all lines, of which those of the first so many callers are put in: each call of another one has the operation word 0,
--- and no answer.
+-- The book of all lines, of which those of the first so many callers are put in: each call of
+-- another one has the operation word 0, and no answer.
 abbrev pub filled_to : ℕ → List (List Line) → List Page
 filled_to n lines = book_of_lines (take n lines) ++ unanswered_book (sizes (drop n lines))

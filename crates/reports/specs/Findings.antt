@@ -28,10 +28,13 @@ sizes lines = map (λ own. length own) lines
 abbrev pub HasLine : List (List Line) → Call → Type 0
 HasLine lines call = call.number < length (lines_at lines call.caller)
 
--- What the lines saw fits them: each seen cut has a count for each caller, none above the caller's records, and holds its own call.
+-- What the lines saw fits them: each seen cut has a count for each caller, none above the caller's
+-- records, and holds its own call.
 pub record AreSeen (lines : List (List Line)) : Type 0 where
-  pub wide : (call : Call) (cut : List ℕ) → seen_at lines call ≡ Some cut → length cut ≡ length lines
-  pub within : (call : Call) (cut : List ℕ) → seen_at lines call ≡ Some cut → IsWithin cut (answered (book_of_lines lines))
+  pub wide : (call : Call) (cut : List ℕ) → seen_at lines call ≡ Some cut
+      → length cut ≡ length lines
+  pub within : (call : Call) (cut : List ℕ) → seen_at lines call ≡ Some cut
+      → IsWithin cut (answered (book_of_lines lines))
   pub own : (call : Call) (cut : List ℕ) → seen_at lines call ≡ Some cut → Holds cut call
 
 -- The cut has a count for each caller, none above the caller's records.
@@ -40,7 +43,8 @@ IsInBook lines cut = (length cut ≡ length lines) × IsWithin cut (answered (bo
 
 -- Each line but a caller's last is delivered.
 abbrev pub AreDelivered : List (List Line) → Type 0
-AreDelivered lines = (call : Call) (line : Line) → line_at lines call ≡ Some line → call.number + 1 < length (lines_at lines call.caller) → IsSome (delivered_in line.end)
+AreDelivered lines = (call : Call) (line : Line) → line_at lines call ≡ Some line
+    → call.number + 1 < length (lines_at lines call.caller) → IsSome (delivered_in line.end)
 
 -- What a report says is what texts of version 2 can have.
 pub record IsReport (findings : Findings) : Type 0 where
@@ -48,7 +52,8 @@ pub record IsReport (findings : Findings) : Type 0 where
   pub callers : length findings.lines ≤ TEXT_CALLERS
   pub calls : AreAtMost TEXT_CALLS (sizes findings.lines)
   pub operations : AllByRecursion (AllByRecursion (λ line. IsOperationWord line.op)) findings.lines
-  pub replies : (call : Call) (r : Record) → record_of (book_of_lines findings.lines) call ≡ Some r → r.reply < 2 ^ 64
+  pub replies : (call : Call) (r : Record) → record_of (book_of_lines findings.lines) call ≡ Some r
+      → r.reply < 2 ^ 64
   pub valid : IsValid (book_of_lines findings.lines)
   pub seen : AreSeen findings.lines
   pub delivered : AreDelivered findings.lines
@@ -74,7 +79,8 @@ HasFirstError lines cut = (call : Call) × IsFirstError lines call cut
 
 -- The cut is what the first error among a caller's lines saw.
 abbrev pub HasFirstErrorIn : List Line → List ℕ → Type 0
-HasFirstErrorIn own cut = (k : ℕ) × (line : Line) × (slice_get own k ≡ Some line) × (error_in line.end ≡ Some cut) × (any_error (take k own) ≡ false)
+HasFirstErrorIn own cut = (k : ℕ) × (line : Line) × (slice_get own k ≡ Some line)
+    × (error_in line.end ≡ Some cut) × (any_error (take k own) ≡ false)
 
 -- The book is the one at what the first error line saw.
 pub record IsWitness (lines : List (List Line)) (book : List Page) : Type 0 where

@@ -28,19 +28,23 @@ ending_words (Error r cut) = answer_words Second (Some r) ++ codes "error" ∷ s
 
 -- the words of a line: the caller and number of its call, its operation, and its end
 abbrev pub line_words : Kind → Call → Line → List (List ℕ)
-line_words kind call line = place_words call ++ (operation_words kind line.op ++ ending_words line.end)
+line_words kind call line =
+    place_words call ++ (operation_words kind line.op ++ ending_words line.end)
 
 -- the line of a caller's call with this number
 abbrev pub call_line : Kind → ℕ → ℕ → Line → List (List (List ℕ))
-call_line kind caller number line = line_words kind (record { caller = caller; number = number }) line ∷ []
+call_line kind caller number line =
+    line_words kind (record { caller = caller; number = number }) line ∷ []
 
 -- a caller's lines
 abbrev pub caller_lines : Kind → ℕ → List Line → List (List (List ℕ))
 caller_lines kind caller own = by_number (call_line kind caller) 0 own
 
--- The lines of a report: the head, one line for each call by caller and then by number, and the end.
+-- The lines of a report: the head, one line for each call by caller and then by number, and the
+-- end.
 abbrev pub report_lines : Findings → List (List (List ℕ))
-report_lines findings = head_lines Second (codes "report") findings.kind (sizes findings.lines) ++ (by_number (caller_lines findings.kind) 0 findings.lines ++ end_words ∷ [])
+report_lines findings = head_lines Second (codes "report") findings.kind (sizes findings.lines)
+    ++ (by_number (caller_lines findings.kind) 0 findings.lines ++ end_words ∷ [])
 
 -- The bytes are what is written of this report.
 pub record IsWrittenText (bytes : List ℕ) (findings : Findings) : Type 0 where

@@ -49,8 +49,8 @@ fn sizes_of(callers: &[Own]) -> Cut
 
 /// The book of lines, each caller's by number: their calls, and the records of those that have one.
 ///
-/// There are no more callers and calls than a book may have, and each line has its record, but for a
-/// caller's last, which may have none.
+/// There are no more callers and calls than a book may have, and each line has its record, but for
+/// a caller's last, which may have none.
 pub fn book_of(alloc: Global, callers: &[Own]) -> Result<Book, NoMemory>
     // The lines are those of a book.
     requires { AreOfABook (lines_in callers.now) }

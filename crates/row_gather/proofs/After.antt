@@ -4,16 +4,20 @@ use Rattle.std.proofs.lemmas.Option.{slice_get_within}
 use Rattle.list_laws.proofs.Prefixes.{slice_get-append_within}
 
 -- what stands in the first list, and what stands in the second one
-pub slice_get-append_left : {X : Type 0} (xs ys : List X) (k : ℕ) (z : X) → slice_get xs k ≡ Some z → slice_get (xs ++ ys) k ≡ Some z
+pub slice_get-append_left : {X : Type 0} (xs ys : List X) (k : ℕ) (z : X) → slice_get xs k ≡ Some z
+    → slice_get (xs ++ ys) k ≡ Some z
 slice_get-append_left xs ys k z e = slice_get-append_within xs ys k (slice_get_within xs k z e) ∙ e
 
-pub slice_get-append_right : {X : Type 0} (xs ys : List X) (k m : ℕ) (z : X) → k ≡ length xs + m → slice_get ys m ≡ Some z → slice_get (xs ++ ys) k ≡ Some z
+pub slice_get-append_right : {X : Type 0} (xs ys : List X) (k m : ℕ) (z : X) → k ≡ length xs + m
+    → slice_get ys m ≡ Some z → slice_get (xs ++ ys) k ≡ Some z
 slice_get-append_right [] ys k m z at e = ap (slice_get ys) (at ∙ zero-add m) ∙ e
 slice_get-append_right (x ∷ xs) ys zero m z at e = absurd (omega (arith, at))
-slice_get-append_right (x ∷ xs) ys (suc k) m z at e = slice_get-append_right xs ys k m z (omega (arith, at)) e
+slice_get-append_right (x ∷ xs) ys (suc k) m z at e =
+    slice_get-append_right xs ys k m z (omega (arith, at)) e
 
 -- and nothing else
-pub slice_get-append_cases : {X : Type 0} (xs ys : List X) (k : ℕ) (z : X) → slice_get (xs ++ ys) k ≡ Some z
+pub slice_get-append_cases : {X : Type 0} (xs ys : List X) (k : ℕ) (z : X)
+    → slice_get (xs ++ ys) k ≡ Some z
     → (slice_get xs k ≡ Some z) ⊎ ((m : ℕ) × (k ≡ length xs + m) × (slice_get ys m ≡ Some z))
 slice_get-append_cases [] ys k z e = inr (k, sym (zero-add k), e)
 slice_get-append_cases (x ∷ xs) ys zero z e = inl e
@@ -24,7 +28,9 @@ slice_get-append_cases (x ∷ xs) ys (suc k) z e =
     ]
 
 -- after the same list: what holds of the second ones holds of both
-pub slice_get-append_along : {X : Type 0} (xs ys zs : List X) (k : ℕ) (z : X) → ((m : ℕ) → slice_get ys m ≡ Some z → slice_get zs m ≡ Some z) → slice_get (xs ++ ys) k ≡ Some z
+pub slice_get-append_along : {X : Type 0} (xs ys zs : List X) (k : ℕ) (z : X)
+    → ((m : ℕ) → slice_get ys m ≡ Some z → slice_get zs m ≡ Some z)
+    → slice_get (xs ++ ys) k ≡ Some z
     → slice_get (xs ++ zs) k ≡ Some z
 slice_get-append_along xs ys zs k z along e =
     elim (slice_get-append_cases xs ys k z e) [

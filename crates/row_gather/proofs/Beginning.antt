@@ -28,56 +28,86 @@ page_of-empty_book n i = get_or-replicate_default n i empty
 pub empty_is_gathered : EmptyIsGathered
 empty_is_gathered n l =
     let unrecorded : (call : Call) (r : Record) → record_of (empty_book n) call ≡ Some r → ⊥
-    = λ call r e. none-some r (sym (ap (λ (p : Page). slice_get p.records call.number) (page_of-empty_book n call.caller)) ∙ e) in
+    = λ call r e. none-some r (sym (ap (λ (p : Page). slice_get p.records call.number)
+    (page_of-empty_book n call.caller)) ∙ e) in
     record {
       callers = length-replicate n empty;
-      records = λ i low. ap (λ (p : Page). length p.records) (page_of-empty_book n i) ∙ sym (get_or-replicate_default n i 0);
+      records = λ i low. ap (λ (p : Page). length p.records) (page_of-empty_book n i)
+          ∙ sym (get_or-replicate_default n i 0);
       calls = λ call. (
-        λ (there : IsCall (empty_book n) call). absurd (omega (arith, there, ap (λ (p : Page). length p.operations) (page_of-empty_book n call.caller))),
-        λ (held : IsHeldBySomeView (empty_book n) (replicate n 0) call). absurd (unrecorded held.0 held.1 held.3),
+        λ (there : IsCall (empty_book n) call). absurd (omega (
+          arith,
+          there,
+          ap (λ (p : Page). length p.operations) (page_of-empty_book n call.caller),
+        )),
+        λ (held : IsHeldBySomeView (empty_book n) (replicate n 0) call).
+            absurd (unrecorded held.0 held.1 held.3),
       );
-      operations = λ call op e. absurd (none-some op (sym (ap (λ (p : Page). slice_get p.operations call.number) (page_of-empty_book n call.caller)) ∙ e));
+      operations = λ call op e.
+          absurd (none-some op (sym (ap (λ (p : Page). slice_get p.operations call.number)
+          (page_of-empty_book n call.caller)) ∙ e));
       replies = λ call r e. absurd (unrecorded call r e);
       views = λ call r e. absurd (unrecorded call r e);
     }
 
 -- it has no record and no word
 pub empty_is_within : (n : ℕ) (cut : List ℕ) → IsWithin (answered (empty_book n)) cut
-empty_is_within n cut i = omega (arith, answered_at (empty_book n) i, ap (λ (p : Page). length p.records) (page_of-empty_book n i))
+empty_is_within n cut i = omega (
+  arith,
+  answered_at (empty_book n) i,
+  ap (λ (p : Page). length p.records) (page_of-empty_book n i),
+)
 
 sum-counts_of_none : (f : Page → ℕ) → f empty ≡ 0 → (n : ℕ) → sum (map f (replicate n empty)) ≡ 0
 sum-counts_of_none f none zero = refl
-sum-counts_of_none f none (suc n) = omega (arith, none, sum_by-cons (λ (x : ℕ). x) (f empty) (map f (replicate n empty)), sum-counts_of_none f none n)
+sum-counts_of_none f none (suc n) = omega (
+  arith,
+  none,
+  sum_by-cons (λ (x : ℕ). x) (f empty) (map f (replicate n empty)),
+  sum-counts_of_none f none n,
+)
 
 words_of_empty : (n : ℕ) → words_of_book (empty_book n) ≡ 0
 words_of_empty n =
-    let calls : sum (announced (empty_book n)) ≡ 0 = sum-counts_of_none (λ (p : Page). length p.operations) refl n in
-    let records : sum (answered (empty_book n)) ≡ 0 = sum-counts_of_none (λ (p : Page). length p.records) refl n in
+    let calls : sum (announced (empty_book n)) ≡ 0 =
+    sum-counts_of_none (λ (p : Page). length p.operations) refl n in
+    let records : sum (answered (empty_book n)) ≡ 0 =
+    sum-counts_of_none (λ (p : Page). length p.records) refl n in
     (λ i. 2 * calls i + (1 + length (empty_book n)) * records i) ∙ omega arith
 
 -- ---- a kept book
 
 -- no record of a book is outside a cut where no count of its own is above the cut's
-pub within_from_counts : (book : List Page) (cut : List ℕ) (n : ℕ) → length book ≤ n → ((j : ℕ) → j < n → answers_of book j ≤ slice_index cut j) → IsWithin (answered book) cut
+pub within_from_counts : (book : List Page) (cut : List ℕ) (n : ℕ) → length book ≤ n
+    → ((j : ℕ) → j < n → answers_of book j ≤ slice_index cut j) → IsWithin (answered book) cut
 within_from_counts book cut n all each i =
     elim (cases_lt i n) [
       | inl low ↦ omega (arith, answered_at book i, each i low)
-      | inr past ↦ omega (arith, answered_at book i, ap (λ (p : Page). length p.records) (page_past book i (omega (arith, past, all))))
+      | inr past ↦ omega (
+        arith,
+        answered_at book i,
+        ap (λ (p : Page). length p.records) (page_past book i (omega (arith, past, all))),
+      )
     ]
 
 -- and where a count is above, one is outside
-pub outside_from_count : (book : List Page) (cut : List ℕ) (j : ℕ) → slice_index cut j < answers_of book j → IsWithin (answered book) cut → ⊥
+pub outside_from_count : (book : List Page) (cut : List ℕ) (j : ℕ)
+    → slice_index cut j < answers_of book j → IsWithin (answered book) cut → ⊥
 outside_from_count book cut j more within = omega (arith, answered_at book j, within j, more)
 
 -- What a caller has gathered before has no record outside a cut that its own is within.
-kept_within : (l : Local) (kept : Gathered) (cut : List ℕ) → IsGatheredBy l (Some kept) → IsWithin kept.cut cut → IsWithin (answered kept.book) cut
+kept_within : (l : Local) (kept : Gathered) (cut : List ℕ) → IsGatheredBy l (Some kept)
+    → IsWithin kept.cut cut → IsWithin (answered kept.book) cut
 kept_within l kept cut was within =
-    within_from_counts kept.book cut (length kept.book) (omega arith) (λ j low. omega (arith, was.records j low, within j))
+    within_from_counts kept.book cut (length kept.book) (omega arith)
+    (λ j low. omega (arith, was.records j low, within j))
 
 -- ---- what a gathering begins with
 
 -- the book without calls, where what is kept has not its place
-pub begun_with_none : (gathered : Option Gathered) (cut : List ℕ) (n : ℕ) (r : Result (List Page) NoMemory) → n ≡ length cut → ((g : Gathered) → gathered ≡ Some g → HoldsAll cut g.book → ⊥)
+pub begun_with_none : (gathered : Option Gathered) (cut : List ℕ) (n : ℕ)
+    (r : Result (List Page) NoMemory) → n ≡ length cut
+    → ((g : Gathered) → gathered ≡ Some g → HoldsAll cut g.book → ⊥)
     → IfOk r (λ book. book ≡ empty_book n) → IfOk r (IsBegunWith gathered cut)
 begun_with_none gathered cut n (Err e) wide never h = tt
 begun_with_none gathered cut n (Ok book) wide never h =
@@ -85,29 +115,43 @@ begun_with_none gathered cut n (Ok book) wide never h =
     record {
       held = record {
         callers = ap (length {A = Page}) is ∙ length-replicate (length cut) empty;
-        within = subst (λ (b : List Page). IsWithin (answered b) cut) (sym is) (empty_is_within (length cut) cut);
+        within = subst (λ (b : List Page). IsWithin (answered b) cut) (sym is)
+            (empty_is_within (length cut) cut);
       };
       kept = λ g there holds. absurd (never g there holds);
       either = inr is;
     }
 
 -- it was gathered, as what was kept was
-pub begun_is_gathered : (gathered : Option Gathered) (cut : List ℕ) (book : List Page) (l : Local) → IsBegunWith gathered cut book → IsGatheredBy l gathered
+pub begun_is_gathered : (gathered : Option Gathered) (cut : List ℕ) (book : List Page) (l : Local)
+    → IsBegunWith gathered cut book → IsGatheredBy l gathered
     → (early : List ℕ) × IsGathered (length cut) l early book
 begun_is_gathered gathered cut book l begun was =
     elim begun.either [
       | inl it ↦
-          let kept : IsGathered (length it.0.book) l it.0.cut it.0.book = subst (IsGatheredBy l) it.1 was in
-          (it.0.cut, subst (λ (n : ℕ). IsGathered n l it.0.cut book) begun.held.callers (subst (λ (b : List Page). IsGathered (length b) l it.0.cut b) (sym it.2) kept))
-      | inr none ↦ (replicate (length cut) 0, subst (IsGathered (length cut) l (replicate (length cut) 0)) (sym none) (empty_is_gathered (length cut) l))
+          let kept : IsGathered (length it.0.book) l it.0.cut it.0.book =
+          subst (IsGatheredBy l) it.1 was in (
+            it.0.cut,
+            subst (λ (n : ℕ). IsGathered n l it.0.cut book) begun.held.callers
+                (subst (λ (b : List Page). IsGathered (length b) l it.0.cut b) (sym it.2) kept),
+          )
+      | inr none ↦ (
+        replicate (length cut) 0,
+        subst (IsGathered (length cut) l (replicate (length cut) 0)) (sym none)
+            (empty_is_gathered (length cut) l),
+      )
     ]
 
-pub begun_within : (gathered : Option Gathered) (cut : List ℕ) (book : List Page) → IsBegunWith gathered cut book → (j : ℕ) → answers_of book j ≤ slice_index cut j
+pub begun_within : (gathered : Option Gathered) (cut : List ℕ) (book : List Page)
+    → IsBegunWith gathered cut book → (j : ℕ) → answers_of book j ≤ slice_index cut j
 begun_within gathered cut book begun j = omega (arith, answered_at book j, begun.held.within j)
 
 -- the ticks beyond its words are those for what is new
-pub ticks_for_new : (n : ℕ) (gathered : Option Gathered) (cut : List ℕ) (start : List Page) (l : Local) (g : Gathered) (before after : ℕ) → IsBegunWith gathered cut start → IsGatheredBy l gathered
-    → length cut ≡ n → g.cut ≡ cut → after + words_of_book start ≡ before + words_of_book g.book → TicksForNew n gathered g before after
+pub ticks_for_new : (n : ℕ) (gathered : Option Gathered) (cut : List ℕ) (start : List Page)
+    (l : Local) (g : Gathered) (before after : ℕ) → IsBegunWith gathered cut start
+    → IsGatheredBy l gathered
+    → length cut ≡ n → g.cut ≡ cut → after + words_of_book start ≡ before + words_of_book g.book
+    → TicksForNew n gathered g before after
 ticks_for_new n None cut start l g before after begun was wide same ticks =
     elim begun.either [
       | inl it ↦ absurd (none-some it.0 it.1)
@@ -115,5 +159,6 @@ ticks_for_new n None cut start l g before after begun was wide same ticks =
     ]
 ticks_for_new n (Some kept) cut start l g before after begun was wide same ticks = λ long within.
     let inside : IsWithin kept.cut cut = subst (IsWithin kept.cut) same within in
-    let is : start ≡ kept.book = begun.kept kept refl (record { callers = long ∙ sym wide; within = kept_within l kept cut was inside }) in
+    let is : start ≡ kept.book = begun.kept kept refl
+    (record { callers = long ∙ sym wide; within = kept_within l kept cut was inside }) in
     ap (λ (b : List Page). after + words_of_book b) (sym is) ∙ ticks

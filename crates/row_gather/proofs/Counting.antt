@@ -9,60 +9,79 @@ use Rattle.book_laws.proofs.GreatestCounts.{greatest_count-append, greatest_coun
 use Rattle.row_gather.specs.Words.{records_at, greatest_of, greatest_in}
 
 -- one more record
-pub greatest_of-more : (rs : List Record) (i k : ℕ) (r : Record) → k < length rs → r ≡ get_or rs k r → greatest_of (take (k + 1) rs) i ≡ max (greatest_of (take k rs) i) (slice_index r.view i)
+pub greatest_of-more : (rs : List Record) (i k : ℕ) (r : Record) → k < length rs → r ≡ get_or rs k r
+    → greatest_of (take (k + 1) rs) i ≡ max (greatest_of (take k rs) i) (slice_index r.view i)
 greatest_of-more rs i k r inside is =
     let view : Record → List ℕ = λ q. q.view in
     let last : List (List ℕ) = view (get_or rs k r) ∷ [] in
-    let one : greatest_count last i ≡ slice_index r.view i = omega (arith, ap (λ (q : Record). get_or q.view i 0) is) in
+    let one : greatest_count last i ≡ slice_index r.view i =
+    omega (arith, ap (λ (q : Record). get_or q.view i 0) is) in
     ap (λ (vs : List (List ℕ)). greatest_count vs i) (map_more view rs k r inside)
     ∙ greatest_count-append (map view (take k rs)) last i
     ∙ ap (max (greatest_of (take k rs) i)) one
 
 -- one more caller
-greatest_in-append : (xs ys : List (List Record)) (i : ℕ) → greatest_in (xs ++ ys) i ≡ max (greatest_in xs i) (greatest_in ys i)
+greatest_in-append : (xs ys : List (List Record)) (i : ℕ)
+    → greatest_in (xs ++ ys) i ≡ max (greatest_in xs i) (greatest_in ys i)
 greatest_in-append [] ys i = omega arith
 greatest_in-append (x ∷ xs) ys i = omega (arith, greatest_in-append xs ys i)
 
-pub greatest_in-more : {V : Type 0} (items : V → List Record) (vs : List V) (i k : ℕ) (v : V) → k < length vs → v ≡ get_or vs k v
-    → greatest_in (map items (take (k + 1) vs)) i ≡ max (greatest_in (map items (take k vs)) i) (greatest_of (items v) i)
+pub greatest_in-more : {V : Type 0} (items : V → List Record) (vs : List V) (i k : ℕ) (v : V)
+    → k < length vs → v ≡ get_or vs k v
+    → greatest_in (map items (take (k + 1) vs)) i
+    ≡ max (greatest_in (map items (take k vs)) i) (greatest_of (items v) i)
 greatest_in-more items vs i k v inside is =
     let last : List (List Record) = items (get_or vs k v) ∷ [] in
-    let one : greatest_in last i ≡ greatest_of (items v) i = omega (arith, ap (λ (x : _). greatest_of (items x) i) is) in
+    let one : greatest_in last i ≡ greatest_of (items v) i =
+    omega (arith, ap (λ (x : _). greatest_of (items x) i) is) in
     ap (λ (ls : List (List Record)). greatest_in ls i) (map_more items vs k v inside)
     ∙ greatest_in-append (map items (take k vs)) last i
     ∙ ap (max (greatest_in (map items (take k vs)) i)) one
 
 -- the list of a caller among those of all
-pub records_at-map : {V : Type 0} (items : V → List Record) (vs : List V) (j : ℕ) (v : V) → j < length vs → v ≡ get_or vs j v → records_at (map items vs) j ≡ items v
+pub records_at-map : {V : Type 0} (items : V → List Record) (vs : List V) (j : ℕ) (v : V)
+    → j < length vs → v ≡ get_or vs j v → records_at (map items vs) j ≡ items v
 records_at-map items vs j v inside is = get_or-map items vs j v [] inside ∙ ap items (sym is)
 
 -- no view counts more
-map_stands : (rs : List Record) (k : ℕ) (r : Record) → slice_get rs k ≡ Some r → slice_get (map (λ (s : Record). s.view) rs) k ≡ Some r.view
+map_stands : (rs : List Record) (k : ℕ) (r : Record) → slice_get rs k ≡ Some r
+    → slice_get (map (λ (s : Record). s.view) rs) k ≡ Some r.view
 map_stands [] k r e = absurd (none-some r e)
 map_stands (s ∷ rs) zero r e = cc
 map_stands (s ∷ rs) (suc k) r e = map_stands rs k r e
 
-map_stood : (rs : List Record) (k : ℕ) (v : List ℕ) → slice_get (map (λ (r : Record). r.view) rs) k ≡ Some v → (r : Record) × (slice_get rs k ≡ Some r) × (r.view ≡ v)
+map_stood : (rs : List Record) (k : ℕ) (v : List ℕ) → slice_get (map (λ (r : Record). r.view) rs) k
+    ≡ Some v → (r : Record) × (slice_get rs k ≡ Some r) × (r.view ≡ v)
 map_stood [] k v e = absurd (none-some v e)
 map_stood (r ∷ rs) zero v e = (r, refl, cc)
 map_stood (r ∷ rs) (suc k) v e = map_stood rs k v e
 
-pub greatest_in-least : (lists : List (List Record)) (j k : ℕ) (r : Record) (i : ℕ) → slice_get (records_at lists j) k ≡ Some r → slice_index r.view i ≤ greatest_in lists i
+pub greatest_in-least : (lists : List (List Record)) (j k : ℕ) (r : Record) (i : ℕ)
+    → slice_get (records_at lists j) k ≡ Some r → slice_index r.view i ≤ greatest_in lists i
 greatest_in-least [] j k r i e = absurd (none-some r e)
 greatest_in-least (rs ∷ lists) zero k r i e =
-    omega (arith, greatest_count-at_least (map (λ (s : Record). s.view) rs) k r.view i (map_stands rs k r e))
+    omega (
+      arith,
+      greatest_count-at_least (map (λ (s : Record). s.view) rs) k r.view i (map_stands rs k r e),
+    )
 greatest_in-least (rs ∷ lists) (suc j) k r i e = omega (arith, greatest_in-least lists j k r i e)
 
 -- and some view counts as much
 pub greatest_in-reached : (lists : List (List Record)) (n i : ℕ) → n < greatest_in lists i
-    → (j k : ℕ) × (r : Record) × (slice_get (records_at lists j) k ≡ Some r) × (n < slice_index r.view i)
+    → (j k : ℕ) × (r : Record) × (slice_get (records_at lists j) k ≡ Some r)
+    × (n < slice_index r.view i)
 greatest_in-reached [] n i h = absurd (omega arith)
 greatest_in-reached (rs ∷ lists) n i h =
     elim (cases_lt n (greatest_of rs i)) [
       | inl lt ↦
           let found = greatest_count-reached (map (λ (s : Record). s.view) rs) n i lt in
-          let known = map_stood rs found.0 found.1 found.2 in
-          (0, found.0, known.0, known.1, subst (λ (v : List ℕ). n < get_or v i 0) (sym known.2) found.3)
+          let known = map_stood rs found.0 found.1 found.2 in (
+            0,
+            found.0,
+            known.0,
+            known.1,
+            subst (λ (v : List ℕ). n < get_or v i 0) (sym known.2) found.3,
+          )
       | inr le ↦
           let found = greatest_in-reached lists n i (omega arith) in
           (suc found.0, found.1, found.2, found.3, found.4)

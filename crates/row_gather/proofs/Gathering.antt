@@ -27,26 +27,36 @@ use Rattle.row_gather.proofs.Counting.{greatest_in-least, greatest_in-reached}
 use Rattle.row_gather.proofs.After.{slice_get-append_left, slice_get-append_right, slice_get-append_cases}
 
 -- a given cut has one count for each caller
-pub given_wide : (s : Shape) (i : ℕ) (l : Local) (cut : List ℕ) → IsLocalOf s i l → IsGivenIn l.cuts M cut → length cut ≡ s.callers
+pub given_wide : (s : Shape) (i : ℕ) (l : Local) (cut : List ℕ) → IsLocalOf s i l
+    → IsGivenIn l.cuts M cut → length cut ≡ s.callers
 given_wide s i l cut (locals, t, low, is) given =
-    (given_cuts_are_low s locals i given.place (record { region = M; cut = cut; since = given.since }) t low
+    (given_cuts_are_low s locals i given.place
+    (record { region = M; cut = cut; since = given.since }) t low
     (ap (λ (m : Local). slice_get m.cuts given.place) is ∙ given.is)).0
 
 -- A record that a cut holds and a book lacks was peeked.
-record IsListed (n : ℕ) (l : Local) (book : List Page) (cut : List ℕ) (j k : ℕ) (r : Record) : Type 0 where
+record IsListed (n : ℕ) (l : Local) (book : List Page) (cut : List ℕ) (j k : ℕ)
+    (r : Record) : Type 0 where
   caller : j < n
   held : answers_of book j + k < slice_index cut j
   peeked : IsPeekedRecord n l (record { caller = j; number = answers_of book j + k }) r
 
-module _ (n : ℕ) (l : Local) (kept : List Page) (cut : List ℕ) (lists : List (List Record)) (h : ArePeekedTo n l kept cut n lists) where
-  listed : (j k : ℕ) (r : Record) → slice_get (records_at lists j) k ≡ Some r → IsListed n l kept cut j k r
+module _ (n : ℕ) (l : Local) (kept : List Page) (cut : List ℕ) (lists : List (List Record))
+    (h : ArePeekedTo n l kept cut n lists) where
+  listed : (j k : ℕ) (r : Record) → slice_get (records_at lists j) k ≡ Some r
+      → IsListed n l kept cut j k r
   listed j k r e =
       elim (cases_lt j n) [
         | inl low ↦
             let mine = h.each j low in
-            record { caller = low; held = omega (arith, slice_get_within (records_at lists j) k r e, mine.long); peeked = mine.each k r e }
+            record {
+              caller = low;
+              held = omega (arith, slice_get_within (records_at lists j) k r e, mine.long);
+              peeked = mine.each k r e;
+            }
         | inr past ↦
-            let none : records_at lists j ≡ [] = get_or_past lists j [] (omega (arith, past, h.wide)) in
+            let none : records_at lists j ≡ [] =
+            get_or_past lists j [] (omega (arith, past, h.wide)) in
             absurd (none-some r (sym (ap (λ (rs : List Record). slice_get rs k) none) ∙ e))
       ]
 
@@ -55,29 +65,43 @@ module _ (n : ℕ) (l : Local) (kept : List Page) (cut : List ℕ) (lists : List
   known_held j low k below =
       let found = greatest_in-reached lists k j below in
       let it = listed found.0 found.1 found.2 found.3 in
-      knows_viewed n l (record { caller = found.0; number = answers_of kept found.0 + found.1 }) j k (slice_index found.2.view j) low (it.peeked.view.1 j low) found.4
+      knows_viewed n l (record { caller = found.0; number = answers_of kept found.0 + found.1 }) j k
+      (slice_index found.2.view j) low (it.peeked.view.1 j low) found.4
 
-  -- The kept book was gathered at a cut that is within the new one; then the calls that new views hold were added, and then the records.
-  module _ (early : List ℕ) (was : IsGathered n l early kept) (within : (j : ℕ) → answers_of kept j ≤ slice_index cut j) (book whole : List Page) (more : HasPeekedCalls l kept book)
-      (counts : (j : ℕ) → j < n → calls_of book j ≡ max (calls_of kept j) (greatest_in lists j)) (full : IsFilled book lists whole) where
-    records_are : (j : ℕ) → (page_of whole j).records ≡ (page_of kept j).records ++ records_at lists j
-    records_are j = full.records j ∙ ap (λ (rs : List Record). rs ++ records_at lists j) (more.records j)
+  -- The kept book was gathered at a cut that is within the new one; then the calls that new views
+  -- hold were added, and then the records.
+  module _ (early : List ℕ) (was : IsGathered n l early kept)
+      (within : (j : ℕ) → answers_of kept j ≤ slice_index cut j) (book whole : List Page)
+      (more : HasPeekedCalls l kept book)
+      (counts : (j : ℕ) → j < n → calls_of book j ≡ max (calls_of kept j) (greatest_in lists j))
+      (full : IsFilled book lists whole) where
+    records_are : (j : ℕ)
+        → (page_of whole j).records ≡ (page_of kept j).records ++ records_at lists j
+    records_are j =
+        full.records j ∙ ap (λ (rs : List Record). rs ++ records_at lists j) (more.records j)
 
     -- what stood stands still, and so do the new records; and no others
-    stands_still : (call : Call) (r : Record) → record_of kept call ≡ Some r → record_of whole call ≡ Some r
+    stands_still : (call : Call) (r : Record) → record_of kept call ≡ Some r
+        → record_of whole call ≡ Some r
     stands_still call r e =
         ap (λ (rs : List Record). slice_get rs call.number) (records_are call.caller)
-        ∙ slice_get-append_left (page_of kept call.caller).records (records_at lists call.caller) call.number r e
+        ∙ slice_get-append_left (page_of kept call.caller).records
+        (records_at lists call.caller) call.number r e
 
-    stands_now : (j k : ℕ) (r : Record) → slice_get (records_at lists j) k ≡ Some r → record_of whole (record { caller = j; number = answers_of kept j + k }) ≡ Some r
+    stands_now : (j k : ℕ) (r : Record) → slice_get (records_at lists j) k ≡ Some r
+        → record_of whole (record { caller = j; number = answers_of kept j + k }) ≡ Some r
     stands_now j k r e =
         ap (λ (rs : List Record). slice_get rs (answers_of kept j + k)) (records_are j)
-        ∙ slice_get-append_right (page_of kept j).records (records_at lists j) (answers_of kept j + k) k r refl e
+        ∙ slice_get-append_right (page_of kept j).records (records_at lists j)
+        (answers_of kept j + k) k r refl e
 
     stood : (call : Call) (r : Record) → record_of whole call ≡ Some r
-        → (record_of kept call ≡ Some r) ⊎ ((k : ℕ) × (call.number ≡ answers_of kept call.caller + k) × (slice_get (records_at lists call.caller) k ≡ Some r))
+        → (record_of kept call ≡ Some r)
+        ⊎ ((k : ℕ) × (call.number ≡ answers_of kept call.caller + k)
+        × (slice_get (records_at lists call.caller) k ≡ Some r))
     stood call r e =
-        slice_get-append_cases (page_of kept call.caller).records (records_at lists call.caller) call.number r
+        slice_get-append_cases (page_of kept call.caller).records
+        (records_at lists call.caller) call.number r
         (sym (ap (λ (rs : List Record). slice_get rs call.number) (records_are call.caller)) ∙ e)
 
     same_calls : (j : ℕ) → calls_of whole j ≡ calls_of book j
@@ -89,26 +113,43 @@ module _ (n : ℕ) (l : Local) (kept : List Page) (cut : List ℕ) (lists : List
     -- a call is held by a view from before, or by a new one
     is_held : (call : Call) → IsCall whole call → IsHeldBySomeView whole cut call
     is_held call there =
-        let in_book : call.number < calls_of book call.caller = omega (arith, there, same_calls call.caller) in
-        let low : call.caller < n = omega (arith, caller_from_call book call.caller call.number in_book, long) in
+        let in_book : call.number < calls_of book call.caller =
+        omega (arith, there, same_calls call.caller) in
+        let low : call.caller < n =
+        omega (arith, caller_from_call book call.caller call.number in_book, long) in
         elim (cases_lt call.number (calls_of kept call.caller)) [
           | inl old ↦
               let found = (was.calls call).0 old in
               let answered : found.0.number < slice_index cut found.0.caller
-              = omega (arith, slice_get_within (page_of kept found.0.caller).records found.0.number found.1 found.3, within found.0.caller) in
+              = omega (
+                arith,
+                slice_get_within (page_of kept found.0.caller).records found.0.number
+                    found.1 found.3,
+                within found.0.caller,
+              ) in
               (found.0, found.1, answered, stands_still found.0 found.1 found.3, found.4)
           | inr new ↦
-              let below : call.number < greatest_in lists call.caller = omega (arith, in_book, counts call.caller low, new) in
+              let below : call.number < greatest_in lists call.caller =
+              omega (arith, in_book, counts call.caller low, new) in
               let found = greatest_in-reached lists call.number call.caller below in
-              let it : Call = record { caller = found.0; number = answers_of kept found.0 + found.1 } in
-              (it, found.2, (listed found.0 found.1 found.2 found.3).held, stands_now found.0 found.1 found.2 found.3, found.4)
+              let it : Call =
+              record { caller = found.0; number = answers_of kept found.0 + found.1 } in (
+                it,
+                found.2,
+                (listed found.0 found.1 found.2 found.3).held,
+                stands_now found.0 found.1 found.2 found.3,
+                found.4,
+              )
         ]
 
     -- what a view from before holds was a call before
-    was_call : (call it : Call) (r : Record) → record_of kept it ≡ Some r → call.number < slice_index r.view call.caller → IsCall kept call
+    was_call : (call it : Call) (r : Record) → record_of kept it ≡ Some r
+        → call.number < slice_index r.view call.caller → IsCall kept call
     was_call call it r e held =
-        let answered : it.number < answers_of kept it.caller = slice_get_within (page_of kept it.caller).records it.number r e in
-        let low : it.caller < n = omega (arith, caller_from_answer kept it.caller it.number answered, was.callers) in
+        let answered : it.number < answers_of kept it.caller =
+        slice_get_within (page_of kept it.caller).records it.number r e in
+        let low : it.caller < n =
+        omega (arith, caller_from_answer kept it.caller it.number answered, was.callers) in
         (was.calls call).1 (it, r, omega (arith, answered, was.records it.caller low), e, held)
 
     is_call : (call : Call) → IsHeldBySomeView whole cut call → IsCall whole call
@@ -116,25 +157,30 @@ module _ (n : ℕ) (l : Local) (kept : List Page) (cut : List ℕ) (lists : List
         elim (stood it r e) [
           | inl old ↦
               let there : call.number < calls_of kept call.caller = was_call call it r old held in
-              let low : call.caller < n = omega (arith, caller_from_call kept call.caller call.number there, was.callers) in
+              let low : call.caller < n =
+              omega (arith, caller_from_call kept call.caller call.number there, was.callers) in
               omega (arith, there, counts call.caller low, same_calls call.caller)
           | inr new ↦
               let wide : length r.view ≡ n = (listed it.caller new.0 r new.2).peeked.view.0 in
               let low : call.caller < n = elim (cases_lt call.caller n) [
                 | inl there ↦ there
-                | inr past ↦ absurd (omega (arith, held, get_or_past r.view call.caller 0 (omega (arith, past, wide))))
+                | inr past ↦ absurd (omega
+                    (arith, held, get_or_past r.view call.caller 0 (omega (arith, past, wide))))
               ] in
               let least = greatest_in-least lists it.caller new.0 r call.caller new.2 in
               omega (arith, held, least, counts call.caller low, same_calls call.caller)
         ]
 
     -- each record was peeked, then or now
-    is_peeked : (call : Call) (r : Record) → record_of whole call ≡ Some r → IsPeekedRecord n l call r
+    is_peeked : (call : Call) (r : Record) → record_of whole call ≡ Some r
+        → IsPeekedRecord n l call r
     is_peeked call r e =
         elim (stood call r e) [
           | inl old ↦ record { reply = was.replies call r old; view = was.views call r old }
           | inr new ↦
-              subst (λ (c : Call). IsPeekedRecord n l c r) (same_call (record { caller = call.caller; number = answers_of kept call.caller + new.0 }) call refl (sym new.1))
+              subst (λ (c : Call). IsPeekedRecord n l c r) (same_call
+              (record { caller = call.caller; number = answers_of kept call.caller + new.0 }) call
+              refl (sym new.1))
               (listed call.caller new.0 r new.2).peeked
         ]
 
@@ -143,37 +189,54 @@ module _ (n : ℕ) (l : Local) (kept : List Page) (cut : List ℕ) (lists : List
         record {
           callers = full.callers ∙ long;
           records = λ j low.
-              omega (arith, ap (length {A = Record}) (records_are j), length-append (page_of kept j).records (records_at lists j), (h.each j low).long);
+              omega (
+                arith,
+                ap (length {A = Record}) (records_are j),
+                length-append (page_of kept j).records (records_at lists j),
+                (h.each j low).long,
+              );
           calls = λ call. (is_held call, is_call call);
-          operations = λ call op e. more.operations call op (ap (λ (ops : List ℕ). slice_get ops call.number) (sym (full.operations call.caller)) ∙ e);
+          operations =
+              λ call op e. more.operations call op (ap (λ (ops : List ℕ). slice_get ops call.number)
+              (sym (full.operations call.caller)) ∙ e);
           replies = λ call r e. (is_peeked call r e).reply;
           views = λ call r e. (is_peeked call r e).view;
         }
 
 -- what is counted in views is at most the cap
-pub held_few : (s : Shape) (i : ℕ) (l : Local) (cut : List ℕ) (kept : List Page) (lists : List (List Record)) → IsLocalOf s i l → ArePeekedTo s.callers l kept cut s.callers lists
+pub held_few : (s : Shape) (i : ℕ) (l : Local) (cut : List ℕ) (kept : List Page)
+    (lists : List (List Record)) → IsLocalOf s i l
+    → ArePeekedTo s.callers l kept cut s.callers lists
     → (j : ℕ) → j < s.callers → greatest_in lists j ≤ s.cap
 held_few s i l cut kept lists (locals, t, low, is) h j inside =
     elim (cases_lt s.cap (greatest_in lists j)) [
       | inl more ↦
-          let knows : IsTrue (knows_row s.callers l N j s.cap) = known_held s.callers l kept cut lists h j inside s.cap more in
-          let counted = known_rows_are_counted s locals i j s.cap N t low (subst (λ (m : Local). IsTrue (knows_row s.callers m N j s.cap)) (sym is) knows) in
+          let knows : IsTrue (knows_row s.callers l N j s.cap) =
+          known_held s.callers l kept cut lists h j inside s.cap more in
+          let counted = known_rows_are_counted s locals i j s.cap N t low
+          (subst (λ (m : Local). IsTrue (knows_row s.callers m N j s.cap)) (sym is) knows) in
           absurd (omega (arith, counted.1))
       | inr fits ↦ fits
     ]
 
 -- A gathered book is the book at the cut of all callers' calls, so it is valid.
-pub is_book_of_all : (s : Shape) (i : ℕ) (l : Local) (cut : List ℕ) (book : List Page) → i < s.callers → IsGathered s.callers l cut book → IsBookOfAll s i l cut book
+pub is_book_of_all : (s : Shape) (i : ℕ) (l : Local) (cut : List ℕ) (book : List Page)
+    → i < s.callers → IsGathered s.callers l cut book → IsBookOfAll s i l cut book
 is_book_of_all s i l cut book low g locals t is =
-    gathered_is_the_book_at s locals i cut book t low (subst (λ (m : Local). IsGathered s.callers m cut book) (sym is) g)
+    gathered_is_the_book_at s locals i cut book t low
+    (subst (λ (m : Local). IsGathered s.callers m cut book) (sym is) g)
 
-pub gathered_is_valid : (s : Shape) (i : ℕ) (l : Local) (cut : List ℕ) (book : List Page) → IsLocalOf s i l → IsGathered s.callers l cut book → IsValid book
+pub gathered_is_valid : (s : Shape) (i : ℕ) (l : Local) (cut : List ℕ) (book : List Page)
+    → IsLocalOf s i l → IsGathered s.callers l cut book → IsValid book
 gathered_is_valid s i l cut book (locals, t, low, is) g =
-    subst IsValid (sym (is_book_of_all s i l cut book low g locals t is)) (stays_valid (book_in locals) cut (books_are_valid s locals t))
+    subst IsValid (sym (is_book_of_all s i l cut book low g locals t is))
+    (stays_valid (book_in locals) cut (books_are_valid s locals t))
 
 -- the counts of calls are few
-pub counts_few : (s : Shape) (i : ℕ) (l : Local) (cut : List ℕ) (kept : List Page) (lists : List (List Record)) (counts : List ℕ) (most : ℕ) → IsLocalOf s i l
-    → ArePeekedTo s.callers l kept cut s.callers lists → length counts ≡ s.callers → ((j : ℕ) → j < s.callers → slice_index counts j ≡ greatest_in lists j) → s.cap ≤ most
+pub counts_few : (s : Shape) (i : ℕ) (l : Local) (cut : List ℕ) (kept : List Page)
+    (lists : List (List Record)) (counts : List ℕ) (most : ℕ) → IsLocalOf s i l
+    → ArePeekedTo s.callers l kept cut s.callers lists → length counts ≡ s.callers
+    → ((j : ℕ) → j < s.callers → slice_index counts j ≡ greatest_in lists j) → s.cap ≤ most
     → (j : ℕ) → slice_index counts j ≤ most
 counts_few s i l cut kept lists counts most local h wide are fits j =
     elim (cases_lt j s.callers) [

@@ -12,6 +12,8 @@ gathered_by_stays l m None all h = tt
 gathered_by_stays l m (Some g) all h = gathered_stays (length g.book) l m g.cut g.book all h
 
 -- A book that was gathered just now can be kept with its cut.
-pub gathered_by_now : (n : ℕ) (l : Local) (cut : List ℕ) (g : Gathered) → g.cut ≡ cut → IsGathered n l cut g.book → IsGatheredBy l (Some g)
+pub gathered_by_now : (n : ℕ) (l : Local) (cut : List ℕ) (g : Gathered) → g.cut ≡ cut
+    → IsGathered n l cut g.book → IsGatheredBy l (Some g)
 gathered_by_now n l cut g is h =
-    subst (λ (x : List ℕ). IsGathered (length g.book) l x g.book) (sym is) (subst (λ (k : ℕ). IsGathered k l cut g.book) (sym h.callers) h)
+    subst (λ (x : List ℕ). IsGathered (length g.book) l x g.book) (sym is)
+    (subst (λ (k : ℕ). IsGathered k l cut g.book) (sym h.callers) h)

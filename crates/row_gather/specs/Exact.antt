@@ -9,11 +9,15 @@ use Rattle.row_table.specs.declared.caller.Caller.{Caller}
 use Rattle.row_table.specs.declared.rows.Rows.{Rows}
 use Rattle.row_table.specs.Callers.{shape_of, who_of, local_with}
 
--- Whatever reachable world has this local at caller i, the book is the book at the cut of all its callers' calls.
+-- Whatever reachable world has this local at caller i, the book is the book at the cut of all its
+-- callers' calls.
 abbrev pub IsBookOfAll : Shape → ℕ → Local → List ℕ → List Page → Type 0
-IsBookOfAll s i l cut book = (locals : List Local) → AreTogether s locals → local_at locals i ≡ l → book ≡ book_at cut (book_in locals)
+IsBookOfAll s i l cut book = (locals : List Local) → AreTogether s locals → local_at locals i ≡ l
+    → book ≡ book_at cut (book_in locals)
 
 -- Whatever reachable world has the local of this caller of these rows, the book is the one at the
 -- cut of all callers' calls.
-abbrev pub IsTheBookAt : {P : Type 0} → (P → ℕ → ℕ → Meaning) → Rows P → Caller P → List ℕ → List Page → Type 0
-IsTheBookAt meaning r c cut book = IsBookOfAll (shape_of meaning r) (who_of c) (local_with c) cut book
+abbrev pub IsTheBookAt : {P : Type 0} → (P → ℕ → ℕ → Meaning) → Rows P → Caller P → List ℕ
+    → List Page → Type 0
+IsTheBookAt meaning r c cut book =
+    IsBookOfAll (shape_of meaning r) (who_of c) (local_with c) cut book

@@ -7,15 +7,20 @@ use Rattle.row_gather.specs.Words.{records_at}
 
 -- The book with these further records of one caller.
 abbrev pub with_records : List Page → ℕ → List Record → List Page
-with_records book j records = slice_set book j (record (page_of book j) { records = (page_of book j).records ++ records })
+with_records book j records =
+    slice_set book j (record (page_of book j) { records = (page_of book j).records ++ records })
 
 -- The book with these further records of all callers.
 abbrev pub filled : List Page → List (List Record) → List Page
 filled book lists =
-    map (λ i. record { operations = (page_of book i).operations; records = (page_of book i).records ++ records_at lists i }) (range_with_len 0 (length book))
+    map (λ i. record {
+      operations = (page_of book i).operations;
+      records = (page_of book i).records ++ records_at lists i;
+    }) (range_with_len 0 (length book))
 
 -- Another book is this one with these further records.
-pub record IsFilled (book : List Page) (lists : List (List Record)) (other : List Page) : Type 0 where
+pub record IsFilled (book : List Page) (lists : List (List Record))
+    (other : List Page) : Type 0 where
   pub callers : length other ≡ length book
   pub operations : (i : ℕ) → (page_of other i).operations ≡ (page_of book i).operations
   pub records : (i : ℕ) → (page_of other i).records ≡ (page_of book i).records ++ records_at lists i

@@ -22,7 +22,8 @@ AreGreatest n lists counts = (i : ℕ) → i < n → slice_index counts i ≡ gr
 module _ {P : Type 0} where
   -- The caller knows the row of a call in a region.
   abbrev pub KnowsCall : Rows P → Caller P → Region → Call → Type 0
-  KnowsCall r c region call = IsTrue (knows_row r.callers (local_with c) region call.caller call.number)
+  KnowsCall r c region call =
+      IsTrue (knows_row r.callers (local_with c) region call.caller call.number)
 
   -- The caller knows the first rows of caller j in a region, as many as this count.
   abbrev pub KnowsFirst : Rows P → Caller P → Region → ℕ → ℕ → Type 0
@@ -39,7 +40,8 @@ module _ {P : Type 0} where
   -- The caller has peeked these records, which are those of caller j from a number on, up to a
   -- count.
   abbrev pub HasRecords : Rows P → Caller P → ℕ → ℕ → ℕ → List Record → Type 0
-  HasRecords r c j from count records = ArePeekedRecords r.callers (local_with c) j from count records
+  HasRecords r c j from count records =
+      ArePeekedRecords r.callers (local_with c) j from count records
 
   -- The caller has peeked these records, which are those that a cut holds and a book lacks.
   abbrev pub HasAllRecords : Rows P → Caller P → List Page → List ℕ → List (List Record) → Type 0

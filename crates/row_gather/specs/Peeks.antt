@@ -10,8 +10,8 @@ use Rattle.row_table.specs.Callers.{IsCallerOf, IsStill, local_with, stance_of}
 abbrev pub with_peeked : Local → List Peeked → Local
 with_peeked l more = record l { peeked = more ++ l.peeked }
 
--- A local has become another by peeks alone: it has further peeked words, and else it is as it was. The counter of steps has ticked
--- once for each of them.
+-- A local has become another by peeks alone: it has further peeked words, and else it is as it was.
+-- The counter of steps has ticked once for each of them.
 pub record HasOnlyPeeked (l m : Local) (before after : ℕ) : Type 0 where
   pub more : List Peeked
   pub local : m ≡ with_peeked l more
@@ -24,7 +24,8 @@ module _ {P : Type 0} where
     pub unscanned : (local_with c).scan ≡ None
 
   -- The caller d is c after peeks alone.
-  pub record PeeksAlone (meaning : P → ℕ → ℕ → Meaning) (r : Rows P) (c d : Caller P) (before after : ℕ) : Type 0 where
+  pub record PeeksAlone (meaning : P → ℕ → ℕ → Meaning) (r : Rows P) (c d : Caller P)
+      (before after : ℕ) : Type 0 where
     pub still : IsStill meaning r c d
     pub stance : stance_of d ≡ stance_of c
     pub peeks : HasOnlyPeeked (local_with c) (local_with d) before after

@@ -51,12 +51,12 @@ fn begin(alloc: Global, gathered: Option<Gathered>, cut: &Cut) -> Result<Book, N
 ///
 /// It is read from the rows of the table: the records that the cut holds, of all callers, and the
 /// calls that some of their views hold, answered or not (Castañeda and Rodríguez 2023). The kept
-/// book grows to it where the cut is of its callers and holds all its records, as the cut of a later
-/// scan of the same caller does; else the book is read from the beginning.
+/// book grows to it where the cut is of its callers and holds all its records, as the cut of a
+/// later scan of the same caller does; else the book is read from the beginning.
 ///
-/// The cut is one that a scan of the region of answers gave this caller, and no scan of the caller is
-/// under way. Each word that the kept book lacks is one peek. After want of memory the caller may have
-/// peeked a part of them, and the kept book is gone.
+/// The cut is one that a scan of the region of answers gave this caller, and no scan of the caller
+/// is under way. Each word that the kept book lacks is one peek. After want of memory the caller
+/// may have peeked a part of them, and the kept book is gone.
 pub fn grow_at<P: Program, L: Ledger>(
     alloc: Global,
     rows: &Rows<P>,

@@ -14,8 +14,8 @@ pub fn gathered_books_stay()
     ensures empty { EmptyIsGathered }
 {}
 
-/// A book of two callers with one call each, of which one is answered, has 7 words: two of each call,
-/// and three of the record.
+/// A book of two callers with one call each, of which one is answered, has 7 words: two of each
+/// call, and three of the record.
 pub fn words_in_numbers()
     ensures { words_of_book one_answered ≡ 7 }
 {}

@@ -1,5 +1,5 @@
-//! Reads the published records at a cut from the rows of a table, as a book: exactly the book at that
-//! cut, which grows from the one that was read before.
+//! Reads the published records at a cut from the rows of a table, as a book: exactly the book at
+//! that cut, which grows from the one that was read before.
 #![tactic(auto)]
 
 mod answers;

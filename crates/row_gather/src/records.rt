@@ -70,7 +70,8 @@ fn peek_records_of<P: Program, L: Ledger>(
     requires order { from ≤ count }
     requires known { KnowsFirst rows.now caller.old Region.M j count }
     ensures peeks { PeeksAlone P.meaning rows.now caller.old caller.new steps.old steps.new }
-    ensures ticks { IfOk result (λ _. TicksForRecords rows.now.callers from count steps.old steps.new) }
+    ensures ticks { IfOk result
+        (λ _. TicksForRecords rows.now.callers from count steps.old steps.new) }
     ensures records { IfOk result (λ rs. HasRecords rows.now caller.new j from count rs.items) }
 {
     let mut records = Vec::with_capacity(alloc, (count - from) as usize)?;
@@ -97,7 +98,8 @@ pub fn peek_records<P: Program, L: Ledger>(
     requires known { KnowsRecords rows.now caller.old cut.now }
     ensures peeks { PeeksAlone P.meaning rows.now caller.old caller.new steps.old steps.new }
     ensures ticks { IfOk result (λ _.
-        TicksForRecords rows.now.callers (sum (answered book.now)) (sum cut.now) steps.old steps.new) }
+        TicksForRecords rows.now.callers (sum (answered book.now))
+        (sum cut.now) steps.old steps.new) }
     ensures records { IfOk result (λ lists.
         HasAllRecords rows.now caller.new book.now cut.now (lists_in lists.items)) }
 {

@@ -6,13 +6,15 @@ use Rattle.world_core.specs.Event.{Announce, local_after}
 -- What is staged after these words were staged, one a place, from a place on.
 abbrev pub staged_from : ℕ → List ℕ → List Staged → List Staged
 staged_from place [] staged = staged
-staged_from place (x ∷ words) staged = staged_from (place + 1) words (record { place = place; word = x } ∷ staged)
+staged_from place (x ∷ words) staged =
+    staged_from (place + 1) words (record { place = place; word = x } ∷ staged)
 
 -- The local with these words staged.
 abbrev pub with_staged : Local → List Staged → Local
 with_staged l staged = record l { staged = staged }
 
--- The local after a call with this operation was announced: its row is counted, and embeds the cut that it was to embed.
+-- The local after a call with this operation was announced: its row is counted, and embeds the cut
+-- that it was to embed.
 abbrev pub local_announced : ℕ → ℕ → Local → Local
 local_announced n op l = record (local_after n l Announce) { operations = l.operations ++ op ∷ [] }
 
@@ -23,7 +25,8 @@ pub record MayAnnounce (n cap : ℕ) (cut : List ℕ) (l : Local) : Type 0 where
   pub embeds : l.to_embed ≡ Some cut
   pub wide : length cut ≡ n
 
--- One of n callers may publish the record of its last call, this reply with this view, in a row that embeds this cut.
+-- One of n callers may publish the record of its last call, this reply with this view, in a row
+-- that embeds this cut.
 pub record MayPublish (n : ℕ) (reply : ℕ) (view cut : List ℕ) (l : Local) : Type 0 where
   pub phase : l.phase ≡ Publishing
   pub reply_is : slice_index l.replies l.published ≡ reply

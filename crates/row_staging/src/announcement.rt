@@ -7,10 +7,11 @@ use book_base::{Cut, OpWord, high, low};
 use row_table::{Caller, Rows};
 use world_core::{Program, Region};
 
-/// Stages a caller's row of N, the two words of an operation and the entries of the cut that the row embeds,
-/// and raises the caller's count there: the call is announced.
+/// Stages a caller's row of N, the two words of an operation and the entries of the cut that the
+/// row embeds, and raises the caller's count there: the call is announced.
 ///
-/// The cut is the one that the caller's last scan of N gave it for this row. No step here is a look or a peek.
+/// The cut is the one that the caller's last scan of N gave it for this row. No step here is a look
+/// or a peek.
 pub fn announce_row<P: Program>(rows: &Rows<P>, caller: &mut Caller<P>, op: OpWord, cut: &Cut)
     // The caller is one of these rows.
     requires caller { IsCallerOf P.meaning rows.now caller.old }
@@ -19,7 +20,8 @@ pub fn announce_row<P: Program>(rows: &Rows<P>, caller: &mut Caller<P>, op: OpWo
     // The caller is still one of these rows, with the same number.
     ensures caller { IsStill P.meaning rows.now caller.old caller.new }
     // The caller's local is the one before after a call with this operation was announced.
-    ensures announced { local_with caller.new ≡ local_announced rows.now.callers op (local_with caller.old) }
+    ensures announced { local_with caller.new
+        ≡ local_announced rows.now.callers op (local_with caller.old) }
     // The caller's stance stays.
     ensures stance { stance_of caller.new ≡ stance_of caller.old }
 {

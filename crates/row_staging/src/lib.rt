@@ -1,4 +1,5 @@
-//! Stages a caller's whole row under way and counts it: an announcement's row of N, and a record's row of M.
+//! Stages a caller's whole row under way and counts it: an announcement's row of N, and a record's
+//! row of M.
 #![tactic(auto)]
 
 mod announcement;

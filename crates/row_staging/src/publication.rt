@@ -8,10 +8,11 @@ use book_base::Cut;
 use row_table::{Caller, Rows};
 use world_core::{Program, Region};
 
-/// Stages a caller's row of M, the reply, the entries of the view and those of the cut that the row embeds, and
-/// raises the caller's count there: the record of its last call is published.
+/// Stages a caller's row of M, the reply, the entries of the view and those of the cut that the row
+/// embeds, and raises the caller's count there: the record of its last call is published.
 ///
-/// The cut is the one that the caller's last scan of M gave it for this row. No step here is a look or a peek.
+/// The cut is the one that the caller's last scan of M gave it for this row. No step here is a look
+/// or a peek.
 pub fn publish_row<P: Program>(
     rows: &Rows<P>,
     caller: &mut Caller<P>,

@@ -15,10 +15,12 @@ pub fn stage_from<P: Program>(
     words: &[u64],
 )
     requires caller { IsCallerOf P.meaning rows.now caller.old }
-    requires due { (k : ℕ) → k < length words.now → MayStage P.meaning rows.now caller.old region (first + k) (slice_index words.now k) }
+    requires due { (k : ℕ) → k < length words.now
+        → MayStage P.meaning rows.now caller.old region (first + k) (slice_index words.now k) }
     requires few { first + length words.now < 2 ^ 32 }
     ensures caller { IsStill P.meaning rows.now caller.old caller.new }
-    ensures staged { local_with caller.new ≡ with_staged (local_with caller.old) (staged_from first words.now (local_with caller.old).staged) }
+    ensures staged { local_with caller.new ≡ with_staged (local_with caller.old)
+        (staged_from first words.now (local_with caller.old).staged) }
     ensures stance { stance_of caller.new ≡ stance_of caller.old }
 {
     for k in 0..words.len() {

@@ -14,49 +14,70 @@ use Rattle.row_table.proofs.Keeping.{does, stores, learns, moved_here, only_here
 
 -- what the table was told is what its rows keep
 pub key_told : {P : Type 0} (r : Rows P) → r.table.shared.key ≡ key_of r
-key_told r = λ i. record { program = r.told i; callers = r.sized.2 i; cap = r.sized.3 i; objects = r.sized.4 i }
+key_told r = λ i.
+    record { program = r.told i; callers = r.sized.2 i; cap = r.sized.3 i; objects = r.sized.4 i }
 
 -- a view that has one local alone has it
-pub alone_here : (me : Me (Unit {0}) View) (who : ℕ) → me ≡ (only who (the (has me.0 who)), []) → has me.0 who ≡ Some (the (has me.0 who))
-alone_here me who alone = ap (λ (m : Me (Unit {0}) View). has m.0 who) alone ∙ only_here who (the (has me.0 who))
+pub alone_here : (me : Me (Unit {0}) View) (who : ℕ) → me ≡ (only who (the (has me.0 who)), [])
+    → has me.0 who ≡ Some (the (has me.0 who))
+alone_here me who alone =
+    ap (λ (m : Me (Unit {0}) View). has m.0 who) alone ∙ only_here who (the (has me.0 who))
 
-module _ {P : Type 0} (meaning : P → ℕ → ℕ → Meaning) (k told : Key P) (z : Shape) (same : told ≡ k) (shape : z ≡ shape_for meaning k) (slots id : ℕ) (me : Me (Unit {0}) View) where
-  module _ (w who : ℕ) (e event : ℕ → Event) (mine : w ≡ who) (deed : e ≡ event) (word : ℕ) (l : Local) (here : has me.0 who ≡ Some l) where
+module _ {P : Type 0} (meaning : P → ℕ → ℕ → Meaning) (k told : Key P) (z : Shape) (same : told ≡ k)
+    (shape : z ≡ shape_for meaning k) (slots id : ℕ) (me : Me (Unit {0}) View) where
+  module _ (w who : ℕ) (e event : ℕ → Event) (mine : w ≡ who) (deed : e ≡ event) (word : ℕ)
+      (l : Local) (here : has me.0 who ≡ Some l) where
     pub does_as : (f : ℕ → ℕ) → Makes (shape_for meaning k) k.objects who l word f event
-        → Allows (Ruled (shape_for meaning told) told.objects) slots id me word f (λ found after. Tells z w e me found after)
+        → Allows (Ruled (shape_for meaning told) told.objects) slots id me word f
+        (λ found after. Tells z w e me found after)
     does_as f m =
-        subst (λ (d : Key P × (Shape × (ℕ × (ℕ → Event)))). Allows (Ruled (shape_for meaning d.0) d.0.objects) slots id me word f (λ found after. Tells d.1.0 d.1.1.0 d.1.1.1 me found after))
-        (λ i. (sym same i, (sym shape i, (sym mine i, sym deed i)))) (does (shape_for meaning k) k.objects slots id me who word l f event here m)
+        subst (λ (d : Key P × (Shape × (ℕ × (ℕ → Event)))). Allows (Ruled (shape_for meaning d.0)
+        d.0.objects) slots id me word f (λ found after. Tells d.1.0 d.1.1.0 d.1.1.1 me found after))
+        (λ i. (sym same i, (sym shape i, (sym mine i, sym deed i))))
+        (does (shape_for meaning k) k.objects slots id me who word l f event here m)
 
     pub stores_as : (new : ℕ) → Makes (shape_for meaning k) k.objects who l word (λ _. new) event
-        → Allows (Ruled (shape_for meaning told) told.objects) slots id me word (λ _. new) (λ _ after. TellsOfSome z w e me after)
+        → Allows (Ruled (shape_for meaning told) told.objects) slots id me word (λ _. new)
+        (λ _ after. TellsOfSome z w e me after)
     stores_as new m =
-        subst (λ (d : Key P × (Shape × (ℕ × (ℕ → Event)))). Allows (Ruled (shape_for meaning d.0) d.0.objects) slots id me word (λ _. new) (λ _ after. TellsOfSome d.1.0 d.1.1.0 d.1.1.1 me after))
-        (λ i. (sym same i, (sym shape i, (sym mine i, sym deed i)))) (stores (shape_for meaning k) k.objects slots id me who word new l event here m)
+        subst (λ (d : Key P × (Shape × (ℕ × (ℕ → Event)))).
+        Allows (Ruled (shape_for meaning d.0) d.0.objects) slots id me word (λ _. new)
+        (λ _ after. TellsOfSome d.1.0 d.1.1.0 d.1.1.1 me after))
+        (λ i. (sym same i, (sym shape i, (sym mine i, sym deed i))))
+        (stores (shape_for meaning k) k.objects slots id me who word new l event here m)
 
-  pub learns_as : (word : ℕ) → Allows (Ruled (shape_for meaning told) told.objects) slots id me word (λ x. x) (λ _ after. Shows z me after)
+  pub learns_as : (word : ℕ) → Allows (Ruled (shape_for meaning told) told.objects) slots id me word
+      (λ x. x) (λ _ after. Shows z me after)
   learns_as word =
-      subst (λ (d : Key P × Shape). Allows (Ruled (shape_for meaning d.0) d.0.objects) slots id me word (λ x. x) (λ _ after. Shows d.1 me after))
+      subst (λ (d : Key P × Shape). Allows (Ruled (shape_for meaning d.0) d.0.objects) slots id me
+      word (λ x. x) (λ _ after. Shows d.1 me after))
       (λ i. (sym same i, sym shape i)) (learns (shape_for meaning k) k.objects slots id me word)
 
 -- a local of a view is one of a reachable world
-pub local_together : (s : Shape) (v : View) (who : ℕ) (l : Local) → Together s v → who < s.callers → has v who ≡ Some l → IsLocalOf s who l
-local_together s v who l t low here = (t.world.locals, (t.world, t.reach, refl), low, t.locals_are who l here)
+pub local_together : (s : Shape) (v : View) (who : ℕ) (l : Local) → Together s v → who < s.callers
+    → has v who ≡ Some l → IsLocalOf s who l
+local_together s v who l t low here =
+    (t.world.locals, (t.world, t.reach, refl), low, t.locals_are who l here)
 
 -- what a step tells of the local of the seat that made it
 pub record Told (s : Shape) (who : ℕ) (me after : Me (Unit {0}) View) (event : Event) : Type 0 where
   pub local : the (has after.0 who) ≡ local_after s.callers (the (has me.0 who)) event
   pub reached : IsLocalOf s who (the (has after.0 who))
 
-pub told_as : (s z : Shape) (who w : ℕ) (event e : ℕ → Event) (me after : Me (Unit {0}) View) (x : ℕ) → z ≡ s → w ≡ who → e ≡ event → me ≡ (only who (the (has me.0 who)), [])
+pub told_as : (s z : Shape) (who w : ℕ) (event e : ℕ → Event) (me after : Me (Unit {0}) View)
+    (x : ℕ) → z ≡ s → w ≡ who → e ≡ event → me ≡ (only who (the (has me.0 who)), [])
     → who < s.callers → Tells z w e me x after → Told s who me after (event x)
 told_as s z who w event e me after x shape mine deed alone low h =
-    let t : Tells s who event me x after = subst (λ (d : Shape × (ℕ × (ℕ → Event))). Tells d.0 d.1.0 d.1.1 me x after) (λ i. (shape i, (mine i, deed i))) h in
+    let t : Tells s who event me x after =
+    subst (λ (d : Shape × (ℕ × (ℕ → Event))). Tells d.0 d.1.0 d.1.1 me x after)
+    (λ i. (shape i, (mine i, deed i))) h in
     let l : Local = the (has me.0 who) in
     let here : has after.0 who ≡ Some (local_after s.callers l (event x)) =
-    ap (λ (m : Me (Unit {0}) View). has m.0 who) t.done ∙ moved_here s.callers me.0 who l (event x) (alone_here me who alone) in
+    ap (λ (m : Me (Unit {0}) View). has m.0 who) t.done
+    ∙ moved_here s.callers me.0 who l (event x) (alone_here me who alone) in
     let is : the (has after.0 who) ≡ local_after s.callers l (event x) = ap the here in
     record {
       local = is;
-      reached = subst (λ (m : Local). IsLocalOf s who m) (sym is) (local_together s after.0 who (local_after s.callers l (event x)) t.together low here);
+      reached = subst (λ (m : Local). IsLocalOf s who m) (sym is)
+          (local_together s after.0 who (local_after s.callers l (event x)) t.together low here);
     }

@@ -21,7 +21,8 @@ served_phase phase For_view = Publishing
 served_phase phase For_seen = Announcing
 served_phase phase For_nothing = phase
 
-served_notes : (n me : ℕ) (l : Local) (p : Purpose) (cut : List ℕ) → notes_of n me (served l p cut) ≡ record (notes_of n me l) { phase = served_phase (phase_in l.phase) p }
+served_notes : (n me : ℕ) (l : Local) (p : Purpose) (cut : List ℕ) → notes_of n me (served l p cut)
+    ≡ record (notes_of n me l) { phase = served_phase (phase_in l.phase) p }
 served_notes n me l For_row cut = refl
 served_notes n me l For_view cut = refl
 served_notes n me l For_seen cut = refl
@@ -31,10 +32,15 @@ if_row : (b : Bool) (q : Phase) → served_phase q (if b then For_row else For_n
 if_row true q = refl
 if_row false q = refl
 
-purpose_phase : (p : local.Phase) (staged : List Staged) (region : Region) (is_view : Bool) (since : ℕ) (taken : List ℕ)
-    → served_phase (phase_in p) (purpose_of p staged (record { region = region; is_view = is_view; since = since; taken = taken })) ≡ phase_after (phase_in p) region is_view
-purpose_phase local.Announcing staged region is_view since taken = if_row (is_same_region region N && is_unstaged staged) Announcing
-purpose_phase local.Publishing staged region is_view since taken = if_row (is_same_region region M && is_unstaged staged) Publishing
+purpose_phase : (p : local.Phase) (staged : List Staged) (region : Region) (is_view : Bool)
+    (since : ℕ) (taken : List ℕ)
+    → served_phase (phase_in p) (purpose_of p staged
+    (record { region = region; is_view = is_view; since = since; taken = taken }))
+    ≡ phase_after (phase_in p) region is_view
+purpose_phase local.Announcing staged region is_view since taken =
+    if_row (is_same_region region N && is_unstaged staged) Announcing
+purpose_phase local.Publishing staged region is_view since taken =
+    if_row (is_same_region region M && is_unstaged staged) Publishing
 purpose_phase local.Asking staged region is_view since taken = refl
 purpose_phase local.Viewing staged N true since taken = refl
 purpose_phase local.Viewing staged N false since taken = refl
@@ -50,7 +56,8 @@ last_given-push (h ∷ k ∷ gs) g = last_given-push (k ∷ gs) g
 
 -- a scan that has ended leaves no scan, the phase that its cut leads to, and the cut
 pub scan_ended : (n me : ℕ) (l : Local) (s : Scan) (w : Want) (cut : List ℕ) → cut_of w ≡ Some cut
-    → notes_of n me (went_on l s w) ≡ record (notes_of n me l) { phase = phase_after (phase_in l.phase) s.region s.is_view; scan = None; given = Some cut }
+    → notes_of n me (went_on l s w) ≡ record (notes_of n me l)
+    { phase = phase_after (phase_in l.phase) s.region s.is_view; scan = None; given = Some cut }
 scan_ended n me l s (Look j) cut e = absurd cc
 scan_ended n me l s (Peek j row entry) cut e = absurd cc
 scan_ended n me l s (Done other) cut e =
@@ -62,25 +69,36 @@ scan_ended n me l s (Done other) cut e =
     })
 
 -- one that hasn't goes on
-pub scan_goes : (n me : ℕ) (l : Local) (s : Scan) (w : Want) → cut_of w ≡ None → notes_of n me (went_on l s w) ≡ record (notes_of n me l) { scan = Some (under_way n me s) }
+pub scan_goes : (n me : ℕ) (l : Local) (s : Scan) (w : Want) → cut_of w ≡ None
+    → notes_of n me (went_on l s w) ≡ record (notes_of n me l) { scan = Some (under_way n me s) }
 scan_goes n me l s (Look j) e = refl
 scan_goes n me l s (Peek j row entry) e = refl
 scan_goes n me l s (Done cut) e = absurd cc
 
 -- a word that the scan under way takes, and one that it doesn't
-pub record Fed (n : ℕ) (l : Local) (o : Option Scan) (region : Region) (is_it : Want → Bool) (x : ℕ) : Type 0 where
+pub record Fed (n : ℕ) (l : Local) (o : Option Scan) (region : Region) (is_it : Want → Bool)
+    (x : ℕ) : Type 0 where
   pub scan : Scan
   pub there : o ≡ Some scan
-  pub on : fed n l o region is_it x ≡ went_on l (with_word scan x) (wanted n (with_word scan x).taken)
+  pub on : fed n l o region is_it x
+      ≡ went_on l (with_word scan x) (wanted n (with_word scan x).taken)
 
-pub fed_taken : (n : ℕ) (l : Local) (o : Option Scan) (region : Region) (is_it : Want → Bool) (x : ℕ) → takes n o region is_it ≡ true → Fed n l o region is_it x
+pub fed_taken : (n : ℕ) (l : Local) (o : Option Scan) (region : Region) (is_it : Want → Bool)
+    (x : ℕ) → takes n o region is_it ≡ true → Fed n l o region is_it x
 fed_taken n l None region is_it x e = absurd cc
 fed_taken n l (Some s) region is_it x e =
-    record { scan = s; there = refl; on = ap (λ (b : Bool). if b then went_on l (with_word s x) (wanted n (with_word s x).taken) else l) e }
+    record {
+      scan = s;
+      there = refl;
+      on = ap (λ (b : Bool). if b
+          then went_on l (with_word s x) (wanted n (with_word s x).taken) else l) e;
+    }
 
-pub fed_left : (n : ℕ) (l : Local) (o : Option Scan) (region : Region) (is_it : Want → Bool) (x : ℕ) → takes n o region is_it ≡ false → fed n l o region is_it x ≡ l
+pub fed_left : (n : ℕ) (l : Local) (o : Option Scan) (region : Region) (is_it : Want → Bool) (x : ℕ)
+    → takes n o region is_it ≡ false → fed n l o region is_it x ≡ l
 fed_left n l None region is_it x e = refl
-fed_left n l (Some s) region is_it x e = ap (λ (b : Bool). if b then went_on l (with_word s x) (wanted n (with_word s x).taken) else l) e
+fed_left n l (Some s) region is_it x e =
+    ap (λ (b : Bool). if b then went_on l (with_word s x) (wanted n (with_word s x).taken) else l) e
 
 -- where a scan is kept, one is under way, and it is the one that is kept
 pub record KeptScan (n me : ℕ) (o : Option Scan) (u : ScanUnderWay) : Type 0 where
@@ -88,34 +106,49 @@ pub record KeptScan (n me : ℕ) (o : Option Scan) (u : ScanUnderWay) : Type 0 w
   pub there : o ≡ Some scan
   pub is : u ≡ under_way n me scan
 
-pub kept_scan : (n me : ℕ) (o : Option Scan) (u : ScanUnderWay) → Some u ≡ scan_kept n me o → KeptScan n me o u
+pub kept_scan : (n me : ℕ) (o : Option Scan) (u : ScanUnderWay) → Some u ≡ scan_kept n me o
+    → KeptScan n me o u
 kept_scan n me None u e = absurd cc
 kept_scan n me (Some s) u e = record { scan = s; there = refl; is = cc }
 
-pub takes_kept : (n me : ℕ) (o : Option Scan) (u : ScanUnderWay) (region : Region) (is_it : Want → Bool) (b : Bool) → Some u ≡ scan_kept n me o
-    → ((s : Scan) → u ≡ under_way n me s → b ≡ (is_same_region s.region region && is_it (wanted n s.taken))) → b ≡ takes n o region is_it
+pub takes_kept : (n me : ℕ) (o : Option Scan) (u : ScanUnderWay) (region : Region)
+    (is_it : Want → Bool) (b : Bool) → Some u ≡ scan_kept n me o
+    → ((s : Scan) → u ≡ under_way n me s
+    → b ≡ (is_same_region s.region region && is_it (wanted n s.taken))) → b ≡ takes n o region is_it
 takes_kept n me None u region is_it b e h = absurd cc
 takes_kept n me (Some s) u region is_it b e h = h s cc
 
 -- a scan that ended, and one that goes on, as they are kept
-pub notes_ended : (n me : ℕ) (k : Notes) (u : ScanUnderWay) (l : Local) (s : Scan) (x : ℕ) (cut : List ℕ) → k ≡ notes_of n me l → u ≡ under_way n me (with_word s x)
+pub notes_ended : (n me : ℕ) (k : Notes) (u : ScanUnderWay) (l : Local) (s : Scan) (x : ℕ)
+    (cut : List ℕ) → k ≡ notes_of n me l → u ≡ under_way n me (with_word s x)
     → cut_of (wanted n (with_word s x).taken) ≡ Some cut
-    → ◌≡◌ {A = Notes} (record k { phase = phase_after k.phase u.core.region u.is_view; scan = None; given = Some cut })
+    → ◌≡◌ {A = Notes} (record k {
+      phase = phase_after k.phase u.core.region u.is_view;
+      scan = None;
+      given = Some cut;
+    })
     (notes_of n me (went_on l (with_word s x) (wanted n (with_word s x).taken)))
 notes_ended n me k u l s x cut is it done =
     (λ i. record (is i) {
-      phase = phase_after (ap (λ (k : Notes). k.phase) is i) (ap (λ (u : ScanUnderWay). u.core.region) it i) (ap (λ (u : ScanUnderWay). u.is_view) it i);
+      phase = phase_after (ap (λ (k : Notes). k.phase) is i)
+          (ap (λ (u : ScanUnderWay). u.core.region) it i)
+          (ap (λ (u : ScanUnderWay). u.is_view) it i);
       scan = None;
       given = Some cut;
     })
     ∙ sym (scan_ended n me l (with_word s x) (wanted n (with_word s x).taken) cut done)
 
-pub notes_go : (n me : ℕ) (k : Notes) (u : ScanUnderWay) (l : Local) (s : Scan) (x : ℕ) → k ≡ notes_of n me l → u ≡ under_way n me (with_word s x)
+pub notes_go : (n me : ℕ) (k : Notes) (u : ScanUnderWay) (l : Local) (s : Scan) (x : ℕ)
+    → k ≡ notes_of n me l → u ≡ under_way n me (with_word s x)
     → cut_of (wanted n (with_word s x).taken) ≡ None
-    → ◌≡◌ {A = Notes} (record k { scan = Some u }) (notes_of n me (went_on l (with_word s x) (wanted n (with_word s x).taken)))
+    → ◌≡◌ {A = Notes} (record k { scan = Some u })
+    (notes_of n me (went_on l (with_word s x) (wanted n (with_word s x).taken)))
 notes_go n me k u l s x is it goes =
-    (λ i. record (is i) { scan = Some (it i) }) ∙ sym (scan_goes n me l (with_word s x) (wanted n (with_word s x).taken) goes)
+    (λ i. record (is i) { scan = Some (it i) })
+    ∙ sym (scan_goes n me l (with_word s x) (wanted n (with_word s x).taken) goes)
 
-pub same_scan : (n me : ℕ) (o : Option Scan) (u : ScanUnderWay) (s : Scan) → Some u ≡ scan_kept n me o → o ≡ Some s → u ≡ under_way n me s
+pub same_scan : (n me : ℕ) (o : Option Scan) (u : ScanUnderWay) (s : Scan)
+    → Some u ≡ scan_kept n me o → o ≡ Some s → u ≡ under_way n me s
 same_scan n me None u s e there = absurd cc
-same_scan n me (Some t) u s e there = let same : t ≡ s = cc in let kept : u ≡ under_way n me t = cc in kept ∙ ap (under_way n me) same
+same_scan n me (Some t) u s e there = let same : t ≡ s = cc in
+    let kept : u ≡ under_way n me t = cc in kept ∙ ap (under_way n me) same

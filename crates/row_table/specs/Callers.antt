@@ -65,8 +65,10 @@ module _ {P : Type 0} where
   abbrev pub locals_on : Bench P → List Local
   locals_on b = map the b.seat.me.0
 
-  -- The seat is one of these rows' table, of one of its callers, and has the local of that caller in a reachable world.
-  pub record IsSeatOf (meaning : P → ℕ → ℕ → Meaning) (r : Rows P) (seat : CallerSeat) : Type 0 where
+  -- The seat is one of these rows' table, of one of its callers, and has the local of that caller
+  -- in a reachable world.
+  pub record IsSeatOf (meaning : P → ℕ → ℕ → Meaning) (r : Rows P)
+      (seat : CallerSeat) : Type 0 where
     pub table : seat.seat.table_id ≡ r.table.shared.table_id
     pub who : seat.who < r.callers
     pub local : IsLocalOf (shape_of meaning r) seat.who (seated seat)
@@ -94,7 +96,8 @@ module _ {P : Type 0} where
   abbrev pub HoldsAll : Bench P → Type 0
   HoldsAll b = (i : ℕ) → i < b.callers → Holds b i
 
-  -- A caller is free for its next call: it is idle, makes calls, means to begin no scan, and keeps no reply.
+  -- A caller is free for its next call: it is idle, makes calls, means to begin no scan, and keeps
+  -- no reply.
   pub record IsFree (c : Caller P) : Type 0 where
     pub idle : IsIdle (local_with c)
     pub stance : stance_of c ≡ fresh_stance
@@ -108,11 +111,13 @@ module _ {P : Type 0} where
 
   -- The caller's program, which is that of its rows, allows the caller this reply, by its local.
   abbrev pub MayGet : (P → ℕ → ℕ → Meaning) → Caller P → ℕ → Type 0
-  MayGet meaning c reply = IsTrue ((meaning c.program c.callers c.cap).may_reply (who_of c) (local_with c) reply)
+  MayGet meaning c reply =
+      IsTrue ((meaning c.program c.callers c.cap).may_reply (who_of c) (local_with c) reply)
 
   -- Whatever rows the one caller is of, the other is too.
   abbrev pub StaysWith : Caller P → Caller P → Type 0
-  StaysWith c d = (meaning : P → ℕ → ℕ → Meaning) (r : Rows P) → IsCallerOf meaning r c → IsCallerOf meaning r d
+  StaysWith c d = (meaning : P → ℕ → ℕ → Meaning) (r : Rows P) → IsCallerOf meaning r c
+      → IsCallerOf meaning r d
 
   -- The caller d is c after a step: one of these rows, with the same number.
   abbrev pub IsStill : (P → ℕ → ℕ → Meaning) → Rows P → Caller P → Caller P → Type 0
@@ -125,9 +130,11 @@ module _ {P : Type 0} where
   -- The next look of the caller, at this count, may begin what the caller means it to.
   abbrev pub MayBegin : (P → ℕ → ℕ → Meaning) → Rows P → Caller P → Region → ℕ → Type 0
   MayBegin meaning r c region j =
-      IsTrue (event.may_begin (shape_of meaning r) (who_of c) (local_with c) region j (opening_of c))
+      IsTrue
+      (event.may_begin (shape_of meaning r) (who_of c) (local_with c) region j (opening_of c))
 
   -- The caller may stage this word: its row exists, and the word belongs at this place of it.
   abbrev pub MayStage : (P → ℕ → ℕ → Meaning) → Rows P → Caller P → Region → ℕ → ℕ → Type 0
   MayStage meaning r c region place word =
-      IsTrue (event.is_enabled (shape_of meaning r) (who_of c) (local_with c) (event.Stage region place word))
+      IsTrue (event.is_enabled (shape_of meaning r) (who_of c) (local_with c)
+      (event.Stage region place word))

@@ -42,8 +42,8 @@ abbrev pub cut_of : Want → Option (List ℕ)
 cut_of (Done cut) = Some cut
 cut_of _ = None
 
--- What caller `me` of n keeps of its local: its counts, its phase, whether its row under way has no staged word, its scan, and the
--- last cut that a scan gave it.
+-- What caller `me` of n keeps of its local: its counts, its phase, whether its row under way has no
+-- staged word, its scan, and the last cut that a scan gave it.
 abbrev pub notes_of : ℕ → ℕ → Local → Notes
 notes_of n me l =
     record {
@@ -61,7 +61,8 @@ notes_from n i [] = []
 notes_from n i (None ∷ v) = None ∷ notes_from n (suc i) v
 notes_from n i (Some l ∷ v) = Some (notes_of n i l) ∷ notes_from n (suc i) v
 
--- The phase after a scan ended: the view's scan leads on to publishing, and a scan of M while judging to the next call.
+-- The phase after a scan ended: the view's scan leads on to publishing, and a scan of M while
+-- judging to the next call.
 abbrev pub phase_after : Phase → Region → Bool → Phase
 phase_after Viewing N true = Publishing
 phase_after Judging M is_view = Announcing

@@ -15,4 +15,5 @@ module _ {P : Type 0} where
   -- The program allows the caller the step that leaves g of the word found, whichever word that is.
   abbrev pub MayStep : (P → ℕ → ℕ → Meaning) → Rows P → Caller P → ℕ → (ℕ → ℕ) → Type 0
   MayStep meaning r c place g =
-      (x : ℕ) → x < 2 ^ 64 → IsTrue ((shape_of meaning r).program.may_step (who_of c) (local_with c) (record { place = place; old = x; new = g x }))
+      (x : ℕ) → x < 2 ^ 64 → IsTrue ((shape_of meaning r).program.may_step (who_of c) (local_with c)
+      (record { place = place; old = x; new = g x }))

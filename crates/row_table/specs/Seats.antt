@@ -1,5 +1,5 @@
--- The rule of the table: each caller has exactly one local in all views together, and words and locals are a reachable world. And
--- what a step does to the view of the seat that makes it.
+-- The rule of the table: each caller has exactly one local in all views together, and words and
+-- locals are a reachable world. And what a step does to the view of the seat that makes it.
 use Rattle.std.specs.Prelude.{◌≡◌, ℕ, ◌<◌, ◌^◌, IsTrue, List, [], ◌∷◌, ◌++◌, Option, Some, None, replicate, length, slice_index, slice_index_or, slice_set}
 use mathlib.Core.Option.{some}
 use lib.ListN.{get_elem?}
@@ -22,7 +22,8 @@ abbrev pub the : Option Local → Local
 the None = fresh
 the (Some l) = l
 
--- The view of a seat that has all of n callers at the start, and that of a seat that has one caller.
+-- The view of a seat that has all of n callers at the start, and that of a seat that has one
+-- caller.
 abbrev pub whole : ℕ → View
 whole n = replicate n (Some fresh)
 
@@ -30,8 +31,8 @@ whole n = replicate n (Some fresh)
 abbrev pub only : ℕ → Local → View
 only i l = replicate i None ++ Some l ∷ []
 
--- The rule: the table was told how many object words its program has; words and locals are a reachable world; and each local is
--- with exactly one seat.
+-- The rule: the table was told how many object words its program has; words and locals are a
+-- reachable world; and each local is with exactly one seat.
 pub record Ruled (s : Shape) (objects : ℕ) (t : State (Unit {0}) View) : Type 0 where
   pub counted : objects ≡ s.program.objects
   pub world : World
@@ -39,8 +40,10 @@ pub record Ruled (s : Shape) (objects : ℕ) (t : State (Unit {0}) View) : Type 
   pub words : t.words ≡ world.words
   pub wide : length world.locals ≡ s.callers
   pub owner : ℕ → ℕ
-  pub held : (i seat : ℕ) (v : View) (l : Local) → get_elem? t.views seat ≡ some v → has v i ≡ Some l → (owner i ≡ seat) × (local_of world i ≡ l)
-  pub kept : (i : ℕ) → i < s.callers → (v : View) × (get_elem? t.views (owner i) ≡ some v) × (has v i ≡ Some (local_of world i))
+  pub held : (i seat : ℕ) (v : View) (l : Local) → get_elem? t.views seat ≡ some v
+      → has v i ≡ Some l → (owner i ≡ seat) × (local_of world i ≡ l)
+  pub kept : (i : ℕ) → i < s.callers → (v : View) × (get_elem? t.views (owner i) ≡ some v)
+      × (has v i ≡ Some (local_of world i))
 
 -- The locals of a view are those of one reachable world, which has one local for each caller.
 pub record Together (s : Shape) (v : View) : Type 0 where
@@ -53,14 +56,17 @@ pub record Together (s : Shape) (v : View) : Type 0 where
 abbrev pub moved : ℕ → View → ℕ → Event → View
 moved n v who event = slice_set v who (Some (local_after n (the (has v who)) event))
 
--- What a step tells: the view is the one after the event of the word found, and its locals are those of one reachable world.
-pub record Tells (s : Shape) (who : ℕ) (event : ℕ → Event) (me : Me (Unit {0}) View) (found : ℕ) (after : Me (Unit {0}) View) : Type 0 where
+-- What a step tells: the view is the one after the event of the word found, and its locals are
+-- those of one reachable world.
+pub record Tells (s : Shape) (who : ℕ) (event : ℕ → Event) (me : Me (Unit {0}) View) (found : ℕ)
+    (after : Me (Unit {0}) View) : Type 0 where
   pub done : after ≡ (moved s.callers me.0 who (event found), me.1)
   pub together : Together s after.0
 
 -- What a store tells, which doesn't say what it found: for some word found, what a step that found
 -- it tells.
-pub record TellsOfSome (s : Shape) (who : ℕ) (event : ℕ → Event) (me after : Me (Unit {0}) View) : Type 0 where
+pub record TellsOfSome (s : Shape) (who : ℕ) (event : ℕ → Event)
+    (me after : Me (Unit {0}) View) : Type 0 where
   pub found : ℕ
   pub word : found < 2 ^ 64
   pub tells : Tells s who event me found after
@@ -70,12 +76,15 @@ pub record Shows (s : Shape) (me after : Me (Unit {0}) View) : Type 0 where
   pub same : after ≡ me
   pub together : Together s me.0
 
--- The change f of a word is this event of a caller with this local: it is allowed, it loads this word, and it makes this change
--- and no other.
-pub record Makes (s : Shape) (objects : ℕ) (who : ℕ) (local : Local) (word : ℕ) (f : ℕ → ℕ) (event : ℕ → Event) : Type 0 where
-  pub allowed : objects ≡ s.program.objects → (x : ℕ) → x < 2 ^ 64 → IsTrue (is_allowed s who local (event x))
+-- The change f of a word is this event of a caller with this local: it is allowed, it loads this
+-- word, and it makes this change and no other.
+pub record Makes (s : Shape) (objects : ℕ) (who : ℕ) (local : Local) (word : ℕ) (f : ℕ → ℕ)
+    (event : ℕ → Event) : Type 0 where
+  pub allowed : objects ≡ s.program.objects → (x : ℕ) → x < 2 ^ 64
+      → IsTrue (is_allowed s who local (event x))
   pub loads : (words : List ℕ) → IsTrue (is_loaded s words (event (slice_index words word)))
-  pub writes : (words : List ℕ) → words_after s who local words (event (slice_index words word)) ≡ slice_set words word (f (slice_index words word))
+  pub writes : (words : List ℕ) → words_after s who local words (event (slice_index words word))
+      ≡ slice_set words word (f (slice_index words word))
 
 -- The locals of two views.
 abbrev pub joined : View → View → View

@@ -23,8 +23,8 @@ pub struct CallerSeat {
 
 /// One caller of a table: its seat, with its local, and what it keeps of that local while it runs.
 ///
-/// It makes steps with the calls of [`Rows`](crate::Rows), each of which is one event of its local. One that is
-/// let go makes no more steps, and never comes back to its bench.
+/// It makes steps with the calls of [`Rows`](crate::Rows), each of which is one event of its local.
+/// One that is let go makes no more steps, and never comes back to its bench.
 #[derive(Drop)]
 pub struct Caller<P = Outside> {
     pub(crate) program: P,
@@ -114,8 +114,8 @@ impl<P> Caller<P> {
         self
     }
 
-    /// The next look begins a scan of this region: it has to be at the count of caller 0 there. No step is
-    /// made.
+    /// The next look begins a scan of this region: it has to be at the count of caller 0 there. No
+    /// step is made.
     pub fn begin_scan(&mut self, region: Region)
         // No view's scan is under way.
         requires { event.is_view_under_way (local_with self.old).scan ≡ false }
@@ -123,7 +123,8 @@ impl<P> Caller<P> {
         // it was besides.
         ensures stance { stance_of self.new ≡ record (stance_of self.old) { begins = Some region } }
         // The caller keeps its number and its local.
-        ensures local { (who_of self.new ≡ who_of self.old) × (local_with self.new ≡ local_with self.old) }
+        ensures local { (who_of self.new ≡ who_of self.old)
+            × (local_with self.new ≡ local_with self.old) }
         // The caller is still one of each table that it was one of.
         ensures rows { StaysWith self.old self.new }
     {
@@ -134,7 +135,8 @@ impl<P> Caller<P> {
 impl<P: Program> Caller<P> {
     ghost use Rattle.row_table.specs.Callers.{who_of, local_with, stance_of, MayGet, StaysWith};
 
-    /// Keeps the reply of the object: the next scan of N is the view's, and begins with it. No step is made.
+    /// Keeps the reply of the object: the next scan of N is the view's, and begins with it. No step
+    /// is made.
     ///
     /// The program allows the caller this reply, by its local.
     pub fn keep_reply(&mut self, reply: u64)
@@ -149,7 +151,8 @@ impl<P: Program> Caller<P> {
         // The caller keeps this reply, and its stance is as it was besides.
         ensures stance { stance_of self.new ≡ record (stance_of self.old) { reply = Some reply } }
         // The caller keeps its number and its local.
-        ensures local { (who_of self.new ≡ who_of self.old) × (local_with self.new ≡ local_with self.old) }
+        ensures local { (who_of self.new ≡ who_of self.old)
+            × (local_with self.new ≡ local_with self.old) }
         // The caller is still one of each table that it was one of.
         ensures rows { StaysWith self.old self.new }
     {

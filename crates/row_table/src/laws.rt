@@ -2,8 +2,8 @@
 
 ghost use Rattle.row_table.specs.Progress.{LooksLeaveWork, PeeksLeaveWork, PeekedWordsStay};
 
-/// A look that begins no view, and each peek, leave a caller's operations, counts, replies and object
-/// steps as they are, also where a scan ends with it.
+/// A look that begins no view, and each peek, leave a caller's operations, counts, replies and
+/// object steps as they are, also where a scan ends with it.
 #[tactic(auto, using(crate::proofs::Working::looks_leave_work, crate::proofs::Working::peeks_leave_work))]
 pub fn looks_and_peeks_leave_work()
     // A look that begins nothing or a scan without a reply leaves what its caller's calls have

@@ -1,4 +1,5 @@
-//! The table of rows, on atomic words: each step of a caller is one event of the world, for every program.
+//! The table of rows, on atomic words: each step of a caller is one event of the world, for every
+//! program.
 #![tactic(auto)]
 
 mod action;

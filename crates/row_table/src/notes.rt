@@ -18,8 +18,8 @@ pub struct ScanUnderWay {
     pub is_view: bool,
 }
 
-/// What a caller keeps of its local: its counts in N and M, its phase, whether its row under way has no
-/// staged word, its scan under way, and the last cut that a scan gave it.
+/// What a caller keeps of its local: its counts in N and M, its phase, whether its row under way
+/// has no staged word, its scan under way, and the last cut that a scan gave it.
 #[derive(Debug, Drop)]
 pub struct Notes {
     pub announced: u64,
@@ -36,7 +36,8 @@ impl ScanUnderWay {
     fn begin(n: u32, me: u32, region: Region, is_view: bool) -> ScanUnderWay
         requires caller { me < n }
         requires few { n ≤ MAX_CALLERS }
-        ensures { result ≡ under_way n me (record { region = region; is_view = is_view; since = 0; taken = [] }) }
+        ensures { result ≡ under_way n me
+            (record { region = region; is_view = is_view; since = 0; taken = [] }) }
     {
         ScanUnderWay {
             core: ScanCore::begin(n, me, region),
@@ -47,7 +48,9 @@ impl ScanUnderWay {
     // The scan is of this region, and wants the look at the count of caller j.
     fn wants_look(&self, region: Region, j: u32) -> bool
         ensures open { IsTrue result → scan.has_ended self.now.core.course ≡ false }
-        ensures wanted { (n me : ℕ) (s : local.Scan) → self.now ≡ under_way n me s → result ≡ (event.is_same_region s.region region && event.is_look_wanted j (scan.wanted n s.taken)) }
+        ensures wanted { (n me : ℕ) (s : local.Scan) → self.now ≡ under_way n me s
+            → result ≡ (event.is_same_region s.region region
+            && event.is_look_wanted j (scan.wanted n s.taken)) }
     {
         if self.core.region() != region {
             return false;
@@ -61,7 +64,9 @@ impl ScanUnderWay {
     // The scan is of this region, and wants the peek at this place of row `row` of caller j.
     fn wants_peek(&self, callers: u32, region: Region, j: u32, row: u64, place: u32) -> bool
         ensures open { IsTrue result → scan.has_ended self.now.core.course ≡ false }
-        ensures wanted { (me : ℕ) (s : local.Scan) → self.now ≡ under_way callers me s → result ≡ (event.is_same_region s.region region && event.is_peek_wanted callers region j row place (scan.wanted callers s.taken)) }
+        ensures wanted { (me : ℕ) (s : local.Scan) → self.now ≡ under_way callers me s
+            → result ≡ (event.is_same_region s.region region
+            && event.is_peek_wanted callers region j row place (scan.wanted callers s.taken)) }
     {
         if self.core.region() != region {
             return false;
@@ -77,8 +82,10 @@ impl ScanUnderWay {
     // The scan takes the word that it wants. The cut with which it has ended, if it has now.
     fn take(&mut self, word: u64) -> Option<Cut>
         requires { scan.has_ended self.old.core.course ≡ false }
-        ensures taken { (n me : ℕ) (s : local.Scan) → self.old ≡ under_way n me s → self.new ≡ under_way n me (event.with_word s word) }
-        ensures ended { (n me : ℕ) (s : local.Scan) → self.old ≡ under_way n me s → result ≡ cut_of (scan.wanted n (event.with_word s word).taken) }
+        ensures taken { (n me : ℕ) (s : local.Scan) → self.old ≡ under_way n me s
+            → self.new ≡ under_way n me (event.with_word s word) }
+        ensures ended { (n me : ℕ) (s : local.Scan) → self.old ≡ under_way n me s
+            → result ≡ cut_of (scan.wanted n (event.with_word s word).taken) }
     {
         self.core.take(word);
         match self.core.next() {
@@ -119,7 +126,8 @@ impl Notes {
 
     /// The own count in a region.
     pub fn count(&self, region: Region) -> u64
-        ensures { (n me : ℕ) (l : local.Local) → self.now ≡ notes_of n me l → result ≡ local.own_count l region }
+        ensures { (n me : ℕ) (l : local.Local) → self.now ≡ notes_of n me l
+            → result ≡ local.own_count l region }
     {
         match region {
             Region::N => self.announced,
@@ -131,7 +139,8 @@ impl Notes {
     fn open(&mut self, n: u32, me: u32, region: Region, opening: Opening)
         requires caller { me < n }
         requires few { n ≤ MAX_CALLERS }
-        ensures { (l : local.Local) → self.old ≡ notes_of n me l → self.new ≡ notes_of n me (event.opened l region (opening_in opening)) }
+        ensures { (l : local.Local) → self.old ≡ notes_of n me l
+            → self.new ≡ notes_of n me (event.opened l region (opening_in opening)) }
     {
         match opening {
             Opening::Nothing => {}
@@ -146,7 +155,8 @@ impl Notes {
     // The scan under way is of this region, and wants the look at the count of caller j.
     fn wants_look(&self, region: Region, j: u32) -> bool
         ensures open { IsTrue result → IsOpen self.now.scan }
-        ensures wanted { (n me : ℕ) (l : local.Local) → self.now ≡ notes_of n me l → result ≡ takes n l.scan region (event.is_look_wanted j) }
+        ensures wanted { (n me : ℕ) (l : local.Local) → self.now ≡ notes_of n me l
+            → result ≡ takes n l.scan region (event.is_look_wanted j) }
     {
         match &self.scan {
             Some(scan) => scan.wants_look(region, j),
@@ -154,10 +164,12 @@ impl Notes {
         }
     }
 
-    // The scan under way is of this region, and wants the peek at this place of row `row` of caller j.
+    // The scan under way is of this region, and wants the peek at this place of row `row` of caller
+    // j.
     fn wants_peek(&self, n: u32, region: Region, j: u32, row: u64, place: u32) -> bool
         ensures open { IsTrue result → IsOpen self.now.scan }
-        ensures wanted { (me : ℕ) (l : local.Local) → self.now ≡ notes_of n me l → result ≡ takes n l.scan region (event.is_peek_wanted n region j row place) }
+        ensures wanted { (me : ℕ) (l : local.Local) → self.now ≡ notes_of n me l
+            → result ≡ takes n l.scan region (event.is_peek_wanted n region j row place) }
     {
         match &self.scan {
             Some(scan) => scan.wants_peek(n, region, j, row, place),
@@ -165,10 +177,13 @@ impl Notes {
         }
     }
 
-    // The scan under way takes the word that it wants, and where it has ended its cut serves its purpose.
+    // The scan under way takes the word that it wants, and where it has ended its cut serves its
+    // purpose.
     fn take(&mut self, word: u64)
         requires { IsOpen self.old.scan }
-        ensures { (n me : ℕ) (l : local.Local) (s : local.Scan) → l.scan ≡ Some s → self.old ≡ notes_of n me l → self.new ≡ notes_of n me (event.went_on l (event.with_word s word) (scan.wanted n (event.with_word s word).taken)) }
+        ensures { (n me : ℕ) (l : local.Local) (s : local.Scan) → l.scan ≡ Some s
+            → self.old ≡ notes_of n me l → self.new ≡ notes_of n me (event.went_on l
+            (event.with_word s word) (scan.wanted n (event.with_word s word).taken)) }
     {
         let phase = self.phase;
         let Some(scan) = &mut self.scan else {
@@ -185,7 +200,8 @@ impl Notes {
     pub fn look(&mut self, n: u32, me: u32, region: Region, j: u32, opening: Opening, word: u64)
         requires caller { me < n }
         requires few { n ≤ MAX_CALLERS }
-        ensures { (l : local.Local) → self.old ≡ notes_of n me l → self.new ≡ notes_of n me (event.local_after n l (event.Look region j word (opening_in opening))) }
+        ensures { (l : local.Local) → self.old ≡ notes_of n me l → self.new ≡ notes_of n me
+            (event.local_after n l (event.Look region j word (opening_in opening))) }
     {
         self.open(n, me, region, opening);
         if self.wants_look(region, j) {
@@ -195,7 +211,8 @@ impl Notes {
 
     /// The notes after a peek.
     pub fn peek(&mut self, n: u32, region: Region, j: u32, row: u64, place: u32, word: u64)
-        ensures { (me : ℕ) (l : local.Local) → self.old ≡ notes_of n me l → self.new ≡ notes_of n me (event.local_after n l (event.Peek region j row place word)) }
+        ensures { (me : ℕ) (l : local.Local) → self.old ≡ notes_of n me l → self.new
+            ≡ notes_of n me (event.local_after n l (event.Peek region j row place word)) }
     {
         if self.wants_peek(n, region, j, row, place) {
             self.take(word);
@@ -204,7 +221,9 @@ impl Notes {
 
     /// The notes after a word was staged.
     pub fn stage(&mut self)
-        ensures { (n me : ℕ) (l : local.Local) (region : Region) (place word : ℕ) → self.old ≡ notes_of n me l → self.new ≡ notes_of n me (event.local_after n l (event.Stage region place word)) }
+        ensures { (n me : ℕ) (l : local.Local) (region : Region) (place word : ℕ)
+            → self.old ≡ notes_of n me l
+            → self.new ≡ notes_of n me (event.local_after n l (event.Stage region place word)) }
     {
         self.unstaged = false;
     }
@@ -212,7 +231,8 @@ impl Notes {
     /// The notes after the announcement.
     pub fn announce(&mut self)
         requires { self.old.announced < 2 ^ 64 - 1 }
-        ensures { (n me : ℕ) (l : local.Local) → self.old ≡ notes_of n me l → self.new ≡ notes_of n me (event.local_after n l event.Announce) }
+        ensures { (n me : ℕ) (l : local.Local) → self.old ≡ notes_of n me l
+            → self.new ≡ notes_of n me (event.local_after n l event.Announce) }
     {
         self.announced += 1;
         self.phase = Phase::Asking;
@@ -223,7 +243,8 @@ impl Notes {
     /// The notes after the publication.
     pub fn publish(&mut self)
         requires { self.old.published < 2 ^ 64 - 1 }
-        ensures { (n me : ℕ) (l : local.Local) → self.old ≡ notes_of n me l → self.new ≡ notes_of n me (event.local_after n l event.Publish) }
+        ensures { (n me : ℕ) (l : local.Local) → self.old ≡ notes_of n me l
+            → self.new ≡ notes_of n me (event.local_after n l event.Publish) }
     {
         self.published += 1;
         self.phase = Phase::Judging;

@@ -18,8 +18,8 @@ impl<P: InWorld> Rows<P> {
 
     /// Loads an object word, which is one object step that leaves the word as it is.
     ///
-    /// Like the three calls below it, it is for a caller that has announced its call and keeps no reply yet,
-    /// and the program allows the step for every word that may be found.
+    /// Like the three calls below it, it is for a caller that has announced its call and keeps no
+    /// reply yet, and the program allows the step for every word that may be found.
     pub fn object_load(&self, caller: &mut Caller<P>, place: u64) -> u64
         // The caller is one of these rows, has announced its call, and keeps no reply of the object
         // yet.
@@ -54,7 +54,8 @@ impl<P: InWorld> Rows<P> {
         ensures caller { IsStill P.meaning self.now caller.old caller.new }
         // The caller's local is the one before after one object step, which found some word and
         // left the stored one.
-        ensures event { (x : ℕ) × (x < 2 ^ 64) × (HasDone self.now caller.old caller.new (object_step place x word)) }
+        ensures event { (x : ℕ) × (x < 2 ^ 64)
+            × (HasDone self.now caller.old caller.new (object_step place x word)) }
         // The caller's stance stays.
         ensures stance { stance_of caller.new ≡ stance_of caller.old }
     {
@@ -62,7 +63,8 @@ impl<P: InWorld> Rows<P> {
         self.store_as::<Brand>(&mut caller.seat, Action::Store(place, word), index, word)
     }
 
-    /// Adds to an object word, modulo 2^64, which is one object step. It answers the word that it found.
+    /// Adds to an object word, modulo 2^64, which is one object step. It answers the word that it
+    /// found.
     pub fn object_add(&self, caller: &mut Caller<P>, place: u64, add: u64) -> u64
         // The caller is one of these rows, has announced its call, and keeps no reply of the object
         // yet.
@@ -76,7 +78,8 @@ impl<P: InWorld> Rows<P> {
         ensures caller { IsStill P.meaning self.now caller.old caller.new }
         // The caller's local is the one before after one object step, which found the answered word
         // and left the sum modulo 2^64.
-        ensures event { HasDone self.now caller.old caller.new (object_step place result ((result + add) % 2 ^ 64)) }
+        ensures event { HasDone self.now caller.old caller.new
+            (object_step place result ((result + add) % 2 ^ 64)) }
         // The caller's stance stays.
         ensures stance { stance_of caller.new ≡ stance_of caller.old }
     {
@@ -84,8 +87,8 @@ impl<P: InWorld> Rows<P> {
         self.add_as::<Brand>(&mut caller.seat, Action::Add(place, add), index, add)
     }
 
-    /// Puts `new` into an object word where it finds `old` there, which is one object step. It answers the word
-    /// that it found: Ok exactly where that was `old`.
+    /// Puts `new` into an object word where it finds `old` there, which is one object step. It
+    /// answers the word that it found: Ok exactly where that was `old`.
     pub fn object_exchange(
         &self,
         caller: &mut Caller<P>,
@@ -100,12 +103,14 @@ impl<P: InWorld> Rows<P> {
         requires place { place < self.now.objects }
         // The program allows the caller a step that puts `new` over `old`, and leaves each other
         // word.
-        requires program { MayStep P.meaning self.now caller.old place (λ x. either (x == old) new x) }
+        requires program { MayStep P.meaning self.now caller.old place
+            (λ x. either (x == old) new x) }
         // The caller is still one of these rows, with the same number.
         ensures caller { IsStill P.meaning self.now caller.old caller.new }
         // The caller's local is the one before after one object step, which found the answered
         // word, and left `new` exactly where that was `old`.
-        ensures event { HasDone self.now caller.old caller.new (object_step place (found_by result) (either (found_by result == old) new (found_by result))) }
+        ensures event { HasDone self.now caller.old caller.new (object_step place (found_by result)
+            (either (found_by result == old) new (found_by result))) }
         // The caller's stance stays.
         ensures stance { stance_of caller.new ≡ stance_of caller.old }
         // An answer Ok has the word `old`.

@@ -21,7 +21,8 @@ impl Model for Holding {
     ghost view = { λ _. [] };
 }
 
-/// What the table is told once: its program, its callers and its cap, and how many object words it has.
+/// What the table is told once: its program, its callers and its cap, and how many object words it
+/// has.
 #[derive(Drop)]
 pub struct Key<P> {
     pub program: P,
@@ -41,8 +42,8 @@ impl<P: Program> TableRule<(), Holding, Key<P>> for Worlds<P> {
     ghost first = { λ key. whole key.callers };
 }
 
-/// In which world a step is made, whose event it is, and which, by the word found. A call at `Brand`
-/// picks it.
+/// In which world a step is made, whose event it is, and which, by the word found. A call at
+/// `Brand` picks it.
 pub trait Deed {
     ghost shape: { Shape };
 

@@ -17,8 +17,8 @@ use world_core::{Program, Region};
 impl<P: Program> Rows<P> {
     ghost use Rattle.row_table.specs.Callers.{shape_of, who_of, local_with, stance_of, opening_of, IsCallerOf, IsStill, HasDone, MayBegin, MayStage};
 
-    /// Loads the count of caller `j` in a region, which is one look. Where the caller has begun a scan or
-    /// kept a reply for one, the scan begins with it.
+    /// Loads the count of caller `j` in a region, which is one look. Where the caller has begun a
+    /// scan or kept a reply for one, the scan begins with it.
     pub fn look<L: Ledger>(
         &self,
         caller: &mut Caller<P>,
@@ -39,7 +39,8 @@ impl<P: Program> Rows<P> {
         ensures caller { IsStill P.meaning self.now caller.old caller.new }
         // The caller's local is the one before after one look, which found the answered count and
         // began what the caller meant it to.
-        ensures event { HasDone self.now caller.old caller.new (event.Look region j result (opening_of caller.old)) }
+        ensures event { HasDone self.now caller.old caller.new
+            (event.Look region j result (opening_of caller.old)) }
         // The caller means to begin no scan any more, and keeps no reply that the look carried.
         ensures stance { stance_of caller.new ≡ looked (stance_of caller.old) }
         // The counter of steps has risen by 1.
@@ -57,8 +58,9 @@ impl<P: Program> Rows<P> {
         word
     }
 
-    /// Loads the word at a place of row `row` of caller `j`, which is one peek. The caller knows of the row:
-    /// from a count that it looked at, from a cut that a scan gave it, or from a view that it peeked.
+    /// Loads the word at a place of row `row` of caller `j`, which is one peek. The caller knows of
+    /// the row: from a count that it looked at, from a cut that a scan gave it, or from a view that
+    /// it peeked.
     pub fn peek<L: Ledger>(
         &self,
         caller: &mut Caller<P>,
@@ -75,12 +77,14 @@ impl<P: Program> Rows<P> {
         // A row has this place in this region.
         requires place_fits { place < places self.now.callers region }
         // The caller knows, by its local, that this row of caller `j` is counted in the region.
-        requires known { IsTrue (event.knows_row self.now.callers (local_with caller.old) region j row) }
+        requires known { IsTrue
+            (event.knows_row self.now.callers (local_with caller.old) region j row) }
         // The caller is still one of these rows, with the same number.
         ensures caller { IsStill P.meaning self.now caller.old caller.new }
         // The caller's local is the one before after one peek, which found the answered word at
         // that place.
-        ensures event { HasDone self.now caller.old caller.new (event.Peek region j row place result) }
+        ensures event { HasDone self.now caller.old caller.new
+            (event.Peek region j row place result) }
         // The caller's stance stays.
         ensures stance { stance_of caller.new ≡ stance_of caller.old }
         // The counter of steps has risen by 1.
@@ -94,8 +98,8 @@ impl<P: Program> Rows<P> {
         word
     }
 
-    /// Stores a word at a place of the caller's own row under way, in a region. The row exists, and the word
-    /// is what belongs there in its phase.
+    /// Stores a word at a place of the caller's own row under way, in a region. The row exists, and
+    /// the word is what belongs there in its phase.
     pub fn stage(&self, caller: &mut Caller<P>, region: Region, place: u32, word: u64)
         // The caller is one of these rows.
         requires caller { IsCallerOf P.meaning self.now caller.old }
@@ -115,12 +119,14 @@ impl<P: Program> Rows<P> {
         caller.notes.stage();
     }
 
-    /// Raises the caller's own count in N, which announces its call. All places of its row are staged.
+    /// Raises the caller's own count in N, which announces its call. All places of its row are
+    /// staged.
     pub fn announce(&self, caller: &mut Caller<P>)
         // The caller is one of these rows.
         requires caller { IsCallerOf P.meaning self.now caller.old }
         // All places of the caller's row in N are staged, in a phase that stages N.
-        requires staged { IsTrue (event.is_row_staged self.now.callers (local_with caller.old) Region.N) }
+        requires staged { IsTrue
+            (event.is_row_staged self.now.callers (local_with caller.old) Region.N) }
         // The caller is still one of these rows, with the same number.
         ensures caller { IsStill P.meaning self.now caller.old caller.new }
         // The caller's local is the one before after the announcement of its call.
@@ -134,12 +140,14 @@ impl<P: Program> Rows<P> {
         caller.notes.announce();
     }
 
-    /// Raises the caller's own count in M, which publishes its record. All places of its row are staged.
+    /// Raises the caller's own count in M, which publishes its record. All places of its row are
+    /// staged.
     pub fn publish(&self, caller: &mut Caller<P>)
         // The caller is one of these rows.
         requires caller { IsCallerOf P.meaning self.now caller.old }
         // All places of the caller's row in M are staged, in a phase that stages M.
-        requires staged { IsTrue (event.is_row_staged self.now.callers (local_with caller.old) Region.M) }
+        requires staged { IsTrue
+            (event.is_row_staged self.now.callers (local_with caller.old) Region.M) }
         // The caller is still one of these rows, with the same number.
         ensures caller { IsStill P.meaning self.now caller.old caller.new }
         // The caller's local is the one before after the publication of its record.

@@ -24,9 +24,9 @@ use world_core::{Outside, Program, Region};
 
 /// The table of rows of some callers, in a world of a program.
 ///
-/// Each step is one sequentially consistent atomic step and one event of the world, on the local of the
-/// caller that makes it, with the word that was really loaded. Nothing locks, waits or takes memory but
-/// the calls that open and close the table.
+/// Each step is one sequentially consistent atomic step and one event of the world, on the local of
+/// the caller that makes it, with the word that was really loaded. Nothing locks, waits or takes
+/// memory but the calls that open and close the table.
 #[derive(Drop)]
 pub struct Rows<P: Program = Outside> {
     pub(crate) table: Table<(), Holding, Key<P>, Worlds<P>, Global>,
@@ -34,8 +34,11 @@ pub struct Rows<P: Program = Outside> {
     pub(crate) callers: u32,
     pub(crate) cap: u64,
     pub(crate) objects: u64,
-    ghost sized: { (table.shared.table_id.words ≡ words.row_words callers cap + objects) × (table.shared.table_id.slots ≡ 0) × (table.shared.key.callers ≡ callers) × (table.shared.key.cap ≡ cap) × (table.shared.key.objects ≡ objects) },
-    ghost few: { (1 ≤ callers) × (callers ≤ MAX_CALLERS) × (1 ≤ cap) × (cap ≤ MAX_CALLS) × (objects ≤ 65536) },
+    ghost sized: { (table.shared.table_id.words ≡ words.row_words callers cap + objects)
+        × (table.shared.table_id.slots ≡ 0) × (table.shared.key.callers ≡ callers)
+        × (table.shared.key.cap ≡ cap) × (table.shared.key.objects ≡ objects) },
+    ghost few: { (1 ≤ callers) × (callers ≤ MAX_CALLERS) × (1 ≤ cap) × (cap ≤ MAX_CALLS)
+        × (objects ≤ 65536) },
     ghost told: { table.shared.key.program ≡ program } by { Coded-set P.code table.shared.key.program program },
 }
 
@@ -77,10 +80,13 @@ impl<P: Program> Rows<P> {
     pub(crate) fn load_as<J: Deed>(&self, seat: &mut CallerSeat, action: Action, word: usize) -> u64
         requires seat { IsSeatOf P.meaning self.now seat.old }
         requires word { word < self.now.table.shared.table_id.words }
-        requires deed { (J.shape ≡ shape_of P.meaning self.now) × (J.who ≡ seat.old.who) × (J.event ≡ event_of action) }
-        requires makes { Makes (shape_of P.meaning self.now) self.now.objects seat.old.who (seated seat.old) word (λ x. x) (event_of action) }
+        requires deed { (J.shape ≡ shape_of P.meaning self.now) × (J.who ≡ seat.old.who)
+            × (J.event ≡ event_of action) }
+        requires makes { Makes (shape_of P.meaning self.now) self.now.objects seat.old.who
+            (seated seat.old) word (λ x. x) (event_of action) }
         ensures seat { IsSeatOf P.meaning self.now seat.new × (seat.new.who ≡ seat.old.who) }
-        ensures event { seated seat.new ≡ event.local_after self.now.callers (seated seat.old) (event_of action result) }
+        ensures event { seated seat.new
+            ≡ event.local_after self.now.callers (seated seat.old) (event_of action result) }
     {
         self.table.shared.load::<Does<J>>(&mut seat.seat, word)
     }
@@ -95,10 +101,13 @@ impl<P: Program> Rows<P> {
     )
         requires seat { IsSeatOf P.meaning self.now seat.old }
         requires word { word < self.now.table.shared.table_id.words }
-        requires deed { (J.shape ≡ shape_of P.meaning self.now) × (J.who ≡ seat.old.who) × (J.event ≡ event_of action) }
-        requires makes { Makes (shape_of P.meaning self.now) self.now.objects seat.old.who (seated seat.old) word (λ _. new) (event_of action) }
+        requires deed { (J.shape ≡ shape_of P.meaning self.now) × (J.who ≡ seat.old.who)
+            × (J.event ≡ event_of action) }
+        requires makes { Makes (shape_of P.meaning self.now) self.now.objects seat.old.who
+            (seated seat.old) word (λ _. new) (event_of action) }
         ensures seat { IsSeatOf P.meaning self.now seat.new × (seat.new.who ≡ seat.old.who) }
-        ensures event { (x : ℕ) × (x < 2 ^ 64) × (seated seat.new ≡ event.local_after self.now.callers (seated seat.old) (event_of action x)) }
+        ensures event { (x : ℕ) × (x < 2 ^ 64) × (seated seat.new
+            ≡ event.local_after self.now.callers (seated seat.old) (event_of action x)) }
     {
         self.table
             .shared
@@ -115,10 +124,13 @@ impl<P: Program> Rows<P> {
     ) -> u64
         requires seat { IsSeatOf P.meaning self.now seat.old }
         requires word { word < self.now.table.shared.table_id.words }
-        requires deed { (J.shape ≡ shape_of P.meaning self.now) × (J.who ≡ seat.old.who) × (J.event ≡ event_of action) }
-        requires makes { Makes (shape_of P.meaning self.now) self.now.objects seat.old.who (seated seat.old) word (λ x. (x + add) % 2 ^ 64) (event_of action) }
+        requires deed { (J.shape ≡ shape_of P.meaning self.now) × (J.who ≡ seat.old.who)
+            × (J.event ≡ event_of action) }
+        requires makes { Makes (shape_of P.meaning self.now) self.now.objects seat.old.who
+            (seated seat.old) word (λ x. (x + add) % 2 ^ 64) (event_of action) }
         ensures seat { IsSeatOf P.meaning self.now seat.new × (seat.new.who ≡ seat.old.who) }
-        ensures event { seated seat.new ≡ event.local_after self.now.callers (seated seat.old) (event_of action result) }
+        ensures event { seated seat.new
+            ≡ event.local_after self.now.callers (seated seat.old) (event_of action result) }
     {
         self.table
             .shared
@@ -136,10 +148,13 @@ impl<P: Program> Rows<P> {
     ) -> u64
         requires seat { IsSeatOf P.meaning self.now seat.old }
         requires word { word < self.now.table.shared.table_id.words }
-        requires deed { (J.shape ≡ shape_of P.meaning self.now) × (J.who ≡ seat.old.who) × (J.event ≡ event_of action) }
-        requires makes { Makes (shape_of P.meaning self.now) self.now.objects seat.old.who (seated seat.old) word (λ x. either (x == old) new x) (event_of action) }
+        requires deed { (J.shape ≡ shape_of P.meaning self.now) × (J.who ≡ seat.old.who)
+            × (J.event ≡ event_of action) }
+        requires makes { Makes (shape_of P.meaning self.now) self.now.objects seat.old.who
+            (seated seat.old) word (λ x. either (x == old) new x) (event_of action) }
         ensures seat { IsSeatOf P.meaning self.now seat.new × (seat.new.who ≡ seat.old.who) }
-        ensures event { seated seat.new ≡ event.local_after self.now.callers (seated seat.old) (event_of action result) }
+        ensures event { seated seat.new
+            ≡ event.local_after self.now.callers (seated seat.old) (event_of action result) }
     {
         self.table
             .shared
@@ -150,8 +165,10 @@ impl<P: Program> Rows<P> {
     fn learn_as<J: Deed>(&self, bench: &mut Bench<P>)
         requires shape { J.shape ≡ shape_of P.meaning self.now }
         requires bench { bench.old.seat.table_id ≡ self.now.table.shared.table_id }
-        ensures seat { (bench.new.seat.table_id ≡ bench.old.seat.table_id) × (bench.new.seat.me ≡ bench.old.seat.me) }
-        ensures kept { (bench.new.places.items ≡ bench.old.places.items) × (bench.new.callers ≡ bench.old.callers) × (bench.new.cap ≡ bench.old.cap) }
+        ensures seat { (bench.new.seat.table_id ≡ bench.old.seat.table_id)
+            × (bench.new.seat.me ≡ bench.old.seat.me) }
+        ensures kept { (bench.new.places.items ≡ bench.old.places.items)
+            × (bench.new.callers ≡ bench.old.callers) × (bench.new.cap ≡ bench.old.cap) }
         ensures together { Together (shape_of P.meaning self.now) bench.new.seat.me.0 }
     {
         self.table.shared.load::<Learns<J>>(&mut bench.seat, 0);
@@ -162,15 +179,17 @@ impl<P: Program> Rows<P> {
         requires who { J.who ≡ who }
         requires seat { seat.old.table_id ≡ self.now.table.shared.table_id }
         requires here { has seat.old.me.0 who ≡ Some (the (has seat.old.me.0 who)) }
-        ensures seat { (seat.new.table_id ≡ seat.old.table_id) × (seat.new.me ≡ (slice_set seat.old.me.0 who None, seat.old.me.1)) }
-        ensures caller { (result.who ≡ who) × (result.seat.table_id ≡ seat.old.table_id) × (result.seat.me.0 ≡ only who (the (has seat.old.me.0 who))) }
+        ensures seat { (seat.new.table_id ≡ seat.old.table_id)
+            × (seat.new.me ≡ (slice_set seat.old.me.0 who None, seat.old.me.1)) }
+        ensures caller { (result.who ≡ who) × (result.seat.table_id ≡ seat.old.table_id)
+            × (result.seat.me.0 ≡ only who (the (has seat.old.me.0 who))) }
     {
         let seat = self.table.shared.split_seat::<Leaves<J>>(seat);
         CallerSeat { who, seat }
     }
 
-    /// A table for `n` callers with `cap` calls each, and the bench that holds all of them, idle and live.
-    /// All words are 0.
+    /// A table for `n` callers with `cap` calls each, and the bench that holds all of them, idle
+    /// and live. All words are 0.
     pub fn open(
         alloc: Global,
         program: P,
@@ -187,11 +206,13 @@ impl<P: Program> Rows<P> {
         requires few_calls { cap ≤ MAX_CALLS }
         // The rows have this many callers, this cap and this program, and as many object words as
         // the program says.
-        ensures rows { IfOk result (λ r. (r.0.callers ≡ n) × (r.0.cap ≡ cap) × (r.0.program ≡ program) × (r.0.objects ≡ (P.meaning program n cap).objects)) }
+        ensures rows { IfOk result (λ r. (r.0.callers ≡ n) × (r.0.cap ≡ cap)
+            × (r.0.program ≡ program) × (r.0.objects ≡ (P.meaning program n cap).objects)) }
         // The bench is one of these rows, and its locals are those of one reachable world.
         ensures bench { IfOk result (λ r. IsBenchOf P.meaning r.0 r.1) }
         // The bench has each caller with the local and the stance of the start.
-        ensures fresh { IfOk result (λ r. (i : ℕ) → i < n → (on_bench r.1 i ≡ Some local.fresh) × (stance_on r.1 i ≡ Some fresh_stance)) }
+        ensures fresh { IfOk result (λ r. (i : ℕ) → i < n → (on_bench r.1 i ≡ Some local.fresh)
+            × (stance_on r.1 i ≡ Some fresh_stance)) }
     {
         let places = all_kept(alloc, n)?;
         let objects = program.object_words(n, cap);
@@ -247,8 +268,8 @@ impl<P: Program> Rows<P> {
         self.program
     }
 
-    /// A caller leaves the bench with its local, and as live as it was there: where the bench holds it free, it is
-    /// free. One load of word 0, which is no event.
+    /// A caller leaves the bench with its local, and as live as it was there: where the bench holds
+    /// it free, it is free. One load of word 0, which is no event.
     pub fn part(&self, bench: &mut Bench<P>, caller: u32) -> Caller<P>
         // The bench is one of these rows, and its locals are those of one reachable world.
         requires bench { IsBenchOf P.meaning self.now bench.old }
@@ -259,7 +280,8 @@ impl<P: Program> Rows<P> {
         // The bench no longer has the local of the caller.
         ensures gone { on_bench bench.new caller ≡ None }
         // The bench has the local and the stance of each other caller as before.
-        ensures others { (i : ℕ) → i ≢ caller → (on_bench bench.new i ≡ on_bench bench.old i) × (stance_on bench.new i ≡ stance_on bench.old i) }
+        ensures others { (i : ℕ) → i ≢ caller → (on_bench bench.new i ≡ on_bench bench.old i)
+            × (stance_on bench.new i ≡ stance_on bench.old i) }
         // The answered caller is one of these rows, and has this number.
         ensures caller { IsCallerOf P.meaning self.now result × (who_of result ≡ caller) }
         // The answered caller has the local that the bench had of it.
@@ -284,8 +306,9 @@ impl<P: Program> Rows<P> {
         }
     }
 
-    /// A caller comes back to the bench with its local, and as live as it is. Two loads of word 0, which are
-    /// no events: the second tells that the locals on the bench are those of one reachable world.
+    /// A caller comes back to the bench with its local, and as live as it is. Two loads of word 0,
+    /// which are no events: the second tells that the locals on the bench are those of one
+    /// reachable world.
     pub fn back(&self, bench: &mut Bench<P>, caller: Caller<P>)
         // The bench is one of these rows, and its locals are those of one reachable world.
         requires bench { IsBenchOf P.meaning self.now bench.old }
@@ -296,9 +319,11 @@ impl<P: Program> Rows<P> {
         // The bench is still one of these rows, and its locals are those of one reachable world.
         ensures bench { IsBenchOf P.meaning self.now bench.new }
         // The bench has the caller's local and its stance.
-        ensures here { (on_bench bench.new (who_of caller) ≡ Some (local_with caller)) × (stance_on bench.new (who_of caller) ≡ Some (stance_of caller)) }
+        ensures here { (on_bench bench.new (who_of caller) ≡ Some (local_with caller))
+            × (stance_on bench.new (who_of caller) ≡ Some (stance_of caller)) }
         // The bench has the local and the stance of each other caller as before.
-        ensures others { (i : ℕ) → i ≢ who_of caller → (on_bench bench.new i ≡ on_bench bench.old i) × (stance_on bench.new i ≡ stance_on bench.old i) }
+        ensures others { (i : ℕ) → i ≢ who_of caller → (on_bench bench.new i ≡ on_bench bench.old i)
+            × (stance_on bench.new i ≡ stance_on bench.old i) }
     {
         let Caller {
             program: _,
@@ -325,17 +350,19 @@ impl<P: Program> Rows<P> {
         ensures { AreTogether (shape_of P.meaning self.now) (locals_on bench.now) }
     {}
 
-    /// The words of the table, which with the locals of the bench are a reachable world. The bench holds all
-    /// callers. For want of memory the table is given up.
+    /// The words of the table, which with the locals of the bench are a reachable world. The bench
+    /// holds all callers. For want of memory the table is given up.
     pub fn close(self, alloc: Global, bench: Bench<P>) -> Result<World<P>, NoMemory>
         // The bench is one of these rows, and its locals are those of one reachable world.
         requires bench { IsBenchOf P.meaning self bench }
         // The bench holds all callers.
         requires all { HoldsAll bench }
         // The closed table's words are, with the bench's locals, a reachable world.
-        ensures world { IfOk result (λ world. IsWorldOf (shape_of P.meaning self) (words_in world) (locals_on bench)) }
+        ensures world { IfOk result
+            (λ world. IsWorldOf (shape_of P.meaning self) (words_in world) (locals_on bench)) }
         // There are as many words as the table's layout has.
-        ensures count { IfOk result (λ world. length (words_in world) ≡ words_of (shape_of P.meaning self)) }
+        ensures count { IfOk result
+            (λ world. length (words_in world) ≡ words_of (shape_of P.meaning self)) }
     {
         let Rows {
             table,

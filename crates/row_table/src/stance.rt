@@ -3,8 +3,8 @@ ghost use Rattle.std.specs.Prelude.{◌≡◌, true, None};
 use crate::action::Opening;
 use world_core::Region;
 
-/// What a caller means to do: whether it makes calls, the region of the scan that its next look begins,
-/// and the reply that it keeps for the view's scan. No word of the table changes with it.
+/// What a caller means to do: whether it makes calls, the region of the scan that its next look
+/// begins, and the reply that it keeps for the view's scan. No word of the table changes with it.
 #[derive(Clone, Copy, Debug)]
 pub struct Stance {
     pub live: bool,

@@ -13,8 +13,8 @@ pub struct World<P = Outside> {
 impl<P> World<P> {
     ghost use Rattle.row_table.specs.Worlds.{words_in};
 
-    /// The word at an index of the table: the counts of N and of M, the rows, caller by caller, and the
-    /// object words.
+    /// The word at an index of the table: the counts of N and of M, the rows, caller by caller, and
+    /// the object words.
     pub fn word(&self, index: u64) -> u64
         // The table has a word at this index.
         requires { index < length (words_in self.now) }

@@ -31,9 +31,14 @@ use Rattle.run_report.specs.Reporting.{outside_shape, IsReportOf, IsFreeAgain, I
 use Rattle.run_report.proofs.Workers.{have_worked, keeps_asked, free_again, told_in}
 use Rattle.run_report.proofs.Reports.{words_of_all, is_report}
 
-module _ {P T : Type 0} (meaning : P → ℕ → ℕ → Meaning) (r : Rows P) (b : Bench P) (plan : Plan) (allotments : List ℕ) (object : Sequential) (fit : Fits T) (count : T → Option PassCount) (passes : List T) (items : List Own)
-    (valid : IsPlan Second plan) (callers : r.callers ≡ length plan.operations) (bench : IsBenchOf meaning r b)
-    (back : AreBack meaning r SaysJudged fit count (length plan.operations) (length plan.operations) (course_of plan allotments object) b passes (lines_in items) false) (all_lines : length items ≡ length plan.operations) where
+module _ {P T : Type 0} (meaning : P → ℕ → ℕ → Meaning) (r : Rows P) (b : Bench P) (plan : Plan)
+    (allotments : List ℕ) (object : Sequential) (fit : Fits T) (count : T → Option PassCount)
+    (passes : List T) (items : List Own)
+    (valid : IsPlan Second plan) (callers : r.callers ≡ length plan.operations)
+    (bench : IsBenchOf meaning r b)
+    (back : AreBack meaning r SaysJudged fit count (length plan.operations) (length plan.operations)
+    (course_of plan allotments object) b passes (lines_in items) false)
+    (all_lines : length items ≡ length plan.operations) where
   abbrev lines : List (List Line)
   lines = lines_in items
 
@@ -41,40 +46,57 @@ module _ {P T : Type 0} (meaning : P → ℕ → ℕ → Meaning) (r : Rows P) (
   long = omega (arith, all_lines, length-map items (λ (o : Own). o.lines.items))
 
   together : AreTogether (shape_of meaning r) (locals_on b)
-  together = whole_is_together (shape_of meaning r) b.seat.me.0 bench.wide (λ i low. let h = back.back i (omega (arith, low, callers)) in (h.on.local, h.on.here)) bench.together
+  together = whole_is_together (shape_of meaning r) b.seat.me.0 bench.wide
+      (λ i low. let h = back.back i (omega (arith, low, callers)) in (h.on.local, h.on.here))
+      bench.together
 
-  have : HaveWorked object.init object.next (shape_of meaning r) plan.operations allotments (locals_on b) lines
-  have = have_worked meaning r fit count (course_of plan allotments object) b passes lines (length plan.operations) callers long back
+  have : HaveWorked object.init object.next (shape_of meaning r) plan.operations allotments
+      (locals_on b) lines
+  have = have_worked meaning r fit count (course_of plan allotments object) b passes lines
+      (length plan.operations) callers long back
 
   of : AreLinesOf object.init object.next (locals_on b) lines
-  of = workers_leave_the_lines object.init object.next (shape_of meaning r) plan.operations allotments (locals_on b) lines together have
+  of = workers_leave_the_lines object.init object.next
+      (shape_of meaning r) plan.operations allotments (locals_on b) lines together have
 
   lawful : IsLawful object.init object.next (shape_of meaning r) plan.operations allotments lines
-  lawful = workers_are_lawful object.init object.next (shape_of meaning r) plan.operations allotments (locals_on b) lines together have
+  lawful = workers_are_lawful object.init object.next
+      (shape_of meaning r) plan.operations allotments (locals_on b) lines together have
 
-  pub reported : (f : Findings) → f ≡ findings_in plan.kind items → IsReportOf object.init object.next (shape_of meaning r) (locals_on b) plan allotments f
-  reported f same = subst (λ (h : Findings). IsReportOf object.init object.next (shape_of meaning r) (locals_on b) plan allotments h) (sym same) (record {
-    kind = refl;
-    together = together;
-    lines = of;
-    made = λ i low. (have.worked i low).made;
-    asked = λ i low. keeps_asked meaning r fit count (course_of plan allotments object) b passes lines i (back.back i (omega (arith, low, callers)));
-    lawful = lawful;
-  })
+  pub reported : (f : Findings) → f ≡ findings_in plan.kind items
+      → IsReportOf object.init object.next (shape_of meaning r) (locals_on b) plan allotments f
+  reported f same = subst (λ (h : Findings). IsReportOf object.init object.next (shape_of meaning r)
+      (locals_on b) plan allotments h) (sym same) (record {
+        kind = refl;
+        together = together;
+        lines = of;
+        made = λ i low. (have.worked i low).made;
+        asked = λ i low. keeps_asked meaning r fit count (course_of plan allotments object) b passes
+            lines i (back.back i (omega (arith, low, callers)));
+        lawful = lawful;
+      })
 
-  pub free_of : (f : Findings) → f ≡ findings_in plan.kind items → (i : ℕ) → i < length plan.operations → IsFreeAgain b allotments f i
+  pub free_of : (f : Findings) → f ≡ findings_in plan.kind items → (i : ℕ)
+      → i < length plan.operations → IsFreeAgain b allotments f i
   free_of f same i low =
       subst (λ (h : Findings). IsFreeAgain b allotments h i) (sym same)
-      (free_again meaning r fit count (course_of plan allotments object) b passes lines plan.kind i (back.back i low))
+      (free_again meaning r fit count (course_of plan allotments object) b passes lines plan.kind i
+      (back.back i low))
 
-  pub fits : All (λ (own : Own). All (λ (line : Line). HasWord line.end) own.lines.items) items → IsReport (findings_in plan.kind items)
-  fits words = is_report object.init object.next (shape_of meaning r) (locals_on b) plan allotments lines valid callers together of lawful (words_of_all items words)
+  pub fits : All (λ (own : Own). All (λ (line : Line). HasWord line.end) own.lines.items) items
+      → IsReport (findings_in plan.kind items)
+  fits words = is_report object.init object.next (shape_of meaning r) (locals_on b) plan allotments
+      lines valid callers together of lawful (words_of_all items words)
 
-  pub told_of : (f : Findings) → f ≡ findings_in plan.kind items → length passes ≡ length plan.operations → AreInOrder (IsCountedIn count allotments f) passes
+  pub told_of : (f : Findings) → f ≡ findings_in plan.kind items
+      → length passes ≡ length plan.operations → AreInOrder (IsCountedIn count allotments f) passes
   told_of f same all i pass there =
       subst (λ (h : Findings). IsCountedIn count allotments h i pass) (sym same)
-      (told_in meaning r fit count (course_of plan allotments object) b passes lines plan.kind i pass there (back.back i (omega (arith, all, slice_get_within passes i pass there))))
+      (told_in meaning r fit count (course_of plan allotments object) b passes lines plan.kind i
+      pass there (back.back i (omega (arith, all, slice_get_within passes i pass there))))
 
 -- the shape of the world of rows with the greatest cap
-pub outside_shapes : (callers cap n : ℕ) → callers ≡ n → cap ≡ 256 → ◌≡◌ {A = Shape} (record { callers = callers; cap = cap; program = outside }) (outside_shape n)
-outside_shapes callers cap n all most = λ i. record { callers = all i; cap = most i; program = outside }
+pub outside_shapes : (callers cap n : ℕ) → callers ≡ n → cap ≡ 256
+    → ◌≡◌ {A = Shape} (record { callers = callers; cap = cap; program = outside }) (outside_shape n)
+outside_shapes callers cap n all most =
+    λ i. record { callers = all i; cap = most i; program = outside }

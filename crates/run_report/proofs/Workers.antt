@@ -31,48 +31,69 @@ use Rattle.run_report.specs.Passes.{IsOwnPass, IsUnusedPass, AreUnusedPasses}
 use Rattle.bench_clients.specs.Returns.{IsCountOf, IsBack, AreBack, IsBackOn}
 
 -- the local of a view at a caller that it has
-pub the_local : (v : View) (i : ℕ) (l : Local) → has v i ≡ Some l → slice_index_or (map the v) i fresh ≡ l
+pub the_local : (v : View) (i : ℕ) (l : Local) → has v i ≡ Some l
+    → slice_index_or (map the v) i fresh ≡ l
 the_local [] i l here = absurd (none-some l here)
 the_local (x ∷ v) zero l here = ap the here
 the_local (x ∷ v) (suc i) l here = the_local v i l here
 
 -- the lines at a caller
-pub lines_here : (lines : List (List Line)) (i : ℕ) (own : List Line) → slice_get lines i ≡ Some own → lines_at lines i ≡ own
+pub lines_here : (lines : List (List Line)) (i : ℕ) (own : List Line) → slice_get lines i ≡ Some own
+    → lines_at lines i ≡ own
 lines_here [] i own here = absurd (none-some own here)
 lines_here (x ∷ lines) zero own here = same_Some x own here
 lines_here (x ∷ lines) (suc i) own here = lines_here lines i own here
 
-module _ {P T : Type 0} (meaning : P → ℕ → ℕ → Meaning) (r : Rows P) (fit : Fits T) (count : T → Option PassCount) (course : Course) (b : Bench P) (passes : List T) (lines : List (List Line)) where
+module _ {P T : Type 0} (meaning : P → ℕ → ℕ → Meaning) (r : Rows P) (fit : Fits T)
+    (count : T → Option PassCount) (course : Course) (b : Bench P) (passes : List T)
+    (lines : List (List Line)) where
   -- each caller has worked
   has_worked : (i : ℕ) → IsBack meaning r SaysJudged fit count course b passes lines false i
-      → HasWorked course.object.init course.object.next r.callers (operations_at course.operations i) (slice_index course.allotments i) (local_at (locals_on b) i) (lines_at lines i)
+      → HasWorked course.object.init course.object.next r.callers
+      (operations_at course.operations i) (slice_index course.allotments i)
+      (local_at (locals_on b) i) (lines_at lines i)
   has_worked i h =
       let n : ℕ = r.callers in
-      subst (λ (l : Local). HasWorked course.object.init course.object.next n (operations_at course.operations i) (slice_index course.allotments i) l (lines_at lines i)) (sym (the_local b.seat.me.0 i h.on.local h.on.here))
-      (subst (λ (own : List Line). HasWorked course.object.init course.object.next n (operations_at course.operations i) (slice_index course.allotments i) h.on.local own) (sym (lines_here lines i h.own h.lines_here))
-      (judging_clients_have_worked course.object n (operations_at course.operations i) (slice_index course.allotments i) h.on.local h.own (h.left refl).left))
+      subst (λ (l : Local). HasWorked course.object.init course.object.next n
+      (operations_at course.operations i) (slice_index course.allotments i) l (lines_at lines i))
+      (sym (the_local b.seat.me.0 i h.on.local h.on.here))
+      (subst (λ (own : List Line). HasWorked course.object.init course.object.next n
+      (operations_at course.operations i) (slice_index course.allotments i) h.on.local own)
+      (sym (lines_here lines i h.own h.lines_here))
+      (judging_clients_have_worked course.object n (operations_at course.operations i)
+      (slice_index course.allotments i) h.on.local h.own (h.left refl).left))
 
   -- so all have
-  pub have_worked : (n : ℕ) → r.callers ≡ n → length lines ≡ n → AreBack meaning r SaysJudged fit count n n course b passes lines false
-      → HaveWorked course.object.init course.object.next (shape_of meaning r) course.operations course.allotments (locals_on b) lines
+  pub have_worked : (n : ℕ) → r.callers ≡ n → length lines ≡ n
+      → AreBack meaning r SaysJudged fit count n n course b passes lines false
+      → HaveWorked course.object.init course.object.next
+      (shape_of meaning r) course.operations course.allotments (locals_on b) lines
   have_worked n callers long h = record {
     callers = long ∙ sym callers;
     worked = λ i low. has_worked i (h.back i (omega (arith, low, callers)));
   }
 
   -- it made the phases that its lines tell of
-  phases_are : (i : ℕ) (h : IsBack meaning r SaysJudged fit count course b passes lines false i) → h.on.phases ≡ phases_of (slice_index course.allotments i) (lines_at lines i)
-  phases_are i h = (h.left refl).is ∙ ap (λ (own : List Line). phases_of (slice_index course.allotments i) own) (sym (lines_here lines i h.own h.lines_here))
+  phases_are : (i : ℕ) (h : IsBack meaning r SaysJudged fit count course b passes lines false i)
+      → h.on.phases ≡ phases_of (slice_index course.allotments i) (lines_at lines i)
+  phases_are i h =
+      (h.left refl).is ∙ ap (λ (own : List Line). phases_of (slice_index course.allotments i) own)
+      (sym (lines_here lines i h.own h.lines_here))
 
   -- and its call under way is as its last phase left it
   pub keeps_asked : (i : ℕ) → IsBack meaning r SaysJudged fit count course b passes lines false i
-      → KeepsAsked (shape_of meaning r).program i (phases_of (slice_index course.allotments i) (lines_at lines i)) (local_at (locals_on b) i)
+      → KeepsAsked (shape_of meaning r).program i
+      (phases_of (slice_index course.allotments i) (lines_at lines i)) (local_at (locals_on b) i)
   keeps_asked i h =
-      subst (λ (l : Local). KeepsAsked (shape_of meaning r).program i (phases_of (slice_index course.allotments i) (lines_at lines i)) l) (sym (the_local b.seat.me.0 i h.on.local h.on.here))
-      (subst (λ (p : ℕ). KeepsAsked (shape_of meaning r).program i p h.on.local) (phases_are i h) h.on.back.asked)
+      subst (λ (l : Local). KeepsAsked (shape_of meaning r).program i
+      (phases_of (slice_index course.allotments i) (lines_at lines i)) l)
+      (sym (the_local b.seat.me.0 i h.on.local h.on.here))
+      (subst (λ (p : ℕ). KeepsAsked (shape_of meaning r).program i p h.on.local)
+      (phases_are i h) h.on.back.asked)
 
   -- without an error, and between two calls, it is free for its next call
-  pub free_again : (kind : Kind) (i : ℕ) → IsBack meaning r SaysJudged fit count course b passes lines false i
+  pub free_again : (kind : Kind) (i : ℕ)
+      → IsBack meaning r SaysJudged fit count course b passes lines false i
       → IsFreeAgain b course.allotments (record { kind = kind; lines = lines }) i
   free_again kind i h none between =
       let own : lines_at lines i ≡ h.own = lines_here lines i h.own h.lines_here in
@@ -81,7 +102,8 @@ module _ {P T : Type 0} (meaning : P → ℕ → ℕ → Meaning) (r : Rows P) (
       h.on.stands.here ∙ ap (λ (s : Stance). Some s) (h.free refl fine whole)
 
   -- the object was asked for the calls that the lines tell of
-  pub told_in : (kind : Kind) (i : ℕ) (pass : T) → slice_get passes i ≡ Some pass → IsBack meaning r SaysJudged fit count course b passes lines false i
+  pub told_in : (kind : Kind) (i : ℕ) (pass : T) → slice_get passes i ≡ Some pass
+      → IsBack meaning r SaysJudged fit count course b passes lines false i
       → IsCountedIn count course.allotments (record { kind = kind; lines = lines }) i pass
   told_in kind i pass there h =
       let findings : Findings = record { kind = kind; lines = lines } in
@@ -90,30 +112,44 @@ module _ {P T : Type 0} (meaning : P → ℕ → ℕ → Meaning) (r : Rows P) (
       let left = h.left refl in
       let phases = phases_are i h in
       let calls : calls_in h.on.local ≡ map made_of (lines_at lines i) =
-      sym (judging_clients_have_worked course.object r.callers (operations_at course.operations i) (slice_index course.allotments i) h.on.local h.own left.left).calls ∙ ap (λ (o : List Line). map made_of o) (sym own) in
+      sym (judging_clients_have_worked course.object r.callers (operations_at course.operations i)
+      (slice_index course.allotments i) h.on.local h.own left.left).calls
+      ∙ ap (λ (o : List Line). map made_of o) (sym own) in
       subst (λ (p : T). IfSome (count p) (IsCountIn course.allotments findings i)) mine
-      (if_some_as (count h.on.pass) (IsCountOf h.on.phases h.on.local) (IsCountIn course.allotments findings i)
+      (if_some_as (count h.on.pass) (IsCountOf h.on.phases h.on.local)
+      (IsCountIn course.allotments findings i)
       (λ (c : PassCount) (k : IsCountOf h.on.phases h.on.local c). record {
         asked_for = k.asked_for ∙ ap asked phases;
-        told_is = subst (λ (q : ℕ). IfSome c.told (IsTold q (map made_of (lines_at lines i)))) phases
+        told_is =
+            subst (λ (q : ℕ). IfSome c.told (IsTold q (map made_of (lines_at lines i)))) phases
             (subst (λ (cs : List Made). IfSome c.told (IsTold h.on.phases cs)) calls k.told_is);
       }) h.on.back.counts)
 
 -- a bench of rows that have just these callers holds all of them once they are back
-pub all_held : {P T : Type 0} (meaning : P → ℕ → ℕ → Meaning) (r : Rows P) (fit : Fits T) (count : T → Option PassCount) (plan : Plan) (allotments : List ℕ) (first b : Bench P) (passes : List T)
-    → MayBegin meaning plan 0 r first → IsBenchOf meaning r b → ((i : ℕ) → i < length plan.operations → IsBackOn meaning r fit count plan.operations allotments b passes i) → IsBenchOf meaning r b × HoldsAll b
-all_held meaning r fit count plan allotments first b passes begins of back =
-    (of, λ i low. let h = back i (omega (arith, low, of.callers, begins.callers)) in (h.local, h.here))
+pub all_held : {P T : Type 0} (meaning : P → ℕ → ℕ → Meaning) (r : Rows P) (fit : Fits T)
+    (count : T → Option PassCount) (plan : Plan) (allotments : List ℕ) (first b : Bench P)
+    (passes : List T)
+    → MayBegin meaning plan 0 r first → IsBenchOf meaning r b → ((i : ℕ) → i
+    < length plan.operations → IsBackOn meaning r fit count plan.operations allotments b passes i)
+    → IsBenchOf meaning r b × HoldsAll b
+all_held meaning r fit count plan allotments first b passes begins of back = (
+  of,
+  λ i low. let h = back i (omega (arith, low, of.callers, begins.callers)) in (h.local, h.here),
+)
 
 -- where as many pairs are told as calls were made, and none was made, none are told
-none_told : (told : Option (List (ℕ × ℕ))) → ((pairs : List (ℕ × ℕ)) → told ≡ Some pairs → length pairs ≡ 0) → IfSome told (λ pairs. pairs ≡ [])
+none_told : (told : Option (List (ℕ × ℕ)))
+    → ((pairs : List (ℕ × ℕ)) → told ≡ Some pairs → length pairs ≡ 0)
+    → IfSome told (λ pairs. pairs ≡ [])
 none_told None as_many = tt
 none_told (Some []) as_many = refl
 none_told (Some (pair ∷ pairs)) as_many = absurd (omega (arith, as_many (pair ∷ pairs) refl))
 
 -- unused passes are fresh
-pub fresh_passes : {P T : Type 0} (r : Rows P) (is_own : T → Type 0) (caller made cap : T → ℕ) (told : T → Option (List (ℕ × ℕ))) (operations : List (List ℕ)) (passes : List T)
-    → ((pass : T) (pairs : List (ℕ × ℕ)) → is_own pass → told pass ≡ Some pairs → length pairs ≡ made pass)
+pub fresh_passes : {P T : Type 0} (r : Rows P) (is_own : T → Type 0) (caller made cap : T → ℕ)
+    (told : T → Option (List (ℕ × ℕ))) (operations : List (List ℕ)) (passes : List T)
+    → ((pass : T) (pairs : List (ℕ × ℕ)) → is_own pass → told pass ≡ Some pairs
+    → length pairs ≡ made pass)
     → AreUnusedPasses is_own caller made cap operations passes
     → AreFreshPasses r (fits_own is_own caller) (own_count made cap told) operations passes
 fresh_passes r is_own caller made cap told operations passes tells unused = record {
@@ -122,21 +158,32 @@ fresh_passes r is_own caller made cap told operations passes tells unused = reco
       let h = unused.each i pass there in
       record {
         fits_caller = (h.own, h.of);
-        counts = record { none = h.none; has_room = h.enough; silent = none_told (told pass) (λ pairs is. tells pass pairs h.own is ∙ h.none) };
+        counts = record {
+          none = h.none;
+          has_room = h.enough;
+          silent = none_told (told pass) (λ pairs is. tells pass pairs h.own is ∙ h.none);
+        };
       };
 }
 
 -- unused passes are the object's own
-pub unused_own : {T : Type 0} (is_own : T → Type 0) (caller made cap : T → ℕ) (operations : List (List ℕ)) (passes : List T)
-    → AreInOrder (IsUnusedPass is_own caller made cap operations) passes → AreInOrder (IsOwnPass is_own caller) passes
+pub unused_own : {T : Type 0} (is_own : T → Type 0) (caller made cap : T → ℕ)
+    (operations : List (List ℕ)) (passes : List T)
+    → AreInOrder (IsUnusedPass is_own caller made cap operations) passes
+    → AreInOrder (IsOwnPass is_own caller) passes
 unused_own is_own caller made cap operations passes unused i pass there =
     let h = unused i pass there in
     record { own = h.own; of = h.of }
 
 -- each pass that is back is the object's own
-pub own_passes : {P T : Type 0} (meaning : P → ℕ → ℕ → Meaning) (r : Rows P) (is_own : T → Type 0) (caller made cap : T → ℕ) (told : T → Option (List (ℕ × ℕ))) (operations : List (List ℕ)) (allotments : List ℕ) (b : Bench P) (n : ℕ) (passes : List T)
-    → length passes ≡ n → ((i : ℕ) → i < n → IsBackOn meaning r (fits_own is_own caller) (own_count made cap told) operations allotments b passes i) → AreInOrder (IsOwnPass is_own caller) passes
-own_passes meaning r is_own caller made cap told operations allotments b n passes long back i pass there =
+pub own_passes : {P T : Type 0} (meaning : P → ℕ → ℕ → Meaning) (r : Rows P) (is_own : T → Type 0)
+    (caller made cap : T → ℕ) (told : T → Option (List (ℕ × ℕ))) (operations : List (List ℕ))
+    (allotments : List ℕ) (b : Bench P) (n : ℕ) (passes : List T)
+    → length passes ≡ n → ((i : ℕ) → i < n → IsBackOn meaning r (fits_own is_own caller)
+    (own_count made cap told) operations allotments b passes i)
+    → AreInOrder (IsOwnPass is_own caller) passes
+own_passes meaning r is_own caller made cap told operations allotments b n passes long back i
+    pass there =
     let h = back i (omega (arith, long, slice_get_within passes i pass there)) in
     let mine : h.pass ≡ pass = same_Some h.pass pass (sym h.pass_here ∙ there) in
     record {
@@ -144,13 +191,16 @@ own_passes meaning r is_own caller made cap told operations allotments b n passe
       of = subst (λ (p : _). caller p ≡ i) mine h.back.fits_caller.1;
     }
 
-pub if_ok_as : {X E : Type 0} (result : Result X E) (A B : X → Type 0) → ((x : X) → A x → B x) → IfOk result A → IfOk result B
+pub if_ok_as : {X E : Type 0} (result : Result X E) (A B : X → Type 0) → ((x : X) → A x → B x)
+    → IfOk result A → IfOk result B
 if_ok_as (Ok x) A B turns h = turns x h
 if_ok_as (Err e) A B turns h = h
 
 -- what the passes of an object outside the world count is what they tell
-pub counted_told : {T : Type 0} (made cap : T → ℕ) (told : T → Option (List (ℕ × ℕ))) (allotments : List ℕ) (findings : Findings) (passes : List T)
-    → AreInOrder (IsCountedIn (own_count made cap told) allotments findings) passes → AreInOrder (IsToldIn made told allotments findings) passes
+pub counted_told : {T : Type 0} (made cap : T → ℕ) (told : T → Option (List (ℕ × ℕ)))
+    (allotments : List ℕ) (findings : Findings) (passes : List T)
+    → AreInOrder (IsCountedIn (own_count made cap told) allotments findings) passes
+    → AreInOrder (IsToldIn made told allotments findings) passes
 counted_told made cap told allotments findings passes all i pass there =
     let h = all i pass there in
     record { asked_for = h.asked_for; told_is = h.told_is }

@@ -14,10 +14,12 @@ abbrev pub stops_after : ℕ → List (Option ℕ)
 stops_after phases = Some phases ∷ Some 2 ∷ []
 
 abbrev pub plan_to : ℕ → Plan
-plan_to phases = record { kind = Queue; operations = five_and_six; stops = stops_after phases; turns = [] }
+plan_to phases =
+    record { kind = Queue; operations = five_and_six; stops = stops_after phases; turns = [] }
 
--- That the first caller has its record, and the second has announced its call, is the report of this plan and of the locals after
--- these steps.
+-- That the first caller has its record, and the second has announced its call, is the report of
+-- this plan and of the locals after these steps.
 abbrev pub IsStoppedReport : ℕ → List Step → Type 0
 IsStoppedReport phases steps =
-    IsReportOf [] silent pair (locals_after steps) (plan_to phases) (allotments_of five_and_six (stops_after phases)) (record { kind = Queue; lines = stopped })
+    IsReportOf [] silent pair (locals_after steps) (plan_to phases)
+    (allotments_of five_and_six (stops_after phases)) (record { kind = Queue; lines = stopped })

@@ -21,31 +21,39 @@ use Rattle.reports.specs.Findings.{Findings}
 abbrev pub outside_shape : ℕ → Shape
 outside_shape n = record { callers = n; cap = MAX_CALLS; program = outside }
 
--- Findings are those of a plan's callers that were given these phases and left these locals: of its kind, with the lines of just these
--- locals, which are those of one reachable world, and lawful; and each caller has made just the phases that its lines tell of, so that
--- one which stopped after its publish has published. A call under way that was announced and not asked has no object step, and to one
--- that was asked the program allows a reply.
-pub record IsReportOf (init : List ℕ) (next : List ℕ → ℕ → List ℕ × ℕ) (s : Shape) (locals : List Local) (plan : Plan) (allotments : List ℕ) (findings : Findings) : Type 0 where
+-- Findings are those of a plan's callers that were given these phases and left these locals: of its
+-- kind, with the lines of just these locals, which are those of one reachable world, and lawful;
+-- and each caller has made just the phases that its lines tell of, so that one which stopped after
+-- its publish has published. A call under way that was announced and not asked has no object step,
+-- and to one that was asked the program allows a reply.
+pub record IsReportOf (init : List ℕ) (next : List ℕ → ℕ → List ℕ × ℕ) (s : Shape)
+    (locals : List Local) (plan : Plan) (allotments : List ℕ) (findings : Findings) : Type 0 where
   pub kind : findings.kind ≡ plan.kind
   pub together : AreTogether s locals
   pub lines : AreLinesOf init next locals findings.lines
-  pub made : (i : ℕ) → i < s.callers → HasMade (operations_at plan.operations i) (phases_of (slice_index allotments i) (lines_at findings.lines i)) (local_at locals i)
-  pub asked : (i : ℕ) → i < s.callers → KeepsAsked s.program i (phases_of (slice_index allotments i) (lines_at findings.lines i)) (local_at locals i)
+  pub made : (i : ℕ) → i < s.callers → HasMade (operations_at plan.operations i)
+      (phases_of (slice_index allotments i) (lines_at findings.lines i)) (local_at locals i)
+  pub asked : (i : ℕ) → i < s.callers → KeepsAsked s.program i
+      (phases_of (slice_index allotments i) (lines_at findings.lines i)) (local_at locals i)
   pub lawful : IsLawful init next s plan.operations allotments findings.lines
 
--- Where no line of caller i is an error, and its lines tell that it stopped between two calls, or made all of its calls, it stands on the
--- bench free for its next call.
+-- Where no line of caller i is an error, and its lines tell that it stopped between two calls, or
+-- made all of its calls, it stands on the bench free for its next call.
 abbrev pub IsFreeAgain : {P : Type 0} → Bench P → List ℕ → Findings → ℕ → Type 0
 IsFreeAgain b allotments findings i =
     any_error (lines_at findings.lines i) ≡ false
     → phases_of (slice_index allotments i) (lines_at findings.lines i) % 5 ≡ 0
     → stance_on b i ≡ Some fresh_stance
 
--- The pass of caller i was asked for exactly the calls that the caller's lines tell of, and tells, where it tells anything, an
--- operation and a reply for each of them.
-pub record IsToldIn {T : Type 0} (made : T → ℕ) (told : T → Option (List (ℕ × ℕ))) (allotments : List ℕ) (findings : Findings) (i : ℕ) (pass : T) : Type 0 where
-  pub asked_for : made pass ≡ asked (phases_of (slice_index allotments i) (lines_at findings.lines i))
-  pub told_is : IfSome (told pass) (IsTold (phases_of (slice_index allotments i) (lines_at findings.lines i)) (map made_of (lines_at findings.lines i)))
+-- The pass of caller i was asked for exactly the calls that the caller's lines tell of, and tells,
+-- where it tells anything, an operation and a reply for each of them.
+pub record IsToldIn {T : Type 0} (made : T → ℕ) (told : T → Option (List (ℕ × ℕ)))
+    (allotments : List ℕ) (findings : Findings) (i : ℕ) (pass : T) : Type 0 where
+  pub asked_for : made pass
+      ≡ asked (phases_of (slice_index allotments i) (lines_at findings.lines i))
+  pub told_is : IfSome (told pass)
+      (IsTold (phases_of (slice_index allotments i) (lines_at findings.lines i))
+      (map made_of (lines_at findings.lines i)))
 
 -- So is what the pass of caller i counts, where it counts.
 abbrev pub IsCountIn : List ℕ → Findings → ℕ → PassCount → Type 0

@@ -16,14 +16,15 @@ use std::alloc::Global;
 use std::thread::Threads;
 use world_core::Program;
 
-/// Runs all callers of a script, each in a thread of its own where one can be had, whatever object they ask and
-/// wherever it is: each judges each of its calls by the sequential object. The answer is their report, which is
-/// lawful.
+/// Runs all callers of a script, each in a thread of its own where one can be had, whatever object
+/// they ask and wherever it is: each judges each of its calls by the sequential object. The answer
+/// is their report, which is lawful.
 ///
-/// Whatever the answer, the bench holds all callers again, the passes are in their order, and each caller has made
-/// a prefix of its phases: all of them where a report is answered, but for those after an error. There each
-/// caller without an error that stopped between two calls, or made all of them, stands free for its next call. Want
-/// of memory is answered before the first call, or where a judgement wanted it.
+/// Whatever the answer, the bench holds all callers again, the passes are in their order, and each
+/// caller has made a prefix of its phases: all of them where a report is answered, but for those
+/// after an error. There each caller without an error that stopped between two calls, or made all
+/// of them, stands free for its next call. Want of memory is answered before the first call, or
+/// where a judgement wanted it.
 pub fn run_asked<
     R: Threads + Sync,
     P: Program + Send + Sync,
@@ -56,14 +57,16 @@ pub fn run_asked<
     // Each caller of the script is back on the bench with its pass, which fits it, and has made a
     // prefix of its phases: at most as many as the script gives it; where the pass counts calls, it
     // counts those that were asked.
-    ensures back { (i : ℕ) → i < length script.now.operations → IsBackOn P.meaning shared.now.rows.now
+    ensures back { (i : ℕ) → i < length script.now.operations
+        → IsBackOn P.meaning shared.now.rows.now
         (A.fits shared.now.asks.now) A.count script.now.operations (run_allotments script.now)
         bench.new passes.new.items i }
     // Where a report is answered.
     // The report is of the script's kind, and its lines are those of the locals on the bench, which
     // are of one reachable world; they are lawful, and each caller has made just the phases that
     // its lines tell of.
-    ensures report { IfOk result (λ report. IsReportOf (S.init sequential.now) (S.next sequential.now)
+    ensures report { IfOk result
+        (λ report. IsReportOf (S.init sequential.now) (S.next sequential.now)
         (shape_of P.meaning shared.now.rows.now) (locals_on bench.new) script.now
         (run_allotments script.now) report) }
     // By a report, each caller whose lines have no error and tell that it stopped between two

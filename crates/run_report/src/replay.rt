@@ -48,7 +48,8 @@ pub fn replay_over<S: SeqObject, B: BlackBox>(
         script.now.operations passes.old.items }
     // For every answer.
     // The bench is still one of these rows, and holds all their callers.
-    ensures bench { IsBenchOf ⟦<Outside as Program>⟧.meaning rows.now bench.new × HoldsAll bench.new }
+    ensures bench { IsBenchOf ⟦<Outside as Program>⟧.meaning rows.now bench.new
+        × HoldsAll bench.new }
     // There is one pass for each caller of the script.
     ensures all_passes { vec_len passes.new ≡ length script.now.operations }
     // Each caller of the script is back on the bench with its pass, and has made a prefix of its
@@ -56,7 +57,8 @@ pub fn replay_over<S: SeqObject, B: BlackBox>(
     // that were asked.
     ensures back { (i : ℕ) → i < length script.now.operations → IsBackOn
         ⟦<Outside as Program>⟧.meaning rows.now (fits_own (B.is_own object.now) B.Pass.caller)
-        (own_count B.Pass.made B.Pass.cap B.Pass.told) script.now.operations (replay_allotments script.now)
+        (own_count B.Pass.made B.Pass.cap B.Pass.told) script.now.operations
+        (replay_allotments script.now)
         bench.new passes.new.items i }
     // Each pass is one of this object's, and that of its caller, in order.
     ensures passes { AreInOrder (IsOwnPass (B.is_own object.now) B.Pass.caller) passes.new.items }
@@ -64,7 +66,8 @@ pub fn replay_over<S: SeqObject, B: BlackBox>(
     // The report is of the script's kind, and its lines are those of the locals on the bench, which
     // are of one reachable world; they are lawful, and each caller has made just the phases that
     // its lines tell of.
-    ensures report { IfOk result (λ report. IsReportOf (S.init sequential.now) (S.next sequential.now)
+    ensures report { IfOk result
+        (λ report. IsReportOf (S.init sequential.now) (S.next sequential.now)
         (shape_of ⟦<Outside as Program>⟧.meaning rows.now) (locals_on bench.new) script.now
         (replay_allotments script.now) report) }
     // By a report, each caller whose lines have no error and tell that it stopped between two

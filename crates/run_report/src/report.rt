@@ -54,8 +54,8 @@ fn read_replies(lines: &[Own])
     }
 }
 
-/// The report of callers that are back on their bench with their passes, and left these lines, by the allotments
-/// that they had.
+/// The report of callers that are back on their bench with their passes, and left these lines, by
+/// the allotments that they had.
 pub(crate) fn report_of<P: Program, T, S: SeqObject, A: Asks<Program = P, Pass = T>>(
     _shared: &Shared<A, P>,
     _bench: &Bench<P>,
@@ -69,13 +69,16 @@ pub(crate) fn report_of<P: Program, T, S: SeqObject, A: Asks<Program = P, Pass =
     requires bench { IsBenchOf P.meaning _shared.now.rows.now _bench.now }
     requires all_passes { vec_len _passes.now ≡ length script.now.operations }
     requires all_lines { vec_len lines ≡ length script.now.operations }
-    requires lines { AreBack P.meaning _shared.now.rows.now SaysJudged (A.fits _shared.now.asks.now) A.count
+    requires lines { AreBack P.meaning _shared.now.rows.now SaysJudged
+        (A.fits _shared.now.asks.now) A.count
         (length script.now.operations) (length script.now.operations)
         (course_of script.now allotments (object_by S.init S.next _sequential.now))
         _bench.now _passes.now.items (lines_in lines.items) false }
     ensures report { IsReportOf (S.init _sequential.now) (S.next _sequential.now)
-        (shape_of P.meaning _shared.now.rows.now) (locals_on _bench.now) script.now allotments result }
-    ensures free { (i : ℕ) → i < length script.now.operations → IsFreeAgain _bench.now allotments result i }
+        (shape_of P.meaning _shared.now.rows.now)
+        (locals_on _bench.now) script.now allotments result }
+    ensures free { (i : ℕ) → i < length script.now.operations
+        → IsFreeAgain _bench.now allotments result i }
     ensures counted { AreInOrder (IsCountedIn A.count allotments result) _passes.now.items }
 {
     let _callers = script.callers();

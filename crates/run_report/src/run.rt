@@ -49,7 +49,8 @@ where
         script.now.operations passes.old.items }
     // For every answer.
     // The bench is still one of these rows, and holds all their callers.
-    ensures bench { IsBenchOf ⟦<Outside as Program>⟧.meaning rows.now bench.new × HoldsAll bench.new }
+    ensures bench { IsBenchOf ⟦<Outside as Program>⟧.meaning rows.now bench.new
+        × HoldsAll bench.new }
     // There is one pass for each caller of the script.
     ensures all_passes { vec_len passes.new ≡ length script.now.operations }
     // Each caller of the script is back on the bench with its pass, and has made a prefix of its
@@ -57,7 +58,8 @@ where
     // asked.
     ensures back { (i : ℕ) → i < length script.now.operations → IsBackOn
         ⟦<Outside as Program>⟧.meaning rows.now (fits_own (B.is_own object.now) B.Pass.caller)
-        (own_count B.Pass.made B.Pass.cap B.Pass.told) script.now.operations (run_allotments script.now)
+        (own_count B.Pass.made B.Pass.cap B.Pass.told) script.now.operations
+        (run_allotments script.now)
         bench.new passes.new.items i }
     // Each pass is one of this object's, and that of its caller, in order.
     ensures passes { AreInOrder (IsOwnPass (B.is_own object.now) B.Pass.caller) passes.new.items }
@@ -65,7 +67,8 @@ where
     // The report is of the script's kind, and its lines are those of the locals on the bench, which
     // are of one reachable world; they are lawful, and each caller has made just the phases that
     // its lines tell of.
-    ensures report { IfOk result (λ report. IsReportOf (S.init sequential.now) (S.next sequential.now)
+    ensures report { IfOk result
+        (λ report. IsReportOf (S.init sequential.now) (S.next sequential.now)
         (shape_of ⟦<Outside as Program>⟧.meaning rows.now) (locals_on bench.new) script.now
         (run_allotments script.now) report) }
     // By a report, each caller whose lines have no error and tell that it stopped between two

@@ -25,47 +25,71 @@ use Rattle.run_writer.specs.Runs.{HasForm}
 
 module _ (s : Shape) (locals : List Local) (plan : Plan) (allotments : List ℕ) where
   -- the report by the object of the script's kind
-  pub by_its_kind : (kind : Kind) (f : Findings) → kind ≡ plan.kind → IsReportOf (kind_init kind) (kind_next kind) s locals plan allotments f
+  pub by_its_kind : (kind : Kind) (f : Findings) → kind ≡ plan.kind
+      → IsReportOf (kind_init kind) (kind_next kind) s locals plan allotments f
       → IsReportOf (kind_init plan.kind) (kind_next plan.kind) s locals plan allotments f
-  by_its_kind kind f same is = subst (λ (k : Kind). IsReportOf (kind_init k) (kind_next k) s locals plan allotments f) same is
+  by_its_kind kind f same is = subst
+      (λ (k : Kind). IsReportOf (kind_init k) (kind_next k) s locals plan allotments f) same is
 
   -- one report alone decides whether a line is an error
-  pub one_report : (init : List ℕ) (next : List ℕ → ℕ → List ℕ × ℕ) (f g : Findings) → IsReportOf init next s locals plan allotments f → IsReportOf init next s locals plan allotments g
+  pub one_report : (init : List ℕ) (next : List ℕ → ℕ → List ℕ × ℕ) (f g : Findings)
+      → IsReportOf init next s locals plan allotments f
+      → IsReportOf init next s locals plan allotments g
       → list_any any_error f.lines ≡ list_any any_error g.lines
   one_report init next f g a b =
-      ap (λ (lines : List (List Line)). list_any any_error lines) (locals_determine_lines init next locals f.lines g.lines a.lines b.lines)
+      ap (λ (lines : List (List Line)). list_any any_error lines)
+      (locals_determine_lines init next locals f.lines g.lines a.lines b.lines)
 
   -- one report alone decides who stands free for its next call
-  pub one_standing : {P : Type 0} (b : Bench P) (init : List ℕ) (next : List ℕ → ℕ → List ℕ × ℕ) (f g : Findings)
-      → IsReportOf init next s locals plan allotments f → IsReportOf init next s locals plan allotments g
-      → ((i : ℕ) → i < length plan.operations → IsFreeAgain b allotments f i) → (i : ℕ) → i < length plan.operations → IsFreeAgain b allotments g i
+  pub one_standing : {P : Type 0} (b : Bench P) (init : List ℕ) (next : List ℕ → ℕ → List ℕ × ℕ)
+      (f g : Findings)
+      → IsReportOf init next s locals plan allotments f
+      → IsReportOf init next s locals plan allotments g
+      → ((i : ℕ) → i < length plan.operations → IsFreeAgain b allotments f i) → (i : ℕ)
+      → i < length plan.operations → IsFreeAgain b allotments g i
   one_standing b init next f g a other free i low =
-      subst (λ (lines : List (List Line)). IsFreeAgain b allotments (record { kind = g.kind; lines = lines }) i)
+      subst (λ (lines : List (List Line)).
+      IsFreeAgain b allotments (record { kind = g.kind; lines = lines }) i)
       (locals_determine_lines init next locals f.lines g.lines a.lines other.lines) (free i low)
 
   -- a lawful report has each form, by an object that is the same
-  pub has_form : (object other : Sequential) (form : Form) (f : Findings) → object ≡ other → IsReportOf object.init object.next s locals plan allotments f → HasForm other form f
+  pub has_form : (object other : Sequential) (form : Form) (f : Findings) → object ≡ other
+      → IsReportOf object.init object.next s locals plan allotments f → HasForm other form f
   has_form object other Report f same is = tt
   has_form object other Counts f same is = tt
   has_form object other Certificate f same is =
-      subst (λ (o : Sequential). HasForm o Certificate f) same (lawful_reports_have_an_order object.init object.next s plan.operations allotments f.lines is.lawful)
+      subst (λ (o : Sequential). HasForm o Certificate f) same (lawful_reports_have_an_order
+      object.init object.next s plan.operations allotments f.lines is.lawful)
 
 -- where memory was wanted, no report decides
-pub no_memory_ends : {P : Type 0} (object : Sequential) (meaning : P → ℕ → ℕ → Meaning) (rows : Rows P) (bench : Bench P) (plan : Plan) (allotments : List ℕ) → EndsByReport object meaning rows bench plan allotments NoMemory
+pub no_memory_ends : {P : Type 0} (object : Sequential) (meaning : P → ℕ → ℕ → Meaning)
+    (rows : Rows P) (bench : Bench P) (plan : Plan) (allotments : List ℕ)
+    → EndsByReport object meaning rows bench plan allotments NoMemory
 no_memory_ends object meaning rows bench plan allotments =
-    record { found = λ report is error. inr (inr refl); fine = λ report is none. inr (inr refl); free = λ some. absurd (some refl) }
+    record {
+      found = λ report is error. inr (inr refl);
+      fine = λ report is none. inr (inr refl);
+      free = λ some. absurd (some refl);
+    }
 
 -- what is written of one report of a bench ends by it
-pub ends_by_one : {P : Type 0} (object : Sequential) (meaning : P → ℕ → ℕ → Meaning) (rows : Rows P) (bench : Bench P) (plan : Plan) (allotments : List ℕ) (status : Status) (one : Findings)
-    → IsBenchReport object meaning rows bench plan allotments one → ((i : ℕ) → i < length plan.operations → IsFreeAgain bench allotments one i)
-    → (list_any any_error one.lines ≡ true → (status ≡ Found) ⊎ (status ≡ WriteFault) ⊎ (status ≡ NoMemory))
-    → (list_any any_error one.lines ≡ false → (status ≡ Fine) ⊎ (status ≡ WriteFault) ⊎ (status ≡ NoMemory))
+pub ends_by_one : {P : Type 0} (object : Sequential) (meaning : P → ℕ → ℕ → Meaning) (rows : Rows P)
+    (bench : Bench P) (plan : Plan) (allotments : List ℕ) (status : Status) (one : Findings)
+    → IsBenchReport object meaning rows bench plan allotments one
+    → ((i : ℕ) → i < length plan.operations → IsFreeAgain bench allotments one i)
+    → (list_any any_error one.lines ≡ true → (status ≡ Found) ⊎ (status ≡ WriteFault)
+    ⊎ (status ≡ NoMemory))
+    → (list_any any_error one.lines ≡ false → (status ≡ Fine) ⊎ (status ≡ WriteFault)
+    ⊎ (status ≡ NoMemory))
     → EndsByReport object meaning rows bench plan allotments status
 ends_by_one object meaning rows bench plan allotments status one is free found fine =
-    let same = λ (report : Findings) (of : IsBenchReport object meaning rows bench plan allotments report).
-    one_report (shape_of meaning rows) (locals_on bench) plan allotments object.init object.next one report is of in
+    let same =
+    λ (report : Findings) (of : IsBenchReport object meaning rows bench plan allotments report).
+    one_report (shape_of meaning rows)
+    (locals_on bench) plan allotments object.init object.next one report is of in
     record {
       found = λ report of error. found (same report of ∙ error);
       fine = λ report of none. fine (same report of ∙ none);
-      free = λ some report of. one_standing (shape_of meaning rows) (locals_on bench) plan allotments bench object.init object.next one report is of free;
+      free = λ some report of. one_standing (shape_of meaning rows)
+          (locals_on bench) plan allotments bench object.init object.next one report is of free;
     }

@@ -15,30 +15,44 @@ use Rattle.run_writer.specs.declared.form.Form.TheVariants.{Counts as Numbers}
 use Rattle.run_writer.specs.Runs.{StatusesTellErrors, IsRunOutput, counts_text, object_of_kind, status_of}
 
 pub statuses_tell_errors : StatusesTellErrors
-statuses_tell_errors object report form status text (other, is, written, status_is) = elim (cases_Bool (list_any any_error report.lines)) [
-  | inl error ↦ inl (status_is ∙ ap status_of is ∙ ap (λ (b : Bool). if b then Found else Fine) error, error)
-  | inr none ↦ inr (status_is ∙ ap status_of is ∙ ap (λ (b : Bool). if b then Found else Fine) none, none)
-]
+statuses_tell_errors object report form status text (other, is, written, status_is) =
+    elim (cases_Bool (list_any any_error report.lines)) [
+      | inl error ↦
+          inl
+          (status_is ∙ ap status_of is ∙ ap (λ (b : Bool). if b then Found else Fine) error, error)
+      | inr none ↦
+          inr
+          (status_is ∙ ap status_of is ∙ ap (λ (b : Bool). if b then Found else Fine) none, none)
+    ]
 
 abbrev quiet : Findings
 quiet = of_queue ((pending 5 ∷ []) ∷ [])
 
-pub found : IsRunOutput (object_of_kind Queue) (λ report. report ≡ worked) Numbers Found (counts_text (record { calls = 4; delivered = 1; errors = 1 }))
+pub found : IsRunOutput (object_of_kind Queue) (λ report. report ≡ worked) Numbers Found
+    (counts_text (record { calls = 4; delivered = 1; errors = 1 }))
 found = (worked, refl, refl, refl)
 
-pub fine : IsRunOutput (object_of_kind Queue) (λ report. report ≡ quiet) Numbers Fine (counts_text (record { calls = 1; delivered = 0; errors = 0 }))
+pub fine : IsRunOutput (object_of_kind Queue) (λ report. report ≡ quiet) Numbers Fine
+    (counts_text (record { calls = 1; delivered = 0; errors = 0 }))
 fine = (quiet, refl, refl, refl)
 
-pub not_fine : IsRunOutput (object_of_kind Queue) (λ report. report ≡ worked) Numbers Fine (counts_text (record { calls = 4; delivered = 1; errors = 1 })) → ⊥
-not_fine (report, is, written, status) = let same : Fine ≡ Found = status ∙ ap status_of is in absurd cc
+pub not_fine : IsRunOutput (object_of_kind Queue) (λ report. report ≡ worked) Numbers Fine
+    (counts_text (record { calls = 4; delivered = 1; errors = 1 })) → ⊥
+not_fine (report, is, written, status) = let same : Fine ≡ Found = status ∙ ap status_of is in
+    absurd cc
 
-pub not_found : IsRunOutput (object_of_kind Queue) (λ report. report ≡ quiet) Numbers Found (counts_text (record { calls = 1; delivered = 0; errors = 0 })) → ⊥
-not_found (report, is, written, status) = let same : Found ≡ Fine = status ∙ ap status_of is in absurd cc
+pub not_found : IsRunOutput (object_of_kind Queue) (λ report. report ≡ quiet) Numbers Found
+    (counts_text (record { calls = 1; delivered = 0; errors = 0 })) → ⊥
+not_found (report, is, written, status) = let same : Found ≡ Fine = status ∙ ap status_of is in
+    absurd cc
 
 pub no_text : IsRunOutput (object_of_kind Queue) (λ report. report ≡ worked) Numbers Found [] → ⊥
 no_text (report, is, written, status) =
-    let lengths : 0 ≡ length (counts_text (counts_of worked.lines)) = ap (λ (text : List ℕ). length text) (written ∙ ap (λ (r : Findings). counts_text (counts_of r.lines)) is) in
+    let lengths : 0 ≡ length (counts_text (counts_of worked.lines)) =
+    ap (λ (text : List ℕ). length text)
+    (written ∙ ap (λ (r : Findings). counts_text (counts_of r.lines)) is) in
     omega (arith, lengths)
 
-pub no_report : IsRunOutput (object_of_kind Queue) (λ report. ⊥) Numbers Fine (counts_text (record { calls = 0; delivered = 0; errors = 0 })) → ⊥
+pub no_report : IsRunOutput (object_of_kind Queue) (λ report. ⊥) Numbers Fine
+    (counts_text (record { calls = 0; delivered = 0; errors = 0 })) → ⊥
 no_report (report, is, written, status) = is

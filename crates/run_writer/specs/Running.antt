@@ -14,30 +14,43 @@ use Rattle.run_report.specs.Reporting.{IsReportOf, IsFreeAgain, IsToldIn}
 use Rattle.byte_streams.specs.declared.status.Status.{Status}
 use Rattle.byte_streams.specs.declared.status.Status.TheVariants.{Fine, Found, WriteFault, NoMemory}
 
--- The report of a plan's callers that had these allotments, judged by a sequential object: of the locals that are on this bench, and
--- lawful.
-abbrev pub IsBenchReport : {P : Type 0} → Sequential → (P → ℕ → ℕ → Meaning) → Rows P → Bench P → Plan → List ℕ → Findings → Type 0
+-- The report of a plan's callers that had these allotments, judged by a sequential object: of the
+-- locals that are on this bench, and lawful.
+abbrev pub IsBenchReport : {P : Type 0} → Sequential → (P → ℕ → ℕ → Meaning) → Rows P → Bench P
+    → Plan → List ℕ → Findings → Type 0
 IsBenchReport object meaning rows bench plan allotments findings =
-    IsReportOf object.init object.next (shape_of meaning rows) (locals_on bench) plan allotments findings
+    IsReportOf object.init object.next (shape_of meaning rows)
+    (locals_on bench) plan allotments findings
 
 -- So is this report, and no line of it is an error.
-pub record IsCoreReport {P : Type 0} (object : Sequential) (meaning : P → ℕ → ℕ → Meaning) (rows : Rows P) (bench : Bench P) (plan : Plan) (allotments : List ℕ) (findings : Findings) : Type 0 where
+pub record IsCoreReport {P : Type 0} (object : Sequential) (meaning : P → ℕ → ℕ → Meaning)
+    (rows : Rows P) (bench : Bench P) (plan : Plan) (allotments : List ℕ)
+    (findings : Findings) : Type 0 where
   pub report : IsBenchReport object meaning rows bench plan allotments findings
   pub no_error : list_any any_error findings.lines ≡ false
 
--- So is this report, and these passes, in order, are told in it: each was asked for just the calls that its caller's lines tell of,
--- and where it tells a list, that has their operations and their replies.
-pub record IsToldBenchReport {P T : Type 0} (object : Sequential) (meaning : P → ℕ → ℕ → Meaning) (rows : Rows P) (bench : Bench P) (made : T → ℕ) (told : T → Option (List (ℕ × ℕ))) (passes : List T) (plan : Plan) (allotments : List ℕ) (findings : Findings) : Type 0 where
+-- So is this report, and these passes, in order, are told in it: each was asked for just the calls
+-- that its caller's lines tell of, and where it tells a list, that has their operations and their
+-- replies.
+pub record IsToldBenchReport {P T : Type 0} (object : Sequential) (meaning : P → ℕ → ℕ → Meaning)
+    (rows : Rows P) (bench : Bench P) (made : T → ℕ) (told : T → Option (List (ℕ × ℕ)))
+    (passes : List T) (plan : Plan) (allotments : List ℕ) (findings : Findings) : Type 0 where
   pub report : IsBenchReport object meaning rows bench plan allotments findings
   pub told_in : AreInOrder (IsToldIn made told allotments findings) passes
 
--- A run ended with this status by its report: with an error found where a line of it is an error, and fine where none is, failed writes
--- and want of memory aside. Each caller without an error line that stopped between two calls, or made all of its calls, stands free for
--- its next one, want of memory aside.
-pub record EndsByReport {P : Type 0} (object : Sequential) (meaning : P → ℕ → ℕ → Meaning) (rows : Rows P) (bench : Bench P) (plan : Plan) (allotments : List ℕ) (status : Status) : Type 0 where
-  pub found : (report : Findings) → IsBenchReport object meaning rows bench plan allotments report → list_any any_error report.lines ≡ true
+-- A run ended with this status by its report: with an error found where a line of it is an error,
+-- and fine where none is, failed writes and want of memory aside. Each caller without an error line
+-- that stopped between two calls, or made all of its calls, stands free for its next one, want of
+-- memory aside.
+pub record EndsByReport {P : Type 0} (object : Sequential) (meaning : P → ℕ → ℕ → Meaning)
+    (rows : Rows P) (bench : Bench P) (plan : Plan) (allotments : List ℕ)
+    (status : Status) : Type 0 where
+  pub found : (report : Findings) → IsBenchReport object meaning rows bench plan allotments report
+      → list_any any_error report.lines ≡ true
       → (status ≡ Found) ⊎ (status ≡ WriteFault) ⊎ (status ≡ NoMemory)
-  pub fine : (report : Findings) → IsBenchReport object meaning rows bench plan allotments report → list_any any_error report.lines ≡ false
+  pub fine : (report : Findings) → IsBenchReport object meaning rows bench plan allotments report
+      → list_any any_error report.lines ≡ false
       → (status ≡ Fine) ⊎ (status ≡ WriteFault) ⊎ (status ≡ NoMemory)
-  pub free : ¬ (status ≡ NoMemory) → (report : Findings) → IsBenchReport object meaning rows bench plan allotments report
+  pub free : ¬ (status ≡ NoMemory) → (report : Findings)
+      → IsBenchReport object meaning rows bench plan allotments report
       → (i : ℕ) → i < length plan.operations → IsFreeAgain bench allotments report i

@@ -23,16 +23,19 @@ use Rattle.byte_streams.specs.declared.status.Status.{Status}
 use Rattle.byte_streams.specs.declared.status.Status.TheVariants.{Fine, Found}
 use Rattle.byte_streams.specs.Writing.{EndsWriting}
 
--- The rest of what is written after a report: where a line is an error, the text of the book that the first error saw, else nothing.
+-- The rest of what is written after a report: where a line is an error, the text of the book that
+-- the first error saw, else nothing.
 abbrev pub IsWitnessText : Findings → List ℕ → Type 0
 IsWitnessText report rest =
     ((list_any any_error report.lines ≡ false) × (rest ≡ []))
-    ⊎ ((book : List Page) × IsWitness report.lines book × books.IsWrittenText Second rest report.kind book)
+    ⊎ ((book : List Page) × IsWitness report.lines book
+    × books.IsWrittenText Second rest report.kind book)
 
 -- the line of a report's three counts
 abbrev pub counts_text : Counts → List ℕ
 counts_text counts =
-    codes "calls " ++ decimal counts.calls ++ codes " delivered " ++ decimal counts.delivered ++ codes " errors " ++ decimal counts.errors ++ codes "\n"
+    codes "calls " ++ decimal counts.calls ++ codes " delivered " ++ decimal counts.delivered
+    ++ codes " errors " ++ decimal counts.errors ++ codes "\n"
 
 -- The sequential object of a kind.
 abbrev pub object_of_kind : Kind → Sequential
@@ -40,11 +43,13 @@ object_of_kind kind = object_by kind_init kind_next kind
 
 -- What a form writes of a report whose lines are judged by a sequential object.
 abbrev pub IsWritten : Sequential → Form → Findings → List ℕ → Type 0
-IsWritten object Report report text = (shown : List ℕ) × (rest : List ℕ) × reports.IsWrittenText shown report × IsWitnessText report rest × (text ≡ shown ++ rest)
+IsWritten object Report report text = (shown : List ℕ) × (rest : List ℕ)
+    × reports.IsWrittenText shown report × IsWitnessText report rest × (text ≡ shown ++ rest)
 IsWritten object Numbers report text = text ≡ counts_text (counts_of report.lines)
 IsWritten object Certificate report text = IsCertificate object.init object.next report text
 
--- A report has a form: a certificate wants a legal order of what was delivered, as every lawful report has.
+-- A report has a form: a certificate wants a legal order of what was delivered, as every lawful
+-- report has.
 abbrev pub HasForm : Sequential → Form → Findings → Type 0
 HasForm object Report report = Unit {0}
 HasForm object Numbers report = Unit {0}
@@ -54,36 +59,53 @@ HasForm object Certificate report = HasDeliveredOrder object.init object.next re
 abbrev pub status_of : Findings → Status
 status_of report = if list_any any_error report.lines then Found else Fine
 
--- The output of a run with one of these reports, whose lines are judged by a sequential object: a status and a text.
+-- The output of a run with one of these reports, whose lines are judged by a sequential object: a
+-- status and a text.
 abbrev pub IsRunOutput : Sequential → (Findings → Type 0) → Form → Status → List ℕ → Type 0
-IsRunOutput object IsReportOf form status text = (report : Findings) × IsReportOf report × IsWritten object form report text × (status ≡ status_of report)
+IsRunOutput object IsReportOf form status text = (report : Findings) × IsReportOf report
+    × IsWritten object form report text × (status ≡ status_of report)
 
--- A call that writes what a form shows of a run with one of these reports has ended with a status: what it wrote, after the bytes
--- that the sink had taken.
-abbrev pub RunEnds : Sequential → (Findings → Type 0) → Form → Status → Option (List ℕ) → Option (List ℕ) → Type 0
-RunEnds object IsReportOf form status taken taken' = EndsWriting (IsRunOutput object IsReportOf form) status taken taken'
+-- A call that writes what a form shows of a run with one of these reports has ended with a status:
+-- what it wrote, after the bytes that the sink had taken.
+abbrev pub RunEnds : Sequential → (Findings → Type 0) → Form → Status → Option (List ℕ)
+    → Option (List ℕ) → Type 0
+RunEnds object IsReportOf form status taken taken' =
+    EndsWriting (IsRunOutput object IsReportOf form) status taken taken'
 
 -- The status of an output tells whether a line of its report is an error.
 abbrev pub StatusesTellErrors : Type 0
-StatusesTellErrors = (object : Sequential) (report : Findings) (form : Form) (status : Status) (text : List ℕ) → IsRunOutput object (λ other. other ≡ report) form status text
-    → ((status ≡ Found) × (list_any any_error report.lines ≡ true)) ⊎ ((status ≡ Fine) × (list_any any_error report.lines ≡ false))
+StatusesTellErrors =
+    (object : Sequential) (report : Findings) (form : Form) (status : Status) (text : List ℕ)
+    → IsRunOutput object (λ other. other ≡ report) form status text
+    → ((status ≡ Found) × (list_any any_error report.lines ≡ true))
+    ⊎ ((status ≡ Fine) × (list_any any_error report.lines ≡ false))
 
 -- A form but the certificate writes one text of a report.
 abbrev pub FormsWriteOneText : Type 0
 FormsWriteOneText = (object : Sequential) (form : Form) (report : Findings) (a b : List ℕ)
     → form ≢ Certificate → IsWritten object form report a → IsWritten object form report b → a ≡ b
 
--- Whoever reads a certificate reads the report's kind, and an order of its book that is legal for the object.
+-- Whoever reads a certificate reads the report's kind, and an order of its book that is legal for
+-- the object.
 abbrev pub CertificatesAreLegal : Type 0
-CertificatesAreLegal = (object : Sequential) (report : Findings) (text : List ℕ) (kind : Kind) (book : List Page) (order : List Place)
-    → IsWritten object Certificate report text → IsCertificateText text kind book order → (kind ≡ report.kind) × IsLegalOrder object.init object.next book order
+CertificatesAreLegal = (object : Sequential) (report : Findings) (text : List ℕ) (kind : Kind)
+    (book : List Page) (order : List Place)
+    → IsWritten object Certificate report text → IsCertificateText text kind book order
+    → (kind ≡ report.kind) × IsLegalOrder object.init object.next book order
 
--- Where that is the object of the report's kind, the order is legal for the kind that the certificate names.
+-- Where that is the object of the report's kind, the order is legal for the kind that the
+-- certificate names.
 abbrev pub CertificatesAreOfTheirKind : Type 0
-CertificatesAreOfTheirKind = (report : Findings) (text : List ℕ) (kind : Kind) (book : List Page) (order : List Place)
-    → IsWritten (object_of_kind report.kind) Certificate report text → IsCertificateText text kind book order → IsLegalOrder (kind_init kind) (kind_next kind) book order
+CertificatesAreOfTheirKind =
+    (report : Findings) (text : List ℕ) (kind : Kind) (book : List Page) (order : List Place)
+    → IsWritten (object_of_kind report.kind) Certificate report text
+    → IsCertificateText text kind book order
+    → IsLegalOrder (kind_init kind) (kind_next kind) book order
 
--- Certificates of a report may differ in their orders alone: whoever reads two of them reads one kind and one book.
+-- Certificates of a report may differ in their orders alone: whoever reads two of them reads one
+-- kind and one book.
 abbrev pub CertificatesTellOneBook : Type 0
-CertificatesTellOneBook = (object : Sequential) (report : Findings) (a b : List ℕ) (k l : Kind) (p q : List Page) (order other : List Place)
-    → IsWritten object Certificate report a → IsWritten object Certificate report b → IsCertificateText a k p order → IsCertificateText b l q other → (k ≡ l) × (p ≡ q)
+CertificatesTellOneBook = (object : Sequential) (report : Findings) (a b : List ℕ) (k l : Kind)
+    (p q : List Page) (order other : List Place)
+    → IsWritten object Certificate report a → IsWritten object Certificate report b
+    → IsCertificateText a k p order → IsCertificateText b l q other → (k ≡ l) × (p ≡ q)

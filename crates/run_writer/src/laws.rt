@@ -13,9 +13,9 @@ pub fn a_report_and_its_counts_have_one_text()
     ensures { FormsWriteOneText }
 {}
 
-/// Whoever reads a certificate of a report reads the report's kind, and an order of its book that is
-/// legal for the object by which it was judged: the object of the kind that it names, where that is
-/// the one. Two certificates of a report may differ in their orders alone.
+/// Whoever reads a certificate of a report reads the report's kind, and an order of its book that
+/// is legal for the object by which it was judged: the object of the kind that it names, where that
+/// is the one. Two certificates of a report may differ in their orders alone.
 pub fn certificates_are_legal_and_tell_one_book()
     // Whoever reads a certificate of a report reads the report's kind, and an order of its book
     // that is legal for the object that the report was judged by.
@@ -33,8 +33,8 @@ pub fn statuses_tell_errors()
     ensures { StatusesTellErrors }
 {}
 
-/// Worked outputs: the counts of a report with an error, and of one without, each with its status and
-/// with no other; no other text; and nothing where there is no report.
+/// Worked outputs: the counts of a report with an error, and of one without, each with its status
+/// and with no other; no other text; and nothing where there is no report.
 #[tactic(auto, using(crate::proofs::Statuses::found, crate::proofs::Statuses::not_fine, crate::proofs::Statuses::fine, crate::proofs::Statuses::not_found, crate::proofs::Statuses::no_text, crate::proofs::Statuses::no_report))]
 pub fn outputs_have_their_status()
     ensures found { IsRunOutput (object_of_kind Queue) (λ report. report ≡ worked) Numbers Found
@@ -47,7 +47,8 @@ pub fn outputs_have_their_status()
     ensures not_found { ¬ IsRunOutput (object_of_kind Queue)
         (λ report. report ≡ of_queue ((pending 5 ∷ []) ∷ [])) Numbers Found
         (counts_text (record { calls = 1; delivered = 0; errors = 0 })) }
-    ensures no_text { ¬ IsRunOutput (object_of_kind Queue) (λ report. report ≡ worked) Numbers Found [] }
+    ensures no_text { ¬ IsRunOutput (object_of_kind Queue)
+        (λ report. report ≡ worked) Numbers Found [] }
     ensures no_report { ¬ IsRunOutput (object_of_kind Queue) (λ report. ⊥) Numbers Fine
         (counts_text (record { calls = 0; delivered = 0; errors = 0 })) }
 {}

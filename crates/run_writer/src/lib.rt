@@ -1,4 +1,5 @@
-//! Whole runs and replays of a script over any object behind the trait, and what is written of them.
+//! Whole runs and replays of a script over any object behind the trait, and what is written of
+//! them.
 #![tactic(auto)]
 
 mod form;

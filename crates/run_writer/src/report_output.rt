@@ -41,7 +41,8 @@ pub fn write_report<S: SeqObject, K: Sink>(
     ensures fine { list_any any_error report.now.lines ≡ false →
         (result ≡ Status.Fine) ⊎ (result ≡ Status.WriteFault) ⊎ (result ≡ Status.NoMemory) }
 
-    // A fault has its cause in a count that rose in this call, and every other answer comes where none rose.
+    // A fault has its cause in a count that rose in this call, and every other answer comes where
+    // none rose.
     ensures faults { LeavesSink K.faults result sink.old sink.new }
 {
     match shown(alloc, form, sequential, report) {

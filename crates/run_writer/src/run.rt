@@ -60,7 +60,8 @@ where
 
     // What stands afterwards, whatever the answer.
     // The bench is still one of these rows, and holds all their callers.
-    ensures bench { IsBenchOf ⟦<Outside as Program>⟧.meaning rows.now bench.new × HoldsAll bench.new }
+    ensures bench { IsBenchOf ⟦<Outside as Program>⟧.meaning rows.now bench.new
+        × HoldsAll bench.new }
     // There is one pass for each caller of the script.
     ensures all_passes { vec_len passes.new ≡ length script.now.operations }
     // Each pass is one of this object's, and that of its caller, in order.
@@ -70,18 +71,22 @@ where
     // asked.
     ensures back { (i : ℕ) → i < length script.now.operations → IsBackOn
         ⟦<Outside as Program>⟧.meaning rows.now (fits_own (B.is_own object.now) B.Pass.caller)
-        (own_count B.Pass.made B.Pass.cap B.Pass.told) script.now.operations (run_allotments script.now)
+        (own_count B.Pass.made B.Pass.cap B.Pass.told) script.now.operations
+        (run_allotments script.now)
         bench.new passes.new.items i }
 
     // The headline: what was written, by the status, is of a lawful report of the locals on the
     // bench.
     ensures ends { RunEnds (object_of_kind script.now.kind)
-        (IsToldBenchReport (object_of_kind script.now.kind) ⟦<Outside as Program>⟧.meaning rows.now bench.new
+        (IsToldBenchReport (object_of_kind script.now.kind) ⟦<Outside as Program>⟧.meaning
+        rows.now bench.new
         B.Pass.made B.Pass.told passes.new.items script.now (run_allotments script.now))
         form result (K.taken sink.old) (K.taken sink.new) }
 
-    // Whether a line of that report is an error decides the status, and who stands free for its next call.
-    ensures reported { EndsByReport (object_of_kind script.now.kind) ⟦<Outside as Program>⟧.meaning rows.now
+    // Whether a line of that report is an error decides the status, and who stands free for its
+    // next call.
+    ensures reported { EndsByReport (object_of_kind script.now.kind)
+        ⟦<Outside as Program>⟧.meaning rows.now
         bench.new script.now (run_allotments script.now) result }
 
     // A fault has its cause in a count that rose in this call, and every other answer comes where
@@ -95,11 +100,11 @@ where
     }
 }
 
-/// Lets all callers of a script take its turns over any object behind the trait, in one thread, and writes what the form shows of
-/// their report, which is lawful.
+/// Lets all callers of a script take its turns over any object behind the trait, in one thread, and
+/// writes what the form shows of their report, which is lawful.
 ///
-/// The bench holds all callers, unused, and each has its pass of the object, unused too; afterwards it holds them all again, and
-/// the passes are in their order, whatever the answer.
+/// The bench holds all callers, unused, and each has its pass of the object, unused too; afterwards
+/// it holds them all again, and the passes are in their order, whatever the answer.
 pub fn replay_and_write<B: BlackBox, K: Sink>(
     alloc: Global,
     rows: &Rows,
@@ -120,7 +125,8 @@ pub fn replay_and_write<B: BlackBox, K: Sink>(
 
     // What stands afterwards, whatever the answer.
     // The bench is still one of these rows, and holds all their callers.
-    ensures bench { IsBenchOf ⟦<Outside as Program>⟧.meaning rows.now bench.new × HoldsAll bench.new }
+    ensures bench { IsBenchOf ⟦<Outside as Program>⟧.meaning rows.now bench.new
+        × HoldsAll bench.new }
     // There is one pass for each caller of the script.
     ensures all_passes { vec_len passes.new ≡ length script.now.operations }
     // Each pass is one of this object's, and that of its caller, in order.
@@ -130,20 +136,26 @@ pub fn replay_and_write<B: BlackBox, K: Sink>(
     // that were asked.
     ensures back { (i : ℕ) → i < length script.now.operations → IsBackOn
         ⟦<Outside as Program>⟧.meaning rows.now (fits_own (B.is_own object.now) B.Pass.caller)
-        (own_count B.Pass.made B.Pass.cap B.Pass.told) script.now.operations (replay_allotments script.now)
+        (own_count B.Pass.made B.Pass.cap B.Pass.told) script.now.operations
+        (replay_allotments script.now)
         bench.new passes.new.items i }
 
-    // The headline: what was written, by the status, is of a lawful report of the locals on the bench.
+    // The headline: what was written, by the status, is of a lawful report of the locals on the
+    // bench.
     ensures ends { RunEnds (object_of_kind script.now.kind)
-        (IsToldBenchReport (object_of_kind script.now.kind) ⟦<Outside as Program>⟧.meaning rows.now bench.new
+        (IsToldBenchReport (object_of_kind script.now.kind) ⟦<Outside as Program>⟧.meaning
+        rows.now bench.new
         B.Pass.made B.Pass.told passes.new.items script.now (replay_allotments script.now))
         form result (K.taken sink.old) (K.taken sink.new) }
 
-    // Whether a line of that report is an error decides the status, and who stands free for its next call.
-    ensures reported { EndsByReport (object_of_kind script.now.kind) ⟦<Outside as Program>⟧.meaning rows.now
+    // Whether a line of that report is an error decides the status, and who stands free for its
+    // next call.
+    ensures reported { EndsByReport (object_of_kind script.now.kind)
+        ⟦<Outside as Program>⟧.meaning rows.now
         bench.new script.now (replay_allotments script.now) result }
 
-    // A fault has its cause in a count that rose in this call, and every other answer comes where none rose.
+    // A fault has its cause in a count that rose in this call, and every other answer comes where
+    // none rose.
     ensures faults { LeavesSink K.faults result sink.old sink.new }
 {
     let kind = script.kind();
@@ -159,9 +171,9 @@ pub fn replay_and_write<B: BlackBox, K: Sink>(
 /// leaves published records without a legal order (Castañeda and Rodríguez 2023). So the answer is
 /// never that an error was found.
 ///
-/// The rows were opened with the object's program. The bench holds all callers, unused, and each has
-/// its pass of the object, which fits it; afterwards the bench holds them all again, and each pass
-/// fits the object steps that its caller has made, whatever the answer.
+/// The rows were opened with the object's program. The bench holds all callers, unused, and each
+/// has its pass of the object, which fits it; afterwards the bench holds them all again, and each
+/// pass fits the object steps that its caller has made, whatever the answer.
 pub fn core_and_write<R: Threads + Sync, O: CoreObject + Sync, K: Sink>(
     rt: &R,
     alloc: Global,
@@ -184,7 +196,8 @@ where
     requires begins { MayBegin O.P.meaning script.now 0 rows.now bench.old }
     // There is one pass for each caller of the rows, in order, which fits the caller, the number of
     // callers, the cap, and no object steps.
-    requires passes { ArePassesFor (O.fits object.now) rows.now.callers rows.now.cap passes.old.items }
+    requires passes { ArePassesFor (O.fits object.now) rows.now.callers rows.now.cap
+        passes.old.items }
 
     // What stands afterwards, whatever the answer.
     // The bench is still one of these rows, and holds all their callers.
@@ -208,7 +221,8 @@ where
     // So no error is found, and all is fine, failed writes and want of memory aside.
     ensures right { ¬ (result ≡ Status.Found) }
     // The status is `Fine`, `WriteFault` or `NoMemory`.
-    ensures fine { (result ≡ Status.Fine) ⊎ (result ≡ Status.WriteFault) ⊎ (result ≡ Status.NoMemory) }
+    ensures fine { (result ≡ Status.Fine) ⊎ (result ≡ Status.WriteFault)
+        ⊎ (result ≡ Status.NoMemory) }
 
     // By that report, each caller that stopped between two calls, or made all of its calls, stands
     // free for its next one, want of memory aside.

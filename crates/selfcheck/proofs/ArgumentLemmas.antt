@@ -16,21 +16,28 @@ use Rattle.selfcheck.specs.Arguments.{behaviours, behaviour_named, soak_number}
 
 -- a behaviour that is found among some has the name
 found_has_name : (all : List Behaviour) (name : List ℕ) (behaviour : Behaviour)
-    → find (λ (b : Behaviour). bytes_eq (behaviour_name b) name) all ≡ Some behaviour → behaviour_name behaviour ≡ name
+    → find (λ (b : Behaviour). bytes_eq (behaviour_name b) name) all ≡ Some behaviour
+    → behaviour_name behaviour ≡ name
 found_has_name [] name behaviour e = cc
-found_has_name (b ∷ all) name behaviour e = here (found_has_name all name behaviour) (bytes_eq (behaviour_name b) name) (bytes_eq-Decides (behaviour_name b) name).0 e
+found_has_name (b ∷ all) name behaviour e = here (found_has_name all name behaviour)
+    (bytes_eq (behaviour_name b) name) (bytes_eq-Decides (behaviour_name b) name).0 e
   where
-    here : (find (λ (b : Behaviour). bytes_eq (behaviour_name b) name) all ≡ Some behaviour → behaviour_name behaviour ≡ name) → (test : Bool)
-        → (test ≡ true → behaviour_name b ≡ name) → (if test then Some b else find (λ (b : Behaviour). bytes_eq (behaviour_name b) name) all) ≡ Some behaviour
+    here : (find (λ (b : Behaviour). bytes_eq (behaviour_name b) name) all ≡ Some behaviour
+        → behaviour_name behaviour ≡ name) → (test : Bool)
+        → (test ≡ true → behaviour_name b ≡ name)
+        → (if test then Some b else find (λ (b : Behaviour). bytes_eq (behaviour_name b) name) all)
+        ≡ Some behaviour
         → behaviour_name behaviour ≡ name
     here later true same e = let one : b ≡ behaviour = cc in ap behaviour_name (sym one) ∙ same refl
     here later false same e = later e
 
-pub behaviour_named-is : (name : List ℕ) (behaviour : Behaviour) → behaviour_named name ≡ Some behaviour → behaviour_name behaviour ≡ name
+pub behaviour_named-is : (name : List ℕ) (behaviour : Behaviour)
+    → behaviour_named name ≡ Some behaviour → behaviour_name behaviour ≡ name
 unfolding behaviour_named
 behaviour_named-is name behaviour e = found_has_name behaviours name behaviour e
 
-pub behaviour_named-from : (behaviour : Behaviour) → behaviour_named (behaviour_name behaviour) ≡ Some behaviour
+pub behaviour_named-from : (behaviour : Behaviour)
+    → behaviour_named (behaviour_name behaviour) ≡ Some behaviour
 unfolding behaviour_named behaviour_name
 behaviour_named-from Lawful = refl
 behaviour_named-from Tally = refl
@@ -48,38 +55,53 @@ unfolding behaviour_named behaviour_name
 behaviour_named-hyphen bytes = refl
 
 -- what a reader of names answers is the behaviour with the name
-pub behaviour_read : (name : List ℕ) (read : Option Behaviour) → IfSome read (λ b. behaviour_name b ≡ name) → IfNone read ((b : Behaviour) → behaviour_name b ≢ name)
+pub behaviour_read : (name : List ℕ) (read : Option Behaviour)
+    → IfSome read (λ b. behaviour_name b ≡ name)
+    → IfNone read ((b : Behaviour) → behaviour_name b ≢ name)
     → read ≡ behaviour_named name
-behaviour_read name (Some behaviour) found none = sym (ap behaviour_named (sym found) ∙ behaviour_named-from behaviour)
+behaviour_read name (Some behaviour) found none =
+    sym (ap behaviour_named (sym found) ∙ behaviour_named-from behaviour)
 behaviour_read name None found none = here (behaviour_named name) refl
   where
-    here : (named : Option Behaviour) → behaviour_named name ≡ named → ◌≡◌ {A = Option Behaviour} None (behaviour_named name)
+    here : (named : Option Behaviour) → behaviour_named name ≡ named
+        → ◌≡◌ {A = Option Behaviour} None (behaviour_named name)
     here None e = sym e
     here (Some behaviour) e = absurd (none behaviour (behaviour_named-is name behaviour e))
 
 -- ---- numbers
 
 -- the choice of a number
-chosen : (a b : Bool) (n number : ℕ) → (if a && b then Some n else None) ≡ Some number → (a ≡ true) × (b ≡ true) × (n ≡ number)
+chosen : (a b : Bool) (n number : ℕ) → (if a && b then Some n else None) ≡ Some number → (a ≡ true)
+    × (b ≡ true) × (n ≡ number)
 chosen true true n number e = (refl, refl, cc)
 chosen true false n number e = cc
 chosen false b n number e = cc
 
-pub soak_number-is : (word : List ℕ) (number : ℕ) → soak_number word ≡ Some number → (decimal number ≡ word) × (number ≤ 4294967295)
+pub soak_number-is : (word : List ℕ) (number : ℕ) → soak_number word ≡ Some number
+    → (decimal number ≡ word) × (number ≤ 4294967295)
 unfolding soak_number
 soak_number-is word number e =
-    let parts = chosen (bytes_eq (decimal (digits_value 10 word)) word) (nat_le (digits_value 10 word) 4294967295) (digits_value 10 word) number e in (
+    let parts = chosen (bytes_eq (decimal (digits_value 10 word)) word)
+    (nat_le (digits_value 10 word) 4294967295) (digits_value 10 word) number e in (
       ap decimal (sym parts.2) ∙ (bytes_eq-Decides (decimal (digits_value 10 word)) word).0 parts.0,
-      subst (λ (n : ℕ). n ≤ 4294967295) parts.2 (leb-true (digits_value 10 word) 4294967295 parts.1),
+      subst (λ (n : ℕ). n ≤ 4294967295) parts.2
+          (leb-true (digits_value 10 word) 4294967295 parts.1),
     )
 
-pub soak_number-from : (number : ℕ) → number ≤ 4294967295 → soak_number (decimal number) ≡ Some number
+pub soak_number-from : (number : ℕ) → number ≤ 4294967295
+    → soak_number (decimal number) ≡ Some number
 unfolding soak_number
 soak_number-from number few =
-    let value : digits_value 10 (decimal number) ≡ number = (decimal_is_IsNumeral number (omega (arith, few))).1 in
-    let spelled : bytes_eq (decimal (digits_value 10 (decimal number))) (decimal number) ≡ true = (bytes_eq-Decides (decimal (digits_value 10 (decimal number))) (decimal number)).1 (ap decimal value) in
-    let most : nat_le (digits_value 10 (decimal number)) 4294967295 ≡ true = le-leb (digits_value 10 (decimal number)) 4294967295 (subst (λ (n : ℕ). n ≤ 4294967295) (sym value) few) in
-    ap (λ (test : Bool). if test && nat_le (digits_value 10 (decimal number)) 4294967295 then Some (digits_value 10 (decimal number)) else None) spelled
+    let value : digits_value 10 (decimal number) ≡ number =
+    (decimal_is_IsNumeral number (omega (arith, few))).1 in
+    let spelled : bytes_eq (decimal (digits_value 10 (decimal number))) (decimal number) ≡ true =
+    (bytes_eq-Decides (decimal (digits_value 10 (decimal number))) (decimal number)).1
+    (ap decimal value) in
+    let most : nat_le (digits_value 10 (decimal number)) 4294967295 ≡ true =
+    le-leb (digits_value 10 (decimal number)) 4294967295
+    (subst (λ (n : ℕ). n ≤ 4294967295) (sym value) few) in
+    ap (λ (test : Bool). if test && nat_le (digits_value 10 (decimal number)) 4294967295
+    then Some (digits_value 10 (decimal number)) else None) spelled
     ∙ ap (λ (test : Bool). if test then Some (digits_value 10 (decimal number)) else None) most
     ∙ ap (λ (n : ℕ). Some n) value
 
@@ -95,16 +117,21 @@ soak_number-hyphen bytes = here (soak_number (45 ∷ bytes)) refl
         absurd (omega (arith, digit_from_value 45 (subst (AllDigits 10) is.0 numeral.1).0))
 
 -- what a reader of numbers below 2^64 answers, where the number is one of a soak
-pub soak_read : (word : List ℕ) (read : Option ℕ) → IfSome read (λ n. (decimal n ≡ word) × (n ≤ 4294967295))
+pub soak_read : (word : List ℕ) (read : Option ℕ)
+    → IfSome read (λ n. (decimal n ≡ word) × (n ≤ 4294967295))
     → IfNone read ((n : ℕ) → n ≤ 4294967295 → decimal n ≢ word) → read ≡ soak_number word
-soak_read word (Some number) found none = sym (ap soak_number (sym found.0) ∙ soak_number-from number found.1)
+soak_read word (Some number) found none =
+    sym (ap soak_number (sym found.0) ∙ soak_number-from number found.1)
 soak_read word None found none = here (soak_number word) refl
   where
-    here : (named : Option ℕ) → soak_number word ≡ named → ◌≡◌ {A = Option ℕ} None (soak_number word)
+    here : (named : Option ℕ) → soak_number word ≡ named
+        → ◌≡◌ {A = Option ℕ} None (soak_number word)
     here None e = sym e
     here (Some number) e = let is = soak_number-is word number e in absurd (none number is.1 is.0)
 
 -- a number that is too great is none of a soak
-pub soak_too_great : (word : List ℕ) (number : ℕ) → decimal number ≡ word → number < 2 ^ 64 → 4294967295 < number → None ≡ soak_number word
+pub soak_too_great : (word : List ℕ) (number : ℕ) → decimal number ≡ word → number < 2 ^ 64
+    → 4294967295 < number → None ≡ soak_number word
 soak_too_great word number spells small great =
-    soak_read word None tt (λ n few same. let one : n ≡ number = decimal_injective n number (omega (arith, few)) small (same ∙ sym spells) in omega (arith, one, few, great))
+    soak_read word None tt (λ n few same. let one : n ≡ number = decimal_injective n number
+    (omega (arith, few)) small (same ∙ sym spells) in omega (arith, one, few, great))

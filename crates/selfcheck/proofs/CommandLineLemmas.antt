@@ -23,14 +23,18 @@ use Rattle.selfcheck.specs.CommandLine.{line_app, begins_with_hyphen, is_parsed,
 
 -- ---- the table of commands
 
--- a command that is found in rows is found at one of them, and so its word has what all words of the rows have
+-- a command that is found in rows is found at one of them, and so its word has what all words of
+-- the rows have
 at_row : (P : List ℕ → Type 0) (rows : List (List ℕ × Command)) (word : List ℕ) (command : Command)
-    → AllByRecursion (λ (row : List ℕ × Command). P row.0) rows → named_in rows word ≡ Some command → P word
+    → AllByRecursion (λ (row : List ℕ × Command). P row.0) rows
+    → named_in rows word ≡ Some command → P word
 at_row P [] word command all e = cc
 at_row P (row ∷ rows) word command all e =
-    here (at_row P rows word command all.1) (bytes_eq word row.0) (λ t. sym ((bytes_eq-Decides word row.0).0 t)) e
+    here (at_row P rows word command all.1) (bytes_eq word row.0)
+    (λ t. sym ((bytes_eq-Decides word row.0).0 t)) e
   where
-    here : (named_in rows word ≡ Some command → P word) → (test : Bool) → (test ≡ true → row.0 ≡ word)
+    here : (named_in rows word ≡ Some command → P word) → (test : Bool)
+        → (test ≡ true → row.0 ≡ word)
         → (if test then Some row.1 else named_in rows word) ≡ Some command → P word
     here later true same e = subst P (same refl) all.0
     here later false same e = later e
@@ -49,9 +53,12 @@ no_row : (rows : List (List ℕ × Command)) (word : List ℕ) → named_in rows
 no_row [] word e = refl
 no_row (row ∷ rows) word e = here (no_row rows word) (bytes_eq word row.0) refl e
   where
-    here : (named_in rows word ≡ None → find (answers_to word) (map (λ (row : List ℕ × Command). (row.0, [])) rows) ≡ None)
-        → (test : Bool) → bytes_eq word row.0 ≡ test → (if test then Some row.1 else named_in rows word) ≡ None
-        → find (answers_to word) ((row.0, []) ∷ map (λ (row : List ℕ × Command). (row.0, [])) rows) ≡ None
+    here : (named_in rows word ≡ None
+        → find (answers_to word) (map (λ (row : List ℕ × Command). (row.0, [])) rows) ≡ None)
+        → (test : Bool) → bytes_eq word row.0 ≡ test
+        → (if test then Some row.1 else named_in rows word) ≡ None
+        → find (answers_to word)
+        ((row.0, []) ∷ map (λ (row : List ℕ × Command). (row.0, [])) rows) ≡ None
     here later true same e = cc
     here later false same e = rw (apart word row.0 same) (later e)
 
@@ -63,18 +70,22 @@ stopped_by word met = (after_step [] word (walk_from nothing_held) met.0 met.1).
 
 -- what the first word is, by the subcommand that it names
 abbrev met_by : Text → Option (Text × List Text) → Held × Step
-met_by word named = subcommand_or_other [] (option_map (λ (s : Text × List Text). s.0) named) idle 1 word nothing_held
+met_by word named = subcommand_or_other [] (option_map (λ (s : Text × List Text). s.0) named) idle 1
+    word nothing_held
 
-stop_is : (names : Names) (word : Text) → stop_after [] names (word ∷ []) ≡ stopped_by word (met_by word (find (answers_to word) names))
+stop_is : (names : Names) (word : Text)
+    → stop_after [] names (word ∷ []) ≡ stopped_by word (met_by word (find (answers_to word) names))
 unfolding clap_on_literals
 stop_is names word = refl
 
 -- a word that begins with no hyphen is no flag
-plain_met : (word : Text) → bytes_eq word (45 ∷ 45 ∷ []) ≡ false → long_of word ≡ None → short_of word ≡ None → met_by word None ≡ (nothing_held, value)
+plain_met : (word : Text) → bytes_eq word (45 ∷ 45 ∷ []) ≡ false → long_of word ≡ None
+    → short_of word ≡ None → met_by word None ≡ (nothing_held, value)
 unfolding clap_on_literals
 plain_met word dashes long short = rw (long_or_other, dashes, long, short) refl
 
-is_plain : (word : Text) → begins_with_hyphen word ≡ false → met_by word None ≡ (nothing_held, value)
+is_plain : (word : Text) → begins_with_hyphen word ≡ false
+    → met_by word None ≡ (nothing_held, value)
 is_plain [] e = plain_met [] refl refl refl
 is_plain (byte ∷ bytes) e =
     let dashes : bytes_eq (byte ∷ bytes) (45 ∷ 45 ∷ []) ≡ false = rw e refl in
@@ -82,39 +93,53 @@ is_plain (byte ∷ bytes) e =
     let short : short_of (byte ∷ bytes) ≡ None = rw e refl in
     plain_met (byte ∷ bytes) dashes long short
 
-no_stop : (names : Names) (word : Text) → find (answers_to word) names ≡ None → begins_with_hyphen word ≡ false → stop_after [] names (word ∷ []) ≡ None
+no_stop : (names : Names) (word : Text) → find (answers_to word) names ≡ None
+    → begins_with_hyphen word ≡ false → stop_after [] names (word ∷ []) ≡ None
 no_stop names word unknown plain =
-    stop_is names word ∙ ap (λ (named : Option (Text × List Text)). stopped_by word (met_by word named)) unknown ∙ ap (stopped_by word) (is_plain word plain)
+    stop_is names word
+    ∙ ap (λ (named : Option (Text × List Text)). stopped_by word (met_by word named)) unknown
+    ∙ ap (stopped_by word) (is_plain word plain)
 
 -- no subcommand with an argument answers to a word that none of these rows has
-no_argued_row : (rows : List (List ℕ × (List ℕ → Option Command))) (word : List ℕ) → names_argued rows word ≡ false
-    → find (answers_to word) (map (λ (row : List ℕ × (List ℕ → Option Command)). (row.0, [])) rows) ≡ None
+no_argued_row : (rows : List (List ℕ × (List ℕ → Option Command))) (word : List ℕ)
+    → names_argued rows word ≡ false
+    → find (answers_to word)
+    (map (λ (row : List ℕ × (List ℕ → Option Command)). (row.0, [])) rows) ≡ None
 no_argued_row [] word e = refl
 no_argued_row (row ∷ rows) word e = here (no_argued_row rows word) (bytes_eq word row.0) refl e
   where
-    here : (names_argued rows word ≡ false → find (answers_to word) (map (λ (row : List ℕ × (List ℕ → Option Command)). (row.0, [])) rows) ≡ None)
-        → (test : Bool) → bytes_eq word row.0 ≡ test → (if test then true else names_argued rows word) ≡ false
-        → find (answers_to word) ((row.0, []) ∷ map (λ (row : List ℕ × (List ℕ → Option Command)). (row.0, [])) rows) ≡ None
+    here : (names_argued rows word ≡ false → find (answers_to word)
+        (map (λ (row : List ℕ × (List ℕ → Option Command)). (row.0, [])) rows) ≡ None)
+        → (test : Bool) → bytes_eq word row.0 ≡ test
+        → (if test then true else names_argued rows word) ≡ false
+        → find (answers_to word)
+        ((row.0, []) ∷ map (λ (row : List ℕ × (List ℕ → Option Command)). (row.0, [])) rows) ≡ None
     here later true same e = cc
     here later false same e = rw (apart word row.0 same) (later e)
 
 -- a word that a row with an argument has, has what all words of such rows have
-at_argued_row : (P : List ℕ → Type 0) (rows : List (List ℕ × (List ℕ → Option Command))) (word : List ℕ)
-    → AllByRecursion (λ (row : List ℕ × (List ℕ → Option Command)). P row.0) rows → names_argued rows word ≡ true → P word
+at_argued_row : (P : List ℕ → Type 0) (rows : List (List ℕ × (List ℕ → Option Command)))
+    (word : List ℕ)
+    → AllByRecursion (λ (row : List ℕ × (List ℕ → Option Command)). P row.0) rows
+    → names_argued rows word ≡ true → P word
 at_argued_row P [] word all e = cc
 at_argued_row P (row ∷ rows) word all e =
-    here (at_argued_row P rows word all.1) (bytes_eq word row.0) (λ t. sym ((bytes_eq-Decides word row.0).0 t)) e
+    here (at_argued_row P rows word all.1) (bytes_eq word row.0)
+    (λ t. sym ((bytes_eq-Decides word row.0).0 t)) e
   where
-    here : (names_argued rows word ≡ true → P word) → (test : Bool) → (test ≡ true → row.0 ≡ word) → (if test then true else names_argued rows word) ≡ true → P word
+    here : (names_argued rows word ≡ true → P word) → (test : Bool) → (test ≡ true → row.0 ≡ word)
+        → (if test then true else names_argued rows word) ≡ true → P word
     here later true same e = subst P (same refl) all.0
     here later false same e = later e
 
 -- what no row of one list and no row of another has, none of both has
-find_in_both : (p : Text × List Text → Bool) (a b : Names) → find p a ≡ None → find p b ≡ None → find p (a ++ b) ≡ None
+find_in_both : (p : Text × List Text → Bool) (a b : Names) → find p a ≡ None → find p b ≡ None
+    → find p (a ++ b) ≡ None
 find_in_both p [] b none other = other
 find_in_both p (x ∷ xs) b none other = here (find_in_both p xs b) (p x) none
   where
-    here : (find p xs ≡ None → find p b ≡ None → find p (xs ++ b) ≡ None) → (test : Bool) → (if test then Some x else find p xs) ≡ None
+    here : (find p xs ≡ None → find p b ≡ None → find p (xs ++ b) ≡ None) → (test : Bool)
+        → (if test then Some x else find p xs) ≡ None
         → (if test then Some x else find p (xs ++ b)) ≡ None
     here later true e = e
     here later false e = later e other
@@ -137,15 +162,19 @@ abbrev met_by_words : List Text → Option (Text × Option Text)
 met_by_words words = option_map met_in (subcommand_of line_app words)
 
 -- each word of the table is taken, and names its subcommand: one part a row
-rows_are_met : AllByRecursion (λ (row : List ℕ × Command). met_by_words (row.0 ∷ []) ≡ Some (row.0, None)) lone_commands
+rows_are_met : AllByRecursion
+    (λ (row : List ℕ × Command). met_by_words (row.0 ∷ []) ≡ Some (row.0, None)) lone_commands
 unfolding clap_on_literals
 rows_are_met = (refl, (refl, (refl, (refl, (refl, tt)))))
 
-rows_are_taken : AllByRecursion (λ (row : List ℕ × Command). takes line_app (row.0 ∷ []) ≡ true) lone_commands
+rows_are_taken : AllByRecursion
+    (λ (row : List ℕ × Command). takes line_app (row.0 ∷ []) ≡ true) lone_commands
 unfolding clap_on_literals
 rows_are_taken = (refl, (refl, (refl, (refl, (refl, tt)))))
 
-rows_are_plain : AllByRecursion (λ (row : List ℕ × Command). (begins_with_hyphen row.0 ≡ false) × (has_argument row.0 ≡ false)) lone_commands
+rows_are_plain : AllByRecursion
+    (λ (row : List ℕ × Command). (begins_with_hyphen row.0 ≡ false) × (has_argument row.0 ≡ false))
+    lone_commands
 unfolding has_argument
 rows_are_plain = ((refl, refl), ((refl, refl), ((refl, refl), ((refl, refl), ((refl, refl), tt)))))
 
@@ -155,71 +184,111 @@ pub record IsPlainText (argument : Text) : Type 0 where
   pub long : long_of argument ≡ None
   pub short : short_of argument ≡ None
 
--- with such an argument, each word of the other table is taken, and names its subcommand and the argument: one part a row
-argued_rows_are_met : AllByRecursion (λ (row : List ℕ × (List ℕ → Option Command)). (argument : Text) → IsPlainText argument
+-- with such an argument, each word of the other table is taken, and names its subcommand and the
+-- argument: one part a row
+argued_rows_are_met : AllByRecursion
+    (λ (row : List ℕ × (List ℕ → Option Command)). (argument : Text) → IsPlainText argument
     → met_by_words (row.0 ∷ argument ∷ []) ≡ Some (row.0, Some argument)) argued_commands
 unfolding clap_on_literals
 argued_rows_are_met = (
   λ argument plain. rw (plain.dashes, plain.long, plain.short) refl,
-  (λ argument plain. rw (plain.dashes, plain.long, plain.short) refl, (λ argument plain. rw (plain.dashes, plain.long, plain.short) refl, (λ argument plain. rw (plain.dashes, plain.long, plain.short) refl, (λ argument plain. rw (plain.dashes, plain.long, plain.short) refl, tt)))),
+  (
+    λ argument plain. rw (plain.dashes, plain.long, plain.short) refl,
+    (
+      λ argument plain. rw (plain.dashes, plain.long, plain.short) refl,
+      (
+        λ argument plain. rw (plain.dashes, plain.long, plain.short) refl,
+        (λ argument plain. rw (plain.dashes, plain.long, plain.short) refl, tt),
+      ),
+    ),
+  ),
 )
 
-argued_rows_are_taken : AllByRecursion (λ (row : List ℕ × (List ℕ → Option Command)). (argument : Text) → IsPlainText argument
+argued_rows_are_taken : AllByRecursion
+    (λ (row : List ℕ × (List ℕ → Option Command)). (argument : Text) → IsPlainText argument
     → takes line_app (row.0 ∷ argument ∷ []) ≡ true) argued_commands
 unfolding clap_on_literals
 argued_rows_are_taken = (
   λ argument plain. rw (plain.dashes, plain.long, plain.short) refl,
-  (λ argument plain. rw (plain.dashes, plain.long, plain.short) refl, (λ argument plain. rw (plain.dashes, plain.long, plain.short) refl, (λ argument plain. rw (plain.dashes, plain.long, plain.short) refl, (λ argument plain. rw (plain.dashes, plain.long, plain.short) refl, tt)))),
+  (
+    λ argument plain. rw (plain.dashes, plain.long, plain.short) refl,
+    (
+      λ argument plain. rw (plain.dashes, plain.long, plain.short) refl,
+      (
+        λ argument plain. rw (plain.dashes, plain.long, plain.short) refl,
+        (λ argument plain. rw (plain.dashes, plain.long, plain.short) refl, tt),
+      ),
+    ),
+  ),
 )
 
 text_is_plain : (argument : Text) → begins_with_hyphen argument ≡ false → IsPlainText argument
 text_is_plain [] e = record { dashes = refl; long = refl; short = refl }
 text_is_plain (byte ∷ bytes) e = record { dashes = rw e refl; long = rw e refl; short = rw e refl }
 
-known_met : (word : List ℕ) (command : Command) → lone_command word ≡ Some command → met_by_words (word ∷ []) ≡ Some (word, None)
+known_met : (word : List ℕ) (command : Command) → lone_command word ≡ Some command
+    → met_by_words (word ∷ []) ≡ Some (word, None)
 unfolding lone_command
-known_met word command e = at_row (λ word. met_by_words (word ∷ []) ≡ Some (word, None)) lone_commands word command rows_are_met e
+known_met word command e = at_row
+    (λ word. met_by_words (word ∷ []) ≡ Some (word, None)) lone_commands word command rows_are_met e
 
-known_taken : (word : List ℕ) (command : Command) → lone_command word ≡ Some command → takes line_app (word ∷ []) ≡ true
+known_taken : (word : List ℕ) (command : Command) → lone_command word ≡ Some command
+    → takes line_app (word ∷ []) ≡ true
 unfolding lone_command
-known_taken word command e = at_row (λ word. takes line_app (word ∷ []) ≡ true) lone_commands word command rows_are_taken e
+known_taken word command e =
+    at_row (λ word. takes line_app (word ∷ []) ≡ true) lone_commands word command rows_are_taken e
 
-known_plain : (word : List ℕ) (command : Command) → lone_command word ≡ Some command → (begins_with_hyphen word ≡ false) × (has_argument word ≡ false)
+known_plain : (word : List ℕ) (command : Command) → lone_command word ≡ Some command
+    → (begins_with_hyphen word ≡ false) × (has_argument word ≡ false)
 unfolding lone_command
-known_plain word command e = at_row (λ word. (begins_with_hyphen word ≡ false) × (has_argument word ≡ false)) lone_commands word command rows_are_plain e
+known_plain word command e =
+    at_row (λ word. (begins_with_hyphen word ≡ false) × (has_argument word ≡ false)) lone_commands
+    word command rows_are_plain e
 
-argued_met : (word argument : List ℕ) → has_argument word ≡ true → IsPlainText argument → met_by_words (word ∷ argument ∷ []) ≡ Some (word, Some argument)
+argued_met : (word argument : List ℕ) → has_argument word ≡ true → IsPlainText argument
+    → met_by_words (word ∷ argument ∷ []) ≡ Some (word, Some argument)
 unfolding has_argument
-argued_met word argument e = at_argued_row (λ word. (argument : Text) → IsPlainText argument → met_by_words (word ∷ argument ∷ []) ≡ Some (word, Some argument))
+argued_met word argument e = at_argued_row (λ word. (argument : Text) → IsPlainText argument
+    → met_by_words (word ∷ argument ∷ []) ≡ Some (word, Some argument))
     argued_commands word argued_rows_are_met e argument
 
-argued_taken : (word argument : List ℕ) → has_argument word ≡ true → IsPlainText argument → takes line_app (word ∷ argument ∷ []) ≡ true
+argued_taken : (word argument : List ℕ) → has_argument word ≡ true → IsPlainText argument
+    → takes line_app (word ∷ argument ∷ []) ≡ true
 unfolding has_argument
-argued_taken word argument e = at_argued_row (λ word. (argument : Text) → IsPlainText argument → takes line_app (word ∷ argument ∷ []) ≡ true)
+argued_taken word argument e = at_argued_row (λ word. (argument : Text) → IsPlainText argument
+    → takes line_app (word ∷ argument ∷ []) ≡ true)
     argued_commands word argued_rows_are_taken e argument
 
-unknown_met : (word : List ℕ) → begins_with_hyphen word ≡ false → lone_command word ≡ None → has_argument word ≡ false → met_by_words (word ∷ []) ≡ None
+unknown_met : (word : List ℕ) → begins_with_hyphen word ≡ false → lone_command word ≡ None
+    → has_argument word ≡ false → met_by_words (word ∷ []) ≡ None
 unfolding lone_command has_argument
 unknown_met word plain e lone =
-    let none = find_in_both (answers_to word) (map (λ (row : List ℕ × Command). (row.0, [])) lone_commands)
-    (map (λ (row : List ℕ × (List ℕ → Option Command)). (row.0, [])) argued_commands) (no_row lone_commands word e) (no_argued_row argued_commands word lone) in
+    let none =
+    find_in_both (answers_to word) (map (λ (row : List ℕ × Command). (row.0, [])) lone_commands)
+    (map (λ (row : List ℕ × (List ℕ → Option Command)). (row.0, [])) argued_commands)
+    (no_row lone_commands word e) (no_argued_row argued_commands word lone) in
     let found = ap (find (answers_to word)) names_are ∙ none in
-    ap (λ (stop : Option (Text × List Text)). option_map met_in (entered (built line_app) stop)) (no_stop (names_of (built line_app)) word found plain)
+    ap (λ (stop : Option (Text × List Text)). option_map met_in (entered (built line_app) stop))
+    (no_stop (names_of (built line_app)) word found plain)
 
 -- ---- what clap answers
 
 -- one word: the command of the subcommand that is met is the command that the word names
-one_word : (word : List ℕ) → begins_with_hyphen word ≡ false → has_argument word ≡ false → command_met (met_by_words (word ∷ [])) ≡ lone_command word
+one_word : (word : List ℕ) → begins_with_hyphen word ≡ false → has_argument word ≡ false
+    → command_met (met_by_words (word ∷ [])) ≡ lone_command word
 one_word word plain lone = here (lone_command word) refl
   where
-    here : (named : Option Command) → lone_command word ≡ named → command_met (met_by_words (word ∷ [])) ≡ lone_command word
+    here : (named : Option Command) → lone_command word ≡ named
+        → command_met (met_by_words (word ∷ [])) ≡ lone_command word
     here (Some command) e = ap command_met (known_met word command e)
     here None e = ap command_met (unknown_met word plain e lone) ∙ sym e
 
 -- a word that is to have an argument, and one
-two_words : (word argument : List ℕ) → has_argument word ≡ true → begins_with_hyphen argument ≡ false
+two_words : (word argument : List ℕ) → has_argument word ≡ true
+    → begins_with_hyphen argument ≡ false
     → command_met (met_by_words (word ∷ argument ∷ [])) ≡ argued_command word argument
-two_words word argument argued plain = ap command_met (argued_met word argument argued (text_is_plain argument plain))
+two_words word argument argued plain =
+    ap command_met (argued_met word argument argued (text_is_plain argument plain))
 
 -- both tests of one word
 one_parsed : (a b : Bool) → IsTrue (not a && not b) → (a ≡ false) × (b ≡ false)
@@ -234,69 +303,95 @@ two_parsed true true e = cc
 two_parsed false b e = cc
 
 -- words that clap takes name the command of the subcommand that it meets
-pub taken_is : (words : List (String Global)) (matches : ArgMatches) → IsTrue (is_parsed words) → HasMatchesOf line_app (map string_bytes words) matches
+pub taken_is : (words : List (String Global)) (matches : ArgMatches) → IsTrue (is_parsed words)
+    → HasMatchesOf line_app (map string_bytes words) matches
     → command_met (option_map met_in (subcommand_rows_of matches)) ≡ command_of words
 unfolding is_parsed command_of
 taken_is [] matches parsed told = cc
 taken_is (word ∷ []) matches parsed told =
-    let tests = one_parsed (has_argument (string_bytes word)) (begins_with_hyphen (string_bytes word)) parsed in
-    ap (λ (met : Option (Text × List Row)). command_met (option_map met_in met)) (told line_is_simple).1 ∙ one_word (string_bytes word) tests.1 tests.0
+    let tests =
+    one_parsed (has_argument (string_bytes word)) (begins_with_hyphen (string_bytes word)) parsed in
+    ap (λ (met : Option (Text × List Row)). command_met (option_map met_in met))
+    (told line_is_simple).1 ∙ one_word (string_bytes word) tests.1 tests.0
 taken_is (word ∷ argument ∷ []) matches parsed told =
-    let tests = two_parsed (has_argument (string_bytes word)) (begins_with_hyphen (string_bytes argument)) parsed in
-    ap (λ (met : Option (Text × List Row)). command_met (option_map met_in met)) (told line_is_simple).1
+    let tests = two_parsed (has_argument (string_bytes word))
+    (begins_with_hyphen (string_bytes argument)) parsed in
+    ap (λ (met : Option (Text × List Row)). command_met (option_map met_in met))
+    (told line_is_simple).1
     ∙ two_words (string_bytes word) (string_bytes argument) tests.0 tests.1
 taken_is (word ∷ argument ∷ third ∷ rest) matches parsed told = cc
 
 -- words that clap refuses, though memory was there, name no command
-pub refused_is : (words : List (String Global)) → IsTrue (is_parsed words) → (takes line_app (map string_bytes words) ≡ true → ⊥) → command_of words ≡ None
+pub refused_is : (words : List (String Global)) → IsTrue (is_parsed words)
+    → (takes line_app (map string_bytes words) ≡ true → ⊥) → command_of words ≡ None
 unfolding is_parsed command_of
 refused_is [] parsed refused = refl
 refused_is (word ∷ []) parsed refused = here (lone_command (string_bytes word)) refl
   where
-    here : (named : Option Command) → lone_command (string_bytes word) ≡ named → lone_command (string_bytes word) ≡ None
+    here : (named : Option Command) → lone_command (string_bytes word) ≡ named
+        → lone_command (string_bytes word) ≡ None
     here None e = e
     here (Some command) e = absurd (refused (known_taken (string_bytes word) command e))
 refused_is (word ∷ argument ∷ []) parsed refused =
-    let tests = two_parsed (has_argument (string_bytes word)) (begins_with_hyphen (string_bytes argument)) parsed in
-    absurd (refused (argued_taken (string_bytes word) (string_bytes argument) tests.0 (text_is_plain (string_bytes argument) tests.1)))
+    let tests = two_parsed (has_argument (string_bytes word))
+    (begins_with_hyphen (string_bytes argument)) parsed in
+    absurd (refused (argued_taken (string_bytes word) (string_bytes argument) tests.0
+    (text_is_plain (string_bytes argument) tests.1)))
 refused_is (word ∷ argument ∷ third ∷ rest) parsed refused = refl
 
 -- an argument that begins with a hyphen is none of a command: one part a row
-hyphens_are_none : AllByRecursion (λ (row : List ℕ × (List ℕ → Option Command)). (bytes : List ℕ) → row.1 (45 ∷ bytes) ≡ None) argued_commands
+hyphens_are_none : AllByRecursion
+    (λ (row : List ℕ × (List ℕ → Option Command)). (bytes : List ℕ) → row.1 (45 ∷ bytes) ≡ None)
+    argued_commands
 hyphens_are_none = (
   λ bytes. ap (option_map Run) (behaviour_named-hyphen bytes),
   (
     λ bytes. ap (option_map Replay) (behaviour_named-hyphen bytes),
-    (λ bytes. ap (option_map Certify) (behaviour_named-hyphen bytes), (λ bytes. ap (option_map Monitor) (behaviour_named-hyphen bytes), (λ bytes. ap (option_map Soak) (soak_number-hyphen bytes), tt))),
+    (
+      λ bytes. ap (option_map Certify) (behaviour_named-hyphen bytes),
+      (
+        λ bytes. ap (option_map Monitor) (behaviour_named-hyphen bytes),
+        (λ bytes. ap (option_map Soak) (soak_number-hyphen bytes), tt),
+      ),
+    ),
   ),
 )
 
 hyphen_in : (rows : List (List ℕ × (List ℕ → Option Command))) (word bytes : List ℕ)
-    → AllByRecursion (λ (row : List ℕ × (List ℕ → Option Command)). (bytes : List ℕ) → row.1 (45 ∷ bytes) ≡ None) rows → argued_in rows word (45 ∷ bytes) ≡ None
+    → AllByRecursion
+    (λ (row : List ℕ × (List ℕ → Option Command)). (bytes : List ℕ) → row.1 (45 ∷ bytes) ≡ None)
+    rows → argued_in rows word (45 ∷ bytes) ≡ None
 hyphen_in [] word bytes all = refl
 hyphen_in (row ∷ rows) word bytes all = here (hyphen_in rows word bytes all.1) (bytes_eq word row.0)
   where
-    here : argued_in rows word (45 ∷ bytes) ≡ None → (test : Bool) → (if test then row.1 (45 ∷ bytes) else argued_in rows word (45 ∷ bytes)) ≡ None
+    here : argued_in rows word (45 ∷ bytes) ≡ None → (test : Bool)
+        → (if test then row.1 (45 ∷ bytes) else argued_in rows word (45 ∷ bytes)) ≡ None
     here later true = all.0 bytes
     here later false = later
 
-no_argument_in : (rows : List (List ℕ × (List ℕ → Option Command))) (word argument : List ℕ) → names_argued rows word ≡ false → argued_in rows word argument ≡ None
+no_argument_in : (rows : List (List ℕ × (List ℕ → Option Command))) (word argument : List ℕ)
+    → names_argued rows word ≡ false → argued_in rows word argument ≡ None
 no_argument_in [] word argument e = refl
-no_argument_in (row ∷ rows) word argument e = here (no_argument_in rows word argument) (bytes_eq word row.0) e
+no_argument_in (row ∷ rows) word argument e =
+    here (no_argument_in rows word argument) (bytes_eq word row.0) e
   where
-    here : (names_argued rows word ≡ false → argued_in rows word argument ≡ None) → (test : Bool) → (if test then true else names_argued rows word) ≡ false
+    here : (names_argued rows word ≡ false → argued_in rows word argument ≡ None) → (test : Bool)
+        → (if test then true else names_argued rows word) ≡ false
         → (if test then row.1 argument else argued_in rows word argument) ≡ None
     here later true e = cc
     here later false e = later e
 
-hyphen_is_none : (word argument : List ℕ) → begins_with_hyphen argument ≡ true → argued_command word argument ≡ None
+hyphen_is_none : (word argument : List ℕ) → begins_with_hyphen argument ≡ true
+    → argued_command word argument ≡ None
 unfolding argued_command
 hyphen_is_none word [] e = cc
 hyphen_is_none word (byte ∷ bytes) e =
     let same : byte ≡ 45 = (Decides-eqb byte 45).0 e in
-    subst (λ (b : ℕ). argued_in argued_commands word (b ∷ bytes) ≡ None) (sym same) (hyphen_in argued_commands word bytes hyphens_are_none)
+    subst (λ (b : ℕ). argued_in argued_commands word (b ∷ bytes) ≡ None) (sym same)
+    (hyphen_in argued_commands word bytes hyphens_are_none)
 
-lone_is_none : (word argument : List ℕ) → has_argument word ≡ false → argued_command word argument ≡ None
+lone_is_none : (word argument : List ℕ) → has_argument word ≡ false
+    → argued_command word argument ≡ None
 unfolding argued_command has_argument
 lone_is_none word argument e = no_argument_in argued_commands word argument e
 
@@ -306,15 +401,20 @@ unfolding is_parsed command_of
 unparsed_is [] e = refl
 unparsed_is (word ∷ []) e = here (lone_command (string_bytes word)) refl
   where
-    here : (named : Option Command) → lone_command (string_bytes word) ≡ named → lone_command (string_bytes word) ≡ None
+    here : (named : Option Command) → lone_command (string_bytes word) ≡ named
+        → lone_command (string_bytes word) ≡ None
     here None n = n
     here (Some command) n =
         let known = known_plain (string_bytes word) command n in
-        let both : ◌≡◌ {A = Bool} true (not (has_argument (string_bytes word)) && not (begins_with_hyphen (string_bytes word))) = rw (known.0, known.1) refl in
+        let both : ◌≡◌ {A = Bool} true
+        (not (has_argument (string_bytes word)) && not (begins_with_hyphen (string_bytes word))) =
+        rw (known.0, known.1) refl in
         absurd (true≢false (both ∙ e))
-unparsed_is (word ∷ argument ∷ []) e = here (has_argument (string_bytes word)) (begins_with_hyphen (string_bytes argument)) refl refl e
+unparsed_is (word ∷ argument ∷ []) e =
+    here (has_argument (string_bytes word)) (begins_with_hyphen (string_bytes argument)) refl refl e
   where
-    here : (a b : Bool) → has_argument (string_bytes word) ≡ a → begins_with_hyphen (string_bytes argument) ≡ b → a && not b ≡ false
+    here : (a b : Bool) → has_argument (string_bytes word) ≡ a
+        → begins_with_hyphen (string_bytes argument) ≡ b → a && not b ≡ false
         → argued_command (string_bytes word) (string_bytes argument) ≡ None
     here false b argued plain e = lone_is_none (string_bytes word) (string_bytes argument) argued
     here true true argued plain e = hyphen_is_none (string_bytes word) (string_bytes argument) plain
@@ -324,20 +424,25 @@ unparsed_is (word ∷ argument ∷ third ∷ rest) e = refl
 -- ---- what is read of the matches
 
 -- the name of the subcommand that was met is that of its rows
-pub name_is : (matches : ArgMatches) → subcommand_name_of matches ≡ option_map (λ (p : Text × List Row). p.0) (subcommand_rows_of matches)
+pub name_is : (matches : ArgMatches) → subcommand_name_of matches
+    ≡ option_map (λ (p : Text × List Row). p.0) (subcommand_rows_of matches)
 name_is matches = here (out-ArgMatches matches).subcommand
   where
-    here : {Z : Type 0} (met : Option (Box SubCommand Z)) → option_map (λ (b : Box SubCommand Z). (out-SubCommand (box_value b)).name.now) met
+    here : {Z : Type 0} (met : Option (Box SubCommand Z))
+        → option_map (λ (b : Box SubCommand Z). (out-SubCommand (box_value b)).name.now) met
         ≡ option_map (λ (p : Text × List Row). p.0) (subcommand_rows met)
     here None = refl
     here (Some met) = refl
 
 -- the name and the rows of a subcommand give its name and its argument
-pub met_at : (met : Option (Text × List Row)) (name : Text) (rows : List Row) (argument : Option Text) → Some name ≡ option_map (λ (p : Text × List Row). p.0) met
-    → Some rows ≡ option_map (λ (p : Text × List Row). p.1) met → first_of (codes "argument") rows ≡ argument → option_map met_in met ≡ Some (name, argument)
+pub met_at : (met : Option (Text × List Row)) (name : Text) (rows : List Row)
+    (argument : Option Text) → Some name ≡ option_map (λ (p : Text × List Row). p.0) met
+    → Some rows ≡ option_map (λ (p : Text × List Row). p.1) met
+    → first_of (codes "argument") rows ≡ argument → option_map met_in met ≡ Some (name, argument)
 met_at None name rows argument n r a = cc
 met_at (Some p) name rows argument n r a =
     let same_name : name ≡ p.0 = cc in
     let same_rows : rows ≡ p.1 = cc in
-    let last : first_of (codes "argument") p.1 ≡ argument = ap (first_of (codes "argument")) (sym same_rows) ∙ a in
+    let last : first_of (codes "argument") p.1 ≡ argument =
+    ap (first_of (codes "argument")) (sym same_rows) ∙ a in
     rw (same_name, last) refl

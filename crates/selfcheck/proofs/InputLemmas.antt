@@ -5,7 +5,8 @@ use Rattle.selfcheck.specs.Input.{IsRefusedFor}
 
 -- the first fault of the bytes is one, so the fault is
 pub one_refusal : (IsFirst : List ℕ → TextFault → Type 0) (bytes : List ℕ) (a b : TextFault)
-    → ((p q : TextFault) → IsFirst bytes p → IsFirst bytes q → p ≡ q) → IsRefusedFor IsFirst bytes a → IsRefusedFor IsFirst bytes b → a ≡ b
+    → ((p q : TextFault) → IsFirst bytes p → IsFirst bytes q → p ≡ q) → IsRefusedFor IsFirst bytes a
+    → IsRefusedFor IsFirst bytes b → a ≡ b
 one_refusal IsFirst bytes a b one (inl long) (inl also) = long.1 ∙ sym also.1
 one_refusal IsFirst bytes a b one (inl long) (inr short) = absurd (omega (arith, long.0, short.0))
 one_refusal IsFirst bytes a b one (inr short) (inl long) = absurd (omega (arith, long.0, short.0))

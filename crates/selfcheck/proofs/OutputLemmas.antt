@@ -46,9 +46,11 @@ use Rattle.selfcheck.proofs.UpgradeLemmas.{old_or_fault, one_old_fault, old-from
 -- ---- forms of texts: one case a form
 
 -- a text of the form has no first fault
-text_or_fault : (form : Form) (bytes : List ℕ) (fault : TextFault) → IsTextOf form bytes → IsFirstFaultOf form bytes fault → ⊥
+text_or_fault : (form : Form) (bytes : List ℕ) (fault : TextFault) → IsTextOf form bytes
+    → IsFirstFaultOf form bytes fault → ⊥
 text_or_fault BookForm bytes fault book first = book_or_fault bytes fault book first
-text_or_fault CertificateForm bytes fault certificate first = certificate_or_fault bytes fault certificate first
+text_or_fault CertificateForm bytes fault certificate first =
+    certificate_or_fault bytes fault certificate first
 text_or_fault OldForm bytes fault old first = old_or_fault bytes fault old first
 text_or_fault SetForm bytes fault told first = set_input_or_fault bytes fault told first
 text_or_fault ScriptForm bytes fault told first = script_input_or_fault bytes fault told first
@@ -56,7 +58,8 @@ text_or_fault MonitorForm bytes fault told first = monitor_input_or_fault bytes 
 text_or_fault NoForm bytes fault none first = first
 
 -- bytes have one first fault
-one_fault_of : (form : Form) (bytes : List ℕ) (a b : TextFault) → IsFirstFaultOf form bytes a → IsFirstFaultOf form bytes b → a ≡ b
+one_fault_of : (form : Form) (bytes : List ℕ) (a b : TextFault) → IsFirstFaultOf form bytes a
+    → IsFirstFaultOf form bytes b → a ≡ b
 one_fault_of BookForm bytes a b p q = one_first_fault Second bytes a b p q
 one_fault_of CertificateForm bytes a b p q = one_fault bytes a b p q
 one_fault_of OldForm bytes a b p q = one_old_fault bytes a b p q
@@ -68,7 +71,8 @@ one_fault_of NoForm bytes a b p q = absurd p
 -- ---- what commands answer: one case a command
 
 -- an answer has one of the two statuses that say that the work is done
-answer_statuses : (command : Command) (bytes : List ℕ) (status : Status) (text : List ℕ) → IsAnswerOf command bytes status text → (status ≡ Fine) ⊎ (status ≡ Found)
+answer_statuses : (command : Command) (bytes : List ℕ) (status : Status) (text : List ℕ)
+    → IsAnswerOf command bytes status text → (status ≡ Fine) ⊎ (status ≡ Found)
 answer_statuses Verify bytes Fine text answer = inl refl
 answer_statuses Verify bytes Found text answer = inr refl
 answer_statuses Verify bytes _ text answer = absurd answer
@@ -82,89 +86,131 @@ answer_statuses Upgrade bytes _ text answer = absurd answer
 answer_statuses Sets bytes Fine text answer = inl refl
 answer_statuses Sets bytes Found text answer = inr refl
 answer_statuses Sets bytes _ text answer = absurd answer
-answer_statuses (Run behaviour) bytes status text answer = run_statuses (object_of_kind answer.0.kind) (IsNamedRunReport behaviour answer.0) Report status text answer.2
-answer_statuses (Replay behaviour) bytes status text answer = run_statuses (object_of_kind answer.0.kind) (IsNamedReplayReport behaviour answer.0) Report status text answer.2
-answer_statuses (Certify behaviour) bytes status text answer = run_statuses (object_of_kind answer.0.kind) (IsNamedRunReport behaviour answer.0) Certificate status text answer.2
-answer_statuses (Monitor behaviour) bytes status text answer = monitor_statuses answer.0.kind answer.3.0 status text answer.3.2
-answer_statuses (Soak number) bytes status text answer = run_statuses (object_of_kind Queue) (IsNamedRunReport Lawful (soak_plan number)) Counts status text answer.1
+answer_statuses (Run behaviour) bytes status text answer = run_statuses
+    (object_of_kind answer.0.kind) (IsNamedRunReport behaviour answer.0) Report status text answer.2
+answer_statuses (Replay behaviour) bytes status text answer =
+    run_statuses (object_of_kind answer.0.kind)
+    (IsNamedReplayReport behaviour answer.0) Report status text answer.2
+answer_statuses (Certify behaviour) bytes status text answer =
+    run_statuses (object_of_kind answer.0.kind)
+    (IsNamedRunReport behaviour answer.0) Certificate status text answer.2
+answer_statuses (Monitor behaviour) bytes status text answer =
+    monitor_statuses answer.0.kind answer.3.0 status text answer.3.2
+answer_statuses (Soak number) bytes status text answer = run_statuses (object_of_kind Queue)
+    (IsNamedRunReport Lawful (soak_plan number)) Counts status text answer.1
 
 -- what is answered is an input of the wanted form
-answered_is_wanted : (command : Command) (bytes : List ℕ) (status : Status) (text : List ℕ) → IsAnswerOf command bytes status text → IsTextOf (form_of command) bytes
+answered_is_wanted : (command : Command) (bytes : List ℕ) (status : Status) (text : List ℕ)
+    → IsAnswerOf command bytes status text → IsTextOf (form_of command) bytes
 answered_is_wanted Verify bytes Fine text answer = IsTextOfBook-from_legal bytes answer.0
 answered_is_wanted Verify bytes Found text answer = IsTextOfBook-from_illegal bytes answer.0
 answered_is_wanted Verify bytes _ text answer = absurd answer
-answered_is_wanted Sketch bytes Fine text answer = IsTextOfBook-from_told bytes answer.kind answer.book answer.told
+answered_is_wanted Sketch bytes Fine text answer =
+    IsTextOfBook-from_told bytes answer.kind answer.book answer.told
 answered_is_wanted Sketch bytes _ text answer = absurd answer
 answered_is_wanted Order bytes Fine text answer = IsTextOfCertificate-from_legal bytes answer.0
-answered_is_wanted Order bytes Found text answer = IsTextOfCertificate-from_faulty bytes answer.0 answer.1
+answered_is_wanted Order bytes Found text answer =
+    IsTextOfCertificate-from_faulty bytes answer.0 answer.1
 answered_is_wanted Order bytes _ text answer = absurd answer
 answered_is_wanted Upgrade bytes Fine text answer = old-from_upgraded bytes text answer
 answered_is_wanted Upgrade bytes _ text answer = absurd answer
 answered_is_wanted Sets bytes Fine text answer = IsSetInput-from_legal bytes answer.0
 answered_is_wanted Sets bytes Found text answer = IsSetInput-from_illegal bytes answer.0
 answered_is_wanted Sets bytes _ text answer = absurd answer
-answered_is_wanted (Run behaviour) bytes status text answer = IsScriptInput-from_shown (IsNamedRunReport behaviour) Report bytes status text answer
-answered_is_wanted (Replay behaviour) bytes status text answer = IsScriptInput-from_shown (IsNamedReplayReport behaviour) Report bytes status text answer
-answered_is_wanted (Certify behaviour) bytes status text answer = IsScriptInput-from_shown (IsNamedRunReport behaviour) Certificate bytes status text answer
-answered_is_wanted (Monitor behaviour) bytes status text answer = IsMonitorInput-from_plan bytes answer.0 answer.1 answer.2
+answered_is_wanted (Run behaviour) bytes status text answer =
+    IsScriptInput-from_shown (IsNamedRunReport behaviour) Report bytes status text answer
+answered_is_wanted (Replay behaviour) bytes status text answer =
+    IsScriptInput-from_shown (IsNamedReplayReport behaviour) Report bytes status text answer
+answered_is_wanted (Certify behaviour) bytes status text answer =
+    IsScriptInput-from_shown (IsNamedRunReport behaviour) Certificate bytes status text answer
+answered_is_wanted (Monitor behaviour) bytes status text answer =
+    IsMonitorInput-from_plan bytes answer.0 answer.1 answer.2
 answered_is_wanted (Soak number) bytes status text answer = answer.0
 
 -- ---- outputs
 
 -- an output answers an input that the command takes, or refuses one
-output_cases : (command : Command) (bytes : List ℕ) (status : Status) (text : List ℕ) → IsOutputOf command bytes status text
-    → ((length bytes ≤ INPUT_LIMIT) × IsAnswerOf command bytes status text) ⊎ ((status ≡ Refused) × IsRefusal command bytes text)
+output_cases : (command : Command) (bytes : List ℕ) (status : Status) (text : List ℕ)
+    → IsOutputOf command bytes status text
+    → ((length bytes ≤ INPUT_LIMIT) × IsAnswerOf command bytes status text)
+    ⊎ ((status ≡ Refused) × IsRefusal command bytes text)
 output_cases command bytes Refused text output = inr (refl, output)
 output_cases command bytes _ text output = inl output
 
 -- what is taken isn't refused
-taken_or_refused : (command : Command) (bytes text : List ℕ) → IsTaken command bytes → IsRefusal command bytes text → ⊥
+taken_or_refused : (command : Command) (bytes text : List ℕ) → IsTaken command bytes
+    → IsRefusal command bytes text → ⊥
 taken_or_refused command bytes text taken refusal =
-    elim refusal.1 [ inl long ↦ omega (arith, taken.0, long.0) | inr short ↦ text_or_fault (form_of command) bytes refusal.0 taken.1 short.1 ]
+    elim refusal.1 [
+      | inl long ↦ omega (arith, taken.0, long.0)
+      | inr short ↦ text_or_fault (form_of command) bytes refusal.0 taken.1 short.1
+    ]
 
 -- an output refuses the input exactly where the command doesn't take it
 pub refuse_what_is_not_taken : RefuseWhatIsNotTaken
 refuse_what_is_not_taken command bytes status text output =
     elim (output_cases command bytes status text output) [
       | inl a ↦ (
-        λ e. absurd (elim (answer_statuses command bytes status text a.1) [ inl fine ↦ cc (e, fine) | inr found ↦ cc (e, found) ]),
+        λ e. absurd (elim (answer_statuses command bytes status text a.1) [
+          | inl fine ↦ cc (e, fine)
+          | inr found ↦ cc (e, found)
+        ]),
         λ untaken. absurd (untaken (a.0, answered_is_wanted command bytes status text a.1)),
       )
       | inr a ↦ (λ _ taken. taken_or_refused command bytes text taken a.1, λ _. a.0)
     ]
 
 -- an output has been written where the program ends with its status
-finished : (command : Command) (bytes : List ℕ) (status : Status) (text : List ℕ) → IsOutputOf command bytes status text → IsUnfinished status → ⊥
-finished command bytes ReadFault text output unfinished = elim (answer_statuses command bytes ReadFault text output.1) [ inl e ↦ cc e | inr e ↦ cc e ]
-finished command bytes WriteFault text output unfinished = elim (answer_statuses command bytes WriteFault text output.1) [ inl e ↦ cc e | inr e ↦ cc e ]
-finished command bytes NoMemory text output unfinished = elim (answer_statuses command bytes NoMemory text output.1) [ inl e ↦ cc e | inr e ↦ cc e ]
+finished : (command : Command) (bytes : List ℕ) (status : Status) (text : List ℕ)
+    → IsOutputOf command bytes status text → IsUnfinished status → ⊥
+finished command bytes ReadFault text output unfinished =
+    elim (answer_statuses command bytes ReadFault text output.1) [
+      | inl e ↦ cc e
+      | inr e ↦ cc e
+    ]
+finished command bytes WriteFault text output unfinished =
+    elim (answer_statuses command bytes WriteFault text output.1) [
+      | inl e ↦ cc e
+      | inr e ↦ cc e
+    ]
+finished command bytes NoMemory text output unfinished =
+    elim (answer_statuses command bytes NoMemory text output.1) [
+      | inl e ↦ cc e
+      | inr e ↦ cc e
+    ]
 finished command bytes _ text output (inl e) = cc e
 finished command bytes _ text output (inr (inl e)) = cc e
 finished command bytes _ text output (inr (inr e)) = cc e
 
 -- an input is refused in one way
-one_refusal_text : (command : Command) (bytes text text' : List ℕ) → IsRefusal command bytes text → IsRefusal command bytes text' → text ≡ text'
+one_refusal_text : (command : Command) (bytes text text' : List ℕ) → IsRefusal command bytes text
+    → IsRefusal command bytes text' → text ≡ text'
 one_refusal_text command bytes text text' a b =
-    let same : a.0 ≡ b.0 = one_refusal (IsFirstFaultOf (form_of command)) bytes a.0 b.0 (one_fault_of (form_of command) bytes) a.1 b.1 in
+    let same : a.0 ≡ b.0 = one_refusal (IsFirstFaultOf (form_of command)) bytes a.0 b.0
+    (one_fault_of (form_of command) bytes) a.1 b.1 in
     a.2 ∙ ap refusal_text same ∙ sym b.2
 
 -- a command whose answers the bytes determine has one output for them
 IsDetermined-from_answers : (command : Command)
-    → ((bytes : List ℕ) (status other : Status) (text text' : List ℕ) → IsAnswerOf command bytes status text → IsAnswerOf command bytes other text' → (status ≡ other) × (text ≡ text'))
+    → ((bytes : List ℕ) (status other : Status) (text text' : List ℕ) → IsAnswerOf command bytes
+    status text → IsAnswerOf command bytes other text' → (status ≡ other) × (text ≡ text'))
     → IsDetermined command
 IsDetermined-from_answers command one bytes status other text text' output output' =
     elim (output_cases command bytes status text output) [
       | inl a ↦ elim (output_cases command bytes other text' output') [
         | inl b ↦ one bytes status other text text' a.1 b.1
-        | inr b ↦ absurd (taken_or_refused command bytes text' (a.0, answered_is_wanted command bytes status text a.1) b.1)
+        | inr b ↦ absurd (taken_or_refused command bytes text'
+            (a.0, answered_is_wanted command bytes status text a.1) b.1)
       ]
       | inr a ↦ elim (output_cases command bytes other text' output') [
-        | inl b ↦ absurd (taken_or_refused command bytes text (b.0, answered_is_wanted command bytes other text' b.1) a.1)
+        | inl b ↦ absurd (taken_or_refused command bytes text
+            (b.0, answered_is_wanted command bytes other text' b.1) a.1)
         | inr b ↦ (a.0 ∙ sym b.0, one_refusal_text command bytes text text' a.1 b.1)
       ]
     ]
 
-one_verdict : (bytes : List ℕ) (status other : Status) (text text' : List ℕ) → IsVerdict bytes status text → IsVerdict bytes other text' → (status ≡ other) × (text ≡ text')
+one_verdict : (bytes : List ℕ) (status other : Status) (text text' : List ℕ)
+    → IsVerdict bytes status text → IsVerdict bytes other text' → (status ≡ other) × (text ≡ text')
 one_verdict bytes Fine Fine text text' a b = (refl, a.1 ∙ sym b.1)
 one_verdict bytes Fine Found text text' a b = absurd (legal_or_illegal bytes a.0 b.0)
 one_verdict bytes Fine _ text text' a b = absurd b
@@ -177,16 +223,22 @@ one_verdict bytes _ other text text' a b = absurd a
 pub verify_is_determined : IsDetermined Verify
 verify_is_determined = IsDetermined-from_answers Verify one_verdict
 
-one_sketch_text : (bytes text text' : List ℕ) → IsSketchText bytes text → IsSketchText bytes text' → text ≡ text'
+one_sketch_text : (bytes text text' : List ℕ) → IsSketchText bytes text → IsSketchText bytes text'
+    → text ≡ text'
 one_sketch_text bytes text text' a b =
     let same = one_book Second bytes a.kind b.kind a.book b.book a.told b.told in
-    let here : IsSketch b.book a.events = subst (λ (book : List Page). IsSketch book a.events) same.1 a.sketched in
-    let events : a.events ≡ b.events = books_have_one_sketch b.book a.events b.events here b.sketched in
-    let written : Kind → List Page → List Event → List ℕ = λ kind book list. text_of (sketch_lines kind book list) in
-    a.text_is ∙ ap (λ (kind : Kind). written kind a.book a.events) same.0 ∙ ap (λ (book : List Page). written b.kind book a.events) same.1
+    let here : IsSketch b.book a.events =
+    subst (λ (book : List Page). IsSketch book a.events) same.1 a.sketched in
+    let events : a.events ≡ b.events =
+    books_have_one_sketch b.book a.events b.events here b.sketched in
+    let written : Kind → List Page → List Event → List ℕ =
+    λ kind book list. text_of (sketch_lines kind book list) in
+    a.text_is ∙ ap (λ (kind : Kind). written kind a.book a.events) same.0
+    ∙ ap (λ (book : List Page). written b.kind book a.events) same.1
     ∙ ap (written b.kind b.book) events ∙ sym b.text_is
 
-one_drawing : (bytes : List ℕ) (status other : Status) (text text' : List ℕ) → IsDrawn bytes status text → IsDrawn bytes other text' → (status ≡ other) × (text ≡ text')
+one_drawing : (bytes : List ℕ) (status other : Status) (text text' : List ℕ)
+    → IsDrawn bytes status text → IsDrawn bytes other text' → (status ≡ other) × (text ≡ text')
 one_drawing bytes Fine Fine text text' a b = (refl, one_sketch_text bytes text text' a b)
 one_drawing bytes Fine _ text text' a b = absurd b
 one_drawing bytes _ other text text' a b = absurd a
@@ -195,12 +247,15 @@ one_drawing bytes _ other text text' a b = absurd a
 pub sketch_is_determined : IsDetermined Sketch
 sketch_is_determined = IsDetermined-from_answers Sketch one_drawing
 
-one_judgement : (bytes : List ℕ) (status other : Status) (text text' : List ℕ) → IsJudgement bytes status text → IsJudgement bytes other text' → (status ≡ other) × (text ≡ text')
+one_judgement : (bytes : List ℕ) (status other : Status) (text text' : List ℕ)
+    → IsJudgement bytes status text → IsJudgement bytes other text' → (status ≡ other)
+    × (text ≡ text')
 one_judgement bytes Fine Fine text text' a b = (refl, a.1 ∙ sym b.1)
 one_judgement bytes Fine Found text text' a b = absurd (legal_or_faulty bytes b.0 a.0 b.1)
 one_judgement bytes Fine _ text text' a b = absurd b
 one_judgement bytes Found Fine text text' a b = absurd (legal_or_faulty bytes a.0 b.0 a.1)
-one_judgement bytes Found Found text text' a b = (refl, a.2 ∙ ap order_fault_text (one_order_fault bytes a.0 b.0 a.1 b.1) ∙ sym b.2)
+one_judgement bytes Found Found text text' a b =
+    (refl, a.2 ∙ ap order_fault_text (one_order_fault bytes a.0 b.0 a.1 b.1) ∙ sym b.2)
 one_judgement bytes Found _ text text' a b = absurd b
 one_judgement bytes _ other text text' a b = absurd a
 
@@ -208,7 +263,9 @@ one_judgement bytes _ other text text' a b = absurd a
 pub order_is_determined : IsDetermined Order
 order_is_determined = IsDetermined-from_answers Order one_judgement
 
-one_rewriting : (bytes : List ℕ) (status other : Status) (text text' : List ℕ) → IsRewritten bytes status text → IsRewritten bytes other text' → (status ≡ other) × (text ≡ text')
+one_rewriting : (bytes : List ℕ) (status other : Status) (text text' : List ℕ)
+    → IsRewritten bytes status text → IsRewritten bytes other text' → (status ≡ other)
+    × (text ≡ text')
 one_rewriting bytes Fine Fine text text' a b = (refl, one_upgraded bytes text text' a b)
 one_rewriting bytes Fine _ text text' a b = absurd b
 one_rewriting bytes _ other text text' a b = absurd a
@@ -223,9 +280,12 @@ upgrades_say_the_same bytes text output = says_the_same bytes text output.1
 
 -- the book in the output has the legal orders of the book in the input
 pub upgrades_keep_orders : UpgradesKeepOrders
-upgrades_keep_orders bytes text kind other book another output old new order = one_order bytes text kind other book another output.1 old new order
+upgrades_keep_orders bytes text kind other book another output old new order =
+    one_order bytes text kind other book another output.1 old new order
 
-one_set_verdict : (bytes : List ℕ) (status other : Status) (text text' : List ℕ) → IsSetVerdict bytes status text → IsSetVerdict bytes other text' → (status ≡ other) × (text ≡ text')
+one_set_verdict : (bytes : List ℕ) (status other : Status) (text text' : List ℕ)
+    → IsSetVerdict bytes status text → IsSetVerdict bytes other text' → (status ≡ other)
+    × (text ≡ text')
 one_set_verdict bytes Fine Fine text text' h k = (refl, h.1 ∙ sym k.1)
 one_set_verdict bytes Found Found text text' h k = (refl, h.1 ∙ sym k.1)
 one_set_verdict bytes Fine Found text text' h k = absurd (legal_or_illegal_sets bytes h.0 k.0)
@@ -241,17 +301,22 @@ sets_is_determined = IsDetermined-from_answers Sets one_set_verdict
 -- ---- runs over objects inside the world
 
 -- what is said of such a run is fine: one case a command that makes one
-fine_answer : (command : Command) (bytes : List ℕ) (status : Status) (text : List ℕ) → RunsInside command bytes → IsAnswerOf command bytes status text → status ≡ Fine
+fine_answer : (command : Command) (bytes : List ℕ) (status : Status) (text : List ℕ)
+    → RunsInside command bytes → IsAnswerOf command bytes status text → status ≡ Fine
 fine_answer (Run behaviour) bytes status text inside answer =
-    fine_without_error (object_of_kind answer.0.kind) (IsNamedRunReport behaviour answer.0) Report status text (λ report is. is.no_error (inside answer.0 answer.1)) answer.2
+    fine_without_error (object_of_kind answer.0.kind) (IsNamedRunReport behaviour answer.0) Report
+    status text (λ report is. is.no_error (inside answer.0 answer.1)) answer.2
 fine_answer (Certify behaviour) bytes status text inside answer =
-    fine_without_error (object_of_kind answer.0.kind) (IsNamedRunReport behaviour answer.0) Certificate status text (λ report is. is.no_error (inside answer.0 answer.1)) answer.2
+    fine_without_error (object_of_kind answer.0.kind) (IsNamedRunReport behaviour answer.0)
+    Certificate status text (λ report is. is.no_error (inside answer.0 answer.1)) answer.2
 fine_answer (Soak number) bytes status text inside answer =
-    fine_without_error (object_of_kind Queue) (IsNamedRunReport Lawful (soak_plan number)) Counts status text (λ report is. is.no_error refl) answer.1
+    fine_without_error (object_of_kind Queue) (IsNamedRunReport Lawful (soak_plan number)) Counts
+    status text (λ report is. is.no_error refl) answer.1
 fine_answer command bytes status text inside answer = absurd inside
 
 -- so all outputs for a script that is taken are fine
-pub inside_is_fine : (command : Command) (bytes : List ℕ) → IsTaken command bytes → RunsInside command bytes → HasOneStatus command bytes Fine
+pub inside_is_fine : (command : Command) (bytes : List ℕ) → IsTaken command bytes
+    → RunsInside command bytes → HasOneStatus command bytes Fine
 inside_is_fine command bytes taken inside other text output =
     elim (output_cases command bytes other text output) [
       | inl a ↦ fine_answer command bytes other text inside a.1
@@ -262,11 +327,16 @@ soak_is_taken : (number : ℕ) → IsTaken (Soak number) []
 soak_is_taken number = (omega arith, refl)
 
 -- what a soak says is that all calls of its script are delivered
-soak_says : (number : ℕ) (bytes : List ℕ) (status : Status) (text : List ℕ) → IsAnswerOf (Soak number) bytes status text → (status ≡ Fine) × (text ≡ codes "calls 128 delivered 128 errors 0\n")
-soak_says number bytes status text answer =
-    (fine_answer (Soak number) bytes status text tt answer, answer.1.2 ∙ ap counts_text (soak_counts number answer.1.0 answer.1.1) ∙ soak_line)
+soak_says : (number : ℕ) (bytes : List ℕ) (status : Status) (text : List ℕ)
+    → IsAnswerOf (Soak number) bytes status text → (status ≡ Fine)
+    × (text ≡ codes "calls 128 delivered 128 errors 0\n")
+soak_says number bytes status text answer = (
+  fine_answer (Soak number) bytes status text tt answer,
+  answer.1.2 ∙ ap counts_text (soak_counts number answer.1.0 answer.1.1) ∙ soak_line,
+)
 
-one_soak : (number : ℕ) (bytes : List ℕ) (status other : Status) (text text' : List ℕ) → IsAnswerOf (Soak number) bytes status text → IsAnswerOf (Soak number) bytes other text'
+one_soak : (number : ℕ) (bytes : List ℕ) (status other : Status) (text text' : List ℕ)
+    → IsAnswerOf (Soak number) bytes status text → IsAnswerOf (Soak number) bytes other text'
     → (status ≡ other) × (text ≡ text')
 one_soak number bytes status other text text' a b =
     let one = soak_says number bytes status text a in
@@ -285,93 +355,163 @@ soaks_deliver_all number status text output =
 
 -- ---- how a call that writes an output ends
 
-EndsWriting-whole : (IsOne : Status → List ℕ → Type 0) (status : Status) (taken taken' : Option (List ℕ)) (text : List ℕ)
-    → (IsUnfinished status → ⊥) → IsOne status text → Appends taken taken' text → EndsWriting IsOne status taken taken'
+EndsWriting-whole : (IsOne : Status → List ℕ → Type 0) (status : Status)
+    (taken taken' : Option (List ℕ)) (text : List ℕ)
+    → (IsUnfinished status → ⊥) → IsOne status text → Appends taken taken' text
+    → EndsWriting IsOne status taken taken'
 EndsWriting-whole IsOne ReadFault taken taken' text is_done one whole = is_done (inl refl)
-EndsWriting-whole IsOne WriteFault taken taken' text is_done one whole = absurd (is_done (inr (inl refl)))
-EndsWriting-whole IsOne NoMemory taken taken' text is_done one whole = absurd (is_done (inr (inr refl)))
+EndsWriting-whole IsOne WriteFault taken taken' text is_done one whole =
+    absurd (is_done (inr (inl refl)))
+EndsWriting-whole IsOne NoMemory taken taken' text is_done one whole =
+    absurd (is_done (inr (inr refl)))
 EndsWriting-whole IsOne Fine taken taken' text is_done one whole = (text, one, whole)
 EndsWriting-whole IsOne Found taken taken' text is_done one whole = (text, one, whole)
 EndsWriting-whole IsOne Usage taken taken' text is_done one whole = (text, one, whole)
 EndsWriting-whole IsOne Refused taken taken' text is_done one whole = (text, one, whole)
 
 -- an output was written whole, or a part of it
-EndsWriting-written : {P : Type 0} (IsOne : Status → List ℕ → Type 0) (status result : Status) (taken taken' : Option (List ℕ)) (text : List ℕ)
+EndsWriting-written : {P : Type 0} (IsOne : Status → List ℕ → Type 0) (status result : Status)
+    (taken taken' : Option (List ℕ)) (text : List ℕ)
     → (IsUnfinished status → ⊥) → IsOne status text
-    → ((result ≡ status) × Appends taken taken' text) ⊎ ((result ≡ WriteFault) × AppendsPart taken taken' text × P) → EndsWriting IsOne result taken taken'
+    → ((result ≡ status) × Appends taken taken' text)
+    ⊎ ((result ≡ WriteFault) × AppendsPart taken taken' text × P)
+    → EndsWriting IsOne result taken taken'
 EndsWriting-written IsOne status result taken taken' text is_done one (inl whole) =
     rw whole.0 (EndsWriting-whole IsOne status taken taken' text is_done one whole.1)
-EndsWriting-written IsOne status result taken taken' text is_done one (inr part) = rw part.0 (status, text, one, part.1)
+EndsWriting-written IsOne status result taken taken' text is_done one (inr part) =
+    rw part.0 (status, text, one, part.1)
 
 -- the output of a command was written whole, or a part of it
-pub EndsWriting-output : {P : Type 0} (command : Command) (bytes : List ℕ) (status result : Status) (taken taken' : Option (List ℕ)) (text : List ℕ)
+pub EndsWriting-output : {P : Type 0} (command : Command) (bytes : List ℕ) (status result : Status)
+    (taken taken' : Option (List ℕ)) (text : List ℕ)
     → IsOutputOf command bytes status text
-    → ((result ≡ status) × Appends taken taken' text) ⊎ ((result ≡ WriteFault) × AppendsPart taken taken' text × P) → EndsWriting (IsOutputOf command bytes) result taken taken'
+    → ((result ≡ status) × Appends taken taken' text)
+    ⊎ ((result ≡ WriteFault) × AppendsPart taken taken' text × P)
+    → EndsWriting (IsOutputOf command bytes) result taken taken'
 EndsWriting-output command bytes status result taken taken' text output written =
-    EndsWriting-written (IsOutputOf command bytes) status result taken taken' text (finished command bytes status text output) output written
+    EndsWriting-written (IsOutputOf command bytes) status result taken taken' text
+    (finished command bytes status text output) output written
 
 -- an answer to an input that isn't too long is an output
-IsOutputOf-from_answer : (command : Command) (bytes : List ℕ) (status : Status) (text : List ℕ) → length bytes ≤ INPUT_LIMIT → IsAnswerOf command bytes status text
+IsOutputOf-from_answer : (command : Command) (bytes : List ℕ) (status : Status) (text : List ℕ)
+    → length bytes ≤ INPUT_LIMIT → IsAnswerOf command bytes status text
     → IsOutputOf command bytes status text
-IsOutputOf-from_answer command bytes Refused text short answer = absurd (elim (answer_statuses command bytes Refused text answer) [ inl e ↦ cc e | inr e ↦ cc e ])
+IsOutputOf-from_answer command bytes Refused text short answer =
+    absurd (elim (answer_statuses command bytes Refused text answer) [
+      | inl e ↦ cc e
+      | inr e ↦ cc e
+    ])
 IsOutputOf-from_answer command bytes _ text short answer = (short, answer)
 
--- a call that wrote one of a command's answers, or a part of it, has written an output of the command
-pub EndsWriting-answer : (command : Command) (bytes : List ℕ) (IsOne : Status → List ℕ → Type 0) (result : Status) (taken taken' : Option (List ℕ))
-    → length bytes ≤ INPUT_LIMIT → ((status : Status) (text : List ℕ) → IsOne status text → IsAnswerOf command bytes status text) → EndsWriting IsOne result taken taken'
+-- a call that wrote one of a command's answers, or a part of it, has written an output of the
+-- command
+pub EndsWriting-answer : (command : Command) (bytes : List ℕ) (IsOne : Status → List ℕ → Type 0)
+    (result : Status) (taken taken' : Option (List ℕ))
+    → length bytes ≤ INPUT_LIMIT
+    → ((status : Status) (text : List ℕ) → IsOne status text → IsAnswerOf command bytes status text)
+    → EndsWriting IsOne result taken taken'
     → EndsWriting (IsOutputOf command bytes) result taken taken'
 EndsWriting-answer command bytes IsOne result taken taken' short answers ends =
     EndsWriting-weaker IsOne (IsOutputOf command bytes) result taken taken'
-    (λ status text one. IsOutputOf-from_answer command bytes status text short (answers status text one)) ends
+    (λ status text one.
+    IsOutputOf-from_answer command bytes status text short (answers status text one)) ends
 
 -- ---- how the program ends
 
-Reads-named : (words : List (String Global)) (command : Command) (old new : Option (List ℕ)) (bytes : List ℕ)
+Reads-named : (words : List (String Global)) (command : Command) (old new : Option (List ℕ))
+    (bytes : List ℕ)
     → command_of words ≡ Some command → ReadsFor command old new bytes → Reads words old new bytes
 Reads-named words command old new bytes named reads = rw named reads
 
-IsOutput-named : (words : List (String Global)) (command : Command) (bytes : List ℕ) (status : Status) (text : List ℕ)
-    → command_of words ≡ Some command → IsOutputOf command bytes status text → IsOutput words bytes status text
+IsOutput-named : (words : List (String Global)) (command : Command) (bytes : List ℕ)
+    (status : Status) (text : List ℕ)
+    → command_of words ≡ Some command → IsOutputOf command bytes status text
+    → IsOutput words bytes status text
 IsOutput-named words command bytes status text named output = rw named output
 
 -- words name one command
-pub one_named : (words : List (String Global)) (a b : Command) → command_of words ≡ Some a → command_of words ≡ Some b → a ≡ b
+pub one_named : (words : List (String Global)) (a b : Command) → command_of words ≡ Some a
+    → command_of words ≡ Some b → a ≡ b
 one_named words a b named also = same (sym named ∙ also)
   where
     same : ◌≡◌ {A = Option Command} (Some a) (Some b) → a ≡ b
     same e = cc
 
 -- the program has ended as the command that its words name has
-pub Ends-answered : (words : List (String Global)) (command : Command) (result : Status) (left left' taken taken' : Option (List ℕ)) (bytes : List ℕ)
-    → command_of words ≡ Some command → ReadsFor command left left' bytes → EndsWriting (IsOutputOf command bytes) result taken taken'
+pub Ends-answered : (words : List (String Global)) (command : Command) (result : Status)
+    (left left' taken taken' : Option (List ℕ)) (bytes : List ℕ)
+    → command_of words ≡ Some command → ReadsFor command left left' bytes
+    → EndsWriting (IsOutputOf command bytes) result taken taken'
     → Ends words result left left' taken taken'
 Ends-answered words command ReadFault left left' taken taken' bytes named reads ends = absurd ends
 Ends-answered words command NoMemory left left' taken taken' bytes named reads ends = ends
-Ends-answered words command WriteFault left left' taken taken' bytes named reads ends =
-    (bytes, ends.0, ends.1, Reads-named words command left left' bytes named reads, IsOutput-named words command bytes ends.0 ends.1 named ends.2, ends.3)
-Ends-answered words command Fine left left' taken taken' bytes named reads ends =
-    (bytes, ends.0, Reads-named words command left left' bytes named reads, IsOutput-named words command bytes Fine ends.0 named ends.1, ends.2)
-Ends-answered words command Found left left' taken taken' bytes named reads ends =
-    (bytes, ends.0, Reads-named words command left left' bytes named reads, IsOutput-named words command bytes Found ends.0 named ends.1, ends.2)
-Ends-answered words command Usage left left' taken taken' bytes named reads ends =
-    (bytes, ends.0, Reads-named words command left left' bytes named reads, IsOutput-named words command bytes Usage ends.0 named ends.1, ends.2)
-Ends-answered words command Refused left left' taken taken' bytes named reads ends =
-    (bytes, ends.0, Reads-named words command left left' bytes named reads, IsOutput-named words command bytes Refused ends.0 named ends.1, ends.2)
+Ends-answered words command WriteFault left left' taken taken' bytes named reads ends = (
+  bytes,
+  ends.0,
+  ends.1,
+  Reads-named words command left left' bytes named reads,
+  IsOutput-named words command bytes ends.0 ends.1 named ends.2,
+  ends.3,
+)
+Ends-answered words command Fine left left' taken taken' bytes named reads ends = (
+  bytes,
+  ends.0,
+  Reads-named words command left left' bytes named reads,
+  IsOutput-named words command bytes Fine ends.0 named ends.1,
+  ends.2,
+)
+Ends-answered words command Found left left' taken taken' bytes named reads ends = (
+  bytes,
+  ends.0,
+  Reads-named words command left left' bytes named reads,
+  IsOutput-named words command bytes Found ends.0 named ends.1,
+  ends.2,
+)
+Ends-answered words command Usage left left' taken taken' bytes named reads ends = (
+  bytes,
+  ends.0,
+  Reads-named words command left left' bytes named reads,
+  IsOutput-named words command bytes Usage ends.0 named ends.1,
+  ends.2,
+)
+Ends-answered words command Refused left left' taken taken' bytes named reads ends = (
+  bytes,
+  ends.0,
+  Reads-named words command left left' bytes named reads,
+  IsOutput-named words command bytes Refused ends.0 named ends.1,
+  ends.2,
+)
 
 -- the program has ended with the usage line, which was written whole, or a part of it
-pub Ends-usage : {P : Type 0} (words : List (String Global)) (result : Status) (left taken taken' : Option (List ℕ))
+pub Ends-usage : {P : Type 0} (words : List (String Global)) (result : Status)
+    (left taken taken' : Option (List ℕ))
     → command_of words ≡ None
-    → ((result ≡ Usage) × Appends taken taken' (codes "usage: selfcheck COMMAND\n")) ⊎ ((result ≡ WriteFault) × AppendsPart taken taken' (codes "usage: selfcheck COMMAND\n") × P)
+    → ((result ≡ Usage) × Appends taken taken' (codes "usage: selfcheck COMMAND\n"))
+    ⊎ ((result ≡ WriteFault) × AppendsPart taken taken' (codes "usage: selfcheck COMMAND\n") × P)
     → Ends words result left left taken taken'
 Ends-usage words result left taken taken' unnamed (inl whole) =
-    rw whole.0 ([], codes "usage: selfcheck COMMAND\n", rw unnamed (Keeps-refl left), rw unnamed (refl, refl), whole.1)
+    rw whole.0 (
+      [],
+      codes "usage: selfcheck COMMAND\n",
+      rw unnamed (Keeps-refl left),
+      rw unnamed (refl, refl),
+      whole.1,
+    )
 Ends-usage words result left taken taken' unnamed (inr part) =
-    rw part.0 ([], Usage, codes "usage: selfcheck COMMAND\n", rw unnamed (Keeps-refl left), rw unnamed (refl, refl), part.1)
+    rw part.0 (
+      [],
+      Usage,
+      codes "usage: selfcheck COMMAND\n",
+      rw unnamed (Keeps-refl left),
+      rw unnamed (refl, refl),
+      part.1,
+    )
 
 -- ---- what the bytes of a source that tells them decide
 
 -- the bytes that a command works on are those of the source that it is for
-input_is : (command : Command) (held : List ℕ) (new : Option (List ℕ)) (bytes : List ℕ) → ReadsFor command (Some held) new bytes → bytes ≡ input_of command held
+input_is : (command : Command) (held : List ℕ) (new : Option (List ℕ)) (bytes : List ℕ)
+    → ReadsFor command (Some held) new bytes → bytes ≡ input_of command held
 input_is Verify held new bytes reads = reads.0
 input_is Sketch held new bytes reads = reads.0
 input_is Order held new bytes reads = reads.0
@@ -384,8 +524,10 @@ input_is (Monitor behaviour) held new bytes reads = reads.0
 input_is (Soak number) held new bytes reads = reads.1
 
 -- where all outputs have one status, a call that wrote one has this status
-one_status : (IsOne : Status → List ℕ → Type 0) (status result : Status) (taken taken' : Option (List ℕ)) → EndsWriting IsOne result taken taken'
-    → ((other : Status) (text : List ℕ) → IsOne other text → other ≡ status) → (result ≡ status) ⊎ IsUnfinished result
+one_status : (IsOne : Status → List ℕ → Type 0) (status result : Status)
+    (taken taken' : Option (List ℕ)) → EndsWriting IsOne result taken taken'
+    → ((other : Status) (text : List ℕ) → IsOne other text → other ≡ status) → (result ≡ status)
+    ⊎ IsUnfinished result
 one_status IsOne status ReadFault taken taken' ends one = absurd ends
 one_status IsOne status WriteFault taken taken' ends one = inr (inr (inl refl))
 one_status IsOne status NoMemory taken taken' ends one = inr (inr (inr refl))
@@ -395,37 +537,58 @@ one_status IsOne status Usage taken taken' ends one = inl (one Usage ends.0 ends
 one_status IsOne status Refused taken taken' ends one = inl (one Refused ends.0 ends.1)
 
 -- the answer is the one status of all outputs for the bytes that the source held
-pub exact-from_ends : (command : Command) (left left' taken taken' : Option (List ℕ)) (bytes held : List ℕ) (status result : Status)
-    → ReadsFor command left left' bytes → EndsWriting (IsOutputOf command bytes) result taken taken' → left ≡ Some held
+pub exact-from_ends : (command : Command) (left left' taken taken' : Option (List ℕ))
+    (bytes held : List ℕ) (status result : Status)
+    → ReadsFor command left left' bytes → EndsWriting (IsOutputOf command bytes) result taken taken'
+    → left ≡ Some held
     → HasOneStatus command (input_of command held) status → (result ≡ status) ⊎ IsUnfinished result
 exact-from_ends command left left' taken taken' bytes held status result reads ends told one =
-    let same : bytes ≡ input_of command held = input_is command held left' bytes (subst (λ l. ReadsFor command l left' bytes) told reads) in
-    one_status (IsOutputOf command bytes) status result taken taken' ends (subst (λ b. HasOneStatus command b status) (sym same) one)
+    let same : bytes ≡ input_of command held =
+    input_is command held left' bytes (subst (λ l. ReadsFor command l left' bytes) told reads) in
+    one_status (IsOutputOf command bytes) status result taken taken' ends
+    (subst (λ b. HasOneStatus command b status) (sym same) one)
 
--- a call that wrote an output for an input that the command takes has answered it, where no write failed
-done : (command : Command) (bytes : List ℕ) (result : Status) (taken taken' : Option (List ℕ)) → EndsWriting (IsOutputOf command bytes) result taken taken'
-    → IsTaken command bytes → (result ≡ WriteFault → ⊥) → (result ≡ Fine) ⊎ ((result ≡ Found) ⊎ (result ≡ NoMemory))
+-- a call that wrote an output for an input that the command takes has answered it, where no write
+-- failed
+done : (command : Command) (bytes : List ℕ) (result : Status) (taken taken' : Option (List ℕ))
+    → EndsWriting (IsOutputOf command bytes) result taken taken'
+    → IsTaken command bytes → (result ≡ WriteFault → ⊥) → (result ≡ Fine)
+    ⊎ ((result ≡ Found) ⊎ (result ≡ NoMemory))
 done command bytes ReadFault taken taken' ends wanted calm = absurd ends
 done command bytes WriteFault taken taken' ends wanted calm = absurd (calm refl)
 done command bytes NoMemory taken taken' ends wanted calm = inr (inr refl)
 done command bytes Fine taken taken' ends wanted calm = inl refl
 done command bytes Found taken taken' ends wanted calm = inr (inl refl)
-done command bytes Usage taken taken' ends wanted calm = absurd (elim (answer_statuses command bytes Usage ends.0 ends.1.1) [ inl e ↦ cc e | inr e ↦ cc e ])
-done command bytes Refused taken taken' ends wanted calm = absurd (taken_or_refused command bytes ends.0 wanted ends.1)
+done command bytes Usage taken taken' ends wanted calm =
+    absurd (elim (answer_statuses command bytes Usage ends.0 ends.1.1) [
+      | inl e ↦ cc e
+      | inr e ↦ cc e
+    ])
+done command bytes Refused taken taken' ends wanted calm =
+    absurd (taken_or_refused command bytes ends.0 wanted ends.1)
 
 -- an input that the command takes is answered, where no count of faults rose
-pub complete-from_ends : (command : Command) (left left' taken taken' : Option (List ℕ)) (bytes held : List ℕ) (result : Status)
-    → ReadsFor command left left' bytes → EndsWriting (IsOutputOf command bytes) result taken taken' → left ≡ Some held
-    → IsTaken command (input_of command held) → (result ≡ WriteFault → ⊥) → (result ≡ Fine) ⊎ ((result ≡ Found) ⊎ (result ≡ NoMemory))
+pub complete-from_ends : (command : Command) (left left' taken taken' : Option (List ℕ))
+    (bytes held : List ℕ) (result : Status)
+    → ReadsFor command left left' bytes → EndsWriting (IsOutputOf command bytes) result taken taken'
+    → left ≡ Some held
+    → IsTaken command (input_of command held) → (result ≡ WriteFault → ⊥) → (result ≡ Fine)
+    ⊎ ((result ≡ Found) ⊎ (result ≡ NoMemory))
 complete-from_ends command left left' taken taken' bytes held result reads ends told wanted calm =
-    let same : bytes ≡ input_of command held = input_is command held left' bytes (subst (λ l. ReadsFor command l left' bytes) told reads) in
-    done command bytes result taken taken' ends (subst (λ b. IsTaken command b) (sym same) wanted) calm
+    let same : bytes ≡ input_of command held =
+    input_is command held left' bytes (subst (λ l. ReadsFor command l left' bytes) told reads) in
+    done command bytes result taken taken' ends
+    (subst (λ b. IsTaken command b) (sym same) wanted) calm
 
 -- a soak is fine, where its output was written whole
-pub soak-from_ends : (number : ℕ) (command : Command) (left left' taken taken' : Option (List ℕ)) (bytes : List ℕ) (result : Status) → command ≡ Soak number
-    → ReadsFor command left left' bytes → EndsWriting (IsOutputOf command bytes) result taken taken' → (result ≡ Fine) ⊎ IsUnfinished result
+pub soak-from_ends : (number : ℕ) (command : Command) (left left' taken taken' : Option (List ℕ))
+    (bytes : List ℕ) (result : Status) → command ≡ Soak number
+    → ReadsFor command left left' bytes → EndsWriting (IsOutputOf command bytes) result taken taken'
+    → (result ≡ Fine) ⊎ IsUnfinished result
 soak-from_ends number command left left' taken taken' bytes result is reads ends =
     let none : bytes ≡ [] = (subst (λ (c : Command). ReadsFor c left left' bytes) is reads).1 in
-    let own : EndsWriting (IsOutputOf (Soak number) bytes) result taken taken' = subst (λ (c : Command). EndsWriting (IsOutputOf c bytes) result taken taken') is ends in
-    one_status (IsOutputOf (Soak number) []) Fine result taken taken' (subst (λ (b : List ℕ). EndsWriting (IsOutputOf (Soak number) b) result taken taken') none own)
+    let own : EndsWriting (IsOutputOf (Soak number) bytes) result taken taken' =
+    subst (λ (c : Command). EndsWriting (IsOutputOf c bytes) result taken taken') is ends in
+    one_status (IsOutputOf (Soak number) []) Fine result taken taken'
+    (subst (λ (b : List ℕ). EndsWriting (IsOutputOf (Soak number) b) result taken taken') none own)
     (inside_is_fine (Soak number) [] (soak_is_taken number) tt)

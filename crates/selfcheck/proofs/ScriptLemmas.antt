@@ -15,27 +15,34 @@ use Rattle.run_writer.specs.declared.form.Form.{Form}
 use Rattle.run_writer.specs.Runs.{IsRunOutput}
 use Rattle.selfcheck.specs.ScriptInput.{IsScriptInput, IsShownOf}
 
-pub script_input_or_fault : (bytes : List ℕ) (fault : TextFault) → IsScriptInput bytes → IsFirstScriptFault Second bytes fault → ⊥
+pub script_input_or_fault : (bytes : List ℕ) (fault : TextFault) → IsScriptInput bytes
+    → IsFirstScriptFault Second bytes fault → ⊥
 unfolding IsScriptInput
 script_input_or_fault bytes fault told first = no_first_fault Second bytes told.0 fault told.1 first
 
 -- what is shown of an input's script is of a script
-pub IsScriptInput-from_shown : (IsReportFor : Plan → Findings → Type 0) (form : Form) (bytes : List ℕ) (status : Status) (text : List ℕ)
+pub IsScriptInput-from_shown : (IsReportFor : Plan → Findings → Type 0) (form : Form)
+    (bytes : List ℕ) (status : Status) (text : List ℕ)
     → IsShownOf IsReportFor form bytes status text → IsScriptInput bytes
 unfolding IsScriptInput
 IsScriptInput-from_shown IsReportFor form bytes status text shown = (shown.0, shown.1)
 
 -- one of the two statuses that come with a report
-by_error : (error : Bool) (status : Status) → status ≡ (if error then Found else Fine) → (status ≡ Fine) ⊎ (status ≡ Found)
+by_error : (error : Bool) (status : Status) → status ≡ (if error then Found else Fine)
+    → (status ≡ Fine) ⊎ (status ≡ Found)
 by_error true status e = inr e
 by_error false status e = inl e
 
 -- a run that is told of has found an error, or none
-pub run_statuses : (object : Sequential) (IsOne : Findings → Type 0) (form : Form) (status : Status) (text : List ℕ) → IsRunOutput object IsOne form status text → (status ≡ Fine) ⊎ (status ≡ Found)
-run_statuses object IsOne form status text output = by_error (list_any any_error output.0.lines) status output.3
+pub run_statuses : (object : Sequential) (IsOne : Findings → Type 0) (form : Form) (status : Status)
+    (text : List ℕ) → IsRunOutput object IsOne form status text → (status ≡ Fine) ⊎ (status ≡ Found)
+run_statuses object IsOne form status text output =
+    by_error (list_any any_error output.0.lines) status output.3
 
 -- where no line of its report is an error, all is fine
-pub fine_without_error : (object : Sequential) (IsOne : Findings → Type 0) (form : Form) (status : Status) (text : List ℕ) → ((report : Findings) → IsOne report → list_any any_error report.lines ≡ false)
+pub fine_without_error : (object : Sequential) (IsOne : Findings → Type 0) (form : Form)
+    (status : Status) (text : List ℕ)
+    → ((report : Findings) → IsOne report → list_any any_error report.lines ≡ false)
     → IsRunOutput object IsOne form status text → status ≡ Fine
 fine_without_error object IsOne form status text none output =
     output.3 ∙ ap (λ (error : Bool). if error then Found else Fine) (none output.0 output.1)

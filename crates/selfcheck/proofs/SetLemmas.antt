@@ -7,7 +7,8 @@ use Rattle.selfcheck.specs.SetInput.{JoinsAreLegal, IsSetInput, IsLegalSetInput,
 
 pub legal_or_illegal_sets : (bytes : List ℕ) → IsLegalSetInput bytes → IsIllegalSetInput bytes → ⊥
 unfolding IsLegalSetInput IsIllegalSetInput
-legal_or_illegal_sets bytes legal illegal = illegal.2 (subst JoinsAreLegal (one_book bytes legal.0 illegal.0 legal.1 illegal.1) legal.2)
+legal_or_illegal_sets bytes legal illegal =
+    illegal.2 (subst JoinsAreLegal (one_book bytes legal.0 illegal.0 legal.1 illegal.1) legal.2)
 
 pub IsSetInput-from_legal : (bytes : List ℕ) → IsLegalSetInput bytes → IsSetInput bytes
 unfolding IsSetInput IsLegalSetInput
@@ -17,6 +18,7 @@ pub IsSetInput-from_illegal : (bytes : List ℕ) → IsIllegalSetInput bytes →
 unfolding IsSetInput IsIllegalSetInput
 IsSetInput-from_illegal bytes illegal = (illegal.0, illegal.1)
 
-pub set_input_or_fault : (bytes : List ℕ) (fault : TextFault) → IsSetInput bytes → IsFirstSetBookFault bytes fault → ⊥
+pub set_input_or_fault : (bytes : List ℕ) (fault : TextFault) → IsSetInput bytes
+    → IsFirstSetBookFault bytes fault → ⊥
 unfolding IsSetInput
 set_input_or_fault bytes fault told first = no_first_fault bytes told.0 fault told.1 first

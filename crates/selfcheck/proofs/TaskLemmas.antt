@@ -1,4 +1,5 @@
--- What is written of a task with a script is an output of its command, and what is written of a soak's run one of the soak.
+-- What is written of a task with a script is an output of its command, and what is written of a
+-- soak's run one of the soak.
 use Rattle.std.proofs.Common.{◌≡◌, ℕ, ◌≤◌, List, [], length, Option, refl, subst, arith}
 use Rattle.client_scripts.specs.Plans.{Plan}
 use Rattle.client_scripts.specs.ScriptRules.{IsScriptText}
@@ -22,29 +23,46 @@ use Rattle.selfcheck.specs.ScriptTasks.{command_for, IsReportBy, form_by}
 use Rattle.selfcheck.proofs.OutputLemmas.{EndsWriting-answer}
 
 -- what is written of a task with an input's script is an answer of its command: one case a task
-task_answer : (task : ScriptTask) (behaviour : Behaviour) (bytes : List ℕ) (plan : Plan) → IsScriptText Second bytes plan
-    → (status : Status) (text : List ℕ) → IsRunOutput (object_of_kind plan.kind) (IsReportBy task behaviour plan) (form_by task) status text → IsAnswerOf (command_for task behaviour) bytes status text
+task_answer : (task : ScriptTask) (behaviour : Behaviour) (bytes : List ℕ) (plan : Plan)
+    → IsScriptText Second bytes plan
+    → (status : Status) (text : List ℕ) → IsRunOutput (object_of_kind plan.kind)
+    (IsReportBy task behaviour plan) (form_by task) status text
+    → IsAnswerOf (command_for task behaviour) bytes status text
 task_answer Run behaviour bytes plan told status text output = (plan, told, output)
 task_answer Replay behaviour bytes plan told status text output = (plan, told, output)
 task_answer Certify behaviour bytes plan told status text output = (plan, told, output)
 
-pub EndsWriting-task : (task : ScriptTask) (behaviour : Behaviour) (bytes : List ℕ) (plan : Plan) (result : Status) (taken taken' : Option (List ℕ))
-    → length bytes ≤ INPUT_LIMIT → IsScriptText Second bytes plan → RunEnds (object_of_kind plan.kind) (IsReportBy task behaviour plan) (form_by task) result taken taken'
+pub EndsWriting-task : (task : ScriptTask) (behaviour : Behaviour) (bytes : List ℕ) (plan : Plan)
+    (result : Status) (taken taken' : Option (List ℕ))
+    → length bytes ≤ INPUT_LIMIT → IsScriptText Second bytes plan → RunEnds
+    (object_of_kind plan.kind) (IsReportBy task behaviour plan) (form_by task) result taken taken'
     → EndsWriting (IsOutputOf (command_for task behaviour) bytes) result taken taken'
 EndsWriting-task task behaviour bytes plan result taken taken' short told ends =
-    EndsWriting-answer (command_for task behaviour) bytes (IsRunOutput (object_of_kind plan.kind) (IsReportBy task behaviour plan) (form_by task)) result taken taken' short
+    EndsWriting-answer (command_for task behaviour) bytes
+    (IsRunOutput (object_of_kind plan.kind) (IsReportBy task behaviour plan) (form_by task)) result
+    taken taken' short
     (task_answer task behaviour bytes plan told) ends
 
 -- what is written of a run that two monitors watch is an output of its command
-pub EndsWriting-monitor : (behaviour : Behaviour) (bytes : List ℕ) (plan : Plan) (result : Status) (taken taken' : Option (List ℕ))
-    → length bytes ≤ INPUT_LIMIT → IsScriptText Second bytes plan → LeavesTwo plan → EndsWriting (IsMonitorOutput (AreNamedMonitored behaviour plan) plan.kind) result taken taken'
+pub EndsWriting-monitor : (behaviour : Behaviour) (bytes : List ℕ) (plan : Plan) (result : Status)
+    (taken taken' : Option (List ℕ))
+    → length bytes ≤ INPUT_LIMIT → IsScriptText Second bytes plan → LeavesTwo plan
+    → EndsWriting (IsMonitorOutput (AreNamedMonitored behaviour plan) plan.kind) result taken taken'
     → EndsWriting (IsOutputOf (Monitor behaviour) bytes) result taken taken'
 EndsWriting-monitor behaviour bytes plan result taken taken' short told few ends =
-    EndsWriting-answer (Monitor behaviour) bytes (IsMonitorOutput (AreNamedMonitored behaviour plan) plan.kind) result taken taken' short
+    EndsWriting-answer (Monitor behaviour) bytes
+    (IsMonitorOutput (AreNamedMonitored behaviour plan) plan.kind) result taken taken' short
     (λ status text output. (plan, told, few, output)) ends
 
-pub EndsWriting-soak : (number : ℕ) (plan : Plan) (result : Status) (taken taken' : Option (List ℕ)) → plan ≡ soak_plan number
-    → RunEnds (object_of_kind plan.kind) (IsNamedRunReport Lawful plan) Counts result taken taken' → EndsWriting (IsOutputOf (Soak number) []) result taken taken'
+pub EndsWriting-soak : (number : ℕ) (plan : Plan) (result : Status) (taken taken' : Option (List ℕ))
+    → plan ≡ soak_plan number
+    → RunEnds (object_of_kind plan.kind) (IsNamedRunReport Lawful plan) Counts result taken taken'
+    → EndsWriting (IsOutputOf (Soak number) []) result taken taken'
 EndsWriting-soak number plan result taken taken' same ends =
-    EndsWriting-answer (Soak number) [] (IsRunOutput (object_of_kind plan.kind) (IsNamedRunReport Lawful plan) Counts) result taken taken' (omega arith)
-    (λ status text output. (refl, subst (λ (p : Plan). IsRunOutput (object_of_kind p.kind) (IsNamedRunReport Lawful p) Counts status text) same output)) ends
+    EndsWriting-answer (Soak number) [] (IsRunOutput (object_of_kind plan.kind)
+    (IsNamedRunReport Lawful plan) Counts) result taken taken' (omega arith)
+    (λ status text output. (
+      refl,
+      subst (λ (p : Plan). IsRunOutput (object_of_kind p.kind)
+          (IsNamedRunReport Lawful p) Counts status text) same output,
+    )) ends

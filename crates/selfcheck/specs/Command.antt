@@ -62,7 +62,8 @@ names_argued (row ∷ rows) word = if bytes_eq word row.0 then true else names_a
 -- the command that the first of these with this word has, with this argument
 abbrev pub argued_in : List (List ℕ × (List ℕ → Option Command)) → List ℕ → List ℕ → Option Command
 argued_in [] word argument = None
-argued_in (row ∷ rows) word argument = if bytes_eq word row.0 then row.1 argument else argued_in rows word argument
+argued_in (row ∷ rows) word argument =
+    if bytes_eq word row.0 then row.1 argument else argued_in rows word argument
 
 -- whether the command with this word has an argument
 unfoldable pub has_argument : List ℕ → Bool
@@ -94,4 +95,6 @@ reads_source (Soak number) = false
 
 -- the command words name a command exactly where they are its words
 abbrev pub HaveTheirCommand : Type 0
-HaveTheirCommand = (words : List (String Global)) (command : Command) → (command_of words ≡ Some command) ↔ (CanBeNamed command × (map string_bytes words ≡ words_of command))
+HaveTheirCommand = (words : List (String Global)) (command : Command)
+    → (command_of words ≡ Some command)
+    ↔ (CanBeNamed command × (map string_bytes words ≡ words_of command))

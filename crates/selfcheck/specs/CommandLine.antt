@@ -17,13 +17,15 @@ bare_top = record (new_shape (codes "selfcheck")) {
 
 -- a subcommand with an argument, which clap takes for a text
 abbrev pub argued_shape : List ℕ → Shape
-argued_shape name = record (new_shape name) { rules = record (new_rule (codes "argument")) { required = true } ∷ [] }
+argued_shape name = record (new_shape name)
+    { rules = record (new_rule (codes "argument")) { required = true } ∷ [] }
 
 -- the command line, with a subcommand for each command
 abbrev pub line_app : App
 line_app = record {
   top = record bare_top { is_leaf = false };
-  subs = map (λ row. new_shape row.0) lone_commands ++ map (λ row. argued_shape row.0) argued_commands;
+  subs =
+      map (λ row. new_shape row.0) lone_commands ++ map (λ row. argued_shape row.0) argued_commands;
 }
 
 -- whether a word begins with a hyphen
@@ -31,11 +33,14 @@ abbrev pub begins_with_hyphen : List ℕ → Bool
 begins_with_hyphen [] = false
 begins_with_hyphen (byte ∷ bytes) = byte == 45
 
--- Whether words are handed to clap: there are as many as a command has, and none begins with a hyphen.
+-- Whether words are handed to clap: there are as many as a command has, and none begins with a
+-- hyphen.
 unfoldable pub is_parsed : List (String Global) → Bool
 is_parsed [] = false
-is_parsed (word ∷ []) = not (has_argument (string_bytes word)) && not (begins_with_hyphen (string_bytes word))
-is_parsed (word ∷ argument ∷ []) = has_argument (string_bytes word) && not (begins_with_hyphen (string_bytes argument))
+is_parsed (word ∷ []) =
+    not (has_argument (string_bytes word)) && not (begins_with_hyphen (string_bytes word))
+is_parsed (word ∷ argument ∷ []) =
+    has_argument (string_bytes word) && not (begins_with_hyphen (string_bytes argument))
 is_parsed (word ∷ argument ∷ third ∷ rest) = false
 
 -- the subcommand that clap meets, and its argument where it has one

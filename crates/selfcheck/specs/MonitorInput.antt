@@ -43,14 +43,16 @@ pub record IsOpening (bytes : List ℕ) (callers : ℕ) : Type 0 where
 abbrev pub IsCrowded : List ℕ → Type 0
 IsCrowded bytes = (callers : ℕ) × IsOpening bytes callers × (MAX_CALLERS < callers + 2)
 
--- The first fault of bytes that are no text of a script that leaves two callers: too many callers fail in the third line, whatever follows.
+-- The first fault of bytes that are no text of a script that leaves two callers: too many callers
+-- fail in the third line, whatever follows.
 unfoldable pub IsFirstMonitorFault : List ℕ → TextFault → Type 0
 IsFirstMonitorFault bytes fault =
     (IsCrowded bytes × (fault ≡ record { line = 3; what = Callers }))
     ⊎ ((¬ IsCrowded bytes) × IsFirstScriptFault Second bytes fault)
 
--- What `monitor` says of the text of a script: a status and a text, right of the records that its callers published, each in a thread,
--- whose calls the object of the behaviour answered.
+-- What `monitor` says of the text of a script: a status and a text, right of the records that its
+-- callers published, each in a thread, whose calls the object of the behaviour answered.
 abbrev pub IsMonitoredOf : Behaviour → List ℕ → Status → List ℕ → Type 0
 IsMonitoredOf behaviour bytes status text =
-    (plan : Plan) × IsScriptText Second bytes plan × LeavesTwo plan × IsMonitorOutput (AreNamedMonitored behaviour plan) plan.kind status text
+    (plan : Plan) × IsScriptText Second bytes plan × LeavesTwo plan
+    × IsMonitorOutput (AreNamedMonitored behaviour plan) plan.kind status text

@@ -11,8 +11,10 @@ fault_words (Unknown p) = codes "Unknown" ∷ decimal p ∷ []
 fault_words (Twice p) = codes "Twice" ∷ decimal p ∷ []
 fault_words (Skipped p) = codes "Skipped" ∷ decimal p ∷ []
 fault_words (Late q p) = codes "Late" ∷ decimal q ∷ decimal p ∷ []
-fault_words (Record p wanted found) = codes "Record" ∷ decimal p ∷ reply_word wanted ∷ reply_word found ∷ []
-fault_words (Run p wanted found) = codes "Run" ∷ decimal p ∷ reply_word wanted ∷ reply_word found ∷ []
+fault_words (Record p wanted found) =
+    codes "Record" ∷ decimal p ∷ reply_word wanted ∷ reply_word found ∷ []
+fault_words (Run p wanted found) =
+    codes "Run" ∷ decimal p ∷ reply_word wanted ∷ reply_word found ∷ []
 fault_words (Missing caller number) = codes "Missing" ∷ decimal caller ∷ decimal number ∷ []
 
 -- what is written of the first fault of an order

@@ -102,7 +102,8 @@ IsDrawn bytes _ text = ⊥
 -- what `order` says of the text of a certificate: a status and a text
 abbrev pub IsJudgement : List ℕ → Status → List ℕ → Type 0
 IsJudgement bytes Fine text = IsLegalCertificate bytes × (text ≡ codes "legal\n")
-IsJudgement bytes Found text = (fault : OrderFault) × IsFaultyCertificate bytes fault × (text ≡ order_fault_text fault)
+IsJudgement bytes Found text = (fault : OrderFault) × IsFaultyCertificate bytes fault
+    × (text ≡ order_fault_text fault)
 IsJudgement bytes _ text = ⊥
 
 -- what `upgrade` says of a text of version 1: a status and a text
@@ -116,7 +117,8 @@ IsSetVerdict bytes Fine text = IsLegalSetInput bytes × (text ≡ codes "legal\n
 IsSetVerdict bytes Found text = IsIllegalSetInput bytes × (text ≡ codes "illegal\n")
 IsSetVerdict bytes _ text = ⊥
 
--- what a command says of an input that it takes: a status and a text, of which there may be more than one
+-- what a command says of an input that it takes: a status and a text, of which there may be more
+-- than one
 abbrev pub IsAnswerOf : Command → List ℕ → Status → List ℕ → Type 0
 IsAnswerOf Verify bytes status text = IsVerdict bytes status text
 IsAnswerOf Sketch bytes status text = IsDrawn bytes status text
@@ -131,14 +133,18 @@ IsAnswerOf (Soak number) bytes status text = (bytes ≡ []) × IsSoakOf number s
 
 -- the line and the name of the fault for which a command refuses the bytes
 abbrev pub IsRefusal : Command → List ℕ → List ℕ → Type 0
-IsRefusal command bytes text = (fault : TextFault) × IsRefusedFor (IsFirstFaultOf (form_of command)) bytes fault × (text ≡ refusal_text fault)
+IsRefusal command bytes text = (fault : TextFault)
+    × IsRefusedFor (IsFirstFaultOf (form_of command)) bytes fault × (text ≡ refusal_text fault)
 
--- The output of a command for the bytes read: a status and a text. Inputs are refused alike by all commands.
+-- The output of a command for the bytes read: a status and a text. Inputs are refused alike by all
+-- commands.
 abbrev pub IsOutputOf : Command → List ℕ → Status → List ℕ → Type 0
 IsOutputOf command bytes Refused text = IsRefusal command bytes text
-IsOutputOf command bytes status text = (length bytes ≤ INPUT_LIMIT) × IsAnswerOf command bytes status text
+IsOutputOf command bytes status text = (length bytes ≤ INPUT_LIMIT)
+    × IsAnswerOf command bytes status text
 
--- The command runs a script over an object inside the world, that of these bytes or, where it is a soak, its own.
+-- The command runs a script over an object inside the world, that of these bytes or, where it is a
+-- soak, its own.
 abbrev pub RunsInside : Command → List ℕ → Type 0
 RunsInside (Run behaviour) bytes = IsRunInside behaviour bytes
 RunsInside (Certify behaviour) bytes = IsRunInside behaviour bytes
@@ -147,16 +153,19 @@ RunsInside command bytes = ⊥
 
 -- all outputs of the command for these bytes have this status
 abbrev pub HasOneStatus : Command → List ℕ → Status → Type 0
-HasOneStatus command bytes status = (other : Status) (text : List ℕ) → IsOutputOf command bytes other text → other ≡ status
+HasOneStatus command bytes status = (other : Status) (text : List ℕ)
+    → IsOutputOf command bytes other text → other ≡ status
 
 -- the bytes leave the command no choice: it has one output for them
 abbrev pub IsDetermined : Command → Type 0
 IsDetermined command = (bytes : List ℕ) (status other : Status) (text text' : List ℕ)
-    → IsOutputOf command bytes status text → IsOutputOf command bytes other text' → (status ≡ other) × (text ≡ text')
+    → IsOutputOf command bytes status text → IsOutputOf command bytes other text' → (status ≡ other)
+    × (text ≡ text')
 
 -- Whatever number a soak has, all calls of its script are delivered, and none is an error.
 abbrev pub SoaksDeliverAll : Type 0
-SoaksDeliverAll = (number : ℕ) (status : Status) (text : List ℕ) → IsOutputOf (Soak number) [] status text
+SoaksDeliverAll = (number : ℕ) (status : Status) (text : List ℕ)
+    → IsOutputOf (Soak number) [] status text
     → (status ≡ Fine) × (text ≡ codes "calls 128 delivered 128 errors 0\n")
 
 -- An output refuses the input exactly where the command doesn't take it.
@@ -170,7 +179,8 @@ IsUsage status text = (status ≡ Usage) × (text ≡ codes "usage: selfcheck CO
 
 -- The output of the program, for its words and the bytes read: a status and a text.
 abbrev pub IsOutput : List (String Global) → List ℕ → Status → List ℕ → Type 0
-IsOutput words bytes status text = MatchOption (command_of words) (IsUsage status text) (λ command. IsOutputOf command bytes status text)
+IsOutput words bytes status text = MatchOption (command_of words) (IsUsage status text)
+    (λ command. IsOutputOf command bytes status text)
 
 -- the bytes that a command works on, of those that the source holds
 abbrev pub input_of : Command → List ℕ → List ℕ
@@ -178,23 +188,29 @@ input_of command held = if reads_source command then read_of held else []
 
 -- the bytes that a command works on: the source's where it reads one, else none
 abbrev pub ReadsFor : Command → Option (List ℕ) → Option (List ℕ) → List ℕ → Type 0
-ReadsFor command old new bytes = MatchBool (reads_source command) (HasRead old new bytes) (Keeps old new × (bytes ≡ []))
+ReadsFor command old new bytes =
+    MatchBool (reads_source command) (HasRead old new bytes) (Keeps old new × (bytes ≡ []))
 
 -- the bytes that the program works on; words that aren't right leave the source as it is
 abbrev pub Reads : List (String Global) → Option (List ℕ) → Option (List ℕ) → List ℕ → Type 0
-Reads words old new bytes = MatchOption (command_of words) (Keeps old new) (λ command. ReadsFor command old new bytes)
+Reads words old new bytes =
+    MatchOption (command_of words) (Keeps old new) (λ command. ReadsFor command old new bytes)
 
--- The program has ended with a status: what it read, of the bytes that the source had left, and what it wrote, after those that the sink had taken.
-abbrev pub Ends : List (String Global) → Status → Option (List ℕ) → Option (List ℕ) → Option (List ℕ) → Option (List ℕ) → Type 0
+-- The program has ended with a status: what it read, of the bytes that the source had left, and
+-- what it wrote, after those that the sink had taken.
+abbrev pub Ends : List (String Global) → Status → Option (List ℕ) → Option (List ℕ)
+    → Option (List ℕ) → Option (List ℕ) → Type 0
 -- nothing is written
 Ends words ReadFault left left' taken taken' = Keeps taken taken'
 Ends words NoMemory left left' taken taken' = Keeps taken taken'
 -- the first bytes of the output are written, and not all
 Ends words WriteFault left left' taken taken' =
-    (bytes : List ℕ) × (status : Status) × (text : List ℕ) × Reads words left left' bytes × IsOutput words bytes status text × AppendsPart taken taken' text
+    (bytes : List ℕ) × (status : Status) × (text : List ℕ) × Reads words left left' bytes
+    × IsOutput words bytes status text × AppendsPart taken taken' text
 -- the output with this status is written whole
 Ends words status left left' taken taken' =
-    (bytes : List ℕ) × (text : List ℕ) × Reads words left left' bytes × IsOutput words bytes status text × Appends taken taken' text
+    (bytes : List ℕ) × (text : List ℕ) × Reads words left left' bytes
+    × IsOutput words bytes status text × Appends taken taken' text
 
 -- a status that says that the output was not written whole
 abbrev pub IsUnfinished : Status → Type 0

@@ -19,34 +19,43 @@ use Rattle.run_writer.specs.Runs.{IsRunOutput, object_of_kind}
 unfoldable pub IsScriptInput : List ℕ → Type 0
 IsScriptInput bytes = (plan : Plan) × IsScriptText Second bytes plan
 
--- What a form shows of the script that the bytes are the text of: a status and a text, of a report that is one for this script.
+-- What a form shows of the script that the bytes are the text of: a status and a text, of a report
+-- that is one for this script.
 abbrev pub IsShownOf : (Plan → Findings → Type 0) → Form → List ℕ → Status → List ℕ → Type 0
 IsShownOf IsReportFor form bytes status text =
-    (plan : Plan) × IsScriptText Second bytes plan × IsRunOutput (object_of_kind plan.kind) (IsReportFor plan) form status text
+    (plan : Plan) × IsScriptText Second bytes plan
+    × IsRunOutput (object_of_kind plan.kind) (IsReportFor plan) form status text
 
--- The object of a behaviour is inside the world in a run of the script that the bytes are the text of.
+-- The object of a behaviour is inside the world in a run of the script that the bytes are the text
+-- of.
 abbrev pub IsRunInside : Behaviour → List ℕ → Type 0
-IsRunInside behaviour bytes = (plan : Plan) → IsScriptText Second bytes plan → IsSome (inside_of behaviour plan.kind)
+IsRunInside behaviour bytes = (plan : Plan) → IsScriptText Second bytes plan
+    → IsSome (inside_of behaviour plan.kind)
 
--- What `run` says of the text of a script: a status and a text, of a lawful report of its callers, each in a thread,
--- whose calls the object of the behaviour answered.
+-- What `run` says of the text of a script: a status and a text, of a lawful report of its callers,
+-- each in a thread, whose calls the object of the behaviour answered.
 abbrev pub IsRunOf : Behaviour → List ℕ → Status → List ℕ → Type 0
-IsRunOf behaviour bytes status text = IsShownOf (IsNamedRunReport behaviour) Report bytes status text
+IsRunOf behaviour bytes status text =
+    IsShownOf (IsNamedRunReport behaviour) Report bytes status text
 
--- What `replay` says of the text of a script: a status and a text, of a lawful report of its callers by its turns,
--- whose calls the object of the behaviour answered.
+-- What `replay` says of the text of a script: a status and a text, of a lawful report of its
+-- callers by its turns, whose calls the object of the behaviour answered.
 abbrev pub IsReplayOf : Behaviour → List ℕ → Status → List ℕ → Type 0
-IsReplayOf behaviour bytes status text = IsShownOf (IsNamedReplayReport behaviour) Report bytes status text
+IsReplayOf behaviour bytes status text =
+    IsShownOf (IsNamedReplayReport behaviour) Report bytes status text
 
--- What `certify` says of the text of a script: a status, and a certificate of what a lawful report of its callers, each in a thread,
--- delivered.
+-- What `certify` says of the text of a script: a status, and a certificate of what a lawful report
+-- of its callers, each in a thread, delivered.
 abbrev pub IsCertifiedOf : Behaviour → List ℕ → Status → List ℕ → Type 0
-IsCertifiedOf behaviour bytes status text = IsShownOf (IsNamedRunReport behaviour) Certificate bytes status text
+IsCertifiedOf behaviour bytes status text =
+    IsShownOf (IsNamedRunReport behaviour) Certificate bytes status text
 
 -- the script of a soak: 4 callers with 32 calls of a queue each, made from its number
 abbrev pub soak_plan : ℕ → Plan
 soak_plan number = generated number 4 32 Queue
 
--- What `soak` says: a status and the three counts of a lawful report of the script made from its number.
+-- What `soak` says: a status and the three counts of a lawful report of the script made from its
+-- number.
 abbrev pub IsSoakOf : ℕ → Status → List ℕ → Type 0
-IsSoakOf number status text = IsRunOutput (object_of_kind Queue) (IsNamedRunReport Lawful (soak_plan number)) Counts status text
+IsSoakOf number status text = IsRunOutput (object_of_kind Queue)
+    (IsNamedRunReport Lawful (soak_plan number)) Counts status text

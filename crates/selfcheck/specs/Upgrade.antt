@@ -1,4 +1,5 @@
--- What `upgrade` takes, and what it writes of it: a text of version 1, and the text of version 2 of what that says.
+-- What `upgrade` takes, and what it writes of it: a text of version 1, and the text of version 2 of
+-- what that says.
 use Rattle.std.specs.Prelude.{◌≡◌, ◌⊎◌, ℕ, List, ◌++◌, codes}
 use Rattle.book_base.specs.declared.fault.TextFault.{TextFault}
 use Rattle.book_base.specs.Book.{Page}
@@ -20,11 +21,13 @@ ByTitle bytes Script Book = (BeginsAsScript bytes × Script) ⊎ (¬ (BeginsAsSc
 
 -- the bytes are the text of a script or of a book, in version 1
 unfoldable pub IsOldInput : List ℕ → Type 0
-IsOldInput bytes = ByTitle bytes ((plan : Plan) × IsScriptText First bytes plan) ((kind : Kind) × (book : List Page) × IsBookText First bytes kind book)
+IsOldInput bytes = ByTitle bytes ((plan : Plan) × IsScriptText First bytes plan)
+    ((kind : Kind) × (book : List Page) × IsBookText First bytes kind book)
 
 -- the first fault of bytes that are to be such a text
 abbrev pub IsFirstOldFault : List ℕ → TextFault → Type 0
-IsFirstOldFault bytes fault = ByTitle bytes (IsFirstScriptFault First bytes fault) (IsFirstBookFault First bytes fault)
+IsFirstOldFault bytes fault =
+    ByTitle bytes (IsFirstScriptFault First bytes fault) (IsFirstBookFault First bytes fault)
 
 -- The text is that of version 2 of the script that has these bytes in version 1.
 pub record IsUpgradedScript (bytes text : List ℕ) : Type 0 where

@@ -25,8 +25,8 @@ pub enum Command {
     Replay(Behaviour),
     /// Run a script as [`Command::Run`] does, and write a certificate of what was delivered.
     Certify(Behaviour),
-    /// Run a script over the object of a behaviour, each caller in a thread, while two monitors watch, and write what
-    /// they say.
+    /// Run a script over the object of a behaviour, each caller in a thread, while two monitors
+    /// watch, and write what they say.
     Monitor(Behaviour),
     /// Run the script made from this number over the lawful object, and write the report's counts.
     Soak(u64),

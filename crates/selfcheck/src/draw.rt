@@ -12,7 +12,8 @@ use std::alloc::Global;
 
 /// The output of `sketch` for the bytes read.
 pub(crate) fn draw(alloc: Global, bytes: &[u8]) -> Result<Output, NoMemory>
-    ensures { IfOk result (λ output. IsOutputOf Command.Sketch bytes.now output.status output.text.items) }
+    ensures { IfOk result
+        (λ output. IsOutputOf Command.Sketch bytes.now output.status output.text.items) }
 {
     let (kind, book) = match read_input(alloc, bytes) {
         Ok(read) => read,

@@ -25,7 +25,8 @@ use std::alloc::Global;
 use std::thread::Threads;
 use text_fields::{Lines, Version, Words, are_words, callers_of};
 
-/// Runs the script that the bytes read are the text of over the object of a behaviour, while two monitors watch, and writes what they say.
+/// Runs the script that the bytes read are the text of over the object of a behaviour, while two
+/// monitors watch, and writes what they say.
 pub(crate) fn monitor_script<R: Threads + Sync, K: Sink>(
     rt: &R,
     alloc: Global,
@@ -61,7 +62,8 @@ fn read_monitored(alloc: Global, bytes: &[u8]) -> Result<Script, ReadFault>
     read_script(alloc, bytes)
 }
 
-/// Whether the first three lines are those of a script whose callers don't leave two for the monitors.
+/// Whether the first three lines are those of a script whose callers don't leave two for the
+/// monitors.
 fn is_crowded(bytes: &[u8]) -> bool
     ensures { IsTrue result ↔ IsCrowded bytes.now }
 {

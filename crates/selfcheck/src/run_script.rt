@@ -19,7 +19,8 @@ use faulty_objects::Behaviour;
 use std::alloc::Global;
 use std::thread::Threads;
 
-/// Does a task with the script that the bytes read are the text of, over the object of a behaviour, and writes its output.
+/// Does a task with the script that the bytes read are the text of, over the object of a behaviour,
+/// and writes its output.
 pub(crate) fn run_script<R: Threads + Sync, K: Sink>(
     rt: &R,
     alloc: Global,

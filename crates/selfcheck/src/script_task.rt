@@ -33,7 +33,8 @@ impl ScriptTask {
         sink: &mut K,
     ) -> Status
         ensures ends { RunEnds (object_of_kind script.now.kind)
-            (IsReportBy self behaviour script.now) (form_by self) result (K.taken sink.old) (K.taken sink.new) }
+            (IsReportBy self behaviour script.now) (form_by self) result (K.taken sink.old)
+            (K.taken sink.new) }
         ensures faults { LeavesSink K.faults result sink.old sink.new }
     {
         match self {

@@ -16,7 +16,8 @@ use std::alloc::Global;
 /// The output of `sets` for the bytes read.
 #[tactic(auto, unfolding(crate::specs::SetInput::IsLegalSetInput, crate::specs::SetInput::IsIllegalSetInput))]
 pub(crate) fn sets(alloc: Global, bytes: &[u8]) -> Result<Output, NoMemory>
-    ensures { IfOk result (λ output. IsOutputOf Command.Sets bytes.now output.status output.text.items) }
+    ensures { IfOk result
+        (λ output. IsOutputOf Command.Sets bytes.now output.status output.text.items) }
 {
     let book = match read_sets(alloc, bytes) {
         Ok(book) => book,

@@ -20,8 +20,8 @@ const CALLERS: u32 = 4;
 /// How many calls each of them makes.
 const CALLS: u64 = 32;
 
-/// Does what `soak` is for: runs the script made from its number over the lawful object, each caller in a thread, and writes the
-/// three counts of the report.
+/// Does what `soak` is for: runs the script made from its number over the lawful object, each
+/// caller in a thread, and writes the three counts of the report.
 pub(crate) fn soak<R: Threads + Sync, K: Sink>(
     rt: &R,
     alloc: Global,

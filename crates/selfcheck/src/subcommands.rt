@@ -12,7 +12,8 @@ use clap::ArgMatches;
 use clap::error::ErrorKind;
 use std::alloc::{AllocError, Global};
 
-/// Whether the words are handed to clap: there are as many as a command has, and none begins with `-`.
+/// Whether the words are handed to clap: there are as many as a command has, and none begins with
+/// `-`.
 #[tactic(auto, unfolding(crate::specs::CommandLine::is_parsed))]
 pub(crate) fn may_be_parsed(words: &[String]) -> bool
     ensures { result ≡ is_parsed words.now }

@@ -34,11 +34,13 @@ fn read_for<S: Source>(
     alloc: Global,
     source: &mut S,
 ) -> Result<Vec<u8>, ReadAllError>
-    ensures read { IfOk result (λ bytes. ReadsFor command (S.left source.old) (S.left source.new) bytes.items) }
+    ensures read { IfOk result
+        (λ bytes. ReadsFor command (S.left source.old) (S.left source.new) bytes.items) }
     ensures unread { ¬ IsTrue (reads_source command) → source.new ≡ source.old }
     ensures empty { IfOk result (λ bytes. ¬ IsTrue (reads_source command) → bytes.items ≡ []) }
     ensures later { S.faults source.old ≤ S.faults source.new }
-    ensures cause { IsErrOf result ReadAllError.Fault → Rose (S.faults source.old) (S.faults source.new) }
+    ensures cause { IsErrOf result ReadAllError.Fault
+        → Rose (S.faults source.old) (S.faults source.new) }
     ensures calm { ¬ IsErrOf result ReadAllError.Fault → S.faults source.new ≡ S.faults source.old }
 {
     if command.reads_source() {
@@ -48,7 +50,8 @@ fn read_for<S: Source>(
     }
 }
 
-/// Does what a command is for with the bytes that it works on, and writes its output. A command that reads no source has no bytes.
+/// Does what a command is for with the bytes that it works on, and writes its output. A command
+/// that reads no source has no bytes.
 fn answer<R: Threads + Sync, K: Sink>(
     rt: &R,
     alloc: Global,
@@ -57,7 +60,8 @@ fn answer<R: Threads + Sync, K: Sink>(
     sink: &mut K,
 ) -> Status
     requires { ¬ IsTrue (reads_source command) → bytes.now ≡ [] }
-    ensures ends { EndsWriting (IsOutputOf command bytes.now) result (K.taken sink.old) (K.taken sink.new) }
+    ensures ends { EndsWriting (IsOutputOf command bytes.now) result (K.taken sink.old)
+        (K.taken sink.new) }
     ensures faults { LeavesSink K.faults result sink.old sink.new }
 {
     match command {
@@ -90,7 +94,8 @@ pub fn selfcheck<R: Threads + Sync, S: Source, K: Sink>(
 ) -> Status
     // The status says which bytes were read and which were written: the whole output of the command
     // for the input, a prefix of it, or nothing.
-    ensures ends { Ends words.now result (S.left source.old) (S.left source.new) (K.taken sink.old) (K.taken sink.new) }
+    ensures ends { Ends words.now result (S.left source.old) (S.left source.new) (K.taken sink.old)
+        (K.taken sink.new) }
 
     // Words that name no command are answered `Usage`, `WriteFault` or `NoMemory`, whatever the
     // input.
@@ -100,11 +105,13 @@ pub fn selfcheck<R: Threads + Sync, S: Source, K: Sink>(
     ensures unparsed { ¬ IsTrue (is_parsed words.now) →
         (result ≡ Status.Usage) ⊎ (result ≡ Status.WriteFault) }
     // The source stays unread where the words name no command that reads one.
-    ensures unread { ¬ IsSomeAnd (command_of words.now) (λ command. IsTrue (reads_source command)) → source.new ≡ source.old }
+    ensures unread { ¬ IsSomeAnd (command_of words.now) (λ command. IsTrue (reads_source command))
+        → source.new ≡ source.old }
 
     // Where all outputs of the command for the input have one status, it is the answer, faults and
     // want of memory aside.
-    ensures exact { (command : Command) (held : List ℕ) (status : Status) → command_of words.now ≡ Some command →
+    ensures exact { (command : Command) (held : List ℕ) (status : Status)
+        → command_of words.now ≡ Some command →
         S.left source.old ≡ Some held → HasOneStatus command (input_of command held) status →
         (result ≡ status) ⊎ IsUnfinished result }
 
@@ -121,19 +128,23 @@ pub fn selfcheck<R: Threads + Sync, S: Source, K: Sink>(
     // faults rose in this call.
     ensures complete { (command : Command) (held : List ℕ) → command_of words.now ≡ Some command →
         S.left source.old ≡ Some held → IsTaken command (input_of command held) →
-        ¬ Rose (S.faults source.old) (S.faults source.new) → ¬ Rose (K.faults sink.old) (K.faults sink.new) →
+        ¬ Rose (S.faults source.old) (S.faults source.new)
+        → ¬ Rose (K.faults sink.old) (K.faults sink.new) →
         (result ≡ Status.Fine) ⊎ (result ≡ Status.Found) ⊎ (result ≡ Status.NoMemory) }
 
     // An answer `ReadFault` comes only where the source's count of faults rose in this call.
-    ensures read_fault { result ≡ Status.ReadFault → Rose (S.faults source.old) (S.faults source.new) }
+    ensures read_fault { result ≡ Status.ReadFault
+        → Rose (S.faults source.old) (S.faults source.new) }
     // An answer `WriteFault` comes only where the sink's count of faults rose in this call.
-    ensures write_fault { result ≡ Status.WriteFault → Rose (K.faults sink.old) (K.faults sink.new) }
+    ensures write_fault { result ≡ Status.WriteFault
+        → Rose (K.faults sink.old) (K.faults sink.new) }
     // An answer other than `ReadFault` left the source's count of faults.
     ensures read_calm { ¬ (result ≡ Status.ReadFault) → S.faults source.new ≡ S.faults source.old }
     // An answer other than `WriteFault` left the sink's count of faults.
     ensures write_calm { ¬ (result ≡ Status.WriteFault) → K.faults sink.new ≡ K.faults sink.old }
     // An answer `ReadFault` or `NoMemory` comes only where nothing was written.
-    ensures unwritten { (result ≡ Status.ReadFault) ⊎ (result ≡ Status.NoMemory) → sink.new ≡ sink.old }
+    ensures unwritten { (result ≡ Status.ReadFault) ⊎ (result ≡ Status.NoMemory)
+        → sink.new ≡ sink.old }
     // The source's count of faults isn't lower than before.
     ensures source_later { S.faults source.old ≤ S.faults source.new }
     // The sink's count of faults isn't lower than before.

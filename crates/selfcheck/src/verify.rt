@@ -15,7 +15,8 @@ use std::alloc::Global;
 
 /// The output of `verify` for the bytes read.
 pub(crate) fn verify(alloc: Global, bytes: &[u8]) -> Result<Output, NoMemory>
-    ensures { IfOk result (λ output. IsOutputOf Command.Verify bytes.now output.status output.text.items) }
+    ensures { IfOk result
+        (λ output. IsOutputOf Command.Verify bytes.now output.status output.text.items) }
 {
     match verdict(alloc, bytes) {
         Ok(BookVerdict::Legal) => Output::new(alloc, Status::Fine, b"legal\n"),

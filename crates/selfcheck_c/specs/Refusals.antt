@@ -12,7 +12,8 @@ use Rattle.selfcheck_c.specs.FaultNumber.{fault_number}
 abbrev pub TellsFault : TextFault → Refusal → Type 0
 TellsFault fault refusal = (refusal.line ≡ fault.line) × (refusal.what ≡ fault_number fault.what)
 
--- the bytes are no text of a form whose first faults these are, and the refusal tells their first fault
+-- the bytes are no text of a form whose first faults these are, and the refusal tells their first
+-- fault
 abbrev pub IsRefusalOf : (TextFault → Type 0) → Refusal → Type 0
 IsRefusalOf IsFirst refusal = (fault : TextFault) × IsFirst fault × TellsFault fault refusal
 
@@ -24,6 +25,7 @@ IsBookRefusal bytes refusal = IsRefusalOf (IsFirstBookFault Second bytes) refusa
 abbrev pub IsCertificateRefusal : List ℕ → Refusal → Type 0
 IsCertificateRefusal bytes refusal = IsRefusalOf (IsFirstCertificateFault bytes) refusal
 
--- the bytes give no book, and the refusal tells their first fault, with its line counted from the title of the book
+-- the bytes give no book, and the refusal tells their first fault, with its line counted from the
+-- title of the book
 abbrev pub IsGivenRefusal : List ℕ → Refusal → Type 0
 IsGivenRefusal bytes refusal = IsRefusalOf (IsFirstGivenFault bytes) refusal

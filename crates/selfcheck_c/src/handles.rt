@@ -17,8 +17,8 @@ pub const DONE: u32 = 0;
 /// What was given isn't as the call wants it, and nothing has changed.
 pub const UNFIT: u32 = 9;
 
-/// Opens a table for this many callers, 1 to 16, with 1 to 256 calls each, which are judged by the kind of this name, and
-/// puts its handle into the slot, which has none.
+/// Opens a table for this many callers, 1 to 16, with 1 to 256 calls each, which are judged by the
+/// kind of this name, and puts its handle into the slot, which has none.
 #[unsafe(no_mangle)]
 pub extern "C" fn selfcheck_open(
     alloc: Global,
@@ -48,7 +48,8 @@ pub extern "C" fn selfcheck_open(
     }
 }
 
-/// Puts the handle of the next caller of a table, which has callers left, into the slot, which has no handle.
+/// Puts the handle of the next caller of a table, which has callers left, into the slot, which has
+/// no handle.
 #[unsafe(no_mangle)]
 pub extern "C" fn selfcheck_caller(alloc: Global, table: &mut Slot, slot: &mut Slot) -> u32
     // With `DONE` the table had a caller left to give, and the slot had no handle.
@@ -58,7 +59,8 @@ pub extern "C" fn selfcheck_caller(alloc: Global, table: &mut Slot, slot: &mut S
     ensures given { result ≡ DONE →
         HasGiven Role.Caller (handle_in table.old) (handle_in table.new) (handle_in slot.new) }
     // With `UNFIT` there is no table with a caller left to give, or the slot had a handle.
-    ensures unfit { result ≡ UNFIT → ¬ (MayGive (handle_in table.old) × (handle_in slot.old ≡ None)) }
+    ensures unfit { result ≡ UNFIT
+        → ¬ (MayGive (handle_in table.old) × (handle_in slot.old ≡ None)) }
     // With each status but `DONE` the table and the slot are as they were.
     ensures unchanged { ¬ (result ≡ DONE) →
         (handle_in table.new ≡ handle_in table.old) × (slot.new ≡ slot.old) }
@@ -72,8 +74,8 @@ pub extern "C" fn selfcheck_caller(alloc: Global, table: &mut Slot, slot: &mut S
     }
 }
 
-/// Puts the handle of the next caller of a table, which has callers left, as a monitor into the slot, which has no
-/// handle.
+/// Puts the handle of the next caller of a table, which has callers left, as a monitor into the
+/// slot, which has no handle.
 #[unsafe(no_mangle)]
 pub extern "C" fn selfcheck_monitor(alloc: Global, table: &mut Slot, slot: &mut Slot) -> u32
     // With `DONE` the table had a caller left to give, and the slot had no handle.
@@ -83,7 +85,8 @@ pub extern "C" fn selfcheck_monitor(alloc: Global, table: &mut Slot, slot: &mut 
     ensures given { result ≡ DONE →
         HasGiven Role.Monitor (handle_in table.old) (handle_in table.new) (handle_in slot.new) }
     // With `UNFIT` there is no table with a caller left to give, or the slot had a handle.
-    ensures unfit { result ≡ UNFIT → ¬ (MayGive (handle_in table.old) × (handle_in slot.old ≡ None)) }
+    ensures unfit { result ≡ UNFIT
+        → ¬ (MayGive (handle_in table.old) × (handle_in slot.old ≡ None)) }
     // With each status but `DONE` the table and the slot are as they were.
     ensures unchanged { ¬ (result ≡ DONE) →
         (handle_in table.new ≡ handle_in table.old) × (slot.new ≡ slot.old) }
@@ -97,15 +100,16 @@ pub extern "C" fn selfcheck_monitor(alloc: Global, table: &mut Slot, slot: &mut 
     }
 }
 
-/// Announces a call of the slot's caller, which stands between two calls and has one left, with the operation word that has
-/// this low and this high word.
+/// Announces a call of the slot's caller, which stands between two calls and has one left, with the
+/// operation word that has this low and this high word.
 #[unsafe(no_mangle)]
 pub extern "C" fn selfcheck_announce(alloc: Global, slot: &mut Slot, low: u64, high: u64) -> u32
     // The status is `DONE` exactly where the slot has a caller that stands between two calls and
     // has a call left.
     ensures when { (result ≡ DONE) ↔ IsCallers MayAnnounce (handle_in slot.old) }
     // With `DONE` the slot's caller has announced a call with this operation word.
-    ensures begun { result ≡ DONE → Begins (joined low high) (handle_in slot.old) (handle_in slot.new) }
+    ensures begun { result ≡ DONE
+        → Begins (joined low high) (handle_in slot.old) (handle_in slot.new) }
     // With each status but `DONE` the handle is as it was.
     ensures unchanged { ¬ (result ≡ DONE) → handle_in slot.new ≡ handle_in slot.old }
     // The status is `DONE` or `UNFIT`.
@@ -118,8 +122,8 @@ pub extern "C" fn selfcheck_announce(alloc: Global, slot: &mut Slot, low: u64, h
     }
 }
 
-/// Hands in the object's reply to the call that the slot's caller has announced, and judges the call. With `NO_MEMORY`
-/// nobody has checked the reply.
+/// Hands in the object's reply to the call that the slot's caller has announced, and judges the
+/// call. With `NO_MEMORY` nobody has checked the reply.
 #[unsafe(no_mangle)]
 pub extern "C" fn selfcheck_answered(alloc: Global, slot: &mut Slot, reply: u64) -> u32
     // With `DONE` the call has this reply and is judged: the book at the cut that its caller has
@@ -149,8 +153,8 @@ pub extern "C" fn selfcheck_answered(alloc: Global, slot: &mut Slot, reply: u64)
     }
 }
 
-/// Hands in the object's reply to the call that the slot's caller has announced, and publishes the call. Nobody judges it
-/// here: that is for monitors of the table.
+/// Hands in the object's reply to the call that the slot's caller has announced, and publishes the
+/// call. Nobody judges it here: that is for monitors of the table.
 #[unsafe(no_mangle)]
 pub extern "C" fn selfcheck_publish(alloc: Global, slot: &mut Slot, reply: u64) -> u32
     // The status is `DONE` exactly where the slot has a caller that has announced a call.
@@ -169,8 +173,8 @@ pub extern "C" fn selfcheck_publish(alloc: Global, slot: &mut Slot, reply: u64) 
     }
 }
 
-/// Makes a round of the slot's monitor, which has found no error yet: judges what is published. With `NO_MEMORY` nothing
-/// is judged, and a further round may be made.
+/// Makes a round of the slot's monitor, which has found no error yet: judges what is published.
+/// With `NO_MEMORY` nothing is judged, and a further round may be made.
 #[unsafe(no_mangle)]
 pub extern "C" fn selfcheck_judge(alloc: Global, slot: &mut Slot) -> u32
     // With `LEGAL` the slot's monitor has made a round, and the book at its cut has a legal order.
@@ -199,8 +203,9 @@ pub extern "C" fn selfcheck_judge(alloc: Global, slot: &mut Slot) -> u32
     }
 }
 
-/// Writes into a buffer the text of the book of the error that the last call of the slot's caller was, or of the illegal
-/// round of the slot's monitor. `written` is its length, also where the buffer can't hold it and nothing is written.
+/// Writes into a buffer the text of the book of the error that the last call of the slot's caller
+/// was, or of the illegal round of the slot's monitor. `written` is its length, also where the
+/// buffer can't hold it and nothing is written.
 #[unsafe(no_mangle)]
 pub extern "C" fn selfcheck_witness(
     alloc: Global,

@@ -1,5 +1,6 @@
-//! Verdicts on texts, smaller books and pictures, and calls that check themselves or that monitors judge, for programs in
-//! other languages: exports over numbers, slices of bytes, and places for handles.
+//! Verdicts on texts, smaller books and pictures, and calls that check themselves or that monitors
+//! judge, for programs in other languages: exports over numbers, slices of bytes, and places for
+//! handles.
 #![tactic(auto)]
 
 ghost use Rattle.std.specs.Prelude.{◌≡◌, ◌⊎◌, ℕ, ◌<◌, ◌≤◌, List, length, take};
@@ -34,8 +35,8 @@ pub const NO_MEMORY: u32 = 6;
 /// There is such a text, but the buffer can't hold it.
 pub const NO_ROOM: u32 = 8;
 
-/// Judges the book that the bytes are the text of. Where it is refused, `refusal` tells why; else it stays
-/// as it was.
+/// Judges the book that the bytes are the text of. Where it is refused, `refusal` tells why; else
+/// it stays as it was.
 #[unsafe(no_mangle)]
 pub extern "C" fn selfcheck_verify(alloc: Global, text: &[u8], refusal: &mut Refusal) -> u32
     // With `LEGAL` the bytes are the text of a book that has a legal order.
@@ -46,7 +47,8 @@ pub extern "C" fn selfcheck_verify(alloc: Global, text: &[u8], refusal: &mut Ref
     // their first fault.
     ensures refused { result ≡ REFUSED → IsBookRefusal text.now refusal.new }
     // The status is one of these four.
-    ensures ends { (result ≡ LEGAL) ⊎ (result ≡ ILLEGAL) ⊎ (result ≡ REFUSED) ⊎ (result ≡ NO_MEMORY) }
+    ensures ends { (result ≡ LEGAL) ⊎ (result ≡ ILLEGAL) ⊎ (result ≡ REFUSED)
+        ⊎ (result ≡ NO_MEMORY) }
     // With each status but `REFUSED` the refusal is as it was.
     ensures kept { ¬ (result ≡ REFUSED) → refusal.new ≡ refusal.old }
     // The text of a book with a legal order has the status `LEGAL`, unless memory runs out.
@@ -68,8 +70,8 @@ pub extern "C" fn selfcheck_verify(alloc: Global, text: &[u8], refusal: &mut Ref
     }
 }
 
-/// Judges the certificate that the bytes are the text of. Where it is refused, `refusal` tells why; else it
-/// stays as it was.
+/// Judges the certificate that the bytes are the text of. Where it is refused, `refusal` tells why;
+/// else it stays as it was.
 #[unsafe(no_mangle)]
 pub extern "C" fn selfcheck_order(alloc: Global, text: &[u8], refusal: &mut Refusal) -> u32
     // With `LEGAL` the bytes are the text of a certificate whose order is a legal order of its
@@ -82,13 +84,15 @@ pub extern "C" fn selfcheck_order(alloc: Global, text: &[u8], refusal: &mut Refu
     // number of their first fault.
     ensures refused { result ≡ REFUSED → IsCertificateRefusal text.now refusal.new }
     // The status is one of these four.
-    ensures ends { (result ≡ LEGAL) ⊎ (result ≡ ILLEGAL) ⊎ (result ≡ REFUSED) ⊎ (result ≡ NO_MEMORY) }
+    ensures ends { (result ≡ LEGAL) ⊎ (result ≡ ILLEGAL) ⊎ (result ≡ REFUSED)
+        ⊎ (result ≡ NO_MEMORY) }
     // With each status but `REFUSED` the refusal is as it was.
     ensures kept { ¬ (result ≡ REFUSED) → refusal.new ≡ refusal.old }
     // A certificate whose order is legal has the status `LEGAL`, unless memory runs out.
     ensures legal_told { IsLegalCertificate text.now → (result ≡ LEGAL) ⊎ (result ≡ NO_MEMORY) }
     // A certificate whose order isn't legal has the status `ILLEGAL`, unless memory runs out.
-    ensures illegal_told { IsIllegalCertificate text.now → (result ≡ ILLEGAL) ⊎ (result ≡ NO_MEMORY) }
+    ensures illegal_told { IsIllegalCertificate text.now → (result ≡ ILLEGAL)
+        ⊎ (result ≡ NO_MEMORY) }
     // Bytes that have a first fault have the status `REFUSED`, unless memory runs out.
     ensures fault_told { (fault : TextFault) → IsFirstCertificateFault text.now fault →
         (result ≡ REFUSED) ⊎ (result ≡ NO_MEMORY) }
@@ -104,9 +108,9 @@ pub extern "C" fn selfcheck_order(alloc: Global, text: &[u8], refusal: &mut Refu
     }
 }
 
-/// Writes into a buffer the certificate of the book that the bytes are the text of: the book's text with a
-/// legal order of it. `written` is its length, also where the buffer can't hold it and nothing is written.
-/// Where the text is refused, `refusal` tells why.
+/// Writes into a buffer the certificate of the book that the bytes are the text of: the book's text
+/// with a legal order of it. `written` is its length, also where the buffer can't hold it and
+/// nothing is written. Where the text is refused, `refusal` tells why.
 #[unsafe(no_mangle)]
 pub extern "C" fn selfcheck_certify(
     alloc: Global,

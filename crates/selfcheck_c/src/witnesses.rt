@@ -16,9 +16,10 @@ use book_base::ReadFault;
 use std::alloc::Global;
 use witness_texts::{picture_text, smaller_text};
 
-/// Writes into a buffer the text of a smaller book of the book that the bytes give, which is illegal as that is: the
-/// bytes are a book's text in either version, or what a run or monitors have written with its witness. `written` is its
-/// length, also where the buffer can't hold it and nothing is written. Where the text is refused, `refusal` tells why.
+/// Writes into a buffer the text of a smaller book of the book that the bytes give, which is
+/// illegal as that is: the bytes are a book's text in either version, or what a run or monitors
+/// have written with its witness. `written` is its length, also where the buffer can't hold it and
+/// nothing is written. Where the text is refused, `refusal` tells why.
 #[unsafe(no_mangle)]
 pub extern "C" fn selfcheck_smaller(
     alloc: Global,
@@ -79,9 +80,9 @@ pub extern "C" fn selfcheck_smaller(
     }
 }
 
-/// Writes into a buffer the picture, as SVG, of the book that the bytes give, as `selfcheck_smaller` reads them. `written`
-/// is its length, also where the buffer can't hold it and nothing is written. Where the text is refused, `refusal` tells
-/// why.
+/// Writes into a buffer the picture, as SVG, of the book that the bytes give, as
+/// `selfcheck_smaller` reads them. `written` is its length, also where the buffer can't hold it and
+/// nothing is written. Where the text is refused, `refusal` tells why.
 #[unsafe(no_mangle)]
 pub extern "C" fn selfcheck_picture(
     alloc: Global,
@@ -104,7 +105,8 @@ pub extern "C" fn selfcheck_picture(
     ensures unheld { result ≡ NO_ROOM → (wanted : List ℕ) × IsPictureOf text.now wanted
         × (length wanted ≡ written.new) }
     // The status is one of these four.
-    ensures ends { (result ≡ DONE) ⊎ (result ≡ REFUSED) ⊎ (result ≡ NO_MEMORY) ⊎ (result ≡ NO_ROOM) }
+    ensures ends { (result ≡ DONE) ⊎ (result ≡ REFUSED) ⊎ (result ≡ NO_MEMORY)
+        ⊎ (result ≡ NO_ROOM) }
     // With each status but `DONE` the buffer is as it was.
     ensures unwritten { ¬ (result ≡ DONE) → buffer.new ≡ buffer.old }
     // With each status but `REFUSED` the refusal is as it was.

@@ -9,8 +9,11 @@ use Rattle.seq_objects.specs.EntryView.{text_of, spaced_arguments, IsWrittenWith
 
 -- The parts of a word are those that it is made of.
 pub word_of-parts : (code argument extra : ℕ) → code < 2 ^ 32 → argument < 2 ^ 32
-    → (code_of (word_of code argument extra) ≡ code) × (argument_of (word_of code argument extra) ≡ argument) × (extra_of (word_of code argument extra) ≡ extra)
-word_of-parts code argument extra code_small argument_small = (omega arith, omega arith, omega arith)
+    → (code_of (word_of code argument extra) ≡ code)
+    × (argument_of (word_of code argument extra) ≡ argument)
+    × (extra_of (word_of code argument extra) ≡ extra)
+word_of-parts code argument extra code_small argument_small =
+    (omega arith, omega arith, omega arith)
 
 -- A word that has the code of an entry and the arguments of its arity is an operation of the entry.
 is_operation : (e : Entry) (argument extra : ℕ) → e.code < 2 ^ 32 → argument < 2 ^ 32
@@ -18,7 +21,9 @@ is_operation : (e : Entry) (argument extra : ℕ) → e.code < 2 ^ 32 → argume
     → is_operation_of (word_of e.code argument extra) e ≡ true
 is_operation e argument extra code_small argument_small has =
     let parts = word_of-parts e.code argument extra code_small argument_small in
-    and_from (code_of (word_of e.code argument extra) == e.code) (has_arguments e.arity (word_of e.code argument extra)) (eq-eqb (code_of (word_of e.code argument extra)) e.code parts.0) has
+    and_from (code_of (word_of e.code argument extra) == e.code)
+    (has_arguments e.arity (word_of e.code argument extra))
+    (eq-eqb (code_of (word_of e.code argument extra)) e.code parts.0) has
 
 -- What is read where an entry has no argument.
 pub IsWrittenWith-none : (e : Entry) (words : List (List ℕ)) → e.code < 2 ^ 32 → e.arity ≡ Nullary
@@ -26,9 +31,11 @@ pub IsWrittenWith-none : (e : Entry) (words : List (List ℕ)) → e.code < 2 ^ 
 IsWrittenWith-none e words small arity =
     let word : ℕ = word_of e.code 0 0 in
     let parts = word_of-parts e.code 0 0 small (omega arith) in
-    let has : has_arguments Nullary word ≡ true = and_from (argument_of word == 0) (extra_of word == 0) (eq-eqb (argument_of word) 0 parts.1) (eq-eqb (extra_of word) 0 parts.2) in
+    let has : has_arguments Nullary word ≡ true = and_from (argument_of word == 0)
+    (extra_of word == 0) (eq-eqb (argument_of word) 0 parts.1) (eq-eqb (extra_of word) 0 parts.2) in
     record {
-      operation = is_operation e 0 0 small (omega arith) (subst (λ a. has_arguments a word ≡ true) (sym arity) has);
+      operation = is_operation e 0 0 small (omega arith)
+          (subst (λ a. has_arguments a word ≡ true) (sym arity) has);
       suffix = words;
       whole = ap (λ a. argument_words a word ++ words) (sym arity);
       count = ap (λ a. length (argument_words a word)) arity;
@@ -53,14 +60,17 @@ IsWrittenWith-one e second third argument small arity argument_small spelled =
     let word : ℕ = word_of e.code argument 0 in
     let parts = word_of-parts e.code argument 0 small argument_small in
     let words : argument_words e.arity word ≡ second ∷ [] =
-    ap (λ a. argument_words a word) arity ∙ ap (λ n. decimal n ∷ []) parts.1 ∙ ap (λ w. w ∷ []) spelled in
+    ap (λ a. argument_words a word) arity ∙ ap (λ n. decimal n ∷ []) parts.1
+    ∙ ap (λ w. w ∷ []) spelled in
     record {
-      operation = is_operation e argument 0 small argument_small (subst (λ a. has_arguments a word ≡ true) (sym arity) (eq-eqb (extra_of word) 0 parts.2));
+      operation = is_operation e argument 0 small argument_small
+          (subst (λ a. has_arguments a word ≡ true) (sym arity) (eq-eqb (extra_of word) 0 parts.2));
       suffix = further third None;
       whole = further-one second third ∙ ap (λ ws. ws ++ further third None) (sym words);
       count = ap length words;
     }
 
 -- The text of an entry's word is its name, and each argument after a space.
-pub text_of-spaced : (e : Entry) (word : ℕ) → text_of e word ≡ e.name ++ spaced_arguments e.arity word
+pub text_of-spaced : (e : Entry) (word : ℕ)
+    → text_of e word ≡ e.name ++ spaced_arguments e.arity word
 text_of-spaced e word = spaced e.name e.arity word

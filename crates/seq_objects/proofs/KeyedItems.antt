@@ -10,7 +10,8 @@ use Rattle.std.proofs.lemmas.List.Quantifiers.{position-Some}
 use Rattle.list_laws.proofs.Options.{cases_Option}
 
 -- what stands before the first item that passes doesn't pass
-filter_before : (p : ℕ → Bool) (xs : List ℕ) (i : ℕ) → ((k : ℕ) → k < i → p (get_or xs k 0) ≡ false) → filter p (take i xs) ≡ []
+filter_before : (p : ℕ → Bool) (xs : List ℕ) (i : ℕ) → ((k : ℕ) → k < i → p (get_or xs k 0) ≡ false)
+    → filter p (take i xs) ≡ []
 filter_before p xs zero fails = refl
 filter_before p [] (suc i) fails = refl
 filter_before p (x ∷ xs) (suc i) fails =
@@ -24,57 +25,76 @@ drop_first (x ∷ xs) zero inside = refl
 drop_first (x ∷ xs) (suc i) inside = drop_first xs i (omega (arith, inside))
 
 -- what passes of the two parts of a list
-filter-parts : (p : ℕ → Bool) (xs : List ℕ) (i : ℕ) → filter p (take i xs) ++ filter p (drop i xs) ≡ filter p xs
-filter-parts p xs i = sym (filter-append p (take i xs) (drop i xs)) ∙ ap (filter p) (take-append-drop i xs)
+filter-parts : (p : ℕ → Bool) (xs : List ℕ) (i : ℕ)
+    → filter p (take i xs) ++ filter p (drop i xs) ≡ filter p xs
+filter-parts p xs i =
+    sym (filter-append p (take i xs) (drop i xs)) ∙ ap (filter p) (take-append-drop i xs)
 
 no_items : (xs ys : List ℕ) → xs ++ ys ≡ [] → (xs ≡ []) × (ys ≡ [])
 no_items [] ys none = (refl, none)
 no_items (x ∷ xs) ys none = absurd (omega (arith, ap length none))
 
 -- An item is put in.
-pub filter-insert_other : (p : ℕ → Bool) (xs : List ℕ) (i y : ℕ) → p y ≡ false → filter p (insert xs i y) ≡ filter p xs
+pub filter-insert_other : (p : ℕ → Bool) (xs : List ℕ) (i y : ℕ) → p y ≡ false
+    → filter p (insert xs i y) ≡ filter p xs
 filter-insert_other p xs i y fails =
     filter-append p (take i xs) (y ∷ drop i xs)
-    ∙ (ap (λ (ys : List ℕ). filter p (take i xs) ++ ys) (cond-false (p y) (y ∷ filter p (drop i xs)) (filter p (drop i xs)) fails) ∙ filter-parts p xs i)
+    ∙ (ap (λ (ys : List ℕ). filter p (take i xs) ++ ys) (cond-false (p y) (y ∷ filter p (drop i xs))
+    (filter p (drop i xs)) fails) ∙ filter-parts p xs i)
 
-pub filter-insert_first : (p : ℕ → Bool) (xs : List ℕ) (i y : ℕ) → p y ≡ true → filter p xs ≡ [] → filter p (insert xs i y) ≡ y ∷ []
+pub filter-insert_first : (p : ℕ → Bool) (xs : List ℕ) (i y : ℕ) → p y ≡ true
+    → filter p xs ≡ [] → filter p (insert xs i y) ≡ y ∷ []
 filter-insert_first p xs i y passes none =
-    let parts = no_items (filter p (take i xs)) (filter p (drop i xs)) (filter-parts p xs i ∙ none) in
+    let parts =
+    no_items (filter p (take i xs)) (filter p (drop i xs)) (filter-parts p xs i ∙ none) in
     filter-append p (take i xs) (y ∷ drop i xs)
     ∙ (ap (λ (ys : List ℕ). ys ++ filter p (y ∷ drop i xs)) parts.0
-    ∙ (cond-true (p y) (y ∷ filter p (drop i xs)) (filter p (drop i xs)) passes ∙ ap (λ (ys : List ℕ). y ∷ ys) parts.1))
+    ∙ (cond-true (p y) (y ∷ filter p (drop i xs)) (filter p (drop i xs)) passes
+    ∙ ap (λ (ys : List ℕ). y ∷ ys) parts.1))
 
 -- An item that doesn't pass is taken out, or another one that doesn't pass takes its place.
-pub filter-remove_other : (p : ℕ → Bool) (xs : List ℕ) (i : ℕ) → i < length xs → p (get_or xs i 0) ≡ false → filter p (remove xs i) ≡ filter p xs
+pub filter-remove_other : (p : ℕ → Bool) (xs : List ℕ) (i : ℕ) → i < length xs
+    → p (get_or xs i 0) ≡ false → filter p (remove xs i) ≡ filter p xs
 filter-remove_other p xs i inside fails =
     let same : filter p (drop i xs) ≡ filter p (drop (suc i) xs)
-    = ap (filter p) (drop_first xs i inside) ∙ cond-false (p (get_or xs i 0)) (get_or xs i 0 ∷ filter p (drop (suc i) xs)) (filter p (drop (suc i) xs)) fails in
-    filter-append p (take i xs) (drop (suc i) xs) ∙ (ap (λ (ys : List ℕ). filter p (take i xs) ++ ys) (sym same) ∙ filter-parts p xs i)
+    = ap (filter p) (drop_first xs i inside) ∙ cond-false (p (get_or xs i 0))
+    (get_or xs i 0 ∷ filter p (drop (suc i) xs)) (filter p (drop (suc i) xs)) fails in
+    filter-append p (take i xs) (drop (suc i) xs)
+    ∙ (ap (λ (ys : List ℕ). filter p (take i xs) ++ ys) (sym same) ∙ filter-parts p xs i)
 
-pub filter-set_other : (p : ℕ → Bool) (xs : List ℕ) (i y : ℕ) → i < length xs → p (get_or xs i 0) ≡ false → p y ≡ false → filter p (set xs i y) ≡ filter p xs
+pub filter-set_other : (p : ℕ → Bool) (xs : List ℕ) (i y : ℕ) → i < length xs
+    → p (get_or xs i 0) ≡ false → p y ≡ false → filter p (set xs i y) ≡ filter p xs
 filter-set_other p xs i y inside old new =
     ap (filter p) (set_split xs i y inside)
     ∙ (filter-append p (take i xs) (y ∷ drop (suc i) xs)
-    ∙ (ap (λ (ys : List ℕ). filter p (take i xs) ++ ys) (cond-false (p y) (y ∷ filter p (drop (suc i) xs)) (filter p (drop (suc i) xs)) new)
-    ∙ (sym (filter-append p (take i xs) (drop (suc i) xs)) ∙ filter-remove_other p xs i inside old)))
+    ∙ (ap (λ (ys : List ℕ). filter p (take i xs) ++ ys)
+    (cond-false (p y) (y ∷ filter p (drop (suc i) xs)) (filter p (drop (suc i) xs)) new)
+    ∙ (sym (filter-append p (take i xs) (drop (suc i) xs))
+    ∙ filter-remove_other p xs i inside old)))
 
 -- The first item that passes: nothing before it does.
-filter-first : (p : ℕ → Bool) (xs : List ℕ) (i : ℕ) → position p xs ≡ Some i → filter p (take i xs) ≡ []
+filter-first : (p : ℕ → Bool) (xs : List ℕ) (i : ℕ) → position p xs ≡ Some i
+    → filter p (take i xs) ≡ []
 filter-first p xs i at = filter_before p xs i (position-Some p xs i 0 at).2
 
-pub filter-found : (p : ℕ → Bool) (xs : List ℕ) (i : ℕ) → position p xs ≡ Some i → filter p xs ≡ get_or xs i 0 ∷ filter p (drop (suc i) xs)
+pub filter-found : (p : ℕ → Bool) (xs : List ℕ) (i : ℕ) → position p xs ≡ Some i
+    → filter p xs ≡ get_or xs i 0 ∷ filter p (drop (suc i) xs)
 filter-found p xs i at =
     let found = position-Some p xs i 0 at in
     sym (filter-parts p xs i)
     ∙ (ap (λ (ys : List ℕ). ys ++ filter p (drop i xs)) (filter-first p xs i at)
     ∙ (ap (filter p) (drop_first xs i found.0)
-    ∙ cond-true (p (get_or xs i 0)) (get_or xs i 0 ∷ filter p (drop (suc i) xs)) (filter p (drop (suc i) xs)) found.1))
+    ∙ cond-true (p (get_or xs i 0)) (get_or xs i 0 ∷ filter p (drop (suc i) xs))
+    (filter p (drop (suc i) xs)) found.1))
 
-pub filter-remove_first : (p : ℕ → Bool) (xs : List ℕ) (i : ℕ) → position p xs ≡ Some i → filter p (remove xs i) ≡ filter p (drop (suc i) xs)
+pub filter-remove_first : (p : ℕ → Bool) (xs : List ℕ) (i : ℕ) → position p xs ≡ Some i
+    → filter p (remove xs i) ≡ filter p (drop (suc i) xs)
 filter-remove_first p xs i at =
-    filter-append p (take i xs) (drop (suc i) xs) ∙ ap (λ (ys : List ℕ). ys ++ filter p (drop (suc i) xs)) (filter-first p xs i at)
+    filter-append p (take i xs) (drop (suc i) xs)
+    ∙ ap (λ (ys : List ℕ). ys ++ filter p (drop (suc i) xs)) (filter-first p xs i at)
 
-pub filter-set_first : (p : ℕ → Bool) (xs : List ℕ) (i y : ℕ) → position p xs ≡ Some i → p y ≡ true → filter p (set xs i y) ≡ y ∷ filter p (drop (suc i) xs)
+pub filter-set_first : (p : ℕ → Bool) (xs : List ℕ) (i y : ℕ) → position p xs ≡ Some i → p y ≡ true
+    → filter p (set xs i y) ≡ y ∷ filter p (drop (suc i) xs)
 filter-set_first p xs i y at passes =
     ap (filter p) (set_split xs i y (position-Some p xs i 0 at).0)
     ∙ (filter-append p (take i xs) (y ∷ drop (suc i) xs)
@@ -86,8 +106,10 @@ pub filter-none : (p : ℕ → Bool) (xs : List ℕ) → position p xs ≡ None 
 filter-none p xs none =
     let n : ℕ = position_or_len p xs in
     elim (cases_lt n (length xs)) [
-      | inl inside ↦ absurd (none-some n (sym none ∙ cond-true (ltb n (length xs)) (Some n) None (lt-ltb n (length xs) inside)))
-      | inr past ↦ sym (ap (filter p) (take_all n xs past)) ∙ filter_before p xs n (λ k lt. fails_before_first p xs k 0 lt)
+      | inl inside ↦ absurd (none-some n
+          (sym none ∙ cond-true (ltb n (length xs)) (Some n) None (lt-ltb n (length xs) inside)))
+      | inr past ↦ sym (ap (filter p) (take_all n xs past))
+          ∙ filter_before p xs n (λ k lt. fails_before_first p xs k 0 lt)
     ]
 
 -- the first item of a list, and those after it
@@ -105,9 +127,11 @@ item_at xs None = None
 item_at xs (Some i) = Some (get_or xs i 0)
 
 -- The item at the first place that passes is the first of those that pass.
-pub first_passes : (p : ℕ → Bool) (xs : List ℕ) → item_at xs (position p xs) ≡ first_of (filter p xs)
+pub first_passes : (p : ℕ → Bool) (xs : List ℕ)
+    → item_at xs (position p xs) ≡ first_of (filter p xs)
 first_passes p xs =
-    elim (cases_Option (position p xs)) as (λ _. item_at xs (position p xs) ≡ first_of (filter p xs)) [
+    elim (cases_Option (position p xs)) as
+    (λ _. item_at xs (position p xs) ≡ first_of (filter p xs)) [
       | inl none ↦ ap (item_at xs) none ∙ sym (ap first_of (filter-none p xs none))
       | inr found ↦ ap (item_at xs) found.1 ∙ sym (ap first_of (filter-found p xs found.0 found.1))
     ]
@@ -117,5 +141,6 @@ is_some_at xs None = refl
 is_some_at xs (Some i) = refl
 
 -- An item passes exactly where there is a first one of those that do.
-pub some_passes : (p : ℕ → Bool) (xs : List ℕ) → is_some (position p xs) ≡ is_some (first_of (filter p xs))
+pub some_passes : (p : ℕ → Bool) (xs : List ℕ)
+    → is_some (position p xs) ≡ is_some (first_of (filter p xs))
 some_passes p xs = is_some_at xs (position p xs) ∙ ap is_some (first_passes p xs)

@@ -24,33 +24,40 @@ no_greater v x = not (ltb v x)
 
 prefix_is_short : (v : ℕ) (list : List ℕ) → prefix_len (no_greater v) list ≤ length list
 prefix_is_short v [] = omega arith
-prefix_is_short v (x ∷ rest) = elim (ltb v x) as (λ (b : Bool). (if not b then 1 + prefix_len (no_greater v) rest else 0) ≤ suc (length rest)) [
-  | true ↦ omega arith
-  | false ↦ omega (arith, prefix_is_short v rest)
-]
+prefix_is_short v (x ∷ rest) = elim (ltb v x) as
+    (λ (b : Bool). (if not b then 1 + prefix_len (no_greater v) rest else 0) ≤ suc (length rest)) [
+      | true ↦ omega arith
+      | false ↦ omega (arith, prefix_is_short v rest)
+    ]
 
 place_for-prefix : (v : ℕ) (list : List ℕ) → place_for list v ≡ prefix_len (no_greater v) list
 place_for-prefix v list =
     let n : ℕ = prefix_len (no_greater v) list in
     elim (cases_lt n (length list)) [
-      | inl inside ↦ ap (λ (o : Option ℕ). unwrap_or o (length list)) (cond-true (ltb n (length list)) (Some n) None (lt-ltb n (length list) inside))
+      | inl inside ↦ ap (λ (o : Option ℕ). unwrap_or o (length list))
+          (cond-true (ltb n (length list)) (Some n) None (lt-ltb n (length list) inside))
       | inr past ↦
-          ap (λ (o : Option ℕ). unwrap_or o (length list)) (cond-false (ltb n (length list)) (Some n) None (le-ltb n (length list) past))
+          ap (λ (o : Option ℕ). unwrap_or o (length list))
+          (cond-false (ltb n (length list)) (Some n) None (le-ltb n (length list) past))
           ∙ omega (arith, past, prefix_is_short v list)
     ]
 
-insert-prefix : (v : ℕ) (list : List ℕ) → insert list (prefix_len (no_greater v) list) v ≡ placed v list
+insert-prefix : (v : ℕ) (list : List ℕ)
+    → insert list (prefix_len (no_greater v) list) v ≡ placed v list
 insert-prefix v [] = refl
 insert-prefix v (x ∷ rest) =
     let n : ℕ = prefix_len (no_greater v) rest in
     let next : suc n ≡ 1 + n = omega arith in
-    elim (ltb v x) as (λ (b : Bool). insert (x ∷ rest) (if not b then 1 + n else 0) v ≡ (if b then v ∷ x ∷ rest else x ∷ placed v rest)) [
+    elim (ltb v x) as (λ (b : Bool). insert (x ∷ rest) (if not b then 1 + n else 0) v
+    ≡ (if b then v ∷ x ∷ rest else x ∷ placed v rest)) [
       | true ↦ refl
-      | false ↦ subst (λ (m : ℕ). insert (x ∷ rest) m v ≡ x ∷ placed v rest) next (ap (λ (xs : List ℕ). x ∷ xs) (insert-prefix v rest))
+      | false ↦ subst (λ (m : ℕ). insert (x ∷ rest) m v ≡ x ∷ placed v rest) next
+          (ap (λ (xs : List ℕ). x ∷ xs) (insert-prefix v rest))
     ]
 
 inserted_is_placed : (list : List ℕ) (v : ℕ) → inserted list v ≡ placed v list
-inserted_is_placed list v = ap (λ (n : ℕ). insert list n v) (place_for-prefix v list) ∙ insert-prefix v list
+inserted_is_placed list v =
+    ap (λ (n : ℕ). insert list n v) (place_for-prefix v list) ∙ insert-prefix v list
 
 -- ---- what the operations are
 
@@ -61,10 +68,13 @@ puts_small None = Unit {0}
 
 inserted_is_small : (word : ℕ) → puts_small (pqueue_operation word)
 inserted_is_small word =
-    cond_both {A = Option PqueueOperation} (is_operation_of word words.insert) _ _ puts_small (λ insert. omega arith)
-    (λ _. cond_both {A = Option PqueueOperation} (is_operation_of word words.min) _ _ puts_small (λ min. tt) (λ other. tt))
+    cond_both {A = Option PqueueOperation} (is_operation_of word words.insert) _ _ puts_small
+    (λ insert. omega arith)
+    (λ _. cond_both {A = Option PqueueOperation} (is_operation_of word words.min) _ _ puts_small
+    (λ min. tt) (λ other. tt))
 
-deed_small : (o : Option PqueueOperation) (v : ℕ) → puts_small o → pqueue_deed o ≡ Puts v → v < 2 ^ 32
+deed_small : (o : Option PqueueOperation) (v : ℕ) → puts_small o → pqueue_deed o ≡ Puts v
+    → v < 2 ^ 32
 deed_small (Some (Insert value)) v small e = let same : value ≡ v = cc in omega (arith, small, same)
 deed_small (Some Min) v small e = absurd cc
 deed_small None v small e = absurd cc
@@ -77,13 +87,22 @@ takes_by_one word None = Unit {0}
 
 min_is_one : (word : ℕ) → takes_by_one word (pqueue_operation word)
 min_is_one word =
-    cond_both {A = Option PqueueOperation} (is_operation_of word words.insert) _ _ (takes_by_one word) (λ insert. tt)
-    (λ _. cond_both {A = Option PqueueOperation} (is_operation_of word words.min) _ _ (takes_by_one word) (λ (is : is_operation_of word words.min ≡ true).
-    let parts = and_parts (code_of word == 2) ((argument_of word == 0) && (extra_of word == 0)) is in
+    cond_both {A = Option PqueueOperation} (is_operation_of word words.insert) _ _
+    (takes_by_one word) (λ insert. tt)
+    (λ _. cond_both {A = Option PqueueOperation} (is_operation_of word words.min) _ _
+    (takes_by_one word) (λ (is : is_operation_of word words.min ≡ true).
+    let parts =
+    and_parts (code_of word == 2) ((argument_of word == 0) && (extra_of word == 0)) is in
     let none = and_parts (argument_of word == 0) (extra_of word == 0) parts.1 in
-    omega (arith, eqb-true (code_of word) 2 parts.0, eqb-true (argument_of word) 0 none.0, eqb-true (extra_of word) 0 none.1)) (λ other. tt))
+    omega (
+      arith,
+      eqb-true (code_of word) 2 parts.0,
+      eqb-true (argument_of word) 0 none.0,
+      eqb-true (extra_of word) 0 none.1,
+    )) (λ other. tt))
 
-takes_one : (word : ℕ) (o : Option PqueueOperation) → takes_by_one word o → pqueue_deed o ≡ Takes → word ≡ 2 * 2 ^ 32
+takes_one : (word : ℕ) (o : Option PqueueOperation) → takes_by_one word o → pqueue_deed o ≡ Takes
+    → word ≡ 2 * 2 ^ 32
 takes_one word (Some (Insert value)) one e = absurd cc
 takes_one word (Some Min) one e = one
 takes_one word None one e = absurd cc
@@ -97,37 +116,45 @@ shown_word reply v shown =
 
 -- ---- the steps
 
-step_put : (list : List ℕ) (o : Option PqueueOperation) (v : ℕ) → pqueue_deed o ≡ Puts v → (pqueue_after list o).0 ≡ placed v list
-step_put list (Some (Insert value)) v e = let same : value ≡ v = cc in inserted_is_placed list value ∙ ap (λ (x : ℕ). placed x list) same
+step_put : (list : List ℕ) (o : Option PqueueOperation) (v : ℕ) → pqueue_deed o ≡ Puts v
+    → (pqueue_after list o).0 ≡ placed v list
+step_put list (Some (Insert value)) v e = let same : value ≡ v = cc in
+    inserted_is_placed list value ∙ ap (λ (x : ℕ). placed x list) same
 step_put list (Some Min) v e = absurd cc
 step_put list None v e = absurd cc
 
-step_take : (x : ℕ) (rest : List ℕ) (o : Option PqueueOperation) → pqueue_deed o ≡ Takes → (pqueue_after (x ∷ rest) o).0 ≡ rest
+step_take : (x : ℕ) (rest : List ℕ) (o : Option PqueueOperation) → pqueue_deed o ≡ Takes
+    → (pqueue_after (x ∷ rest) o).0 ≡ rest
 step_take x rest (Some (Insert value)) e = absurd cc
 step_take x rest (Some Min) e = refl
 step_take x rest None e = absurd cc
 
-step_shows : (x : ℕ) (rest : List ℕ) (o : Option PqueueOperation) → x < 2 ^ 32 → pqueue_deed o ≡ Takes → shown_value (pqueue_after (x ∷ rest) o).1 ≡ Some x
+step_shows : (x : ℕ) (rest : List ℕ) (o : Option PqueueOperation) → x < 2 ^ 32
+    → pqueue_deed o ≡ Takes → shown_value (pqueue_after (x ∷ rest) o).1 ≡ Some x
 step_shows x rest (Some (Insert value)) small e = absurd cc
 step_shows x rest (Some Min) small e = shown_item x ∙ ap Some (omega (arith, small))
 step_shows x rest None small e = absurd cc
 
-step_empty : (o : Option PqueueOperation) → pqueue_deed o ≡ Takes → ((pqueue_after [] o).0 ≡ []) × (shown_value (pqueue_after [] o).1 ≡ None)
+step_empty : (o : Option PqueueOperation) → pqueue_deed o ≡ Takes → ((pqueue_after [] o).0 ≡ [])
+    × (shown_value (pqueue_after [] o).1 ≡ None)
 step_empty (Some (Insert value)) e = absurd cc
 step_empty (Some Min) e = (refl, refl)
 step_empty None e = absurd cc
 
-step_neither : (list : List ℕ) (o : Option PqueueOperation) → pqueue_deed o ≡ Neither → (pqueue_after list o).0 ≡ list
+step_neither : (list : List ℕ) (o : Option PqueueOperation) → pqueue_deed o ≡ Neither
+    → (pqueue_after list o).0 ≡ list
 step_neither list (Some (Insert value)) e = absurd cc
 step_neither list (Some Min) e = absurd cc
 step_neither list None e = refl
 
-step_blind : (one other : List ℕ) (o : Option PqueueOperation) → pqueue_deed o ≢ Takes → (pqueue_after one o).1 ≡ (pqueue_after other o).1
+step_blind : (one other : List ℕ) (o : Option PqueueOperation) → pqueue_deed o ≢ Takes
+    → (pqueue_after one o).1 ≡ (pqueue_after other o).1
 step_blind one other (Some (Insert value)) other_deed = refl
 step_blind one other (Some Min) other_deed = absurd (other_deed refl)
 step_blind one other None other_deed = refl
 
-pub pqueue_gives_least_first : GivesLeastFirst pqueue_reading (λ list op. pqueue_after list (pqueue_operation op)) (2 ^ 32)
+pub pqueue_gives_least_first : GivesLeastFirst pqueue_reading
+    (λ list op. pqueue_after list (pqueue_operation op)) (2 ^ 32)
 pqueue_gives_least_first = record {
   small = λ op v e. deed_small (pqueue_operation op) v (inserted_is_small op) e;
   put = λ list op v e. step_put list (pqueue_operation op) v e;
@@ -136,6 +163,7 @@ pqueue_gives_least_first = record {
   empty = λ op e. step_empty (pqueue_operation op) e;
   neither = λ list op e. step_neither list (pqueue_operation op) e;
   blind = λ one other op apart. step_blind one other (pqueue_operation op) apart;
-  one_take = λ a b ea eb. takes_one a (pqueue_operation a) (min_is_one a) ea ∙ sym (takes_one b (pqueue_operation b) (min_is_one b) eb);
+  one_take = λ a b ea eb. takes_one a (pqueue_operation a) (min_is_one a) ea
+      ∙ sym (takes_one b (pqueue_operation b) (min_is_one b) eb);
   one_reply = λ a b v ea eb. shown_word a v ea ∙ sym (shown_word b v eb);
 }

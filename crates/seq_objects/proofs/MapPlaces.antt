@@ -10,8 +10,10 @@ use Rattle.list_laws.proofs.Replacing.{insert-remove}
 -- The first item with the key is taken out, and the new one put there.
 pub put_in-there : (list : List ℕ) (key value place old : ℕ) → place_of_key list key ≡ Some place
     → slice_get list place ≡ Some old
-    → put_in list key value ≡ (insert (remove list place) place (item_of key value), reply_value old)
+    → put_in list key value
+    ≡ (insert (remove list place) place (item_of key value), reply_value old)
 put_in-there list key value place old at here =
     let inside = (position-Some (λ item. key_of item == key) list place 0 at).0 in
     ap (put_at list (item_of key value)) at
-    ∙ pair_is (sym (insert-remove list place (item_of key value) inside)) (ap reply_value (get_or_from_slice_get list place old 0 here))
+    ∙ pair_is (sym (insert-remove list place (item_of key value) inside))
+    (ap reply_value (get_or_from_slice_get list place old 0 here))

@@ -33,8 +33,11 @@ no_values = refl
 named_reply-word : (r : NamedReply) → IsIn r named_replies → named_reply r.word ≡ Some r
 unfolding named_reply
 named_reply-word r inside =
-    find_only (λ q. r.word == q.word) named_replies r inside (eq-eqb r.word r.word refl) (λ q q_in q_same.
-    are_distinct-inside same_word (λ a b h. eq-eqb b.word a.word (sym (eqb-true a.word b.word h))) named_replies q r distinct_words q_in inside (eq-eqb q.word r.word (sym (eqb-true r.word q.word q_same))))
+    find_only (λ q. r.word == q.word) named_replies r inside (eq-eqb r.word r.word refl)
+    (λ q q_in q_same.
+    are_distinct-inside same_word (λ a b h. eq-eqb b.word a.word (sym (eqb-true a.word b.word h)))
+    named_replies q r distinct_words q_in inside
+    (eq-eqb q.word r.word (sym (eqb-true r.word q.word q_same))))
 
 named_reply-inside : (reply : ℕ) (r : NamedReply) → named_reply reply ≡ Some r
     → IsIn r named_replies × (reply ≡ r.word)
@@ -54,8 +57,12 @@ reply_named-name : (name : List ℕ) (r : NamedReply) → IsIn r named_replies �
     → reply_named name ≡ Some r
 unfolding reply_named
 reply_named-name name r inside same =
-    find_only (λ q. bytes_eq q.name name) named_replies r inside ((bytes_eq-Decides r.name name).1 same) (λ q q_in q_same.
-    are_distinct-inside same_name (λ a b h. (bytes_eq-Decides b.name a.name).1 (sym ((bytes_eq-Decides a.name b.name).0 h))) named_replies q r distinct_names q_in inside ((bytes_eq-Decides q.name r.name).1 ((bytes_eq-Decides q.name name).0 q_same ∙ sym same)))
+    find_only (λ q. bytes_eq q.name name) named_replies r inside
+    ((bytes_eq-Decides r.name name).1 same) (λ q q_in q_same.
+    are_distinct-inside same_name
+    (λ a b h. (bytes_eq-Decides b.name a.name).1 (sym ((bytes_eq-Decides a.name b.name).0 h)))
+    named_replies q r distinct_names q_in inside
+    ((bytes_eq-Decides q.name r.name).1 ((bytes_eq-Decides q.name name).0 q_same ∙ sym same)))
 
 -- A reply that gives a value is no name.
 named_reply-value : (reply : ℕ) → is_value reply ≡ true → named_reply reply ≡ None
@@ -63,7 +70,8 @@ named_reply-value reply value = elim (cases_Option (named_reply reply)) [
   | inl none ↦ none
   | inr named ↦
       let at = named_reply-inside reply named.0 named.1 in
-      absurd (both_ways (is_value reply) (ap is_value at.1 ∙ not-true (is_value named.0.word) (list_all-inside (λ r. not (is_value r.word)) named_replies named.0 no_values at.0)) value)
+      absurd (both_ways (is_value reply) (ap is_value at.1 ∙ not-true (is_value named.0.word)
+      (list_all-inside (λ r. not (is_value r.word)) named_replies named.0 no_values at.0)) value)
 ]
 
 -- A reply with a name is that name.
@@ -100,7 +108,10 @@ reply_word-cases reply = elim (cases_Option (named_reply reply)) [
       inl (named.0, inside.0, inside.1, reply_word-named reply named.0 named.1)
   | inl none ↦ elim (cases_Bool (is_value reply)) [
     | inl value ↦ inr (inl (value, reply_word-value reply value))
-    | inr other ↦ inr (inr (or_from (is_some (named_reply reply)) (is_value reply) (ap is_some none) other, reply_word-other reply none other))
+    | inr other ↦ inr (inr (
+      or_from (is_some (named_reply reply)) (is_value reply) (ap is_some none) other,
+      reply_word-other reply none other,
+    ))
   ]
 ]
 
@@ -133,11 +144,13 @@ reply_word-unknown word digits reply begins spelled unknown =
 pub not-reply-value : (word digits : List ℕ) → reply_named word ≡ None → word ≡ 61 ∷ digits
     → ((n : ℕ) → n < 2 ^ 32 → decimal n ≢ digits) → (reply : ℕ) → reply_word reply ≢ word
 not-reply-value word digits none begins lacking reply same = elim (reply_word-cases reply) [
-  | inl named ↦ none-some named.0 (sym none ∙ reply_named-name word named.0 named.1 (sym named.3 ∙ same))
+  | inl named ↦
+      none-some named.0 (sym none ∙ reply_named-name word named.0 named.1 (sym named.3 ∙ same))
   | inr (inl value) ↦
       let spelled = ap (drop 1) (sym value.1 ∙ same ∙ begins) in
       lacking (reply % 2 ^ 32) (omega arith) spelled
-  | inr (inr other) ↦ omega (arith, ap (λ (ds : List ℕ). get_or ds 0 0) (sym other.1 ∙ same ∙ begins))
+  | inr (inr other) ↦
+      omega (arith, ap (λ (ds : List ℕ). get_or ds 0 0) (sym other.1 ∙ same ∙ begins))
 ]
 
 -- A word that is no name and begins with neither mark stands for no reply.
@@ -145,7 +158,8 @@ pub not-reply-unmarked : (word : List ℕ) → reply_named word ≡ None
     → ((rest : List ℕ) → word ≢ 61 ∷ rest) → ((rest : List ℕ) → word ≢ 35 ∷ rest) → (reply : ℕ)
     → reply_word reply ≢ word
 not-reply-unmarked word none no_value no_number reply same = elim (reply_word-cases reply) [
-  | inl named ↦ none-some named.0 (sym none ∙ reply_named-name word named.0 named.1 (sym named.3 ∙ same))
+  | inl named ↦
+      none-some named.0 (sym none ∙ reply_named-name word named.0 named.1 (sym named.3 ∙ same))
   | inr (inl value) ↦ no_value (decimal (reply % 2 ^ 32)) (sym same ∙ value.1)
   | inr (inr other) ↦ no_number (decimal reply) (sym same ∙ other.1)
 ]
@@ -155,14 +169,17 @@ pub not-reply-marked : (word digits : List ℕ) → reply_named word ≡ None �
     → ((reply : ℕ) → reply < 2 ^ 64 → decimal reply ≡ digits → is_known_reply reply ≡ true)
     → (reply : ℕ) → reply < 2 ^ 64 → reply_word reply ≢ word
 not-reply-marked word digits none begins known reply small same = elim (reply_word-cases reply) [
-  | inl named ↦ none-some named.0 (sym none ∙ reply_named-name word named.0 named.1 (sym named.3 ∙ same))
-  | inr (inl value) ↦ omega (arith, ap (λ (ds : List ℕ). get_or ds 0 0) (sym value.1 ∙ same ∙ begins))
+  | inl named ↦
+      none-some named.0 (sym none ∙ reply_named-name word named.0 named.1 (sym named.3 ∙ same))
+  | inr (inl value) ↦
+      omega (arith, ap (λ (ds : List ℕ). get_or ds 0 0) (sym value.1 ∙ same ∙ begins))
   | inr (inr other) ↦
       let spelled = ap (drop 1) (sym other.1 ∙ same ∙ begins) in
       both_ways (is_known_reply reply) other.0 (known reply small spelled)
 ]
 
-plain_names : list_all (λ r. is_plain_name r.name && not (get_or r.name 0 0 == 61)) named_replies ≡ true
+plain_names : list_all
+    (λ r. is_plain_name r.name && not (get_or r.name 0 0 == 61)) named_replies ≡ true
 unfolding named_replies
 plain_names = refl
 
@@ -170,22 +187,28 @@ plain_names = refl
 pub named-plain : (r : NamedReply) → IsIn r named_replies
     → (is_plain_name r.name ≡ true) × (get_or r.name 0 0 ≢ 61)
 named-plain r inside =
-    let parts = and_parts (is_plain_name r.name) (not (get_or r.name 0 0 == 61)) (list_all-inside (λ q. is_plain_name q.name && not (get_or q.name 0 0 == 61)) named_replies r plain_names inside) in
+    let parts = and_parts (is_plain_name r.name) (not (get_or r.name 0 0 == 61))
+    (list_all-inside (λ q. is_plain_name q.name && not (get_or q.name 0 0 == 61)) named_replies r
+    plain_names inside) in
     (parts.0, eqb-false (get_or r.name 0 0) 61 (not-true (get_or r.name 0 0 == 61) parts.1))
 
 -- A name of a reply is no text with a mark.
 not-marked-name : (r : NamedReply) (rest : List ℕ) → IsIn r named_replies
     → ((r.name ≡ 61 ∷ rest) → ⊥) × ((r.name ≡ 35 ∷ rest) → ⊥)
 not-marked-name r rest inside =
-    let plain = named-plain r inside in
-    (λ value. plain.1 (ap (λ (ds : List ℕ). get_or ds 0 0) value), λ number. marked-name rest (subst (λ n. is_plain_name n ≡ true) number plain.0))
+    let plain = named-plain r inside in (
+      λ value. plain.1 (ap (λ (ds : List ℕ). get_or ds 0 0) value),
+      λ number. marked-name rest (subst (λ n. is_plain_name n ≡ true) number plain.0),
+    )
 
 -- Replies that give one value are one.
 one_value : (a b : ℕ) → is_value a ≡ true → is_value b ≡ true
     → decimal (a % 2 ^ 32) ≡ decimal (b % 2 ^ 32) → a ≡ b
 one_value a b a_value b_value digits =
-    let low : a % 2 ^ 32 ≡ b % 2 ^ 32 = decimal_injective (a % 2 ^ 32) (b % 2 ^ 32) (omega arith) (omega arith) digits in
-    let tags : a / 2 ^ 32 ≡ b / 2 ^ 32 = eqb-true (a / 2 ^ 32) 2 a_value ∙ sym (eqb-true (b / 2 ^ 32) 2 b_value) in
+    let low : a % 2 ^ 32 ≡ b % 2 ^ 32 =
+    decimal_injective (a % 2 ^ 32) (b % 2 ^ 32) (omega arith) (omega arith) digits in
+    let tags : a / 2 ^ 32 ≡ b / 2 ^ 32 =
+    eqb-true (a / 2 ^ 32) 2 a_value ∙ sym (eqb-true (b / 2 ^ 32) 2 b_value) in
     omega arith
 
 -- Replies with one text are one.
@@ -194,18 +217,24 @@ reply_word-once a b a_small b_small same = elim (reply_word-cases a) [
   | inl a_named ↦ elim (reply_word-cases b) [
     | inl b_named ↦
         let names : b_named.0.name ≡ a_named.0.name = sym b_named.3 ∙ sym same ∙ a_named.3 in
-        let found : Some b_named.0 ≡ Some a_named.0 = sym (reply_named-name a_named.0.name b_named.0 b_named.1 names) ∙ reply_named-name a_named.0.name a_named.0 a_named.1 refl in
+        let found : Some b_named.0 ≡ Some a_named.0 =
+        sym (reply_named-name a_named.0.name b_named.0 b_named.1 names)
+        ∙ reply_named-name a_named.0.name a_named.0 a_named.1 refl in
         a_named.2 ∙ ap (λ r. r.word) (sym (same_Some b_named.0 a_named.0 found)) ∙ sym b_named.2
-    | inr (inl b_value) ↦ absurd ((not-marked-name a_named.0 (decimal (b % 2 ^ 32)) a_named.1).0 (sym a_named.3 ∙ same ∙ b_value.1))
-    | inr (inr b_other) ↦ absurd ((not-marked-name a_named.0 (decimal b) a_named.1).1 (sym a_named.3 ∙ same ∙ b_other.1))
+    | inr (inl b_value) ↦ absurd ((not-marked-name a_named.0 (decimal (b % 2 ^ 32)) a_named.1).0
+        (sym a_named.3 ∙ same ∙ b_value.1))
+    | inr (inr b_other) ↦ absurd
+        ((not-marked-name a_named.0 (decimal b) a_named.1).1 (sym a_named.3 ∙ same ∙ b_other.1))
   ]
   | inr (inl a_value) ↦ elim (reply_word-cases b) [
-    | inl b_named ↦ absurd ((not-marked-name b_named.0 (decimal (a % 2 ^ 32)) b_named.1).0 (sym b_named.3 ∙ sym same ∙ a_value.1))
+    | inl b_named ↦ absurd ((not-marked-name b_named.0 (decimal (a % 2 ^ 32)) b_named.1).0
+        (sym b_named.3 ∙ sym same ∙ a_value.1))
     | inr (inl b_value) ↦ one_value a b a_value.0 b_value.0 (cc)
     | inr (inr b_other) ↦ cc
   ]
   | inr (inr a_other) ↦ elim (reply_word-cases b) [
-    | inl b_named ↦ absurd ((not-marked-name b_named.0 (decimal a) b_named.1).1 (sym b_named.3 ∙ sym same ∙ a_other.1))
+    | inl b_named ↦ absurd
+        ((not-marked-name b_named.0 (decimal a) b_named.1).1 (sym b_named.3 ∙ sym same ∙ a_other.1))
     | inr (inl b_value) ↦ cc
     | inr (inr b_other) ↦ decimal_injective a b a_small b_small (cc)
   ]

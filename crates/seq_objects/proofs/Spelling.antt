@@ -40,10 +40,15 @@ Spells-unknown kind first digits others word begins spelled unknown =
     let words : operation_words kind word ≡ first ∷ [] =
     operation_words-unknown kind word (unknown-entry kind word unknown)
     ∙ ap (λ ds. (35 ∷ ds) ∷ []) spelled ∙ ap (λ w. w ∷ []) (sym begins) in
-    record { suffix = others; whole = ap (λ ws. ws ++ others) (sym words); count = omega (arith, ap length words) }
+    record {
+      suffix = others;
+      whole = ap (λ ws. ws ++ others) (sym words);
+      count = omega (arith, ap length words);
+    }
 
 -- The name of an entry, and its arguments after it, spell a word of this entry.
-pub Spells-known : (kind : Kind) (first : List ℕ) (others : List (List ℕ)) (e : Entry) (word used : ℕ)
+pub Spells-known : (kind : Kind) (first : List ℕ) (others : List (List ℕ)) (e : Entry)
+    (word used : ℕ)
     → entry_named kind first ≡ Some e → IsWrittenWith e others word used
     → Spells kind (first ∷ others) word used
 Spells-known kind first others e word used named written =
@@ -58,7 +63,8 @@ Spells-known kind first others e word used named written =
     }
 
 -- What the words say where the kind knows the operation.
-pub record IsNamed (first : List ℕ) (others : List (List ℕ)) (word used : ℕ) (e : Entry) : Type 0 where
+pub record IsNamed (first : List ℕ) (others : List (List ℕ)) (word used : ℕ)
+    (e : Entry) : Type 0 where
   pub name : e.name ≡ first
   pub written : IsWrittenWith e others word used
 
@@ -97,7 +103,8 @@ pub Spells-cases : (kind : Kind) (first : List ℕ) (others : List (List ℕ)) (
 unfolding is_known_word
 Spells-cases kind first others word used spells =
     elim (cases_Option (entry_of kind word)) [
-      | inl none ↦ let marked = Spells-marked kind first others word used none spells in inl (marked.0, marked.1, ap is_some none)
+      | inl none ↦ let marked = Spells-marked kind first others word used none spells in
+          inl (marked.0, marked.1, ap is_some none)
       | inr known ↦
           let inside = entry_of-inside kind word known.0 known.1 in
           inr (known.0, inside.0, Spells-entry kind first others word used known.0 known.1 spells)
@@ -107,43 +114,51 @@ Spells-cases kind first others word used spells =
 named-marked : (kind : Kind) (first : List ℕ) (e : Entry) (rest : List ℕ) → IsIn e (entries kind)
     → e.name ≡ first → first ≡ 35 ∷ rest → ⊥
 named-marked kind first e rest inside name begins =
-    marked-name rest (subst (λ n. is_plain_name n ≡ true) (name ∙ begins) (is_plain_name-entry kind e inside))
+    marked-name rest
+    (subst (λ n. is_plain_name n ≡ true) (name ∙ begins) (is_plain_name-entry kind e inside))
 
 -- After '#' stands no text of an operation where the kind knows each word with these digits.
 pub not-Spells-marked : (kind : Kind) (first digits : List ℕ) (others : List (List ℕ))
     → first ≡ 35 ∷ digits
-    → ((word : ℕ) → IsOperationWord word → whole_digits word ≡ digits → is_known_word kind word ≡ true)
+    → ((word : ℕ) → IsOperationWord word → whole_digits word ≡ digits
+    → is_known_word kind word ≡ true)
     → (op used : ℕ) → IsOperationWord op → Spells kind (first ∷ others) op used → ⊥
-not-Spells-marked kind first digits others begins known op used small spells = elim (Spells-cases kind first others op used spells) [
-  | inl marked ↦
-      let spelled : whole_digits op ≡ digits = cc in
-      both_ways (is_known_word kind op) marked.2 (known op small spelled)
-  | inr named ↦ named-marked kind first named.0 digits named.1 named.2.name begins
-]
+not-Spells-marked kind first digits others begins known op used small spells =
+    elim (Spells-cases kind first others op used spells) [
+      | inl marked ↦
+          let spelled : whole_digits op ≡ digits = cc in
+          both_ways (is_known_word kind op) marked.2 (known op small spelled)
+      | inr named ↦ named-marked kind first named.0 digits named.1 named.2.name begins
+    ]
 
 -- A word that is no name and doesn't begin with '#' begins no text of an operation.
 pub not-Spells-unnamed : (kind : Kind) (first : List ℕ) (others : List (List ℕ))
     → ((rest : List ℕ) → first ≢ 35 ∷ rest) → entry_named kind first ≡ None → (op used : ℕ)
     → Spells kind (first ∷ others) op used → ⊥
-not-Spells-unnamed kind first others unmarked none op used spells = elim (Spells-cases kind first others op used spells) [
-  | inl marked ↦ unmarked (whole_digits op) marked.0
-  | inr named ↦
-      let found : entry_named kind first ≡ Some named.0 = entry_named-name kind first named.0 named.1 named.2.name in
-      cc
-]
+not-Spells-unnamed kind first others unmarked none op used spells =
+    elim (Spells-cases kind first others op used spells) [
+      | inl marked ↦ unmarked (whole_digits op) marked.0
+      | inr named ↦
+          let found : entry_named kind first ≡ Some named.0 =
+          entry_named-name kind first named.0 named.1 named.2.name in
+          cc
+    ]
 
 -- The name of an entry spells nothing where its arguments don't follow.
 pub not-Spells-lacking : (kind : Kind) (first : List ℕ) (others : List (List ℕ)) (e : Entry)
     → ((rest : List ℕ) → first ≢ 35 ∷ rest) → entry_named kind first ≡ Some e
     → LacksArguments e others → (op used : ℕ) → Spells kind (first ∷ others) op used → ⊥
-not-Spells-lacking kind first others e unmarked found lacks op used spells = elim (Spells-cases kind first others op used spells) [
-  | inl marked ↦ unmarked (whole_digits op) marked.0
-  | inr named ↦
-      let other : entry_named kind first ≡ Some named.0 = entry_named-name kind first named.0 named.1 named.2.name in
-      let same : named.0 ≡ e = cc in
-      let here : IsWrittenWith e others op used = subst (λ f. IsWrittenWith f others op used) same named.2.written in
-      lacks.lacking op here.suffix here.operation here.whole
-]
+not-Spells-lacking kind first others e unmarked found lacks op used spells =
+    elim (Spells-cases kind first others op used spells) [
+      | inl marked ↦ unmarked (whole_digits op) marked.0
+      | inr named ↦
+          let other : entry_named kind first ≡ Some named.0 =
+          entry_named-name kind first named.0 named.1 named.2.name in
+          let same : named.0 ≡ e = cc in
+          let here : IsWrittenWith e others op used =
+          subst (λ f. IsWrittenWith f others op used) same named.2.written in
+          lacks.lacking op here.suffix here.operation here.whole
+    ]
 
 -- The text of an operation of an entry.
 pub operation_text-known : (kind : Kind) (word : ℕ) (e : Entry) → entry_of kind word ≡ Some e
@@ -186,8 +201,10 @@ one_operation : (a b a_used b_used : ℕ) (e : Entry) (words : List (List ℕ))
 one_operation a b a_used b_used e words a_is b_is =
     let a_parts = and_parts (code_of a == e.code) (has_arguments e.arity a) a_is.operation in
     let b_parts = and_parts (code_of b == e.code) (has_arguments e.arity b) b_is.operation in
-    let codes : code_of a ≡ code_of b = eqb-true (code_of a) e.code a_parts.0 ∙ sym (eqb-true (code_of b) e.code b_parts.0) in
-    let same = same_arguments e.arity a b a_is.suffix b_is.suffix a_parts.1 b_parts.1 (sym a_is.whole ∙ b_is.whole) in
+    let codes : code_of a ≡ code_of b =
+    eqb-true (code_of a) e.code a_parts.0 ∙ sym (eqb-true (code_of b) e.code b_parts.0) in
+    let same = same_arguments e.arity a b a_is.suffix b_is.suffix a_parts.1 b_parts.1
+    (sym a_is.whole ∙ b_is.whole) in
     omega arith
 
 -- Words are read as one operation at most.
@@ -195,22 +212,33 @@ pub Spells-once : (kind : Kind) (words : List (List ℕ)) (a b a_used b_used : �
     → IsOperationWord a → IsOperationWord b → Spells kind words a a_used
     → Spells kind words b b_used → (a ≡ b) × (a_used ≡ b_used)
 Spells-once kind [] a b a_used b_used a_small b_small a_spells b_spells =
-    absurd (omega (arith, ap length a_spells.whole, a_spells.count, length-append (operation_words kind a) a_spells.suffix))
+    absurd (omega (
+      arith,
+      ap length a_spells.whole,
+      a_spells.count,
+      length-append (operation_words kind a) a_spells.suffix,
+    ))
 Spells-once kind (first ∷ others) a b a_used b_used a_small b_small a_spells b_spells =
     let one : a ≡ b = elim (Spells-cases kind first others a a_used a_spells) [
       | inl a_marked ↦ elim (Spells-cases kind first others b b_used b_spells) [
         | inl b_marked ↦ whole_digits-once a b a_small b_small (cc)
-        | inr b_named ↦ absurd (named-marked kind first b_named.0 (whole_digits a) b_named.1 b_named.2.name a_marked.0)
+        | inr b_named ↦ absurd
+            (named-marked kind first b_named.0 (whole_digits a) b_named.1 b_named.2.name a_marked.0)
       ]
       | inr a_named ↦ elim (Spells-cases kind first others b b_used b_spells) [
-        | inl b_marked ↦ absurd (named-marked kind first a_named.0 (whole_digits b) a_named.1 a_named.2.name b_marked.0)
+        | inl b_marked ↦ absurd
+            (named-marked kind first a_named.0 (whole_digits b) a_named.1 a_named.2.name b_marked.0)
         | inr b_named ↦
-            let found : Some b_named.0 ≡ Some a_named.0 = sym (entry_named-name kind first b_named.0 b_named.1 b_named.2.name) ∙ entry_named-name kind first a_named.0 a_named.1 a_named.2.name in
+            let found : Some b_named.0 ≡ Some a_named.0 =
+            sym (entry_named-name kind first b_named.0 b_named.1 b_named.2.name)
+            ∙ entry_named-name kind first a_named.0 a_named.1 a_named.2.name in
             let e : Entry = a_named.0 in
             let same : b_named.0 ≡ e = same_Some b_named.0 e found in
-            let b_here : IsWrittenWith e others b b_used = subst (λ f. IsWrittenWith f others b b_used) same b_named.2.written in
+            let b_here : IsWrittenWith e others b b_used =
+            subst (λ f. IsWrittenWith f others b b_used) same b_named.2.written in
             one_operation a b a_used b_used e others a_named.2.written b_here
       ]
     ] in
-    let counts : length (operation_words kind a) ≡ length (operation_words kind b) = ap (λ w. length (operation_words kind w)) one in
+    let counts : length (operation_words kind a) ≡ length (operation_words kind b) =
+    ap (λ w. length (operation_words kind w)) one in
     (one, omega (arith, counts, a_spells.count, b_spells.count))

@@ -33,12 +33,14 @@ same_name a b = bytes_eq a.name b.name
 -- What each kind's table keeps.
 abbrev is_table : List Entry → Bool
 is_table es =
-    list_all (λ e. is_plain_name e.name) es && (are_distinct same_code es && are_distinct same_name es)
+    list_all (λ e. is_plain_name e.name) es
+    && (are_distinct same_code es && are_distinct same_name es)
 
 -- What is seen of each kind by computing: its table, and its name, by which it is found.
 abbrev pub IsSound : Kind → Type 0
 IsSound kind =
-    (is_table (entries kind) ≡ true) × (is_plain_name (kind_name kind) ≡ true) × (find (λ k. bytes_eq (kind_name k) (kind_name kind)) all_kinds ≡ Some kind)
+    (is_table (entries kind) ≡ true) × (is_plain_name (kind_name kind) ≡ true)
+    × (find (λ k. bytes_eq (kind_name k) (kind_name kind)) all_kinds ≡ Some kind)
 
 pub kinds-sound : (kind : Kind) → IsSound kind
 unfolding entries kind_name
@@ -52,24 +54,33 @@ kinds-sound CasRegister = (refl, refl, refl)
 kinds-sound Map = (refl, refl, refl)
 
 -- A kind that is found by a name has it.
-pub kind_found : (name : List ℕ) (o : Option Kind) → o ≡ find (λ k. bytes_eq (kind_name k) name) all_kinds
+pub kind_found : (name : List ℕ) (o : Option Kind)
+    → o ≡ find (λ k. bytes_eq (kind_name k) name) all_kinds
     → IfSome o (λ kind. kind_name kind ≡ name)
 kind_found name None found = search rules
 kind_found name (Some kind) found =
-    (bytes_eq-Decides (kind_name kind) name).0 (find_inside (λ k. bytes_eq (kind_name k) name) all_kinds kind (sym found)).1
+    (bytes_eq-Decides (kind_name kind) name).0
+    (find_inside (λ k. bytes_eq (kind_name k) name) all_kinds kind (sym found)).1
 
 -- No kind has a name by which none is found.
-pub no_kind_found : (name : List ℕ) (o : Option Kind) → o ≡ find (λ k. bytes_eq (kind_name k) name) all_kinds
+pub no_kind_found : (name : List ℕ) (o : Option Kind)
+    → o ≡ find (λ k. bytes_eq (kind_name k) name) all_kinds
     → IfNone o ((kind : Kind) → kind_name kind ≢ name)
 no_kind_found name None found = λ kind same.
-    none-some kind (found ∙ ap (λ n. find (λ k. bytes_eq (kind_name k) n) all_kinds) (sym same) ∙ (kinds-sound kind).2)
+    none-some kind (found ∙ ap (λ n. find (λ k. bytes_eq (kind_name k) n) all_kinds) (sym same)
+    ∙ (kinds-sound kind).2)
 no_kind_found name (Some kind) found = search rules
 
 table_parts : (kind : Kind)
-    → (list_all (λ e. is_plain_name e.name) (entries kind) ≡ true) × (are_distinct same_code (entries kind) ≡ true) × (are_distinct same_name (entries kind) ≡ true)
+    → (list_all (λ e. is_plain_name e.name) (entries kind) ≡ true)
+    × (are_distinct same_code (entries kind) ≡ true)
+    × (are_distinct same_name (entries kind) ≡ true)
 table_parts kind =
-    let both = and_parts (list_all (λ e. is_plain_name e.name) (entries kind)) (are_distinct same_code (entries kind) && are_distinct same_name (entries kind)) (kinds-sound kind).0 in
-    let distinct = and_parts (are_distinct same_code (entries kind)) (are_distinct same_name (entries kind)) both.1 in
+    let both = and_parts (list_all (λ e. is_plain_name e.name) (entries kind))
+    (are_distinct same_code (entries kind) && are_distinct same_name (entries kind))
+    (kinds-sound kind).0 in
+    let distinct = and_parts (are_distinct same_code (entries kind))
+    (are_distinct same_name (entries kind)) both.1 in
     (both.0, distinct.0, distinct.1)
 
 -- The name of an entry is a word that doesn't begin with '#'.
@@ -80,7 +91,8 @@ is_plain_name-entry kind e inside =
 
 code-operation : (word : ℕ) (e : Entry) → is_operation_of word e ≡ true → code_of word ≡ e.code
 code-operation word e operation =
-    eqb-true (code_of word) e.code (and_parts (code_of word == e.code) (has_arguments e.arity word) operation).0
+    eqb-true (code_of word) e.code
+    (and_parts (code_of word == e.code) (has_arguments e.arity word) operation).0
 
 -- The entry of a word is the one that the word is an operation of.
 pub entry_of-operation : (kind : Kind) (word : ℕ) (e : Entry) → IsIn e (entries kind)
@@ -88,8 +100,10 @@ pub entry_of-operation : (kind : Kind) (word : ℕ) (e : Entry) → IsIn e (entr
 unfolding entry_of
 entry_of-operation kind word e inside operation =
     find_only (is_operation_of word) (entries kind) e inside operation (λ f f_in f_operation.
-    are_distinct-inside same_code (λ a b h. eq-eqb b.code a.code (sym (eqb-true a.code b.code h))) (entries kind) f e (table_parts kind).1 f_in inside
-    (eq-eqb f.code e.code (sym (code-operation word f f_operation) ∙ code-operation word e operation)))
+    are_distinct-inside same_code (λ a b h. eq-eqb b.code a.code (sym (eqb-true a.code b.code h)))
+    (entries kind) f e (table_parts kind).1 f_in inside
+    (eq-eqb f.code e.code
+    (sym (code-operation word f f_operation) ∙ code-operation word e operation)))
 
 pub entry_of-inside : (kind : Kind) (word : ℕ) (e : Entry) → entry_of kind word ≡ Some e
     → IsIn e (entries kind) × (is_operation_of word e ≡ true)
@@ -101,8 +115,11 @@ pub entry_named-name : (kind : Kind) (name : List ℕ) (e : Entry) → IsIn e (e
     → e.name ≡ name → entry_named kind name ≡ Some e
 unfolding entry_named
 entry_named-name kind name e inside same =
-    find_only (λ f. bytes_eq f.name name) (entries kind) e inside ((bytes_eq-Decides e.name name).1 same) (λ f f_in f_same.
-    are_distinct-inside same_name (λ a b h. (bytes_eq-Decides b.name a.name).1 (sym ((bytes_eq-Decides a.name b.name).0 h))) (entries kind) f e (table_parts kind).2 f_in inside
+    find_only (λ f. bytes_eq f.name name) (entries kind) e inside
+    ((bytes_eq-Decides e.name name).1 same) (λ f f_in f_same.
+    are_distinct-inside same_name
+    (λ a b h. (bytes_eq-Decides b.name a.name).1 (sym ((bytes_eq-Decides a.name b.name).0 h)))
+    (entries kind) f e (table_parts kind).2 f_in inside
     ((bytes_eq-Decides f.name e.name).1 ((bytes_eq-Decides f.name name).0 f_same ∙ sym same)))
 
 pub entry_named-inside : (kind : Kind) (name : List ℕ) (e : Entry) → entry_named kind name ≡ Some e

@@ -27,10 +27,14 @@ decimal-printed n small k d inside =
     rw (get_or_default (decimal n) k d 0 inside) (omega arith, omega arith)
 
 pub IsWord-decimal : (n : ℕ) → n < 2 ^ 64 → IsWord (decimal n)
-IsWord-decimal n small = record { some = decimal_nonempty n small; printed = decimal-printed n small }
+IsWord-decimal n small =
+    record { some = decimal_nonempty n small; printed = decimal-printed n small }
 
 pub IsWord-marked : (mark n : ℕ) → IsPrinted mark → n < 2 ^ 64 → IsWord (mark ∷ decimal n)
-IsWord-marked mark n printed small = record { some = omega arith; printed = All-cons IsPrinted mark (decimal n) printed (decimal-printed n small) }
+IsWord-marked mark n printed small = record {
+  some = omega arith;
+  printed = All-cons IsPrinted mark (decimal n) printed (decimal-printed n small);
+}
 
 name-printed : (name : List ℕ) → list_all is_printed name ≡ true → All IsPrinted name
 name-printed [] all = All-nil IsPrinted
@@ -41,23 +45,33 @@ name-printed (x ∷ xs) all =
 
 pub IsWord-name : (name : List ℕ) → is_plain_name name ≡ true → IsWord name
 IsWord-name [] plain = cc
-IsWord-name (x ∷ xs) plain = record { some = omega arith; printed = name-printed (x ∷ xs) (and_parts _ (list_all is_printed (x ∷ xs)) plain).1 }
+IsWord-name (x ∷ xs) plain = record {
+  some = omega arith;
+  printed = name-printed (x ∷ xs) (and_parts _ (list_all is_printed (x ∷ xs)) plain).1;
+}
 
 argument_words-IsWord : (arity : Arity) (word : ℕ) → IsOperationWord word
     → All IsWord (argument_words arity word)
 argument_words-IsWord Nullary word small = All-nil IsWord
 argument_words-IsWord Unary word small =
-    All-cons IsWord (decimal (argument_of word)) [] (IsWord-decimal (argument_of word) (omega arith)) (All-nil IsWord)
+    All-cons IsWord (decimal (argument_of word)) []
+    (IsWord-decimal (argument_of word) (omega arith)) (All-nil IsWord)
 argument_words-IsWord Binary word small =
-    All-cons IsWord (decimal (argument_of word)) (decimal (extra_of word) ∷ []) (IsWord-decimal (argument_of word) (omega arith)) (All-cons IsWord (decimal (extra_of word)) [] (IsWord-decimal (extra_of word) (omega arith)) (All-nil IsWord))
+    All-cons IsWord (decimal (argument_of word)) (decimal (extra_of word) ∷ [])
+    (IsWord-decimal (argument_of word) (omega arith)) (All-cons IsWord
+    (decimal (extra_of word)) [] (IsWord-decimal (extra_of word) (omega arith)) (All-nil IsWord))
 
 whole_digits-printed : (word : ℕ) → IsOperationWord word → All IsPrinted (whole_digits word)
 whole_digits-printed word small =
     let low = decimal-printed (low_of word) (omega arith) in
     let high = decimal-printed (high_of word) (omega arith) in
     elim (cases_Bool (high_of word == 0)) [
-      | inl none ↦ subst (All IsPrinted) (sym (whole_digits-low word (eqb-true (high_of word) 0 none))) low
-      | inr some ↦ subst (All IsPrinted) (sym (whole_digits-both word (eqb-false (high_of word) 0 some))) (All-append IsPrinted (decimal (low_of word)) (58 ∷ decimal (high_of word)) low (All-cons IsPrinted 58 (decimal (high_of word)) (omega arith, omega arith) high))
+      | inl none ↦
+          subst (All IsPrinted) (sym (whole_digits-low word (eqb-true (high_of word) 0 none))) low
+      | inr some ↦
+          subst (All IsPrinted) (sym (whole_digits-both word (eqb-false (high_of word) 0 some)))
+          (All-append IsPrinted (decimal (low_of word)) (58 ∷ decimal (high_of word)) low
+          (All-cons IsPrinted 58 (decimal (high_of word)) (omega arith, omega arith) high))
     ]
 
 -- An operation is written in words.
@@ -65,12 +79,19 @@ pub operation_words-IsWord : (kind : Kind) (word : ℕ) → IsOperationWord word
     → All IsWord (operation_words kind word)
 operation_words-IsWord kind word small = elim (cases_Option (entry_of kind word)) [
   | inl none ↦
-      let marked : IsWord (35 ∷ whole_digits word) = record { some = omega arith; printed = All-cons IsPrinted 35 (whole_digits word) (omega arith, omega arith) (whole_digits-printed word small) } in
-      subst (λ ws. All IsWord ws) (sym (operation_words-unknown kind word none)) (All-cons IsWord (35 ∷ whole_digits word) [] marked (All-nil IsWord))
+      let marked : IsWord (35 ∷ whole_digits word) = record {
+        some = omega arith;
+        printed = All-cons IsPrinted 35 (whole_digits word) (omega arith, omega arith)
+            (whole_digits-printed word small);
+      } in
+      subst (λ ws. All IsWord ws) (sym (operation_words-unknown kind word none))
+      (All-cons IsWord (35 ∷ whole_digits word) [] marked (All-nil IsWord))
   | inr known ↦
       let e : Entry = known.0 in
-      let name = IsWord-name e.name (is_plain_name-entry kind e (entry_of-inside kind word e known.1).0) in
-      subst (λ ws. All IsWord ws) (sym (operation_words-known kind word e known.1)) (All-cons IsWord e.name (argument_words e.arity word) name (argument_words-IsWord e.arity word small))
+      let name =
+      IsWord-name e.name (is_plain_name-entry kind e (entry_of-inside kind word e known.1).0) in
+      subst (λ ws. All IsWord ws) (sym (operation_words-known kind word e known.1)) (All-cons IsWord
+      e.name (argument_words e.arity word) name (argument_words-IsWord e.arity word small))
 ]
 
 -- No byte of a word is a space.
@@ -83,7 +104,11 @@ some_words : (kind : Kind) (word : ℕ)
     → (first : List ℕ) × (rest : List (List ℕ)) × (operation_words kind word ≡ first ∷ rest)
 some_words kind word = elim (cases_Option (entry_of kind word)) [
   | inl none ↦ (35 ∷ whole_digits word, [], operation_words-unknown kind word none)
-  | inr known ↦ (known.0.name, argument_words known.0.arity word, operation_words-known kind word known.0 known.1)
+  | inr known ↦ (
+    known.0.name,
+    argument_words known.0.arity word,
+    operation_words-known kind word known.0 known.1,
+  )
 ]
 
 -- The text of an operation is cut into its words at the spaces.
@@ -92,7 +117,9 @@ pub slice_split-operation : (kind : Kind) (word : ℕ) → IsOperationWord word
 unfolding operation_text
 slice_split-operation kind word small =
     let some = some_words kind word in
-    subst (λ ws. slice_split (λ b. eqb b 32) (join_with_byte 32 ws) ≡ ws) (sym some.2) (slice_split-join_with_byte 32 some.0 some.1 (All-weaker IsWord (Lacks 32) IsWord-space (some.0 ∷ some.1) (subst (λ ws. All IsWord ws) some.2 (operation_words-IsWord kind word small))))
+    subst (λ ws. slice_split (λ b. eqb b 32) (join_with_byte 32 ws) ≡ ws) (sym some.2)
+    (slice_split-join_with_byte 32 some.0 some.1 (All-weaker IsWord (Lacks 32) IsWord-space (some.0
+    ∷ some.1) (subst (λ ws. All IsWord ws) some.2 (operation_words-IsWord kind word small))))
 
 -- An operation is spelled by the words of its own text.
 Spells-own : (kind : Kind) (word other : ℕ) → operation_words kind other ≡ operation_words kind word
@@ -111,23 +138,30 @@ Spells-own kind word other same =
 pub operation_text-once : (kind : Kind) (a b : ℕ) → IsOperationWord a → IsOperationWord b
     → operation_text kind a ≡ operation_text kind b → a ≡ b
 operation_text-once kind a b a_small b_small same =
-    let words : operation_words kind a ≡ operation_words kind b = sym (slice_split-operation kind a a_small) ∙ ap (slice_split (λ c. eqb c 32)) same ∙ slice_split-operation kind b b_small in
+    let words : operation_words kind a ≡ operation_words kind b =
+    sym (slice_split-operation kind a a_small) ∙ ap (slice_split (λ c. eqb c 32)) same
+    ∙ slice_split-operation kind b b_small in
     let a_own = Spells-own kind b a words in
     let b_own = Spells-own kind b b refl in
-    (Spells-once kind (operation_words kind b) a b a_own.0 b_own.0 a_small b_small a_own.1 b_own.1).0
+    (Spells-once kind
+    (operation_words kind b) a b a_own.0 b_own.0 a_small b_small a_own.1 b_own.1).0
 
 -- A reply is written as a word.
 pub reply_word-IsWord : (reply : ℕ) → reply < 2 ^ 64 → IsWord (reply_word reply)
 reply_word-IsWord reply small = elim (reply_word-cases reply) [
-  | inl named ↦ subst IsWord (sym named.3) (IsWord-name named.0.name (named-plain named.0 named.1).0)
-  | inr (inl value) ↦ subst IsWord (sym value.1) (IsWord-marked 61 (reply % 2 ^ 32) (omega arith, omega arith) (omega arith))
-  | inr (inr other) ↦ subst IsWord (sym other.1) (IsWord-marked 35 reply (omega arith, omega arith) small)
+  | inl named ↦
+      subst IsWord (sym named.3) (IsWord-name named.0.name (named-plain named.0 named.1).0)
+  | inr (inl value) ↦ subst IsWord (sym value.1)
+      (IsWord-marked 61 (reply % 2 ^ 32) (omega arith, omega arith) (omega arith))
+  | inr (inr other) ↦
+      subst IsWord (sym other.1) (IsWord-marked 35 reply (omega arith, omega arith) small)
 ]
 
 -- Kinds with one name are one.
 pub kind_name-once : (a b : Kind) → kind_name a ≡ kind_name b → a ≡ b
 kind_name-once a b same =
-    let found : Some b ≡ Some a = sym (kinds-sound b).2 ∙ ap (λ n. find (λ k. bytes_eq (kind_name k) n) all_kinds) (sym same) ∙ (kinds-sound a).2 in
+    let found : Some b ≡ Some a = sym (kinds-sound b).2
+    ∙ ap (λ n. find (λ k. bytes_eq (kind_name k) n) all_kinds) (sym same) ∙ (kinds-sound a).2 in
     sym (same_Some b a found)
 
 -- The name of a kind is a word.

@@ -21,7 +21,8 @@ abbrev pub cas_register_operation : ℕ → Option CasRegisterOperation
 cas_register_operation word =
     if is_operation_of word words.write then Some (Write (argument_of word))
     else if is_operation_of word words.read then Some Read
-    else if is_operation_of word words.cas then Some (CompareAndSet (argument_of word) (extra_of word))
+    else if is_operation_of word words.cas
+    then Some (CompareAndSet (argument_of word) (extra_of word))
     else None
 
 -- A register that can also be set only where it holds an expected value: it is 0 at first.
@@ -35,7 +36,8 @@ length-compared_and_set : (list : List ℕ) (expected new : ℕ)
     → length (compared_and_set list expected new).0 ≤ length list + 1
 length-compared_and_set list expected new =
     let IsSmall : List ℕ × ℕ → Type 0 = λ next. length next.0 ≤ length list + 1 in
-    cond_both (first_or_zero list % 2 ^ 32 == expected) (new ∷ [], reply_yes) (list, reply_no) IsSmall
+    cond_both (first_or_zero list % 2 ^ 32 == expected) (new ∷ [], reply_yes)
+    (list, reply_no) IsSmall
     (λ same. omega arith)
     (λ other. omega arith)
 
@@ -51,7 +53,8 @@ cas_register_operation-unknown : (word : ℕ) → is_known_word kinds.CasRegiste
     → cas_register_operation word ≡ None
 unfolding is_known_word entry_of entries
 cas_register_operation-unknown word unknown =
-    let not_write = not-found (is_operation_of word) words.write (words.read ∷ words.cas ∷ []) unknown in
+    let not_write =
+    not-found (is_operation_of word) words.write (words.read ∷ words.cas ∷ []) unknown in
     let not_read = not-found (is_operation_of word) words.read (words.cas ∷ []) not_write.1 in
     let not_cas = not-found (is_operation_of word) words.cas [] not_read.1 in
     cond-false (is_operation_of word words.write) _ _ not_write.0

@@ -38,7 +38,8 @@ counter_after-unknown list word unknown =
     ap (counter_after list) (counter_operation-unknown word unknown)
 
 pub counter_after-inc : (list : List ℕ) (word : ℕ) → is_operation_of word words.inc ≡ true
-    → counter_after list (counter_operation word) ≡ ((first_or_zero list + 1) % 2 ^ 32 ∷ [], reply_value (first_or_zero list))
+    → counter_after list (counter_operation word)
+    ≡ ((first_or_zero list + 1) % 2 ^ 32 ∷ [], reply_value (first_or_zero list))
 counter_after-inc list word inc =
     ap (counter_after list) (cond-true (is_operation_of word words.inc) _ _ inc)
 

@@ -44,7 +44,8 @@ set_after list None = (list, reply_bad)
 length-added : (list : List ℕ) (value : ℕ) → length (added list value).0 ≤ length list + 1
 length-added list value =
     let IsSmall : List ℕ × ℕ → Type 0 = λ next. length next.0 ≤ length list + 1 in
-    cond_both (is_some (place_of list value)) (list, reply_no) (inserted list value, reply_yes) IsSmall
+    cond_both (is_some (place_of list value)) (list, reply_no)
+    (inserted list value, reply_yes) IsSmall
     (λ there. omega arith)
     (λ absent. length-inserted list value)
 
@@ -64,7 +65,8 @@ set_operation-unknown : (word : ℕ) → is_known_word kinds.IntSet word ≡ fal
     → set_operation word ≡ None
 unfolding is_known_word entry_of entries
 set_operation-unknown word unknown =
-    let not_add = not-found (is_operation_of word) words.add (words.remove ∷ words.has ∷ []) unknown in
+    let not_add =
+    not-found (is_operation_of word) words.add (words.remove ∷ words.has ∷ []) unknown in
     let not_remove = not-found (is_operation_of word) words.remove (words.has ∷ []) not_add.1 in
     let not_has = not-found (is_operation_of word) words.has [] not_remove.1 in
     cond-false (is_operation_of word words.add) _ _ not_add.0

@@ -60,9 +60,11 @@ length-without list place =
     omega (arith, joined, length-take place list, length-drop (suc place) list)
 
 -- Where nothing is found the first doesn't pass, and nothing is found after it.
-pub not-found : {X : Type 0} (p : X → Bool) (x : X) (xs : List X) → is_some (find p (x ∷ xs)) ≡ false
+pub not-found : {X : Type 0} (p : X → Bool) (x : X) (xs : List X)
+    → is_some (find p (x ∷ xs)) ≡ false
     → (p x ≡ false) × (is_some (find p xs) ≡ false)
 not-found p x xs none = elim (cases_Bool (p x)) [
-  | inl passes ↦ absurd (true≢false (sym (ap is_some (cond-true (p x) (Some x) (find p xs) passes)) ∙ none))
+  | inl passes ↦
+      absurd (true≢false (sym (ap is_some (cond-true (p x) (Some x) (find p xs) passes)) ∙ none))
   | inr fails ↦ (fails, sym (ap is_some (cond-false (p x) (Some x) (find p xs) fails)) ∙ none)
 ]

@@ -64,7 +64,8 @@ length-put_at : (list : List ℕ) (item : ℕ) (place : Option ℕ)
 length-put_at list item (Some place) = omega (arith, length-set list place item)
 length-put_at list item None = length-inserted list item
 
-length-without_place : (list : List ℕ) (place : Option ℕ) → length (without list place) ≤ length list + 1
+length-without_place : (list : List ℕ) (place : Option ℕ)
+    → length (without list place) ≤ length list + 1
 length-without_place list (Some place) = length-without list place
 length-without_place list None = omega arith
 

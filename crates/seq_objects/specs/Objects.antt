@@ -57,7 +57,8 @@ length-kind_next kinds.Register list word = length-register_after list (register
 length-kind_next kinds.Counter list word = length-counter_after list (counter_operation word)
 length-kind_next kinds.IntSet list word = length-set_after list (set_operation word)
 length-kind_next kinds.Pqueue list word = length-pqueue_after list (pqueue_operation word)
-length-kind_next kinds.CasRegister list word = length-cas_register_after list (cas_register_operation word)
+length-kind_next kinds.CasRegister list word =
+    length-cas_register_after list (cas_register_operation word)
 length-kind_next kinds.Map list word = length-map_after list (map_operation word)
 
 pub kind_next-unknown : (kind : Kind) (list : List ℕ) (word : ℕ) → is_known_word kind word ≡ false

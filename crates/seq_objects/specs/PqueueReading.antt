@@ -14,4 +14,8 @@ pqueue_deed None = Neither
 
 -- how a priority queue is read: an insert puts in, and a min takes
 abbrev pub pqueue_reading : Reading
-pqueue_reading = record { deed = λ word. pqueue_deed (pqueue_operation word); shown = shown_value; values = map value_of }
+pqueue_reading = record {
+  deed = λ word. pqueue_deed (pqueue_operation word);
+  shown = shown_value;
+  values = map value_of;
+}

@@ -1,5 +1,5 @@
--- How queues and stacks are read: as puts and takes of values. A word of a list is the value that its low 32 bits are, which is what a
--- reply shows of it.
+-- How queues and stacks are read: as puts and takes of values. A word of a list is the value that
+-- its low 32 bits are, which is what a reply shows of it.
 use Rattle.std.specs.Prelude.{ℕ, ◌%◌, ◌^◌, map, reverse, Option, Some, None, if◌then◌else◌}
 use Rattle.history_rules.specs.Container.{Deed, Puts, Takes, Neither, Reading}
 use Rattle.seq_objects.specs.declared.queue.QueueOperation.{QueueOperation}
@@ -26,7 +26,11 @@ queue_deed None = Neither
 
 -- how a queue is read: an enqueue puts in, and a dequeue takes
 abbrev pub queue_reading : Reading
-queue_reading = record { deed = λ word. queue_deed (queue_operation word); shown = shown_value; values = map value_of }
+queue_reading = record {
+  deed = λ word. queue_deed (queue_operation word);
+  shown = shown_value;
+  values = map value_of;
+}
 
 -- a push puts in, a pop takes
 abbrev pub stack_deed : Option StackOperation → Deed
@@ -36,4 +40,8 @@ stack_deed None = Neither
 
 -- the value that was pushed last comes first
 abbrev pub stack_reading : Reading
-stack_reading = record { deed = λ word. stack_deed (stack_operation word); shown = shown_value; values = λ list. reverse (map value_of list) }
+stack_reading = record {
+  deed = λ word. stack_deed (stack_operation word);
+  shown = shown_value;
+  values = λ list. reverse (map value_of list);
+}

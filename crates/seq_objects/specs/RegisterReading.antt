@@ -19,4 +19,8 @@ register_deed None = Neither
 
 -- how a register is read: a write puts in, and a read takes
 abbrev pub register_reading : Reading
-register_reading = record { deed = λ word. register_deed (register_operation word); shown = shown_value; values = map value_of }
+register_reading = record {
+  deed = λ word. register_deed (register_operation word);
+  shown = shown_value;
+  values = map value_of;
+}

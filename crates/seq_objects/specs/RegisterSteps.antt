@@ -48,14 +48,18 @@ pub register_after-write : (list : List ℕ) (word : ℕ) → is_operation_of wo
 register_after-write list word write =
     ap (register_after list) (cond-true (is_operation_of word words.write) _ _ write)
 
-pub register_after-read : (list : List ℕ) (word : ℕ) → is_operation_of word words.write ≡ false → is_operation_of word words.read ≡ true
+pub register_after-read : (list : List ℕ) (word : ℕ) → is_operation_of word words.write ≡ false
+    → is_operation_of word words.read ≡ true
     → register_after list (register_operation word) ≡ (list, reply_value (first_or_zero list))
 register_after-read list word not_write read =
     ap (register_after list)
-    (cond-false (is_operation_of word words.write) _ _ not_write ∙ cond-true (is_operation_of word words.read) _ _ read)
+    (cond-false (is_operation_of word words.write) _ _ not_write
+    ∙ cond-true (is_operation_of word words.read) _ _ read)
 
-pub register_after-other : (list : List ℕ) (word : ℕ) → is_operation_of word words.write ≡ false → is_operation_of word words.read ≡ false
+pub register_after-other : (list : List ℕ) (word : ℕ) → is_operation_of word words.write ≡ false
+    → is_operation_of word words.read ≡ false
     → register_after list (register_operation word) ≡ (list, BAD)
 register_after-other list word not_write not_read =
     ap (register_after list)
-    (cond-false (is_operation_of word words.write) _ _ not_write ∙ cond-false (is_operation_of word words.read) _ _ not_read)
+    (cond-false (is_operation_of word words.write) _ _ not_write
+    ∙ cond-false (is_operation_of word words.read) _ _ not_read)

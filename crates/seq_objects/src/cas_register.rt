@@ -97,7 +97,8 @@ impl SeqObject for CasRegister {
     fn leaves(&self, op: OpWord, reply: u64) -> bool
         // The answer is whether the operation of a register with compare-and-set leaves every list
         // at which it has this reply.
-        ensures { IsTrue result ↔ Leaves (λ list op. cas_register_after list (cas_register_operation op)) op reply }
+        ensures { IsTrue result
+            ↔ Leaves (λ list op. cas_register_after list (cas_register_operation op)) op reply }
     {
         match CasRegisterOperation::from_word(op) {
             Some(CasRegisterOperation::Write(_)) => reply != DONE,

@@ -78,7 +78,8 @@ impl SeqObject for Counter {
     fn leaves(&self, op: OpWord, reply: u64) -> bool
         // The answer is whether the operation of a counter leaves every list at which it has this
         // reply.
-        ensures { IsTrue result ↔ Leaves (λ list op. counter_after list (counter_operation op)) op reply }
+        ensures { IsTrue result
+            ↔ Leaves (λ list op. counter_after list (counter_operation op)) op reply }
     {
         match CounterOperation::from_word(op) {
             Some(CounterOperation::Increment) => !is_value(reply),

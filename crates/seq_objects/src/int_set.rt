@@ -157,7 +157,8 @@ impl SeqObject for IntSet {
         ensures fewer { IsMarkedWithin result marks }
         // All that goes on from here goes on by the next call of a caller that the answer marks as
         // well, with no more places.
-        ensures suffice { MarksSuffice book.now (λ list op. set_after list (set_operation op)) cut.now
+        ensures suffice { MarksSuffice book.now
+            (λ list op. set_after list (set_operation op)) cut.now
             words.now result }
         // Where the forced call has a key, those of the marked callers keep their marks whose next
         // calls have it too; else all do.

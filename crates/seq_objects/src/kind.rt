@@ -215,8 +215,8 @@ impl SeqObject for Kind {
         }
     }
 
-    /// What is said of a whole book without a search of orders: of a queue's by pairs of puts and takes, of a stack's by
-    /// levels.
+    /// What is said of a whole book without a search of orders: of a queue's by pairs of puts and
+    /// takes, of a stack's by levels.
     fn decide(&self, alloc: Global, book: &Book) -> Result<Decision, NoMemory> {
         match self {
             Kind::Queue => decide_queue(alloc, &Queue, book),

@@ -95,7 +95,8 @@ impl SeqObject for Queue {
     fn leaves(&self, op: OpWord, reply: u64) -> bool
         // The answer is whether the operation of a queue leaves every list at which it has this
         // reply.
-        ensures { IsTrue result ↔ Leaves (λ list op. queue_after list (queue_operation op)) op reply }
+        ensures { IsTrue result
+            ↔ Leaves (λ list op. queue_after list (queue_operation op)) op reply }
     {
         match QueueOperation::from_word(op) {
             Some(QueueOperation::Enqueue(_)) => reply != DONE,

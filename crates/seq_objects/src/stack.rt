@@ -100,7 +100,8 @@ impl SeqObject for Stack {
     fn leaves(&self, op: OpWord, reply: u64) -> bool
         // The answer is whether the operation of a stack leaves every list at which it has this
         // reply.
-        ensures { IsTrue result ↔ Leaves (λ list op. stack_after list (stack_operation op)) op reply }
+        ensures { IsTrue result
+            ↔ Leaves (λ list op. stack_after list (stack_operation op)) op reply }
     {
         match StackOperation::from_word(op) {
             Some(StackOperation::Push(_)) => reply != DONE,

@@ -38,7 +38,8 @@ pub fn whole(digits: &[u8]) -> Option<OpWord>
 /// Appends a byte, and after it an operation word in digits.
 pub fn put_whole(out: &mut Vec<u8>, mark: u8, op: OpWord) -> Result<(), NoMemory>
     ensures ok { OnOk result (out.new.items ≡ out.old.items ++ mark ∷ whole_digits op) }
-    ensures err { OnErr result (AppendsPrefix out.old.items out.new.items (mark ∷ whole_digits op)) }
+    ensures err { OnErr result
+        (AppendsPrefix out.old.items out.new.items (mark ∷ whole_digits op)) }
 {
     put_marked(out, mark, low(op))?;
     if high(op) == 0 {

@@ -9,7 +9,8 @@ pub fn worked_cas_register_steps()
     // The register begins with the list of 0 alone.
     ensures begins { kind_init kinds.CasRegister ≡ 0 ∷ [] }
     // The words `cas 0 5` are read as an operation with two numbers, and a further word is left.
-    ensures is_read { Spells kinds.CasRegister (codes "cas" ∷ codes "0" ∷ codes "5" ∷ codes "6" ∷ [])
+    ensures is_read { Spells kinds.CasRegister
+        (codes "cas" ∷ codes "0" ∷ codes "5" ∷ codes "6" ∷ [])
         92233720381432659968 2 }
     // A compare-and-set of 0 to 5 at 0 makes it 5, and replies yes.
     ensures sets { Makes kinds.CasRegister 92233720381432659968 (codes "cas 0 5")
@@ -30,7 +31,8 @@ pub fn worked_cas_register_steps()
     ensures reads { Makes kinds.CasRegister 8589934592 (codes "read")
         (4 ∷ 9 ∷ []) (4 ∷ 9 ∷ []) (codes "=4") }
     // A word with a high number that no entry has leaves the list, and is replied `bad`.
-    ensures leaves_an_unknown_word { Makes kinds.CasRegister 79228162514264337606428852224 (codes "#12884901888:4294967296")
+    ensures leaves_an_unknown_word { Makes kinds.CasRegister 79228162514264337606428852224
+        (codes "#12884901888:4294967296")
         (4 ∷ []) (4 ∷ []) (codes "bad") }
 {}
 
@@ -45,13 +47,15 @@ pub fn worked_map_steps()
     // A put of a key that isn't there goes between the items of a lower and a greater key, and
     // replies none.
     ensures puts_in_order { Makes kinds.Map 4294967300 (codes "put 4 0")
-        (8589934597 ∷ 34359738369 ∷ []) (8589934597 ∷ 17179869184 ∷ 34359738369 ∷ []) (codes "none") }
+        (8589934597 ∷ 34359738369 ∷ []) (8589934597 ∷ 17179869184 ∷ 34359738369 ∷ [])
+        (codes "none") }
     // A put of a key that two items have changes the first of them, and replies its value.
     ensures puts_at_the_first_of_a_key { Makes kinds.Map 166020696667680931843 (codes "put 3 9")
         (12884901889 ∷ 12884901890 ∷ []) (12884901897 ∷ 12884901890 ∷ []) (codes "=1") }
     // A get of a key that two items have replies the value of the first of them.
     ensures gets_the_first_of_a_key { Makes kinds.Map 8589934595 (codes "get 3")
-        (30064771072 ∷ 12884901889 ∷ 12884901890 ∷ []) (30064771072 ∷ 12884901889 ∷ 12884901890 ∷ []) (codes "=1") }
+        (30064771072 ∷ 12884901889 ∷ 12884901890 ∷ [])
+        (30064771072 ∷ 12884901889 ∷ 12884901890 ∷ []) (codes "=1") }
     // A get of a key that no item has replies none.
     ensures gets_none { Makes kinds.Map 8589934596 (codes "get 4")
         (12884901892 ∷ []) (12884901892 ∷ []) (codes "none") }
@@ -62,6 +66,7 @@ pub fn worked_map_steps()
     ensures takes_out_none { Makes kinds.Map 12884901892 (codes "del 4")
         (12884901892 ∷ []) (12884901892 ∷ []) (codes "none") }
     // A word with a high number that no entry has leaves the list, and is replied `bad`.
-    ensures leaves_an_unknown_word { Makes kinds.Map 79228162514264337597838917635 (codes "#4294967299:4294967296")
+    ensures leaves_an_unknown_word { Makes kinds.Map 79228162514264337597838917635
+        (codes "#4294967299:4294967296")
         (4 ∷ []) (4 ∷ []) (codes "bad") }
 {}

@@ -18,7 +18,9 @@ use Rattle.set_order.proofs.Raising.{all_so, raised-length, raised-sum, raised-w
 use Rattle.set_order.proofs.SetOrders.{next-from_each, legal_order_from_continue, continue_from_legal_order}
 
 sum-zeros : (n : ℕ) → sum (replicate n 0) ≡ 0
-sum-zeros n = let all : All (λ (m : ℕ). m ≤ 0) (replicate n 0) = All-from_get_or (λ (m : ℕ). m ≤ 0) (replicate n 0) 0 (λ (i : ℕ) (lt : i < length (replicate n 0)). omega (arith, get_or-replicate_default {X = ℕ} n i 0)) in
+sum-zeros n = let all : All (λ (m : ℕ). m ≤ 0) (replicate n 0) = All-from_get_or (λ (m : ℕ). m ≤ 0)
+    (replicate n 0) 0 (λ (i : ℕ) (lt : i < length (replicate n 0)).
+    omega (arith, get_or-replicate_default {X = ℕ} n i 0)) in
     omega (arith, sum_by-le (λ (m : ℕ). m) 0 (replicate n 0) all)
 
 -- the cut without calls
@@ -26,99 +28,149 @@ pub zeros : (book : List Page) (i : ℕ) → get_or (no_calls book) i 0 ≡ 0
 zeros book i = get_or-replicate_default (length book) i 0
 
 -- what stands at a level stands there in other words for the same cut and list
-moved_level : (served : List ℕ → List ℕ → Option (List ℕ × List ℕ)) (book : List Page) (cut new_cut list new_list : List ℕ) (level : Level) (after : List ℕ)
-    → cut ≡ new_cut → list ≡ new_list → IsLevel served book new_cut new_list level after → IsLevel served book cut list level after
+moved_level : (served : List ℕ → List ℕ → Option (List ℕ × List ℕ)) (book : List Page)
+    (cut new_cut list new_list : List ℕ) (level : Level) (after : List ℕ)
+    → cut ≡ new_cut → list ≡ new_list → IsLevel served book new_cut new_list level after
+    → IsLevel served book cut list level after
 moved_level served book cut new_cut list new_list level after e f h =
-    subst (λ (c : List ℕ). IsLevel served book c list level after) (sym e) (subst (λ (l : List ℕ). IsLevel served book new_cut l level after) (sym f) h)
+    subst (λ (c : List ℕ). IsLevel served book c list level after) (sym e)
+    (subst (λ (l : List ℕ). IsLevel served book new_cut l level after) (sym f) h)
 
 -- one level more
-pub leads-push : (served : List ℕ → List ℕ → Option (List ℕ × List ℕ)) (book : List Page) (cut list : List ℕ) (levels : List Level) (to_cut to_list : List ℕ) (level : Level) (after : List ℕ)
-    → Leads served book cut list levels to_cut to_list → IsLevel served book to_cut to_list level after
+pub leads-push : (served : List ℕ → List ℕ → Option (List ℕ × List ℕ)) (book : List Page)
+    (cut list : List ℕ) (levels : List Level) (to_cut to_list : List ℕ) (level : Level)
+    (after : List ℕ)
+    → Leads served book cut list levels to_cut to_list
+    → IsLevel served book to_cut to_list level after
     → Leads served book cut list (levels ++ level ∷ []) (raised_by to_cut level.set) after
-leads-push served book cut list [] to_cut to_list level after (same_cut, same_list) here =
-    (after, moved_level served book cut to_cut list to_list level after same_cut same_list here, (ap (λ (c : List ℕ). raised_by c level.set) same_cut, refl))
-leads-push served book cut list (first ∷ levels) to_cut to_list level after (between, at, later) here =
-    (between, at, leads-push served book (raised_by cut first.set) between levels to_cut to_list level after later here)
+leads-push served book cut list [] to_cut to_list level after (same_cut, same_list) here = (
+  after,
+  moved_level served book cut to_cut list to_list level after same_cut same_list here,
+  (ap (λ (c : List ℕ). raised_by c level.set) same_cut, refl),
+)
+leads-push served book cut list (first ∷ levels) to_cut to_list level after
+    (between, at, later) here = (
+      between,
+      at,
+      leads-push served book
+          (raised_by cut first.set) between levels to_cut to_list level after later here,
+    )
 
 -- where a walk stood before its last level
-pub record Back (served : List ℕ → List ℕ → Option (List ℕ × List ℕ)) (book : List Page) (cut list : List ℕ) (levels : List Level) (level : Level) (to_cut to_list : List ℕ) : Type 0 where
+pub record Back (served : List ℕ → List ℕ → Option (List ℕ × List ℕ)) (book : List Page)
+    (cut list : List ℕ) (levels : List Level) (level : Level)
+    (to_cut to_list : List ℕ) : Type 0 where
   pub leads : Leads served book cut list levels level.counts.items level.words.items
   pub here : IsLevel served book level.counts.items level.words.items level to_list
   pub to_cut_is : to_cut ≡ raised_by level.counts.items level.set
 
 -- one level fewer
-pub leads-pop : (served : List ℕ → List ℕ → Option (List ℕ × List ℕ)) (book : List Page) (cut list : List ℕ) (levels : List Level) (level : Level) (to_cut to_list : List ℕ)
-    → Leads served book cut list (levels ++ level ∷ []) to_cut to_list → Back served book cut list levels level to_cut to_list
+pub leads-pop : (served : List ℕ → List ℕ → Option (List ℕ × List ℕ)) (book : List Page)
+    (cut list : List ℕ) (levels : List Level) (level : Level) (to_cut to_list : List ℕ)
+    → Leads served book cut list (levels ++ level ∷ []) to_cut to_list
+    → Back served book cut list levels level to_cut to_list
 leads-pop served book cut list [] level to_cut to_list (after, at, (cut_is, list_is)) = record {
   leads = (sym at.counts, sym at.words);
-  here = subst (λ (l : List ℕ). IsLevel served book level.counts.items level.words.items level l) list_is (moved_level served book level.counts.items cut level.words.items list level after at.counts at.words at);
+  here = subst (λ (l : List ℕ). IsLevel served book level.counts.items level.words.items level l)
+      list_is (moved_level served book level.counts.items cut level.words.items list level after
+      at.counts at.words at);
   to_cut_is = sym cut_is ∙ ap (λ (c : List ℕ). raised_by c level.set) (sym at.counts);
 }
 leads-pop served book cut list (first ∷ levels) level to_cut to_list (between, at, later) =
-    let back = leads-pop served book (raised_by cut first.set) between levels level to_cut to_list later in
+    let back =
+    leads-pop served book (raised_by cut first.set) between levels level to_cut to_list later in
     record { leads = (between, at, back.leads); here = back.here; to_cut_is = back.to_cut_is }
 
 -- what the levels lead to goes on from where they begin
-leads-continue : (served : List ℕ → List ℕ → Option (List ℕ × List ℕ)) (book : List Page) (cut list : List ℕ) (levels : List Level) (to_cut to_list : List ℕ)
-    → Leads served book cut list levels to_cut to_list → HoldsAnswered book to_cut → SetsContinue served book cut list (order_of levels)
-leads-continue served book cut list [] to_cut to_list (same_cut, same_list) all = subst (λ (c : List ℕ). HoldsAnswered book c) (sym same_cut) all
-leads-continue served book cut list (first ∷ levels) to_cut to_list (between, at, later) all =
-    (between, at.stands, leads-continue served book (raised_by cut first.set) between levels to_cut to_list later all)
+leads-continue : (served : List ℕ → List ℕ → Option (List ℕ × List ℕ)) (book : List Page)
+    (cut list : List ℕ) (levels : List Level) (to_cut to_list : List ℕ)
+    → Leads served book cut list levels to_cut to_list → HoldsAnswered book to_cut
+    → SetsContinue served book cut list (order_of levels)
+leads-continue served book cut list [] to_cut to_list (same_cut, same_list) all =
+    subst (λ (c : List ℕ). HoldsAnswered book c) (sym same_cut) all
+leads-continue served book cut list (first ∷ levels) to_cut to_list (between, at, later) all = (
+  between,
+  at.stands,
+  leads-continue served book (raised_by cut first.set) between levels to_cut to_list later all,
+)
 
 -- The levels that lead to a cut with all answered calls make a legal set order.
-pub legal-from_leads : (init : List ℕ) (served : List ℕ → List ℕ → Option (List ℕ × List ℕ)) (book : List Page) (levels : List Level) (cut list : List ℕ)
-    → Leads served book (no_calls book) init levels cut list → HoldsAnswered book cut → IsLegalSetOrder init served book (order_of levels)
+pub legal-from_leads : (init : List ℕ) (served : List ℕ → List ℕ → Option (List ℕ × List ℕ))
+    (book : List Page) (levels : List Level) (cut list : List ℕ)
+    → Leads served book (no_calls book) init levels cut list → HoldsAnswered book cut
+    → IsLegalSetOrder init served book (order_of levels)
 legal-from_leads init served book levels cut list leads all =
     let long : length (no_calls book) ≡ length book = length-replicate (length book) 0 in
-    legal_order_from_continue init served book (no_calls book) (order_of levels) (omega arith) (zeros book) (leads-continue served book (no_calls book) init levels cut list leads all)
+    legal_order_from_continue init served book (no_calls book) (order_of levels) (omega arith)
+    (zeros book) (leads-continue served book (no_calls book) init levels cut list leads all)
 
 -- Where the start is a dead end, the book has no legal set order.
-pub none-from_dead : (init : List ℕ) (served : List ℕ → List ℕ → Option (List ℕ × List ℕ)) (book : List Page) → IsDeadEnd served book (no_calls book) init
+pub none-from_dead : (init : List ℕ) (served : List ℕ → List ℕ → Option (List ℕ × List ℕ))
+    (book : List Page) → IsDeadEnd served book (no_calls book) init
     → HasLegalSetOrder init served book → ⊥
 none-from_dead init served book dead legal =
     let long : length (no_calls book) ≡ length book = length-replicate (length book) 0 in
-    dead legal.0 (continue_from_legal_order init served book (no_calls book) legal.0 (omega arith) (zeros book) legal.1)
+    dead legal.0 (continue_from_legal_order init served book (no_calls book) legal.0 (omega arith)
+    (zeros book) legal.1)
 
 -- operations make the list at most as many words longer
 abbrev pub Grows : (List ℕ → List ℕ → Option (List ℕ × List ℕ)) → Type 0
-Grows served = (list ops after replies : List ℕ) → served list ops ≡ Some (after, replies) → length after ≤ length list + length ops
+Grows served = (list ops after replies : List ℕ) → served list ops ≡ Some (after, replies)
+    → length after ≤ length list + length ops
 
 -- how far levels lead
-pub record Reach (book : List Page) (cut list : List ℕ) (levels : List Level) (to_cut to_list : List ℕ) : Type 0 where
+pub record Reach (book : List Page) (cut list : List ℕ) (levels : List Level)
+    (to_cut to_list : List ℕ) : Type 0 where
   pub wide : length to_cut ≡ length cut
   pub deep : sum cut + length levels ≤ sum to_cut
   pub words : length to_list + sum cut ≤ length list + sum to_cut
   pub within : (i : ℕ) → get_or to_cut i 0 ≤ calls_of book i
 
 -- how far one set leads
-pub record Step (book : List Page) (cut list : List ℕ) (places : List Place) (after : List ℕ) : Type 0 where
+pub record Step (book : List Page) (cut list : List ℕ) (places : List Place)
+    (after : List ℕ) : Type 0 where
   pub wide : length (raised_by cut places) ≡ length cut
   pub calls : sum (raised_by cut places) ≡ sum cut + length places
   pub words : length after ≤ length list + length places
   pub within : (i : ℕ) → get_or (raised_by cut places) i 0 ≤ calls_of book i
 
-pub one_step : (served : List ℕ → List ℕ → Option (List ℕ × List ℕ)) (book : List Page) (cut list : List ℕ) (places : List Place) (after : List ℕ) → Grows served
-    → length book ≤ length cut → ((i : ℕ) → get_or cut i 0 ≤ calls_of book i) → MayStandTogether served book cut list places after → Step book cut list places after
+pub one_step : (served : List ℕ → List ℕ → Option (List ℕ × List ℕ)) (book : List Page)
+    (cut list : List ℕ) (places : List Place) (after : List ℕ) → Grows served
+    → length book ≤ length cut → ((i : ℕ) → get_or cut i 0 ≤ calls_of book i)
+    → MayStandTogether served book cut list places after → Step book cut list places after
 one_step served book cut list places after grows wide within may =
     let next = next-from_each book cut places wide may.by_caller may.each in
     record {
       wide = raised-length cut places;
       calls = raised-sum cut places next;
-      words = omega (arith, grows list (operations_of book places) after _ may.served_so, length-map places (λ (place : Place). (step_at book place).0));
-      within = raised-within book cut places next (all_so (MayStandIn book cut) (λ (place : Place). IsCall book (call_at place)) places (λ place one. one.may_come.is_call) may.each) within;
+      words = omega (
+        arith,
+        grows list (operations_of book places) after _ may.served_so,
+        length-map places (λ (place : Place). (step_at book place).0),
+      );
+      within = raised-within book cut places next
+          (all_so (MayStandIn book cut) (λ (place : Place). IsCall book (call_at place)) places
+          (λ place one. one.may_come.is_call) may.each) within;
     }
 
-leads-reach : (served : List ℕ → List ℕ → Option (List ℕ × List ℕ)) (book : List Page) (cut list : List ℕ) (levels : List Level) (to_cut to_list : List ℕ) → Grows served
-    → length book ≤ length cut → ((i : ℕ) → get_or cut i 0 ≤ calls_of book i) → Leads served book cut list levels to_cut to_list → Reach book cut list levels to_cut to_list
-leads-reach served book cut list [] to_cut to_list grows wide within (same_cut, same_list) = record {
-  wide = ap (λ (c : List ℕ). length c) (sym same_cut);
-  deep = omega (arith, ap (λ (c : List ℕ). sum c) same_cut);
-  words = omega (arith, ap (λ (l : List ℕ). length l) same_list, ap (λ (c : List ℕ). sum c) same_cut);
-  within = λ (i : ℕ). omega (arith, within i, ap (λ (c : List ℕ). get_or c i 0) same_cut);
-}
-leads-reach served book cut list (first ∷ levels) to_cut to_list grows wide within (between, at, later) =
+leads-reach : (served : List ℕ → List ℕ → Option (List ℕ × List ℕ)) (book : List Page)
+    (cut list : List ℕ) (levels : List Level) (to_cut to_list : List ℕ) → Grows served
+    → length book ≤ length cut → ((i : ℕ) → get_or cut i 0 ≤ calls_of book i)
+    → Leads served book cut list levels to_cut to_list → Reach book cut list levels to_cut to_list
+leads-reach served book cut list [] to_cut to_list grows wide within (same_cut, same_list) =
+    record {
+      wide = ap (λ (c : List ℕ). length c) (sym same_cut);
+      deep = omega (arith, ap (λ (c : List ℕ). sum c) same_cut);
+      words =
+          omega
+          (arith, ap (λ (l : List ℕ). length l) same_list, ap (λ (c : List ℕ). sum c) same_cut);
+      within = λ (i : ℕ). omega (arith, within i, ap (λ (c : List ℕ). get_or c i 0) same_cut);
+    }
+leads-reach served book cut list (first ∷ levels) to_cut to_list grows wide within
+    (between, at, later) =
     let step = one_step served book cut list first.set between grows wide within at.stands in
-    let rest = leads-reach served book (raised_by cut first.set) between levels to_cut to_list grows (omega (arith, step.wide)) step.within later in
+    let rest = leads-reach served book (raised_by cut first.set) between levels to_cut to_list grows
+    (omega (arith, step.wide)) step.within later in
     let some = at.stands.some in
     record {
       wide = rest.wide ∙ step.wide;
@@ -134,11 +186,14 @@ pub record Standing (book : List Page) (levels : List Level) (cut list : List �
   pub words : length list ≤ MAX_CALLERS * MAX_CALLS + 1
   pub within : (i : ℕ) → get_or cut i 0 ≤ calls_of book i
 
-pub standing : (init : List ℕ) (served : List ℕ → List ℕ → Option (List ℕ × List ℕ)) (book : List Page) (levels : List Level) (cut list : List ℕ)
-    → IsSmall book → length init ≤ 1 → Grows served → Leads served book (no_calls book) init levels cut list → Standing book levels cut list
+pub standing : (init : List ℕ) (served : List ℕ → List ℕ → Option (List ℕ × List ℕ))
+    (book : List Page) (levels : List Level) (cut list : List ℕ)
+    → IsSmall book → length init ≤ 1 → Grows served
+    → Leads served book (no_calls book) init levels cut list → Standing book levels cut list
 standing init served book levels cut list small begins grows leads =
     let long : length (no_calls book) ≡ length book = length-replicate (length book) 0 in
-    let reach = leads-reach served book (no_calls book) init levels cut list grows (omega arith) (λ (i : ℕ). omega (arith, zeros book i)) leads in
+    let reach = leads-reach served book (no_calls book) init levels cut list grows (omega arith)
+    (λ (i : ℕ). omega (arith, zeros book i)) leads in
     let wide : length cut ≡ length book = reach.wide ∙ long in
     let few : sum cut ≤ MAX_CALLERS * MAX_CALLS = sum_small book cut small wide reach.within in
     let none : sum (no_calls book) ≡ 0 = sum-zeros (length book) in

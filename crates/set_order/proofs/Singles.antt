@@ -14,43 +14,57 @@ use Rattle.set_order.proofs.Leading.{zeros}
 use Rattle.set_order.proofs.SetOrders.{legal_order_from_continue, continue_from_legal_order}
 
 -- a set that a sequential object serves is one call
-record IsOneCall (book : List Page) (next : List ℕ → ℕ → List ℕ × ℕ) (cut list : List ℕ) (places : List Place) (after : List ℕ) : Type 0 where
+record IsOneCall (book : List Page) (next : List ℕ → ℕ → List ℕ × ℕ) (cut list : List ℕ)
+    (places : List Place) (after : List ℕ) : Type 0 where
   place : Place
   alone : places ≡ place ∷ []
   may : MayStandNext book next cut list place
   after_is : after ≡ list_after book next list place
   cut_is : raised_by cut places ≡ raised cut place.caller
 
-one_call : (next : List ℕ → ℕ → List ℕ × ℕ) (book : List Page) (cut list : List ℕ) (places : List Place) (after : List ℕ)
-    → MayStandTogether (served_alone next) book cut list places after → IsOneCall book next cut list places after
+one_call : (next : List ℕ → ℕ → List ℕ × ℕ) (book : List Page) (cut list : List ℕ)
+    (places : List Place) (after : List ℕ)
+    → MayStandTogether (served_alone next) book cut list places after
+    → IsOneCall book next cut list places after
 one_call next book cut list [] after h = absurd (let some = h.some in omega arith)
 one_call next book cut list (place ∷ []) after h =
     let op : ℕ = (step_at book place).0 in
-    let both = same_Some ((next list op).0, (next list op).1 ∷ []) (after, place.reply ∷ []) h.served_so in
+    let both =
+    same_Some ((next list op).0, (next list op).1 ∷ []) (after, place.reply ∷ []) h.served_so in
     record {
       place = place;
       alone = refl;
-      may = record { may_come = h.each.0.may_come; recorded = h.each.0.recorded; reply = ap (λ (x : List ℕ × List ℕ). get_or x.1 0 0) both };
+      may = record {
+        may_come = h.each.0.may_come;
+        recorded = h.each.0.recorded;
+        reply = ap (λ (x : List ℕ × List ℕ). get_or x.1 0 0) both;
+      };
       after_is = sym (ap (λ (x : List ℕ × List ℕ). x.0) both);
       cut_is = ap (λ (n : ℕ). set cut place.caller (n + 1)) h.each.0.may_come.next;
     }
 one_call next book cut list (place ∷ other ∷ places) after h =
     absurd (none-some (after, replies_of (place ∷ other ∷ places)) h.served_so)
 
-calls_from_sets : (next : List ℕ → ℕ → List ℕ × ℕ) (book : List Page) (cut list : List ℕ) (sets : List (List Place)) → SetsContinue (served_alone next) book cut list sets
+calls_from_sets : (next : List ℕ → ℕ → List ℕ × ℕ) (book : List Page) (cut list : List ℕ)
+    (sets : List (List Place)) → SetsContinue (served_alone next) book cut list sets
     → (order : List Place) × Continues book next cut list order
 calls_from_sets next book cut list [] h = ([], h)
 calls_from_sets next book cut list (places ∷ sets) h =
     let one = one_call next book cut list places h.0 h.1 in
     let rest = calls_from_sets next book (raised_by cut places) h.0 sets h.2 in
-    let later : Continues book next (raised cut one.place.caller) (list_after book next list one.place) rest.0 =
-    subst (λ (c : List ℕ). Continues book next c (list_after book next list one.place) rest.0) one.cut_is
-    (subst (λ (l : List ℕ). Continues book next (raised_by cut places) l rest.0) one.after_is rest.1) in
+    let later : Continues book next (raised cut one.place.caller)
+    (list_after book next list one.place) rest.0 =
+    subst
+    (λ (c : List ℕ). Continues book next c (list_after book next list one.place) rest.0) one.cut_is
+    (subst (λ (l : List ℕ). Continues book next (raised_by cut places) l rest.0)
+    one.after_is rest.1) in
     (one.place ∷ rest.0, (one.may, later))
 
 -- a call that may stand next is a set that may
-call_alone : (next : List ℕ → ℕ → List ℕ × ℕ) (book : List Page) (cut list : List ℕ) (place : Place) → MayStandNext book next cut list place
-    → MayStandTogether (served_alone next) book cut list (place ∷ []) (list_after book next list place)
+call_alone : (next : List ℕ → ℕ → List ℕ × ℕ) (book : List Page) (cut list : List ℕ) (place : Place)
+    → MayStandNext book next cut list place
+    → MayStandTogether (served_alone next) book cut list (place ∷ [])
+    (list_after book next list place)
 call_alone next book cut list place may = record {
   some = omega arith;
   by_caller = (omega arith, tt);
@@ -58,29 +72,40 @@ call_alone next book cut list place may = record {
   served_so = ap (λ (n : ℕ). Some ((next list (step_at book place).0).0, n ∷ [])) may.reply;
 }
 
-sets_from_calls : (next : List ℕ → ℕ → List ℕ × ℕ) (book : List Page) (cut list : List ℕ) (order : List Place) → Continues book next cut list order
+sets_from_calls : (next : List ℕ → ℕ → List ℕ × ℕ) (book : List Page) (cut list : List ℕ)
+    (order : List Place) → Continues book next cut list order
     → SetsContinue (served_alone next) book cut list (map (λ place. place ∷ []) order)
 sets_from_calls next book cut list [] h = h
 sets_from_calls next book cut list (place ∷ order) h =
-    let at : raised cut place.caller ≡ raised_by cut (place ∷ []) = ap (λ (n : ℕ). set cut place.caller (n + 1)) (sym h.0.may_come.next) in (
+    let at : raised cut place.caller ≡ raised_by cut (place ∷ []) =
+    ap (λ (n : ℕ). set cut place.caller (n + 1)) (sym h.0.may_come.next) in (
       list_after book next list place,
       call_alone next book cut list place h.0,
       sets_from_calls next book (raised_by cut (place ∷ [])) (list_after book next list place) order
-          (subst (λ (c : List ℕ). Continues book next c (list_after book next list place) order) at h.1),
+          (subst
+          (λ (c : List ℕ). Continues book next c (list_after book next list place) order) at h.1),
     )
 
 -- For a sequential object, a book has a legal set order exactly where it has a legal order.
-pub alone_law : (init : List ℕ) (next : List ℕ → ℕ → List ℕ × ℕ) (book : List Page) → HasLegalSetOrder init (served_alone next) book ↔ HasLegalOrder init next book
+pub alone_law : (init : List ℕ) (next : List ℕ → ℕ → List ℕ × ℕ) (book : List Page)
+    → HasLegalSetOrder init (served_alone next) book ↔ HasLegalOrder init next book
 alone_law init next book =
     let long : length (no_calls book) ≡ length book = length-replicate (length book) 0 in
     let wide : length book ≤ length (no_calls book) = omega arith in (
       λ (legal : HasLegalSetOrder init (served_alone next) book).
-          let calls = calls_from_sets next book (no_calls book) init legal.0 (continue_from_legal_order init (served_alone next) book (no_calls book) legal.0 wide (zeros book) legal.1) in
-          (calls.0, legal_order_from_continues book init next (no_calls book) calls.0 wide (zeros book) calls.1),
+          let calls =
+          calls_from_sets next book (no_calls book) init legal.0 (continue_from_legal_order init
+          (served_alone next) book (no_calls book) legal.0 wide (zeros book) legal.1) in (
+            calls.0,
+            legal_order_from_continues book init next (no_calls book) calls.0 wide
+                (zeros book) calls.1,
+          ),
       λ (legal : HasLegalOrder init next book).
           let sets : List (List Place) = map (λ place. place ∷ []) legal.0 in (
             sets,
-            legal_order_from_continue init (served_alone next) book (no_calls book) sets wide (zeros book)
-                (sets_from_calls next book (no_calls book) init legal.0 (continues_from_legal_order book init next (no_calls book) legal.0 wide (zeros book) legal.1)),
+            legal_order_from_continue init (served_alone next) book (no_calls book) sets wide
+                (zeros book)
+                (sets_from_calls next book (no_calls book) init legal.0 (continues_from_legal_order
+                book init next (no_calls book) legal.0 wide (zeros book) legal.1)),
           ),
     )

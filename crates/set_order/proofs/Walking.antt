@@ -24,18 +24,26 @@ use Rattle.set_order.proofs.Leading.{leads-push, leads-pop, Grows, standing, leg
 use Rattle.set_order.proofs.Weighing.{weigh-push, weigh-skip, weigh-pop}
 
 -- what a walk leads to, in the words of another with the same levels, counts and list
-same_leads : (served : List ℕ → List ℕ → Option (List ℕ × List ℕ)) (book : List Page) (cut list : List ℕ) (levels new_levels : List Level) (to_cut new_cut to_list new_list : List ℕ)
-    → new_levels ≡ levels → new_cut ≡ to_cut → new_list ≡ to_list → Leads served book cut list levels to_cut to_list → Leads served book cut list new_levels new_cut new_list
+same_leads : (served : List ℕ → List ℕ → Option (List ℕ × List ℕ)) (book : List Page)
+    (cut list : List ℕ) (levels new_levels : List Level) (to_cut new_cut to_list new_list : List ℕ)
+    → new_levels ≡ levels → new_cut ≡ to_cut → new_list ≡ to_list
+    → Leads served book cut list levels to_cut to_list
+    → Leads served book cut list new_levels new_cut new_list
 same_leads served book cut list levels new_levels to_cut new_cut to_list new_list e f k h =
     subst (λ (ls : List Level). Leads served book cut list ls new_cut new_list) (sym e)
-    (subst (λ (c : List ℕ). Leads served book cut list levels c new_list) (sym f) (subst (λ (l : List ℕ). Leads served book cut list levels to_cut l) (sym k) h))
+    (subst (λ (c : List ℕ). Leads served book cut list levels c new_list) (sym f)
+    (subst (λ (l : List ℕ). Leads served book cut list levels to_cut l) (sym k) h))
 
-same_open : (served : List ℕ → List ℕ → Option (List ℕ × List ℕ)) (book : List Page) (cut new_cut list new_list callers new_callers : List ℕ) (left new_left : ℕ)
-    → new_cut ≡ cut → new_list ≡ list → new_callers ≡ callers → new_left ≡ left → IsOpen served book cut list callers left → IsOpen served book new_cut new_list new_callers new_left
+same_open : (served : List ℕ → List ℕ → Option (List ℕ × List ℕ)) (book : List Page)
+    (cut new_cut list new_list callers new_callers : List ℕ) (left new_left : ℕ)
+    → new_cut ≡ cut → new_list ≡ list → new_callers ≡ callers → new_left ≡ left
+    → IsOpen served book cut list callers left
+    → IsOpen served book new_cut new_list new_callers new_left
 same_open served book cut new_cut list new_list callers new_callers left new_left e f k n h =
     subst (λ (c : List ℕ). IsOpen served book c new_list new_callers new_left) (sym e)
     (subst (λ (l : List ℕ). IsOpen served book cut l new_callers new_left) (sym f)
-    (subst (λ (is : List ℕ). IsOpen served book cut list is new_left) (sym k) (subst (λ (m : ℕ). IsOpen served book cut list callers m) (sym n) h)))
+    (subst (λ (is : List ℕ). IsOpen served book cut list is new_left) (sym k)
+    (subst (λ (m : ℕ). IsOpen served book cut list callers m) (sym n) h)))
 
 -- The new walk differs from the old one in what is left and in its memo alone.
 pub record IsSameWalk (old new : Walk) : Type 0 where
@@ -45,18 +53,27 @@ pub record IsSameWalk (old new : Walk) : Type 0 where
   pub callers : new.callers ≡ old.callers
 
 -- a number leads nowhere
-pub walk-skip : (init : List ℕ) (served : List ℕ → List ℕ → Option (List ℕ × List ℕ)) (book : List Page) (old new : Walk) → IsWalk init served book old
-    → LeadsNowhere served book old.counts.items old.here.words (picked old.left old.callers.items) → IsSameWalk old new → new.memo ≡ old.memo → new.left + 1 ≡ old.left
+pub walk-skip : (init : List ℕ) (served : List ℕ → List ℕ → Option (List ℕ × List ℕ))
+    (book : List Page) (old new : Walk) → IsWalk init served book old
+    → LeadsNowhere served book old.counts.items old.here.words (picked old.left old.callers.items)
+    → IsSameWalk old new → new.memo ≡ old.memo → new.left + 1 ≡ old.left
     → IsWalk init served book new × (weight new < weight old)
 walk-skip init served book old new h nowhere same memo left =
-    let weights : weight new ≡ weigh ROOM old.levels.items new.left = ap (λ v. weigh ROOM v.items new.left) same.levels in
-    let before : weight old ≡ weigh ROOM old.levels.items (new.left + 1) = ap (λ (n : ℕ). weigh ROOM old.levels.items n) (sym left) in (
+    let weights : weight new ≡ weigh ROOM old.levels.items new.left =
+    ap (λ v. weigh ROOM v.items new.left) same.levels in
+    let before : weight old ≡ weigh ROOM old.levels.items (new.left + 1) =
+    ap (λ (n : ℕ). weigh ROOM old.levels.items n) (sym left) in (
       record {
-        leads = same_leads served book (no_calls book) init old.levels.items new.levels.items old.counts.items new.counts.items old.here.words new.here.words
-            (ap (λ v. v.items) same.levels) (ap (λ v. v.items) same.counts) (ap (λ s. s.words) same.here) h.leads;
-        here = same_open served book old.counts.items new.counts.items old.here.words new.here.words old.callers.items new.callers.items new.left new.left
-            (ap (λ v. v.items) same.counts) (ap (λ s. s.words) same.here) (ap (λ v. v.items) same.callers) refl
-            (open-less served book old.counts.items old.here.words old.callers.items old.left new.left left nowhere h.here);
+        leads = same_leads served book (no_calls book) init old.levels.items new.levels.items
+            old.counts.items new.counts.items old.here.words new.here.words
+            (ap (λ v. v.items) same.levels) (ap (λ v. v.items) same.counts)
+            (ap (λ s. s.words) same.here) h.leads;
+        here = same_open served book old.counts.items new.counts.items old.here.words new.here.words
+            old.callers.items new.callers.items new.left new.left
+            (ap (λ v. v.items) same.counts) (ap (λ s. s.words) same.here)
+            (ap (λ v. v.items) same.callers) refl
+            (open-less served book old.counts.items old.here.words old.callers.items old.left
+            new.left left nowhere h.here);
         dead = λ cut list at. h.dead cut list (subst (λ m. Remembers m cut list) memo at);
         memo = subst (λ m. IsMemo m) (sym memo) h.memo;
         callers = ap (λ m. m.callers) memo ∙ h.callers;
@@ -66,52 +83,72 @@ walk-skip init served book old new h nowhere same memo left =
     )
 
 -- one more dead end is remembered
-pub walk-remember : (init : List ℕ) (served : List ℕ → List ℕ → Option (List ℕ × List ℕ)) (book : List Page) (old new : Walk) → IsWalk init served book old → old.left ≡ 0
-    → IsSameWalk old new → new.left ≡ old.left → IsMemo new.memo → new.memo.callers ≡ old.memo.callers
-    → ((cut list : List ℕ) → Remembers new.memo cut list → Remembers old.memo cut list ⊎ ((cut ≡ old.counts.items) × (list ≡ old.here.words)))
+pub walk-remember : (init : List ℕ) (served : List ℕ → List ℕ → Option (List ℕ × List ℕ))
+    (book : List Page) (old new : Walk) → IsWalk init served book old → old.left ≡ 0
+    → IsSameWalk old new → new.left ≡ old.left → IsMemo new.memo
+    → new.memo.callers ≡ old.memo.callers
+    → ((cut list : List ℕ) → Remembers new.memo cut list → Remembers old.memo cut list
+    ⊎ ((cut ≡ old.counts.items) × (list ≡ old.here.words)))
     → IsWalk init served book new × (weight new ≡ weight old)
 walk-remember init served book old new h none same left memo callers only = (
   record {
-    leads = same_leads served book (no_calls book) init old.levels.items new.levels.items old.counts.items new.counts.items old.here.words new.here.words
-        (ap (λ v. v.items) same.levels) (ap (λ v. v.items) same.counts) (ap (λ s. s.words) same.here) h.leads;
-    here = same_open served book old.counts.items new.counts.items old.here.words new.here.words old.callers.items new.callers.items old.left new.left
-        (ap (λ v. v.items) same.counts) (ap (λ s. s.words) same.here) (ap (λ v. v.items) same.callers) left h.here;
+    leads = same_leads served book (no_calls book) init old.levels.items new.levels.items
+        old.counts.items new.counts.items old.here.words new.here.words
+        (ap (λ v. v.items) same.levels) (ap (λ v. v.items) same.counts)
+        (ap (λ s. s.words) same.here) h.leads;
+    here = same_open served book old.counts.items new.counts.items old.here.words new.here.words
+        old.callers.items new.callers.items old.left new.left
+        (ap (λ v. v.items) same.counts) (ap (λ s. s.words) same.here)
+        (ap (λ v. v.items) same.callers) left h.here;
     dead = λ (cut list : List ℕ) there. elim (only cut list there) [
       | inl before ↦ h.dead cut list before
       | inr now ↦
-          let dead : IsDeadEnd served book old.counts.items old.here.words = dead_end served book old.counts.items old.here.words old.callers.items
-          (subst (λ (n : ℕ). IsOpen served book old.counts.items old.here.words old.callers.items n) none h.here) in
-          subst (λ (c : List ℕ). IsDeadEnd served book c list) (sym now.0) (subst (λ (l : List ℕ). IsDeadEnd served book old.counts.items l) (sym now.1) dead)
+          let dead : IsDeadEnd served book old.counts.items old.here.words =
+          dead_end served book old.counts.items old.here.words old.callers.items
+          (subst (λ (n : ℕ). IsOpen served book old.counts.items old.here.words old.callers.items n)
+          none h.here) in
+          subst (λ (c : List ℕ). IsDeadEnd served book c list) (sym now.0)
+          (subst (λ (l : List ℕ). IsDeadEnd served book old.counts.items l) (sym now.1) dead)
     ];
     memo = memo;
     callers = callers ∙ h.callers;
     room = ap (λ s. s.room) same.here ∙ h.room;
   },
-  ap (λ v. weigh ROOM v.items new.left) same.levels ∙ ap (λ (n : ℕ). weigh ROOM old.levels.items n) left,
+  ap (λ v. weigh ROOM v.items new.left) same.levels
+      ∙ ap (λ (n : ℕ). weigh ROOM old.levels.items n) left,
 )
 
 -- a set leads to a remembered dead end
-pub nowhere-from_memo : (init : List ℕ) (served : List ℕ → List ℕ → Option (List ℕ × List ℕ)) (book : List Page) (old : Walk) (places : List Place) (after cut list : List ℕ)
-    → IsWalk init served book old → callers_of places ≡ picked old.left old.callers.items → MayStandTogether served book old.counts.items old.here.words places after
+pub nowhere-from_memo : (init : List ℕ) (served : List ℕ → List ℕ → Option (List ℕ × List ℕ))
+    (book : List Page) (old : Walk) (places : List Place) (after cut list : List ℕ)
+    → IsWalk init served book old → callers_of places ≡ picked old.left old.callers.items
+    → MayStandTogether served book old.counts.items old.here.words places after
     → cut ≡ raised_by old.counts.items places → list ≡ after → Remembers old.memo cut list
     → LeadsNowhere served book old.counts.items old.here.words (picked old.left old.callers.items)
 nowhere-from_memo init served book old places after cut list h is stands cut_is list_is there =
     let dead : IsDeadEnd served book (raised_by old.counts.items places) after =
-    subst (λ (c : List ℕ). IsDeadEnd served book c after) cut_is (subst (λ (l : List ℕ). IsDeadEnd served book cut l) list_is (h.dead cut list there)) in
-    nowhere-from_dead served book old.counts.items old.here.words places after (picked old.left old.callers.items) is stands dead
+    subst (λ (c : List ℕ). IsDeadEnd served book c after) cut_is
+    (subst (λ (l : List ℕ). IsDeadEnd served book cut l) list_is (h.dead cut list there)) in
+    nowhere-from_dead served book old.counts.items old.here.words places after
+    (picked old.left old.callers.items) is stands dead
 
 -- a set leads to a cut and a list that are a dead end
-pub nowhere-from_lost : (init : List ℕ) (served : List ℕ → List ℕ → Option (List ℕ × List ℕ)) (book : List Page) (old : Walk) (places : List Place) (after cut list : List ℕ)
-    → callers_of places ≡ picked old.left old.callers.items → MayStandTogether served book old.counts.items old.here.words places after
+pub nowhere-from_lost : (init : List ℕ) (served : List ℕ → List ℕ → Option (List ℕ × List ℕ))
+    (book : List Page) (old : Walk) (places : List Place) (after cut list : List ℕ)
+    → callers_of places ≡ picked old.left old.callers.items
+    → MayStandTogether served book old.counts.items old.here.words places after
     → cut ≡ raised_by old.counts.items places → list ≡ after → IsDeadEnd served book cut list
     → LeadsNowhere served book old.counts.items old.here.words (picked old.left old.callers.items)
 nowhere-from_lost init served book old places after cut list is stands cut_is list_is lost =
     let dead : IsDeadEnd served book (raised_by old.counts.items places) after =
-    subst (λ (c : List ℕ). IsDeadEnd served book c after) cut_is (subst (λ (l : List ℕ). IsDeadEnd served book cut l) list_is lost) in
-    nowhere-from_dead served book old.counts.items old.here.words places after (picked old.left old.callers.items) is stands dead
+    subst (λ (c : List ℕ). IsDeadEnd served book c after) cut_is
+    (subst (λ (l : List ℕ). IsDeadEnd served book cut l) list_is lost) in
+    nowhere-from_dead served book old.counts.items old.here.words places after
+    (picked old.left old.callers.items) is stands dead
 
 -- What a set that is put next adds to a walk.
-pub record IsDeeper (served : List ℕ → List ℕ → Option (List ℕ × List ℕ)) (book : List Page) (old new : Walk) (level : Level) : Type 0 where
+pub record IsDeeper (served : List ℕ → List ℕ → Option (List ℕ × List ℕ)) (book : List Page)
+    (old new : Walk) (level : Level) : Type 0 where
   pub levels : new.levels.items ≡ old.levels.items ++ level ∷ []
   pub words : level.words.items ≡ old.here.words
   pub level_counts : level.counts.items ≡ old.counts.items
@@ -123,27 +160,40 @@ pub record IsDeeper (served : List ℕ → List ℕ → Option (List ℕ × List
   pub room : new.here.room ≡ old.here.room
   pub memo : new.memo ≡ old.memo
 
-deeper-leads : (init : List ℕ) (served : List ℕ → List ℕ → Option (List ℕ × List ℕ)) (book : List Page) (old new : Walk) (level : Level) → IsWalk init served book old
-    → IsDeeper served book old new level → Leads served book (no_calls book) init new.levels.items new.counts.items new.here.words
+deeper-leads : (init : List ℕ) (served : List ℕ → List ℕ → Option (List ℕ × List ℕ))
+    (book : List Page) (old new : Walk) (level : Level) → IsWalk init served book old
+    → IsDeeper served book old new level
+    → Leads served book (no_calls book) init new.levels.items new.counts.items new.here.words
 deeper-leads init served book old new level h d =
     let here : IsLevel served book old.counts.items old.here.words level new.here.words = record {
       counts = d.level_counts;
       words = d.words;
-      open_here = same_open served book old.counts.items old.counts.items old.here.words old.here.words old.callers.items level.callers.items old.left (level.left + 1)
+      open_here = same_open served book old.counts.items old.counts.items old.here.words
+          old.here.words old.callers.items level.callers.items old.left (level.left + 1)
           refl refl d.level_callers d.level_left h.here;
-      chosen = d.chosen ∙ (ap (λ (n : ℕ). picked n old.callers.items) (sym d.level_left) ∙ ap (λ (is : List ℕ). picked (level.left + 1) is) (sym d.level_callers));
+      chosen = d.chosen ∙ (ap (λ (n : ℕ). picked n old.callers.items) (sym d.level_left)
+          ∙ ap (λ (is : List ℕ). picked (level.left + 1) is) (sym d.level_callers));
       stands = d.stands;
     } in
-    same_leads served book (no_calls book) init (old.levels.items ++ level ∷ []) new.levels.items (raised_by old.counts.items level.set) new.counts.items new.here.words new.here.words
-    d.levels d.counts refl (leads-push served book (no_calls book) init old.levels.items old.counts.items old.here.words level new.here.words h.leads here)
+    same_leads served book (no_calls book) init (old.levels.items ++ level ∷ []) new.levels.items
+    (raised_by old.counts.items level.set) new.counts.items new.here.words new.here.words
+    d.levels d.counts refl (leads-push served book (no_calls book) init old.levels.items
+    old.counts.items old.here.words level new.here.words h.leads here)
 
-pub walk-deeper : (init : List ℕ) (served : List ℕ → List ℕ → Option (List ℕ × List ℕ)) (book : List Page) (old new : Walk) (level : Level) → IsSmall book → length init ≤ 1 → Grows served
-    → IsWalk init served book old → IsDeeper served book old new level → IsOpen served book new.counts.items new.here.words new.callers.items new.left → new.left < 2 ^ MAX_CALLERS
+pub walk-deeper : (init : List ℕ) (served : List ℕ → List ℕ → Option (List ℕ × List ℕ))
+    (book : List Page) (old new : Walk) (level : Level) → IsSmall book → length init ≤ 1
+    → Grows served
+    → IsWalk init served book old → IsDeeper served book old new level
+    → IsOpen served book new.counts.items new.here.words new.callers.items new.left
+    → new.left < 2 ^ MAX_CALLERS
     → IsWalk init served book new × (weight new < weight old)
 walk-deeper init served book old new level small begins grows h d here few =
-    let s = standing init served book old.levels.items old.counts.items old.here.words small begins grows h.leads in
-    let same : weight new ≡ weigh ROOM (old.levels.items ++ level ∷ []) new.left = ap (λ (ls : List Level). weigh ROOM ls new.left) d.levels in
-    let more : weigh ROOM old.levels.items (level.left + 1) ≡ weight old = ap (λ (n : ℕ). weigh ROOM old.levels.items n) d.level_left in
+    let s = standing init served book old.levels.items old.counts.items old.here.words small begins
+    grows h.leads in
+    let same : weight new ≡ weigh ROOM (old.levels.items ++ level ∷ []) new.left =
+    ap (λ (ls : List Level). weigh ROOM ls new.left) d.levels in
+    let more : weigh ROOM old.levels.items (level.left + 1) ≡ weight old =
+    ap (λ (n : ℕ). weigh ROOM old.levels.items n) d.level_left in
     let deep : length old.levels.items < ROOM = omega (arith, s.depth) in (
       record {
         leads = deeper-leads init served book old new level h d;
@@ -156,31 +206,50 @@ walk-deeper init served book old new level small begins grows h d here few =
       omega (arith, same, more, weigh-push ROOM old.levels.items level new.left deep few),
     )
 
-pub walk-found : (init : List ℕ) (served : List ℕ → List ℕ → Option (List ℕ × List ℕ)) (book : List Page) (old new : Walk) (level : Level) → IsWalk init served book old
-    → IsDeeper served book old new level → HoldsAnswered book new.counts.items → IsLegalSetOrder init served book (order_of new.levels.items)
-walk-found init served book old new level h d all = legal-from_leads init served book new.levels.items new.counts.items new.here.words (deeper-leads init served book old new level h d) all
+pub walk-found : (init : List ℕ) (served : List ℕ → List ℕ → Option (List ℕ × List ℕ))
+    (book : List Page) (old new : Walk) (level : Level) → IsWalk init served book old
+    → IsDeeper served book old new level → HoldsAnswered book new.counts.items
+    → IsLegalSetOrder init served book (order_of new.levels.items)
+walk-found init served book old new level h d all =
+    legal-from_leads init served book new.levels.items new.counts.items new.here.words
+    (deeper-leads init served book old new level h d) all
 
 -- one level back from a dead end
-pub walk-back : (init : List ℕ) (served : List ℕ → List ℕ → Option (List ℕ × List ℕ)) (book : List Page) (old new : Walk) (level : Level) → IsWalk init served book old → old.left ≡ 0
-    → old.levels.items ≡ new.levels.items ++ level ∷ [] → new.counts ≡ level.counts → new.here.words ≡ level.words.items → new.here.room ≡ old.here.room → new.callers ≡ level.callers
-    → new.left ≡ level.left → new.memo ≡ old.memo → IsWalk init served book new × (weight new < weight old)
+pub walk-back : (init : List ℕ) (served : List ℕ → List ℕ → Option (List ℕ × List ℕ))
+    (book : List Page) (old new : Walk) (level : Level) → IsWalk init served book old → old.left ≡ 0
+    → old.levels.items ≡ new.levels.items ++ level ∷ [] → new.counts ≡ level.counts → new.here.words
+    ≡ level.words.items → new.here.room ≡ old.here.room → new.callers ≡ level.callers
+    → new.left ≡ level.left → new.memo ≡ old.memo → IsWalk init served book new
+    × (weight new < weight old)
 walk-back init served book old new level h none levels counts here room callers left memo =
-    let back = leads-pop served book (no_calls book) init new.levels.items level old.counts.items old.here.words
-    (subst (λ (ls : List Level). Leads served book (no_calls book) init ls old.counts.items old.here.words) levels h.leads) in
+    let back = leads-pop served book
+    (no_calls book) init new.levels.items level old.counts.items old.here.words
+    (subst
+    (λ (ls : List Level). Leads served book (no_calls book) init ls old.counts.items old.here.words)
+    levels h.leads) in
     let dead : IsDeadEnd served book (raised_by level.counts.items level.set) old.here.words =
     subst (λ (c : List ℕ). IsDeadEnd served book c old.here.words) back.to_cut_is
-    (dead_end served book old.counts.items old.here.words old.callers.items (subst (λ (n : ℕ). IsOpen served book old.counts.items old.here.words old.callers.items n) none h.here)) in
-    let nowhere : LeadsNowhere served book level.counts.items level.words.items (picked (level.left + 1) level.callers.items) =
-    nowhere-from_dead served book level.counts.items level.words.items level.set old.here.words (picked (level.left + 1) level.callers.items) back.here.chosen back.here.stands dead in
-    let same : weight new ≡ weigh ROOM new.levels.items level.left = ap (λ (n : ℕ). weigh ROOM new.levels.items n) left in
+    (dead_end served book old.counts.items old.here.words old.callers.items
+    (subst (λ (n : ℕ). IsOpen served book old.counts.items old.here.words old.callers.items n)
+    none h.here)) in
+    let nowhere : LeadsNowhere served book level.counts.items level.words.items
+    (picked (level.left + 1) level.callers.items) =
+    nowhere-from_dead served book level.counts.items level.words.items level.set old.here.words
+    (picked (level.left + 1) level.callers.items) back.here.chosen back.here.stands dead in
+    let same : weight new ≡ weigh ROOM new.levels.items level.left =
+    ap (λ (n : ℕ). weigh ROOM new.levels.items n) left in
     let old_is : weight old ≡ weigh ROOM (new.levels.items ++ level ∷ []) 0 =
-    ap (λ (ls : List Level). weigh ROOM ls old.left) levels ∙ ap (λ (n : ℕ). weigh ROOM (new.levels.items ++ level ∷ []) n) none in (
+    ap (λ (ls : List Level). weigh ROOM ls old.left) levels
+    ∙ ap (λ (n : ℕ). weigh ROOM (new.levels.items ++ level ∷ []) n) none in (
       record {
-        leads = same_leads served book (no_calls book) init new.levels.items new.levels.items level.counts.items new.counts.items level.words.items new.here.words
+        leads = same_leads served book (no_calls book) init new.levels.items new.levels.items
+            level.counts.items new.counts.items level.words.items new.here.words
             refl (ap (λ v. v.items) counts) here back.leads;
-        here = same_open served book level.counts.items new.counts.items level.words.items new.here.words level.callers.items new.callers.items level.left new.left
+        here = same_open served book level.counts.items new.counts.items level.words.items
+            new.here.words level.callers.items new.callers.items level.left new.left
             (ap (λ v. v.items) counts) here (ap (λ v. v.items) callers) left
-            (open-less served book level.counts.items level.words.items level.callers.items (level.left + 1) level.left refl nowhere back.here.open_here);
+            (open-less served book level.counts.items level.words.items level.callers.items
+            (level.left + 1) level.left refl nowhere back.here.open_here);
         dead = λ c l at. h.dead c l (subst (λ m. Remembers m c l) memo at);
         memo = subst (λ m. IsMemo m) (sym memo) h.memo;
         callers = ap (λ m. m.callers) memo ∙ h.callers;
@@ -190,32 +259,46 @@ walk-back init served book old new level h none levels counts here room callers 
     )
 
 -- the words of the last level fit the room
-pub last_level : (init : List ℕ) (served : List ℕ → List ℕ → Option (List ℕ × List ℕ)) (book : List Page) (old : Walk) (levels : List Level) (level : Level) → IsSmall book → length init ≤ 1
-    → Grows served → IsWalk init served book old → old.levels.items ≡ levels ++ level ∷ [] → length level.words.items ≤ ROOM
+pub last_level : (init : List ℕ) (served : List ℕ → List ℕ → Option (List ℕ × List ℕ))
+    (book : List Page) (old : Walk) (levels : List Level) (level : Level) → IsSmall book
+    → length init ≤ 1
+    → Grows served → IsWalk init served book old
+    → old.levels.items ≡ levels ++ level ∷ [] → length level.words.items ≤ ROOM
 last_level init served book old levels level small begins grows h is =
-    let back = leads-pop served book (no_calls book) init levels level old.counts.items old.here.words
-    (subst (λ (ls : List Level). Leads served book (no_calls book) init ls old.counts.items old.here.words) is h.leads) in
-    let s = standing init served book levels level.counts.items level.words.items small begins grows back.leads in
+    let back =
+    leads-pop served book (no_calls book) init levels level old.counts.items old.here.words
+    (subst
+    (λ (ls : List Level). Leads served book (no_calls book) init ls old.counts.items old.here.words)
+    is h.leads) in
+    let s = standing init served book levels level.counts.items level.words.items small begins grows
+    back.leads in
     omega (arith, s.words)
 
 -- a dead end at the start
-pub walk-none : (init : List ℕ) (served : List ℕ → List ℕ → Option (List ℕ × List ℕ)) (book : List Page) (walk : Walk) → IsWalk init served book walk → walk.left ≡ 0
+pub walk-none : (init : List ℕ) (served : List ℕ → List ℕ → Option (List ℕ × List ℕ))
+    (book : List Page) (walk : Walk) → IsWalk init served book walk → walk.left ≡ 0
     → walk.levels.items ≡ [] → HasLegalSetOrder init served book → ⊥
 walk-none init served book walk h none levels =
     let leads : Leads served book (no_calls book) init [] walk.counts.items walk.here.words =
-    subst (λ (ls : List Level). Leads served book (no_calls book) init ls walk.counts.items walk.here.words) levels h.leads in
+    subst (λ (ls : List Level).
+    Leads served book (no_calls book) init ls walk.counts.items walk.here.words) levels h.leads in
     none-from_dead init served book
     (subst (λ (c : List ℕ). IsDeadEnd served book c init) (sym leads.0)
     (subst (λ (l : List ℕ). IsDeadEnd served book walk.counts.items l) (sym leads.1)
     (dead_end served book walk.counts.items walk.here.words walk.callers.items
-    (subst (λ (n : ℕ). IsOpen served book walk.counts.items walk.here.words walk.callers.items n) none h.here))))
+    (subst (λ (n : ℕ). IsOpen served book walk.counts.items walk.here.words walk.callers.items n)
+    none h.here))))
 
 -- the start
-pub walk-start : (init : List ℕ) (served : List ℕ → List ℕ → Option (List ℕ × List ℕ)) (book : List Page) (walk : Walk) → walk.levels.items ≡ [] → walk.counts.items ≡ no_calls book
-    → walk.here.words ≡ init → walk.here.room ≡ ROOM → IsMemo walk.memo → walk.memo.callers ≡ length book → ((cut list : List ℕ) → Remembers walk.memo cut list → ⊥)
-    → IsOpen served book walk.counts.items walk.here.words walk.callers.items walk.left → IsWalk init served book walk
+pub walk-start : (init : List ℕ) (served : List ℕ → List ℕ → Option (List ℕ × List ℕ))
+    (book : List Page) (walk : Walk) → walk.levels.items ≡ [] → walk.counts.items ≡ no_calls book
+    → walk.here.words ≡ init → walk.here.room ≡ ROOM → IsMemo walk.memo
+    → walk.memo.callers ≡ length book → ((cut list : List ℕ) → Remembers walk.memo cut list → ⊥)
+    → IsOpen served book walk.counts.items walk.here.words walk.callers.items walk.left
+    → IsWalk init served book walk
 walk-start init served book walk levels counts here room memo callers none start = record {
-  leads = subst (λ (ls : List Level). Leads served book (no_calls book) init ls walk.counts.items walk.here.words) (sym levels) (sym counts, sym here);
+  leads = subst (λ (ls : List Level). Leads served book (no_calls book) init ls walk.counts.items
+      walk.here.words) (sym levels) (sym counts, sym here);
   here = start;
   dead = λ cut list there. absurd (none cut list there);
   memo = memo;
@@ -228,45 +311,76 @@ pub record SetFits (counts : List ℕ) (places : List Place) : Type 0 where
   pub callers : AllByRecursion (λ place. place.caller < length counts) places
   pub numbers : AllByRecursion (λ place. place.number < MAX_CALLS) places
 
-pub set_fits : (init : List ℕ) (served : List ℕ → List ℕ → Option (List ℕ × List ℕ)) (book : List Page) (walk : Walk) (places : List Place) (after : List ℕ) → IsSmall book → length init ≤ 1
-    → Grows served → IsWalk init served book walk → MayStandTogether served book walk.counts.items walk.here.words places after
-    → (counts : List ℕ) (set : List Place) → counts ≡ walk.counts.items → set ≡ places → SetFits counts set
+pub set_fits : (init : List ℕ) (served : List ℕ → List ℕ → Option (List ℕ × List ℕ))
+    (book : List Page) (walk : Walk) (places : List Place) (after : List ℕ) → IsSmall book
+    → length init ≤ 1
+    → Grows served → IsWalk init served book walk
+    → MayStandTogether served book walk.counts.items walk.here.words places after
+    → (counts : List ℕ) (set : List Place) → counts ≡ walk.counts.items → set ≡ places
+    → SetFits counts set
 set_fits init served book walk places after small begins grows h may counts set e f =
     let cut : List ℕ = walk.counts.items in
-    let s = standing init served book walk.levels.items cut walk.here.words small begins grows h.leads in
+    let s =
+    standing init served book walk.levels.items cut walk.here.words small begins grows h.leads in
     let fits : SetFits cut places = record {
       callers = all_so (MayStandIn book cut) (λ (place : Place). place.caller < length cut) places
-          (λ (place : Place) (one : MayStandIn book cut place). let there = caller_from_call book place.caller place.number one.may_come.is_call in omega (arith, there, s.wide)) may.each;
+          (λ (place : Place) (one : MayStandIn book cut place). let there = caller_from_call book
+          place.caller place.number one.may_come.is_call in omega (arith, there, s.wide)) may.each;
       numbers = all_so (MayStandIn book cut) (λ (place : Place). place.number < MAX_CALLS) places
-          (λ (place : Place) (one : MayStandIn book cut place). omega (arith, one.may_come.is_call, small.calls place.caller)) may.each;
+          (λ (place : Place) (one : MayStandIn book cut place).
+          omega (arith, one.may_come.is_call, small.calls place.caller)) may.each;
     } in
-    subst (λ (c : List ℕ). SetFits c set) (sym e) (subst (λ (x : List Place). SetFits cut x) (sym f) fits)
+    subst (λ (c : List ℕ). SetFits c set) (sym e)
+    (subst (λ (x : List Place). SetFits cut x) (sym f) fits)
 
 -- what is known of the part of the candidates that is tried next
 pub record PartFits (book : List Page) (counts part : List ℕ) : Type 0 where
   pub inside : AllByRecursion (λ i. i < length counts) part
   pub calls : AllByRecursion (λ i. IsCall book (next_call counts i)) part
 
-pub part_fits : (book : List Page) (cut part : List ℕ) → length cut ≡ length book → IsPart book cut part → (counts callers : List ℕ) → counts ≡ cut → callers ≡ part → PartFits book counts callers
+pub part_fits : (book : List Page) (cut part : List ℕ) → length cut ≡ length book
+    → IsPart book cut part → (counts callers : List ℕ) → counts ≡ cut → callers ≡ part
+    → PartFits book counts callers
 part_fits book cut part wide h counts callers e f =
     let fits : PartFits book cut part = record {
-      inside = all_so (λ (i : ℕ). MayComeNext book cut (next_call cut i)) (λ (i : ℕ). i < length cut) part
-          (λ (i : ℕ) (may : MayComeNext book cut (next_call cut i)). let there = caller_from_call book i (get_or cut i 0) may.is_call in omega (arith, there, wide)) h.may_come;
-      calls = all_so (λ (i : ℕ). MayComeNext book cut (next_call cut i)) (λ (i : ℕ). IsCall book (next_call cut i)) part (λ i may. may.is_call) h.may_come;
+      inside = all_so (λ (i : ℕ). MayComeNext book cut (next_call cut i))
+          (λ (i : ℕ). i < length cut) part
+          (λ (i : ℕ) (may : MayComeNext book cut (next_call cut i)). let there = caller_from_call
+          book i (get_or cut i 0) may.is_call in omega (arith, there, wide)) h.may_come;
+      calls = all_so (λ (i : ℕ). MayComeNext book cut (next_call cut i))
+          (λ (i : ℕ). IsCall book (next_call cut i)) part (λ i may. may.is_call) h.may_come;
     } in
-    subst (λ (c : List ℕ). PartFits book c callers) (sym e) (subst (λ (x : List ℕ). PartFits book cut x) (sym f) fits)
+    subst (λ (c : List ℕ). PartFits book c callers) (sym e)
+    (subst (λ (x : List ℕ). PartFits book cut x) (sym f) fits)
 
 -- the list after a set fits the room
-pub after_fits : (init : List ℕ) (served : List ℕ → List ℕ → Option (List ℕ × List ℕ)) (book : List Page) (walk : Walk) (places : List Place) (after : List ℕ) → IsSmall book → length init ≤ 1
-    → Grows served → IsWalk init served book walk → callers_of places ≡ picked walk.left walk.callers.items
-    → MayStandTogether served book walk.counts.items walk.here.words places after → length after ≤ ROOM
+pub after_fits : (init : List ℕ) (served : List ℕ → List ℕ → Option (List ℕ × List ℕ))
+    (book : List Page) (walk : Walk) (places : List Place) (after : List ℕ) → IsSmall book
+    → length init ≤ 1
+    → Grows served → IsWalk init served book walk
+    → callers_of places ≡ picked walk.left walk.callers.items
+    → MayStandTogether served book walk.counts.items walk.here.words places after
+    → length after ≤ ROOM
 after_fits init served book walk places after small begins grows h is may =
-    let s = standing init served book walk.levels.items walk.counts.items walk.here.words small begins grows h.leads in
+    let s = standing init served book walk.levels.items walk.counts.items walk.here.words small
+    begins grows h.leads in
     let few = candidates-few book walk.counts.items walk.callers.items h.here.candidates in
     let part = picked-few walk.left walk.callers.items in
     let callers = small.callers in
-    let long : length places ≤ MAX_CALLERS = omega (arith, ap (λ (x : List ℕ). length x) is, length-map places (λ (p : Place). p.caller), part, few, callers) in
-    omega (arith, grows walk.here.words (operations_of book places) after _ may.served_so, length-map places (λ (p : Place). (step_at book p).0), s.words)
+    let long : length places ≤ MAX_CALLERS = omega (
+      arith,
+      ap (λ (x : List ℕ). length x) is,
+      length-map places (λ (p : Place). p.caller),
+      part,
+      few,
+      callers,
+    ) in
+    omega (
+      arith,
+      grows walk.here.words (operations_of book places) after _ may.served_so,
+      length-map places (λ (p : Place). (step_at book p).0),
+      s.words,
+    )
 
 -- what is known of a walk with a part that is to be tried
 pub record Trial (book : List Page) (walk : Walk) : Type 0 where
@@ -275,15 +389,25 @@ pub record Trial (book : List Page) (walk : Walk) : Type 0 where
   pub few : length (picked walk.left walk.callers.items) ≤ MAX_CALLERS
   pub words : length walk.here.words + MAX_CALLERS ≤ ROOM
 
-pub walk-part : (init : List ℕ) (served : List ℕ → List ℕ → Option (List ℕ × List ℕ)) (book : List Page) (walk : Walk) → IsSmall book → length init ≤ 1 → Grows served
+pub walk-part : (init : List ℕ) (served : List ℕ → List ℕ → Option (List ℕ × List ℕ))
+    (book : List Page) (walk : Walk) → IsSmall book → length init ≤ 1 → Grows served
     → IsWalk init served book walk → 1 ≤ walk.left → Trial book walk
 walk-part init served book walk small begins grows h left =
-    let s = standing init served book walk.levels.items walk.counts.items walk.here.words small begins grows h.leads in
+    let s = standing init served book walk.levels.items walk.counts.items walk.here.words small
+    begins grows h.leads in
     let few = candidates-few book walk.counts.items walk.callers.items h.here.candidates in
-    let part = part-from_open served book walk.counts.items walk.here.words walk.callers.items walk.left h.here left few in
+    let part = part-from_open served book walk.counts.items walk.here.words walk.callers.items
+    walk.left h.here left few in
     let callers = small.callers in
-    record { wide = s.wide; part = part; few = omega (arith, part.few, callers); words = omega (arith, s.words) }
+    record {
+      wide = s.wide;
+      part = part;
+      few = omega (arith, part.few, callers);
+      words = omega (arith, s.words);
+    }
 
 -- a memo without entries remembers nothing
-pub nothing_remembered : (memo : Memo) → memo.entries.items ≡ [] → (cut list : List ℕ) → Remembers memo cut list → ⊥
-nothing_remembered memo none cut list there = none-some there.1 (sym (ap (λ (xs : List Entry). slice_get xs there.0) none) ∙ there.2)
+pub nothing_remembered : (memo : Memo) → memo.entries.items ≡ [] → (cut list : List ℕ)
+    → Remembers memo cut list → ⊥
+nothing_remembered memo none cut list there =
+    none-some there.1 (sym (ap (λ (xs : List Entry). slice_get xs there.0) none) ∙ there.2)

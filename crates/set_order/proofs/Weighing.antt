@@ -13,9 +13,11 @@ ways_positive (suc depth) = omega (arith, ways_positive depth)
 ways_down : (depth : ℕ) → 1 ≤ depth → ways depth ≡ (2 ^ MAX_CALLERS + 2) * ways (depth - 1)
 unfolding ways
 ways_down zero h = absurd (omega arith)
-ways_down (suc depth) h = let e : suc depth - 1 ≡ depth = omega arith in ap (λ (d : ℕ). (2 ^ MAX_CALLERS + 2) * ways d) (sym e)
+ways_down (suc depth) h = let e : suc depth - 1 ≡ depth = omega arith in
+    ap (λ (d : ℕ). (2 ^ MAX_CALLERS + 2) * ways d) (sym e)
 
-lighter : (left fresh above below : ℕ) → above ≡ (2 ^ MAX_CALLERS + 2) * below → 1 ≤ below → fresh < 2 ^ MAX_CALLERS
+lighter : (left fresh above below : ℕ) → above ≡ (2 ^ MAX_CALLERS + 2) * below → 1 ≤ below
+    → fresh < 2 ^ MAX_CALLERS
     → (left + 1) * above + (fresh + 1) * below < (left + 1 + 1) * above
 lighter left fresh above below e positive few =
     let small : fresh ≤ 2 ^ MAX_CALLERS = omega arith in
@@ -23,20 +25,25 @@ lighter left fresh above below e positive few =
     omega arith
 
 -- what goes down by a number weighs less than the number
-pub weigh-push : (depth : ℕ) (levels : List Level) (level : Level) (fresh : ℕ) → length levels < depth → fresh < 2 ^ MAX_CALLERS
+pub weigh-push : (depth : ℕ) (levels : List Level) (level : Level) (fresh : ℕ)
+    → length levels < depth → fresh < 2 ^ MAX_CALLERS
     → weigh depth (levels ++ level ∷ []) fresh < weigh depth levels (level.left + 1)
 unfolding weigh
-weigh-push depth [] level fresh h few = lighter level.left fresh (ways depth) (ways (depth - 1)) (ways_down depth (omega arith)) (ways_positive (depth - 1)) few
-weigh-push depth (first ∷ levels) level fresh h few = omega (arith, weigh-push (depth - 1) levels level fresh (omega arith) few)
+weigh-push depth [] level fresh h few = lighter level.left fresh (ways depth) (ways (depth - 1))
+    (ways_down depth (omega arith)) (ways_positive (depth - 1)) few
+weigh-push depth (first ∷ levels) level fresh h few =
+    omega (arith, weigh-push (depth - 1) levels level fresh (omega arith) few)
 
 -- a number fewer weighs less
-pub weigh-skip : (depth : ℕ) (levels : List Level) (left : ℕ) → weigh depth levels left < weigh depth levels (left + 1)
+pub weigh-skip : (depth : ℕ) (levels : List Level) (left : ℕ)
+    → weigh depth levels left < weigh depth levels (left + 1)
 unfolding weigh
 weigh-skip depth [] left = omega (arith, ways_positive depth)
 weigh-skip depth (first ∷ levels) left = omega (arith, weigh-skip (depth - 1) levels left)
 
 -- what is left of a level weighs less than the level and what is below it
-pub weigh-pop : (depth : ℕ) (levels : List Level) (level : Level) → weigh depth levels level.left < weigh depth (levels ++ level ∷ []) 0
+pub weigh-pop : (depth : ℕ) (levels : List Level) (level : Level)
+    → weigh depth levels level.left < weigh depth (levels ++ level ∷ []) 0
 unfolding weigh
 weigh-pop depth [] level = omega (arith, ways_positive (depth - 1))
 weigh-pop depth (first ∷ levels) level = omega (arith, weigh-pop (depth - 1) levels level)

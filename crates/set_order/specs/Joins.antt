@@ -1,4 +1,5 @@
--- An object whose operations each join a number below 32 to a set of numbers. Those that are served at once see one another.
+-- An object whose operations each join a number below 32 to a set of numbers. Those that are served
+-- at once see one another.
 use Rattle.std.specs.Prelude.{◌≡◌, ℕ, ◌+◌, ◌-◌, ◌/◌, ◌%◌, ◌^◌, Bool, true, false, nat_lt, nat_le, ◌&&◌, List, [], ◌∷◌, map, fold, count_by, bit_and, bit_or, Option, Some, if◌then◌else◌}
 use Rattle.seq_objects.specs.Replies.{reply_value, reply_bad}
 
@@ -32,7 +33,8 @@ list_joined false mask list = list
 abbrev pub join_reply : ℕ → ℕ → ℕ
 join_reply mask op = if is_join op then reply_value mask else reply_bad
 
--- Operations that are served at once all join first, and then all reply. An operation that joins nothing leaves the list.
+-- Operations that are served at once all join first, and then all reply. An operation that joins
+-- nothing leaves the list.
 abbrev pub served_joins : List ℕ → List ℕ → Option (List ℕ × List ℕ)
 served_joins list ops =
     let mask : ℕ = with_joins (mask_of list) ops in

@@ -24,34 +24,41 @@ abbrev pub raised_by : List ℕ → List Place → List ℕ
 raised_by cut [] = cut
 raised_by cut (place ∷ set) = raised_by (slice_set cut place.caller (place.number + 1)) set
 
--- A call may stand in the next set after the calls of a cut: it may come next, and its reply is the recorded one where it is
--- answered.
+-- A call may stand in the next set after the calls of a cut: it may come next, and its reply is the
+-- recorded one where it is answered.
 pub record MayStandIn (book : List Page) (cut : List ℕ) (place : Place) : Type 0 where
   pub may_come : MayComeNext book cut (call_at place)
   pub recorded : (r : Record) → record_of book (call_at place) ≡ Some r → r.reply ≡ place.reply
 
--- A set may stand next after the calls of a cut, at this list of the object, and the object goes on to another list.
-pub record MayStandTogether (served : List ℕ → List ℕ → Option (List ℕ × List ℕ)) (book : List Page) (cut list : List ℕ) (set : List Place) (after : List ℕ) : Type 0 where
+-- A set may stand next after the calls of a cut, at this list of the object, and the object goes on
+-- to another list.
+pub record MayStandTogether (served : List ℕ → List ℕ → Option (List ℕ × List ℕ)) (book : List Page)
+    (cut list : List ℕ) (set : List Place) (after : List ℕ) : Type 0 where
   pub some : 1 ≤ length set
   pub by_caller : RiseFrom 0 (callers_of set)
   pub each : AllByRecursion (MayStandIn book cut) set
   pub served_so : served list (operations_of book set) ≡ Some (after, replies_of set)
 
--- The sets may stand one after another, after the calls of a cut and from a list of the object on, and then all answered calls
--- stand.
-abbrev pub SetsContinue : (List ℕ → List ℕ → Option (List ℕ × List ℕ)) → List Page → List ℕ → List ℕ → List (List Place) → Type 0
+-- The sets may stand one after another, after the calls of a cut and from a list of the object on,
+-- and then all answered calls stand.
+abbrev pub SetsContinue : (List ℕ → List ℕ → Option (List ℕ × List ℕ)) → List Page → List ℕ → List ℕ
+    → List (List Place) → Type 0
 SetsContinue served book cut list [] = HoldsAnswered book cut
 SetsContinue served book cut list (set ∷ sets) =
-    (after : List ℕ) × MayStandTogether served book cut list set after × SetsContinue served book (raised_by cut set) after sets
+    (after : List ℕ) × MayStandTogether served book cut list set after
+    × SetsContinue served book (raised_by cut set) after sets
 
 -- A dead end: no sets may stand one after another there, up to a legal set order.
-abbrev pub IsDeadEnd : (List ℕ → List ℕ → Option (List ℕ × List ℕ)) → List Page → List ℕ → List ℕ → Type 0
-IsDeadEnd served book cut list = (sets : List (List Place)) → SetsContinue served book cut list sets → ⊥
+abbrev pub IsDeadEnd : (List ℕ → List ℕ → Option (List ℕ × List ℕ)) → List Page → List ℕ
+    → List ℕ → Type 0
+IsDeadEnd served book cut list = (sets : List (List Place))
+    → SetsContinue served book cut list sets → ⊥
 
 -- the part of these callers that a number picks, by its binary digits
 abbrev pub picked : ℕ → List ℕ → List ℕ
 picked number [] = []
-picked number (i ∷ callers) = if number % 2 == 1 then i ∷ picked (number / 2) callers else picked (number / 2) callers
+picked number (i ∷ callers) =
+    if number % 2 == 1 then i ∷ picked (number / 2) callers else picked (number / 2) callers
 
 -- the caller is one of these
 abbrev pub IsOneOf : List ℕ → ℕ → Type 0
@@ -65,24 +72,31 @@ pub record AreCandidates (book : List Page) (cut callers : List ℕ) : Type 0 wh
   pub all : (i : ℕ) → MayComeNext book cut (next_call cut i) → IsOneOf callers i
 
 -- No set of these callers may stand next.
-abbrev pub CannotStand : (List ℕ → List ℕ → Option (List ℕ × List ℕ)) → List Page → List ℕ → List ℕ → List ℕ → Type 0
-CannotStand served book cut list callers = (set : List Place) (after : List ℕ) → callers_of set ≡ callers → MayStandTogether served book cut list set after → ⊥
+abbrev pub CannotStand : (List ℕ → List ℕ → Option (List ℕ × List ℕ)) → List Page → List ℕ → List ℕ
+    → List ℕ → Type 0
+CannotStand served book cut list callers = (set : List Place) (after : List ℕ)
+    → callers_of set ≡ callers → MayStandTogether served book cut list set after → ⊥
 
 -- A set of these callers, where it may stand next, leads to a dead end.
-abbrev pub LeadsNowhere : (List ℕ → List ℕ → Option (List ℕ × List ℕ)) → List Page → List ℕ → List ℕ → List ℕ → Type 0
-LeadsNowhere served book cut list callers = (set : List Place) (after : List ℕ) → callers_of set ≡ callers → MayStandTogether served book cut list set after
+abbrev pub LeadsNowhere : (List ℕ → List ℕ → Option (List ℕ × List ℕ)) → List Page → List ℕ → List ℕ
+    → List ℕ → Type 0
+LeadsNowhere served book cut list callers = (set : List Place) (after : List ℕ)
+    → callers_of set ≡ callers → MayStandTogether served book cut list set after
     → IsDeadEnd served book (raised_by cut set) after
 
--- What is known of a cut and a list: not all answered calls stand, these are the candidates, and each part of them that a greater
--- number picks leads nowhere.
-pub record IsOpen (served : List ℕ → List ℕ → Option (List ℕ × List ℕ)) (book : List Page) (cut list callers : List ℕ) (left : ℕ) : Type 0 where
+-- What is known of a cut and a list: not all answered calls stand, these are the candidates, and
+-- each part of them that a greater number picks leads nowhere.
+pub record IsOpen (served : List ℕ → List ℕ → Option (List ℕ × List ℕ)) (book : List Page)
+    (cut list callers : List ℕ) (left : ℕ) : Type 0 where
   pub unended : HoldsAnswered book cut → ⊥
   pub candidates : AreCandidates book cut callers
   pub below : left < 2 ^ length callers
-  pub tried : (number : ℕ) → left < number → number < 2 ^ length callers → LeadsNowhere served book cut list (picked number callers)
+  pub tried : (number : ℕ) → left < number → number < 2 ^ length callers
+      → LeadsNowhere served book cut list (picked number callers)
 
 -- A level stands at a cut and a list: its set stands next there, and leads to a list.
-pub record IsLevel (served : List ℕ → List ℕ → Option (List ℕ × List ℕ)) (book : List Page) (cut list : List ℕ) (level : Level) (after : List ℕ) : Type 0 where
+pub record IsLevel (served : List ℕ → List ℕ → Option (List ℕ × List ℕ)) (book : List Page)
+    (cut list : List ℕ) (level : Level) (after : List ℕ) : Type 0 where
   pub counts : level.counts.items ≡ cut
   pub words : level.words.items ≡ list
   pub open_here : IsOpen served book cut list level.callers.items (level.left + 1)
@@ -90,18 +104,23 @@ pub record IsLevel (served : List ℕ → List ℕ → Option (List ℕ × List 
   pub stands : MayStandTogether served book cut list level.set after
 
 -- The levels lead from a cut and a list to others.
-abbrev pub Leads : (List ℕ → List ℕ → Option (List ℕ × List ℕ)) → List Page → List ℕ → List ℕ → List Level → List ℕ → List ℕ → Type 0
+abbrev pub Leads : (List ℕ → List ℕ → Option (List ℕ × List ℕ)) → List Page → List ℕ → List ℕ
+    → List Level → List ℕ → List ℕ → Type 0
 Leads served book cut list [] to_cut to_list = (cut ≡ to_cut) × (list ≡ to_list)
 Leads served book cut list (level ∷ levels) to_cut to_list =
-    (after : List ℕ) × IsLevel served book cut list level after × Leads served book (raised_by cut level.set) after levels to_cut to_list
+    (after : List ℕ) × IsLevel served book cut list level after
+    × Leads served book (raised_by cut level.set) after levels to_cut to_list
 
 -- all remembered pairs are dead ends
 abbrev pub AllDead : (List ℕ → List ℕ → Option (List ℕ × List ℕ)) → List Page → Walk → Type 0
-AllDead served book walk = (cut list : List ℕ) → Remembers walk.memo cut list → IsDeadEnd served book cut list
+AllDead served book walk = (cut list : List ℕ) → Remembers walk.memo cut list
+    → IsDeadEnd served book cut list
 
 -- A walk from the object's first list on.
-pub record IsWalk (init : List ℕ) (served : List ℕ → List ℕ → Option (List ℕ × List ℕ)) (book : List Page) (walk : Walk) : Type 0 where
-  pub leads : Leads served book (no_calls book) init walk.levels.items walk.counts.items walk.here.words
+pub record IsWalk (init : List ℕ) (served : List ℕ → List ℕ → Option (List ℕ × List ℕ))
+    (book : List Page) (walk : Walk) : Type 0 where
+  pub leads : Leads served book
+      (no_calls book) init walk.levels.items walk.counts.items walk.here.words
   pub here : IsOpen served book walk.counts.items walk.here.words walk.callers.items walk.left
   pub dead : AllDead served book walk
   pub memo : IsMemo walk.memo
@@ -117,8 +136,8 @@ unfoldable pub ways : ℕ → ℕ
 ways zero = 1
 ways (suc depth) = (2 ^ MAX_CALLERS + 2) * ways depth
 
--- how much may be left to try, where at most this many sets follow the first cut: each number of a level weighs more than all that
--- may come below it
+-- how much may be left to try, where at most this many sets follow the first cut: each number of a
+-- level weighs more than all that may come below it
 unfoldable pub weigh : ℕ → List Level → ℕ → ℕ
 weigh depth [] left = (left + 1) * ways depth
 weigh depth (level ∷ levels) left = (level.left + 1) * ways depth + weigh (depth - 1) levels left
@@ -127,23 +146,30 @@ weigh depth (level ∷ levels) left = (level.left + 1) * ways depth + weigh (dep
 abbrev pub weight : Walk → ℕ
 weight walk = weigh ROOM walk.levels.items walk.left
 
--- What came of a step is so: a legal set order is found, there is none, or the walk goes on with less weight than before.
-abbrev pub IsRightOutcome : List ℕ → (List ℕ → List ℕ → Option (List ℕ × List ℕ)) → List Page → ℕ → Walk → Outcome → Type 0
-IsRightOutcome init served book before walk Found = IsLegalSetOrder init served book (order_of walk.levels.items)
+-- What came of a step is so: a legal set order is found, there is none, or the walk goes on with
+-- less weight than before.
+abbrev pub IsRightOutcome : List ℕ → (List ℕ → List ℕ → Option (List ℕ × List ℕ)) → List Page → ℕ
+    → Walk → Outcome → Type 0
+IsRightOutcome init served book before walk Found =
+    IsLegalSetOrder init served book (order_of walk.levels.items)
 IsRightOutcome init served book before walk NoneLeft = HasLegalSetOrder init served book → ⊥
-IsRightOutcome init served book before walk GoesOn = IsWalk init served book walk × (weight walk < before)
+IsRightOutcome init served book before walk GoesOn = IsWalk init served book walk
+    × (weight walk < before)
 
 -- the operation words of callers' next calls after the calls of a cut
 abbrev pub next_operations : List Page → List ℕ → List ℕ → List ℕ
-next_operations book cut callers = map (λ i. unwrap_or (operation_of book (next_call cut i)) 0) callers
+next_operations book cut callers =
+    map (λ i. unwrap_or (operation_of book (next_call cut i)) 0) callers
 
--- The places are those of callers' next calls after the calls of a cut, with these replies, which are the recorded ones where the
--- calls are answered.
-pub record ArePlaced (book : List Page) (cut callers replies : List ℕ) (set : List Place) : Type 0 where
+-- The places are those of callers' next calls after the calls of a cut, with these replies, which
+-- are the recorded ones where the calls are answered.
+pub record ArePlaced (book : List Page) (cut callers replies : List ℕ)
+    (set : List Place) : Type 0 where
   pub callers_are : callers_of set ≡ callers
   pub replies_are : replies_of set ≡ replies
   pub numbers : AllByRecursion (λ place. place.number ≡ slice_index cut place.caller) set
-  pub recorded : AllByRecursion (λ place. (r : Record) → record_of book (call_at place) ≡ Some r → r.reply ≡ place.reply) set
+  pub recorded : AllByRecursion
+      (λ place. (r : Record) → record_of book (call_at place) ≡ Some r → r.reply ≡ place.reply) set
 
 -- One of these callers' next calls has another reply than the recorded one.
 pub record HasWrongReply (book : List Page) (cut callers replies : List ℕ) : Type 0 where

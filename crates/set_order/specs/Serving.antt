@@ -3,18 +3,23 @@ use Rattle.std.specs.Prelude.{◌≡◌, ℕ, List, [], ◌∷◌, Option, Some,
 
 -- Where an operation is served from this list, alone or beside others, its reply is never this one.
 abbrev pub NeverReplies : (List ℕ → List ℕ → Option (List ℕ × List ℕ)) → List ℕ → ℕ → ℕ → Type 0
-NeverReplies served list op reply = (ops after replies : List ℕ) (p : ℕ) → served list ops ≡ Some (after, replies)
+NeverReplies served list op reply = (ops after replies : List ℕ) (p : ℕ)
+    → served list ops ≡ Some (after, replies)
     → slice_get ops p ≡ Some op → slice_get replies p ≡ Some reply → ⊥
 
--- The object goes on from one list to another, by sets of operations that it serves one after another.
-abbrev pub ServesTo : (List ℕ → List ℕ → Option (List ℕ × List ℕ)) → List ℕ → List (List ℕ) → List ℕ → Type 0
+-- The object goes on from one list to another, by sets of operations that it serves one after
+-- another.
+abbrev pub ServesTo : (List ℕ → List ℕ → Option (List ℕ × List ℕ)) → List ℕ → List (List ℕ)
+    → List ℕ → Type 0
 ServesTo served list [] later = list ≡ later
 ServesTo served list (ops ∷ sets) later =
-    (after replies : List ℕ) × (served list ops ≡ Some (after, replies)) × ServesTo served after sets later
+    (after replies : List ℕ) × (served list ops ≡ Some (after, replies))
+    × ServesTo served after sets later
 
 -- From this list on, whatever is served before it, an operation never gets this reply.
 abbrev pub NeverRepliesFrom : (List ℕ → List ℕ → Option (List ℕ × List ℕ)) → List ℕ → ℕ → ℕ → Type 0
-NeverRepliesFrom served list op reply = (sets : List (List ℕ)) (later : List ℕ) → ServesTo served list sets later → NeverReplies served later op reply
+NeverRepliesFrom served list op reply = (sets : List (List ℕ)) (later : List ℕ)
+    → ServesTo served list sets later → NeverReplies served later op reply
 
 -- what a sequential object serves: one operation as it does, and more than one never
 abbrev pub served_alone : (List ℕ → ℕ → List ℕ × ℕ) → List ℕ → List ℕ → Option (List ℕ × List ℕ)

@@ -8,22 +8,28 @@ use Rattle.set_order.specs.Joins.{joins_some, list_joined, join_reply, mask_of, 
 pub length-one : length {A = ℕ} (0 ∷ []) ≤ 1
 length-one = omega arith
 
-pub served_alone-grows : (next : List ℕ → ℕ → List ℕ × ℕ) → ((list : List ℕ) (op : ℕ) → length (next list op).0 ≤ length list + 1)
-    → (list ops after replies : List ℕ) → served_alone next list ops ≡ Some (after, replies) → length after ≤ length list + length ops
+pub served_alone-grows : (next : List ℕ → ℕ → List ℕ × ℕ)
+    → ((list : List ℕ) (op : ℕ) → length (next list op).0 ≤ length list + 1)
+    → (list ops after replies : List ℕ) → served_alone next list ops ≡ Some (after, replies)
+    → length after ≤ length list + length ops
 served_alone-grows next grows list [] after replies h = absurd (none-some (after, replies) h)
 served_alone-grows next grows list (op ∷ []) after replies h =
     let same = same_Some ((next list op).0, (next list op).1 ∷ []) (after, replies) h in
     omega (arith, grows list op, ap (λ (s : List ℕ × List ℕ). length s.0) same)
-served_alone-grows next grows list (op ∷ other ∷ ops) after replies h = absurd (none-some (after, replies) h)
+served_alone-grows next grows list (op ∷ other ∷ ops) after replies h =
+    absurd (none-some (after, replies) h)
 
-pub served_alone-replies : (next : List ℕ → ℕ → List ℕ × ℕ) → (list ops after replies : List ℕ) → served_alone next list ops ≡ Some (after, replies) → length replies ≡ length ops
+pub served_alone-replies : (next : List ℕ → ℕ → List ℕ × ℕ) → (list ops after replies : List ℕ)
+    → served_alone next list ops ≡ Some (after, replies) → length replies ≡ length ops
 served_alone-replies next list [] after replies h = absurd (none-some (after, replies) h)
 served_alone-replies next list (op ∷ []) after replies h =
     let same = same_Some ((next list op).0, (next list op).1 ∷ []) (after, replies) h in
     sym (ap (λ (s : List ℕ × List ℕ). length s.1) same)
-served_alone-replies next list (op ∷ other ∷ ops) after replies h = absurd (none-some (after, replies) h)
+served_alone-replies next list (op ∷ other ∷ ops) after replies h =
+    absurd (none-some (after, replies) h)
 
-list_joined-grows : (some : Bool) (mask : ℕ) (list ops : List ℕ) → (some ≡ true → 1 ≤ length ops) → length (list_joined some mask list) ≤ length list + length ops
+list_joined-grows : (some : Bool) (mask : ℕ) (list ops : List ℕ) → (some ≡ true → 1 ≤ length ops)
+    → length (list_joined some mask list) ≤ length list + length ops
 list_joined-grows true mask list ops h = omega (arith, h refl)
 list_joined-grows false mask list ops h = omega arith
 
@@ -31,14 +37,22 @@ joins_some-ops : (ops : List ℕ) → joins_some ops ≡ true → 1 ≤ length o
 joins_some-ops [] h = absurd cc
 joins_some-ops (op ∷ ops) h = omega arith
 
-pub served_joins-grows : (list ops after replies : List ℕ) → served_joins list ops ≡ Some (after, replies) → length after ≤ length list + length ops
+pub served_joins-grows : (list ops after replies : List ℕ)
+    → served_joins list ops ≡ Some (after, replies) → length after ≤ length list + length ops
 served_joins-grows list ops after replies h =
     let mask : ℕ = with_joins (mask_of list) ops in
-    let same = same_Some (list_joined (joins_some ops) mask list, map (join_reply mask) ops) (after, replies) h in
-    omega (arith, list_joined-grows (joins_some ops) mask list ops (joins_some-ops ops), ap (λ (s : List ℕ × List ℕ). length s.0) same)
+    let same = same_Some (list_joined (joins_some ops) mask list, map (join_reply mask) ops)
+    (after, replies) h in
+    omega (
+      arith,
+      list_joined-grows (joins_some ops) mask list ops (joins_some-ops ops),
+      ap (λ (s : List ℕ × List ℕ). length s.0) same,
+    )
 
-pub served_joins-replies : (list ops after replies : List ℕ) → served_joins list ops ≡ Some (after, replies) → length replies ≡ length ops
+pub served_joins-replies : (list ops after replies : List ℕ)
+    → served_joins list ops ≡ Some (after, replies) → length replies ≡ length ops
 served_joins-replies list ops after replies h =
     let mask : ℕ = with_joins (mask_of list) ops in
-    let same = same_Some (list_joined (joins_some ops) mask list, map (join_reply mask) ops) (after, replies) h in
+    let same = same_Some (list_joined (joins_some ops) mask list, map (join_reply mask) ops)
+    (after, replies) h in
     sym (ap (λ (s : List ℕ × List ℕ). length s.1) same) ∙ length-map ops (join_reply mask)

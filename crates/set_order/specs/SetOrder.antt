@@ -28,34 +28,46 @@ abbrev pub StandsIn : List (List Place) → ℕ → ℕ → Call → Type 0
 StandsIn order k p call = (set : List Place) × (slice_get order k ≡ Some set) × StandsAt set p call
 
 -- Served set by set, from this list on, the object gives exactly these replies and refuses no set.
-abbrev pub IsServedFrom : (List ℕ → List ℕ → Option (List ℕ × List ℕ)) → List Page → List ℕ → List (List Place) → Type 0
+abbrev pub IsServedFrom : (List ℕ → List ℕ → Option (List ℕ × List ℕ)) → List Page → List ℕ
+    → List (List Place) → Type 0
 IsServedFrom served book list [] = Unit {0}
 IsServedFrom served book list (set ∷ sets) =
-    (after : List ℕ) × (served list (operations_of book set) ≡ Some (after, replies_of set)) × IsServedFrom served book after sets
+    (after : List ℕ) × (served list (operations_of book set) ≡ Some (after, replies_of set))
+    × IsServedFrom served book after sets
 
--- A legal set order of a book, for the object that begins with init and serves a list of operations at once (Neiger 1994).
--- An unanswered call may stand in it with the reply that the object gives, or be left out.
-pub record IsLegalSetOrder (init : List ℕ) (served : List ℕ → List ℕ → Option (List ℕ × List ℕ)) (book : List Page) (order : List (List Place)) : Type 0 where
+-- A legal set order of a book, for the object that begins with init and serves a list of operations
+-- at once (Neiger 1994). An unanswered call may stand in it with the reply that the object gives,
+-- or be left out.
+pub record IsLegalSetOrder (init : List ℕ) (served : List ℕ → List ℕ → Option (List ℕ × List ℕ))
+    (book : List Page) (order : List (List Place)) : Type 0 where
   -- no set is empty
   pub some : (k : ℕ) (set : List Place) → slice_get order k ≡ Some set → 1 ≤ length set
   -- a set has its calls by caller
-  pub by_caller : (k : ℕ) (set : List Place) → slice_get order k ≡ Some set → RiseFrom 0 (callers_of set)
+  pub by_caller : (k : ℕ) (set : List Place) → slice_get order k ≡ Some set
+      → RiseFrom 0 (callers_of set)
   -- each call in it is a call of the book
   pub calls : (k p : ℕ) (call : Call) → StandsIn order k p call → IsCall book call
   -- no call stands twice
-  pub once : (j p k q : ℕ) (call : Call) → StandsIn order j p call → StandsIn order k q call → (j ≡ k) × (p ≡ q)
+  pub once : (j p k q : ℕ) (call : Call) → StandsIn order j p call → StandsIn order k q call
+      → (j ≡ k) × (p ≡ q)
   -- where a call stands, all earlier calls of its caller stand in earlier sets
-  pub earlier : (k p : ℕ) (call : Call) → StandsIn order k p call → (number : ℕ) → number < call.number
-      → (j : ℕ) × (j < k) × (q : ℕ) × StandsIn order j q (record { caller = call.caller; number = number })
+  pub earlier : (k p : ℕ) (call : Call) → StandsIn order k p call → (number : ℕ)
+      → number < call.number
+      → (j : ℕ) × (j < k) × (q : ℕ)
+      × StandsIn order j q (record { caller = call.caller; number = number })
   -- each answered call stands in it with its recorded reply
   pub answered : (call : Call) (r : Record) → record_of book call ≡ Some r
       → (k : ℕ) × (set : List Place) × (slice_get order k ≡ Some set) × (p : ℕ)
-      × (slice_get set p ≡ Some (record { caller = call.caller; number = call.number; reply = r.reply }))
+      × (slice_get set p
+      ≡ Some (record { caller = call.caller; number = call.number; reply = r.reply }))
   -- served set by set from the first list, the object gives exactly these replies
   pub served_so : IsServedFrom served book init order
   -- where a call precedes another and both stand in it, its set is earlier than the other's
-  pub precedence : (j p k q : ℕ) (a b : Call) → StandsIn order j p a → StandsIn order k q b → Precedes book a b → j < k
+  pub precedence : (j p k q : ℕ) (a b : Call) → StandsIn order j p a → StandsIn order k q b
+      → Precedes book a b → j < k
 
 -- the book has a legal set order
-abbrev pub HasLegalSetOrder : List ℕ → (List ℕ → List ℕ → Option (List ℕ × List ℕ)) → List Page → Type 0
-HasLegalSetOrder init served book = (order : List (List Place)) × IsLegalSetOrder init served book order
+abbrev pub HasLegalSetOrder : List ℕ → (List ℕ → List ℕ → Option (List ℕ × List ℕ))
+    → List Page → Type 0
+HasLegalSetOrder init served book = (order : List (List Place))
+    × IsLegalSetOrder init served book order

@@ -6,6 +6,7 @@ use Rattle.set_order.specs.declared.verdict.SetVerdict.TheVariants.{Legal, Illeg
 use Rattle.set_order.specs.SetOrder.{IsLegalSetOrder, HasLegalSetOrder}
 
 -- The verdict on a book is right: it carries a legal set order, or there is none.
-abbrev pub IsRight : List ℕ → (List ℕ → List ℕ → Option (List ℕ × List ℕ)) → List Page → SetVerdict → Type 0
+abbrev pub IsRight : List ℕ → (List ℕ → List ℕ → Option (List ℕ × List ℕ)) → List Page
+    → SetVerdict → Type 0
 IsRight init served book (Legal order) = IsLegalSetOrder init served book order.items
 IsRight init served book Illegal = HasLegalSetOrder init served book → ⊥

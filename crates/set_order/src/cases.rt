@@ -5,10 +5,10 @@ ghost use Rattle.seq_objects.specs.Replies.{reply_bad, reply_value};
 ghost use Rattle.set_order.specs.Joins.{served_joins, HasMask};
 ghost use Rattle.set_order.specs.Cases.{join};
 
-/// Joins that are served at once all reply with all numbers: 3, then 0 and 31, and 1 again. The mask
-/// takes the place of the list, of which only the low half of the first word counts, and an empty list
-/// has joined none. What joins nothing leaves the list and the mask: the words on both sides of the
-/// joins, or no operation at all.
+/// Joins that are served at once all reply with all numbers: 3, then 0 and 31, and 1 again. The
+/// mask takes the place of the list, of which only the low half of the first word counts, and an
+/// empty list has joined none. What joins nothing leaves the list and the mask: the words on both
+/// sides of the joins, or no operation at all.
 pub fn joins_are_served_at_once()
     // A join of 3 at the empty list gives the mask 8, and replies with it.
     ensures empty_list { served_joins [] (join 3 ∷ []) ≡ Some (8 ∷ [], reply_value 8 ∷ []) }
@@ -32,7 +32,8 @@ pub fn joins_are_served_at_once()
     ensures none { served_joins (6 ∷ 9 ∷ []) [] ≡ Some (6 ∷ 9 ∷ [], []) }
 {}
 
-/// A reply has the numbers of a mask where it gives those, or more. One that gives no numbers has none.
+/// A reply has the numbers of a mask where it gives those, or more. One that gives no numbers has
+/// none.
 pub fn replies_have_masks()
     // The reply with the value 6 has the numbers of the mask 6.
     ensures same { HasMask (reply_value 6) 6 }

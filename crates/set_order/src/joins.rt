@@ -18,8 +18,8 @@ const MASKS: u64 = 1 << 32;
 // The tag of a reply word that gives a mask.
 const VALUE_TAG: u64 = 2;
 
-/// A set of numbers below 32, to which each operation joins one. Operations that are served at once see
-/// one another: each replies with all numbers that are joined then (Neiger 1994).
+/// A set of numbers below 32, to which each operation joins one. Operations that are served at once
+/// see one another: each replies with all numbers that are joined then (Neiger 1994).
 #[derive(Clone, Copy, Debug)]
 pub struct Joins;
 
@@ -64,7 +64,8 @@ impl SetObject for Joins {
         true
     }
 
-    /// Numbers stay joined: so a reply that an operation may still get has all that are joined, and its own.
+    /// Numbers stay joined: so a reply that an operation may still get has all that are joined, and
+    /// its own.
     fn may_reply(&self, state: &State, op: OpWord, reply: u64) -> bool {
         if Joins::knows(op) {
             has_mask(reply, with_join(mask(state), op))

@@ -1,5 +1,5 @@
-//! Set-linearizability (Neiger 1994, "Set-linearizability"): objects that serve several calls at once, and
-//! the search for a legal set order of a book.
+//! Set-linearizability (Neiger 1994, "Set-linearizability"): objects that serve several calls at
+//! once, and the search for a legal set order of a book.
 #![tactic(auto)]
 
 pub mod cases;

@@ -35,8 +35,11 @@ impl<O> Drop for SetSearch<'_, O> {
 impl<O: SetObject> SetSearch<'_, O> {
     /// Finds the sets of a legal set order, if there is one.
     pub fn run(&self) -> Result<Option<Vec<PlaceSet>>, NoMemory>
-        ensures found { IfOk result (λ found. IfSome found (λ order. IsLegalSetOrder (O.init self.now.object.now) (O.served self.now.object.now) self.now.book.now order.items)) }
-        ensures none { IfOk result (λ found. IfNone found (HasLegalSetOrder (O.init self.now.object.now) (O.served self.now.object.now) self.now.book.now → ⊥)) }
+        ensures found { IfOk result
+            (λ found. IfSome found (λ order. IsLegalSetOrder (O.init self.now.object.now)
+            (O.served self.now.object.now) self.now.book.now order.items)) }
+        ensures none { IfOk result (λ found. IfNone found (HasLegalSetOrder
+            (O.init self.now.object.now) (O.served self.now.object.now) self.now.book.now → ⊥)) }
     {
         let callers = self.book.callers() as usize;
         let counts = vec![in self.alloc; 0; callers]?;
@@ -69,11 +72,15 @@ impl<O: SetObject> SetSearch<'_, O> {
     ) -> Result<Option<Vec<PlaceSet>>, NoMemory>
         requires valid { IsValid self.now.book.now }
         requires small { IsSmall self.now.book.now }
-        requires walk { IsWalk (O.init self.now.object.now) (O.served self.now.object.now) self.now.book.now walk.old }
+        requires walk { IsWalk (O.init self.now.object.now)
+            (O.served self.now.object.now) self.now.book.now walk.old }
         requires spare { spare.old.room ≡ ROOM }
         requires replies { replies.old.room ≡ MAX_CALLERS }
-        ensures found { IfOk result (λ found. IfSome found (λ order. IsLegalSetOrder (O.init self.now.object.now) (O.served self.now.object.now) self.now.book.now order.items)) }
-        ensures none { IfOk result (λ found. IfNone found (HasLegalSetOrder (O.init self.now.object.now) (O.served self.now.object.now) self.now.book.now → ⊥)) }
+        ensures found { IfOk result
+            (λ found. IfSome found (λ order. IsLegalSetOrder (O.init self.now.object.now)
+            (O.served self.now.object.now) self.now.book.now order.items)) }
+        ensures none { IfOk result (λ found. IfNone found (HasLegalSetOrder
+            (O.init self.now.object.now) (O.served self.now.object.now) self.now.book.now → ⊥)) }
     {
         'steps: loop {
             match self.advance(walk, spare, replies)? {
@@ -84,7 +91,8 @@ impl<O: SetObject> SetSearch<'_, O> {
         }
     }
 
-    // Tries the part of the candidates that the greatest number that is left picks, or leaves a dead end.
+    // Tries the part of the candidates that the greatest number that is left picks, or leaves a
+    // dead end.
     fn advance(
         &self,
         walk: &mut Walk,
@@ -93,12 +101,14 @@ impl<O: SetObject> SetSearch<'_, O> {
     ) -> Result<Outcome, NoMemory>
         requires valid { IsValid self.now.book.now }
         requires small { IsSmall self.now.book.now }
-        requires walk { IsWalk (O.init self.now.object.now) (O.served self.now.object.now) self.now.book.now walk.old }
+        requires walk { IsWalk (O.init self.now.object.now)
+            (O.served self.now.object.now) self.now.book.now walk.old }
         requires spare { spare.old.room ≡ ROOM }
         requires replies { replies.old.room ≡ MAX_CALLERS }
         ensures spare { spare.new.room ≡ ROOM }
         ensures replies { replies.new.room ≡ MAX_CALLERS }
-        ensures outcome { IfOk result (IsRightOutcome (O.init self.now.object.now) (O.served self.now.object.now) self.now.book.now (weight walk.old) walk.new) }
+        ensures outcome { IfOk result (IsRightOutcome (O.init self.now.object.now)
+            (O.served self.now.object.now) self.now.book.now (weight walk.old) walk.new) }
     {
         if walk.left == 0 {
             walk.memo
@@ -123,16 +133,21 @@ impl<O: SetObject> SetSearch<'_, O> {
         replies: &mut State,
     ) -> Result<Option<PlaceSet>, NoMemory>
         requires small { IsSmall self.now.book.now }
-        requires walk { IsWalk (O.init self.now.object.now) (O.served self.now.object.now) self.now.book.now walk.now }
+        requires walk { IsWalk (O.init self.now.object.now)
+            (O.served self.now.object.now) self.now.book.now walk.now }
         requires left { 1 ≤ walk.now.left }
         requires spare { spare.old.room ≡ ROOM }
         requires replies { replies.old.room ≡ MAX_CALLERS }
         ensures spare { spare.new.room ≡ ROOM }
         ensures replies { replies.new.room ≡ MAX_CALLERS }
-        ensures callers { IfOk result (λ found. IfSome found (λ set. callers_of set ≡ picked walk.now.left walk.now.callers.items)) }
+        ensures callers { IfOk result (λ found.
+            IfSome found (λ set. callers_of set ≡ picked walk.now.left walk.now.callers.items)) }
         ensures some { IfOk result (λ found. IfSome found (λ set.
-            MayStandTogether (O.served self.now.object.now) self.now.book.now walk.now.counts.items walk.now.here.words set spare.new.words)) }
-        ensures none { IfOk result (λ found. IfNone found (CannotStand (O.served self.now.object.now) self.now.book.now walk.now.counts.items walk.now.here.words
+            MayStandTogether (O.served self.now.object.now) self.now.book.now walk.now.counts.items
+            walk.now.here.words set spare.new.words)) }
+        ensures none { IfOk result
+            (λ found. IfNone found (CannotStand (O.served self.now.object.now) self.now.book.now
+            walk.now.counts.items walk.now.here.words
             (picked walk.now.left walk.now.callers.items))) }
     {
         let part = part_of(self.alloc, &walk.callers, walk.left)?;
@@ -147,8 +162,10 @@ impl<O: SetObject> SetSearch<'_, O> {
     // The operations of callers' next calls.
     fn operations(&self, counts: &[u16], callers: &[u32]) -> Result<Vec<OpWord>, NoMemory>
         requires inside { AllByRecursion (λ i. i < length counts.now) callers.now }
-        requires calls { AllByRecursion (λ i. IsCall self.now.book.now (next_call counts.now i)) callers.now }
-        ensures { IfOk result (λ operations. operations.items ≡ next_operations self.now.book.now counts.now callers.now) }
+        requires calls { AllByRecursion (λ i. IsCall self.now.book.now (next_call counts.now i))
+            callers.now }
+        ensures { IfOk result (λ operations.
+            operations.items ≡ next_operations self.now.book.now counts.now callers.now) }
     {
         let mut operations = Vec::with_capacity(self.alloc, callers.len())?;
         for caller in callers {
@@ -171,10 +188,13 @@ impl<O: SetObject> SetSearch<'_, O> {
         replies: &State,
     ) -> Result<Option<PlaceSet>, NoMemory>
         requires inside { AllByRecursion (λ i. i < length counts.now) callers.now }
-        requires calls { AllByRecursion (λ i. IsCall self.now.book.now (next_call counts.now i)) callers.now }
+        requires calls { AllByRecursion (λ i. IsCall self.now.book.now (next_call counts.now i))
+            callers.now }
         requires replies { length replies.now.words ≡ length callers.now }
-        ensures some { IfOk result (λ found. IfSome found (ArePlaced self.now.book.now counts.now callers.now replies.now.words)) }
-        ensures none { IfOk result (λ found. IfNone found (HasWrongReply self.now.book.now counts.now callers.now replies.now.words)) }
+        ensures some { IfOk result (λ found.
+            IfSome found (ArePlaced self.now.book.now counts.now callers.now replies.now.words)) }
+        ensures none { IfOk result (λ found. IfNone found
+            (HasWrongReply self.now.book.now counts.now callers.now replies.now.words)) }
     {
         let mut places = Vec::with_capacity(self.alloc, callers.len())?;
         for (at, caller) in callers.iter().enumerate() {
@@ -201,12 +221,15 @@ impl<O: SetObject> SetSearch<'_, O> {
     fn enter(&self, walk: &mut Walk, spare: &State, set: PlaceSet) -> Result<Outcome, NoMemory>
         requires valid { IsValid self.now.book.now }
         requires small { IsSmall self.now.book.now }
-        requires walk { IsWalk (O.init self.now.object.now) (O.served self.now.object.now) self.now.book.now walk.old }
+        requires walk { IsWalk (O.init self.now.object.now)
+            (O.served self.now.object.now) self.now.book.now walk.old }
         requires left { 1 ≤ walk.old.left }
         requires spare { spare.now.room ≡ ROOM }
         requires callers { callers_of set ≡ picked walk.old.left walk.old.callers.items }
-        requires stands { MayStandTogether (O.served self.now.object.now) self.now.book.now walk.old.counts.items walk.old.here.words set spare.now.words }
-        ensures outcome { IfOk result (IsRightOutcome (O.init self.now.object.now) (O.served self.now.object.now) self.now.book.now (weight walk.old) walk.new) }
+        requires stands { MayStandTogether (O.served self.now.object.now) self.now.book.now
+            walk.old.counts.items walk.old.here.words set spare.now.words }
+        ensures outcome { IfOk result (IsRightOutcome (O.init self.now.object.now)
+            (O.served self.now.object.now) self.now.book.now (weight walk.old) walk.new) }
     {
         let counts = raised(self.alloc, &walk.counts, set.places())?;
         if walk.memo.remembers(&counts, spare.words()) {
@@ -230,13 +253,16 @@ impl<O: SetObject> SetSearch<'_, O> {
     ) -> Result<Outcome, NoMemory>
         requires valid { IsValid self.now.book.now }
         requires small { IsSmall self.now.book.now }
-        requires walk { IsWalk (O.init self.now.object.now) (O.served self.now.object.now) self.now.book.now walk.old }
+        requires walk { IsWalk (O.init self.now.object.now)
+            (O.served self.now.object.now) self.now.book.now walk.old }
         requires left { 1 ≤ walk.old.left }
         requires spare { spare.now.room ≡ ROOM }
         requires callers { callers_of set ≡ picked walk.old.left walk.old.callers.items }
-        requires stands { MayStandTogether (O.served self.now.object.now) self.now.book.now walk.old.counts.items walk.old.here.words set spare.now.words }
+        requires stands { MayStandTogether (O.served self.now.object.now) self.now.book.now
+            walk.old.counts.items walk.old.here.words set spare.now.words }
         requires counts { counts.items ≡ raised_by walk.old.counts.items set }
-        ensures outcome { IfOk result (IsRightOutcome (O.init self.now.object.now) (O.served self.now.object.now) self.now.book.now (weight walk.old) walk.new) }
+        ensures outcome { IfOk result (IsRightOutcome (O.init self.now.object.now)
+            (O.served self.now.object.now) self.now.book.now (weight walk.old) walk.new) }
     {
         let ended = self.holds_answered(&counts);
         let callers = self.candidates(&counts)?;
@@ -261,9 +287,11 @@ impl<O: SetObject> SetSearch<'_, O> {
     // Leaves a dead end: goes back by one level.
     fn retreat(&self, walk: &mut Walk) -> Outcome
         requires small { IsSmall self.now.book.now }
-        requires walk { IsWalk (O.init self.now.object.now) (O.served self.now.object.now) self.now.book.now walk.old }
+        requires walk { IsWalk (O.init self.now.object.now)
+            (O.served self.now.object.now) self.now.book.now walk.old }
         requires left { walk.old.left ≡ 0 }
-        ensures { IsRightOutcome (O.init self.now.object.now) (O.served self.now.object.now) self.now.book.now (weight walk.old) walk.new result }
+        ensures { IsRightOutcome (O.init self.now.object.now)
+            (O.served self.now.object.now) self.now.book.now (weight walk.old) walk.new result }
     {
         let Some(level) = walk.levels.pop() else {
             return Outcome::NoneLeft;
@@ -298,7 +326,8 @@ impl<O: SetObject> SetSearch<'_, O> {
     // The callers whose next calls may come next.
     fn candidates(&self, counts: &[u16]) -> Result<Vec<u32>, NoMemory>
         requires { length counts.now ≡ length self.now.book.now }
-        ensures candidates { IfOk result (λ callers. AreCandidates self.now.book.now counts.now callers.items) }
+        ensures candidates { IfOk result
+            (λ callers. AreCandidates self.now.book.now counts.now callers.items) }
         ensures few { IfOk result (λ callers. length callers.items ≤ length self.now.book.now) }
     {
         let mut candidates = Vec::new(self.alloc);
@@ -314,7 +343,8 @@ impl<O: SetObject> SetSearch<'_, O> {
     fn may_come(&self, counts: &[u16], caller: u32) -> bool
         requires wide { length counts.now ≡ length self.now.book.now }
         requires caller { caller < length counts.now }
-        ensures { IsTrue result ↔ MayComeNext self.now.book.now counts.now (next_call counts.now caller) }
+        ensures { IsTrue result
+            ↔ MayComeNext self.now.book.now counts.now (next_call counts.now caller) }
     {
         let number = u64::from(counts[caller as usize]);
         if number >= self.book.calls(caller) {
@@ -333,11 +363,12 @@ impl<O: SetObject> SetSearch<'_, O> {
         true
     }
 
-    // Whether an answered call outside the cut can't get its recorded reply any more: one of those that are
-    // their callers' next ones.
+    // Whether an answered call outside the cut can't get its recorded reply any more: one of those
+    // that are their callers' next ones.
     fn is_lost(&self, counts: &[u16], here: &State) -> bool
         requires { length counts.now ≡ length self.now.book.now }
-        ensures { IsTrue result → IsDeadEnd (O.served self.now.object.now) self.now.book.now counts.now here.now.words }
+        ensures { IsTrue result
+            → IsDeadEnd (O.served self.now.object.now) self.now.book.now counts.now here.now.words }
     {
         for caller in 0..self.book.callers() {
             let number = u64::from(counts[caller as usize]);

@@ -3,14 +3,14 @@ ghost use Rattle.set_order.specs.Serving.{NeverRepliesFrom};
 
 use book_base::{OpWord, State};
 
-/// An object that serves a whole set of operations at once: what they do to a list of words, and what it
-/// replies to each (Neiger 1994).
+/// An object that serves a whole set of operations at once: what they do to a list of words, and
+/// what it replies to each (Neiger 1994).
 pub trait SetObject {
     /// The list that the object begins with.
     ghost init: { Self → List ℕ };
 
-    /// The list after these operations are served at once, and the reply to each; none where they may not
-    /// be served together.
+    /// The list after these operations are served at once, and the reply to each; none where they
+    /// may not be served together.
     ghost served: { Self → List ℕ → List ℕ → Option (List ℕ × List ℕ) };
 
     /// Makes the list the one that the object begins with. The room stays.
@@ -19,9 +19,9 @@ pub trait SetObject {
         requires { 1 ≤ state.old.room }
         ensures { state.new ≡ record state.old { words = init self.now } };
 
-    /// Serves operations at once: the list becomes the next one, and `replies` the reply to each of them in
-    /// turn. Where they may not be served together the answer is `false`, and the state stays. Both rooms
-    /// stay, and no memory is taken.
+    /// Serves operations at once: the list becomes the next one, and `replies` the reply to each of
+    /// them in turn. Where they may not be served together the answer is `false`, and the state
+    /// stays. Both rooms stay, and no memory is taken.
     fn serve(&self, state: &mut State, ops: &[OpWord], replies: &mut State) -> bool
         // There is at least one operation.
         requires some { 1 ≤ length ops.now }
@@ -42,8 +42,8 @@ pub trait SetObject {
         // The room of the replies stays.
         ensures replies { replies.new.room ≡ replies.old.room };
 
-    /// Whether an operation may still get this reply, alone or beside others, at this list or after more is
-    /// served. An object that leaves this out knows of none that may not.
+    /// Whether an operation may still get this reply, alone or beside others, at this list or after
+    /// more is served. An object that leaves this out knows of none that may not.
     fn may_reply(&self, state: &State, op: OpWord, reply: u64) -> bool
         // `false` is answered only where the operation never gets this reply, at this list or after
         // more is served.
@@ -57,7 +57,8 @@ pub trait SetObject {
 
     /// Operations make the list at most as many words longer.
     ghost grows_by_each: { (object : Self) (list ops after replies : List ℕ)
-        → served object list ops ≡ Some (after, replies) → length after ≤ length list + length ops };
+        → served object list ops ≡ Some (after, replies)
+        → length after ≤ length list + length ops };
 
     /// Each operation gets a reply.
     ghost replies_to_each: { (object : Self) (list ops after replies : List ℕ)

@@ -16,11 +16,13 @@ pub enum SetVerdict {
     Illegal,
 }
 
-/// Looks for a legal set order of a book: `Legal` carries one, and `Illegal` comes where there is none.
+/// Looks for a legal set order of a book: `Legal` carries one, and `Illegal` comes where there is
+/// none.
 ///
-/// The search goes depth first through the pairs of a cut and a list, and remembers those that it has left
-/// (after Wing and Gong 1993, and Lowe 2017). A set is taken of the callers' next calls that no call
-/// outside the cut precedes, and the search leaves where an answered call can't get its reply any more.
+/// The search goes depth first through the pairs of a cut and a list, and remembers those that it
+/// has left (after Wing and Gong 1993, and Lowe 2017). A set is taken of the callers' next calls
+/// that no call outside the cut precedes, and the search leaves where an answered call can't get
+/// its reply any more.
 pub fn check_sets<O: SetObject>(
     alloc: Global,
     object: &O,

@@ -11,8 +11,8 @@ use std::alloc::Global;
 /// Room for as many words as a book has calls, one more, and those of one set.
 pub const ROOM: u64 = MAX_CALLERS as u64 * MAX_CALLS + 1 + MAX_CALLERS as u64;
 
-/// A cut and a list on the way to where a search stands: the counts, the list's words, the set that was put
-/// next there, the candidates, and up to which number their parts are still to be tried.
+/// A cut and a list on the way to where a search stands: the counts, the list's words, the set that
+/// was put next there, the candidates, and up to which number their parts are still to be tried.
 #[derive(Drop)]
 pub struct Level {
     pub counts: Vec<u16>,
@@ -22,8 +22,9 @@ pub struct Level {
     pub left: u32,
 }
 
-/// Where a search stands: the levels that lead there, the counts of its cut, its list, the candidates for
-/// the next set, up to which number their parts are still to be tried, and the dead ends that were left.
+/// Where a search stands: the levels that lead there, the counts of its cut, its list, the
+/// candidates for the next set, up to which number their parts are still to be tried, and the dead
+/// ends that were left.
 #[derive(Drop)]
 pub struct Walk {
     pub levels: Vec<Level>,

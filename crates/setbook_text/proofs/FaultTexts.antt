@@ -32,19 +32,23 @@ CanCome (CountsDue n) = n ≤ 16
 CanCome (InCalls book calls) = AllByRecursion (IsNamedCall book) calls
 CanCome (AtEnd book) = Unit {0}
 
-comes_next : (due after : SetBookDue) (words : List (List ℕ)) → CanCome due → SetBookPasses due words after → CanCome after
+comes_next : (due after : SetBookDue) (words : List (List ℕ)) → CanCome due
+    → SetBookPasses due words after → CanCome after
 comes_next TitleDue after words can h = subst CanCome (sym h.1) tt
 comes_next ObjectDue after words can h = subst CanCome (sym h.1) tt
 comes_next CallersDue after words can h = subst CanCome (sym h.3) h.1.few
 comes_next (CountsDue n) after words can h =
     let counts : List ℕ = h.0 in
-    let size : length (unanswered_book counts) ≡ length counts = length-map counts unanswered_page in
+    let size : length (unanswered_book counts) ≡ length counts =
+    length-map counts unanswered_page in
     let few : n ≤ 16 = can in
-    subst CanCome (sym h.3) (all_named (unanswered_book counts) 0 counts (omega (arith, size)) (omega (arith, size, h.1.count, few)) h.1.few)
+    subst CanCome (sym h.3) (all_named (unanswered_book counts) 0 counts (omega (arith, size))
+    (omega (arith, size, h.1.count, few)) h.1.few)
 comes_next (InCalls book []) after words can h = subst CanCome (sym h.1) tt
 comes_next (InCalls book (call ∷ calls)) after words can h =
     let read : IsCallLine Second join_operations book call words h.0.book = h.1.0 in
-    let size : length h.0.book ≡ length book = ap (length {A = Page}) read.book_is ∙ length-with_line book call read.op read.answer in
+    let size : length h.0.book ≡ length book =
+    ap (length {A = Page}) read.book_is ∙ length-with_line book call read.op read.answer in
     let is : after ≡ InCalls h.0.book calls = h.2 ∙ ap (InCalls h.0.book) h.1.1 in
     subst CanCome (sym is) (named_still book h.0.book calls size can.1)
 comes_next (AtEnd book) after words can h = absurd h
@@ -54,17 +58,28 @@ comes_next (AtEnd book) after words can h = absurd h
 abbrev Done : SetBookDue → Type 0
 Done due = Completes setbook_rules AtEnd due
 
-more : (due next : SetBookDue) (words : List (List ℕ)) → SetBookPasses due words next → Done next → Done due
+more : (due next : SetBookDue) (words : List (List ℕ)) → SetBookPasses due words next
+    → Done next → Done due
 more = one_more setbook_rules AtEnd
 
 -- the calls that are due are written without answers
-calls_come : (book : List Page) (calls : List Call) → AllByRecursion (IsNamedCall book) calls → Done (InCalls book calls)
-calls_come book [] h = record { said = book; lines = end_words ∷ []; right = (AtEnd book, (refl, refl), refl) }
+calls_come : (book : List Page) (calls : List Call) → AllByRecursion (IsNamedCall book) calls
+    → Done (InCalls book calls)
+calls_come book [] h =
+    record { said = book; lines = end_words ∷ []; right = (AtEnd book, (refl, refl), refl) }
 calls_come book (call ∷ calls) h =
     let after : List Page = with_line book call 0 None in
     let words : List (List ℕ) = call_words Second join_operations call 0 None in
     let read : IsCallLine Second join_operations book call words after
-    = record { named = h.0; op = 0; answer = None; has = has_zero Second; stands = tt; text = refl; book_is = refl } in
+    = record {
+      named = h.0;
+      op = 0;
+      answer = None;
+      has = has_zero Second;
+      stands = tt;
+      text = refl;
+      book_is = refl;
+    } in
     let next : Progress = record { book = after; due = calls } in
     more (InCalls book (call ∷ calls)) (InCalls after calls) words (next, (read, refl), refl)
     (calls_come after calls (named_still book after calls (length-with_line book call 0 None) h.1))
@@ -82,10 +97,12 @@ counts_come n =
     let counts : List ℕ = replicate n 0 in
     more (CountsDue n) (InCalls (unanswered_book counts) (all_calls 0 counts)) (calls_words counts)
     (counts, record { count = length-replicate n 0; few = no_calls_few n }, refl, refl)
-    (subst (λ (calls : List Call). Done (InCalls (unanswered_book counts) calls)) (sym (no_calls 0 n)) (calls_come (unanswered_book counts) [] tt))
+    (subst (λ (calls : List Call). Done (InCalls (unanswered_book counts) calls))
+    (sym (no_calls 0 n)) (calls_come (unanswered_book counts) [] tt))
 
 callers_come : Done CallersDue
-callers_come = more CallersDue (CountsDue 1) (callers_words 1) (1, record { some = omega arith; few = omega arith }, refl, refl) (counts_come 1)
+callers_come = more CallersDue (CountsDue 1) (callers_words 1)
+    (1, record { some = omega arith; few = omega arith }, refl, refl) (counts_come 1)
 
 object_comes : Done ObjectDue
 object_comes = more ObjectDue CallersDue object_words (refl, refl) callers_come
@@ -100,14 +117,17 @@ completes (AtEnd book) can = record { said = book; lines = []; right = refl }
 
 -- ---- the names of faults
 
-line_named : (due : SetBookDue) (words : List (List ℕ)) (name : What) → SetBookFails due words name → (name ≢ what.Cut) × (name ≢ what.Rest)
+line_named : (due : SetBookDue) (words : List (List ℕ)) (name : What) → SetBookFails due words name
+    → (name ≢ what.Cut) × (name ≢ what.Rest)
 line_named TitleDue words name h = (λ e. absurd (cc (h.0, e)), λ e. absurd (cc (h.0, e)))
 line_named ObjectDue words name h = (λ e. absurd (cc (h.0, e)), λ e. absurd (cc (h.0, e)))
 line_named CallersDue words name h = (λ e. absurd (cc (h.0, e)), λ e. absurd (cc (h.0, e)))
 line_named (CountsDue n) words name h = (λ e. absurd (cc (h.0, e)), λ e. absurd (cc (h.0, e)))
 line_named (InCalls book []) words name h = (λ e. absurd (cc (h.0, e)), λ e. absurd (cc (h.0, e)))
 line_named (InCalls book (call ∷ calls)) words name (inl h) = entry_named call words name h where
-  entry_named : (call : Call) (words : List (List ℕ)) (name : What) → EntryFails Second join_operations (length book) (is_gap book call) call words name → (name ≢ what.Cut) × (name ≢ what.Rest)
+  entry_named : (call : Call) (words : List (List ℕ)) (name : What)
+      → EntryFails Second join_operations (length book) (is_gap book call) call words name
+      → (name ≢ what.Cut) × (name ≢ what.Rest)
   entry_named call words what.Place h = (λ e. absurd cc, λ e. absurd cc)
   entry_named call words what.Op h = (λ e. absurd cc, λ e. absurd cc)
   entry_named call words what.Gap h = (λ e. absurd cc, λ e. absurd cc)
@@ -115,7 +135,8 @@ line_named (InCalls book (call ∷ calls)) words name (inl h) = entry_named call
   entry_named call words what.View h = (λ e. absurd cc, λ e. absurd cc)
   entry_named call words _ h = absurd h
 line_named (InCalls book (call ∷ calls)) words name (inr h) = view_named h.fault name h.test where
-  view_named : (fault : BookFault) (name : What) → view_test fault ≡ Some name → (name ≢ what.Cut) × (name ≢ what.Rest)
+  view_named : (fault : BookFault) (name : What) → view_test fault ≡ Some name → (name ≢ what.Cut)
+      × (name ≢ what.Rest)
   view_named tests.TooManyCalls name h = absurd cc
   view_named tests.NoSuchCall name h = absurd cc
   view_named (tests.ViewOutside j) name h = (λ e. absurd (cc (h, e)), λ e. absurd (cc (h, e)))
@@ -125,7 +146,8 @@ line_named (InCalls book (call ∷ calls)) words name (inr h) = view_named h.fau
   view_named tests.NoMemory name h = absurd cc
 line_named (AtEnd book) words name h = absurd h
 
-line_or_end : (due : SetBookDue) → CanCome due → (setbook_wanted due ≡ ALine) ⊎ ((book : List Page) × (due ≡ AtEnd book))
+line_or_end : (due : SetBookDue) → CanCome due → (setbook_wanted due ≡ ALine)
+    ⊎ ((book : List Page) × (due ≡ AtEnd book))
 line_or_end TitleDue can = inl refl
 line_or_end ObjectDue can = inl refl
 line_or_end CallersDue can = inl refl
@@ -134,5 +156,7 @@ line_or_end (InCalls book calls) can = inl refl
 line_or_end (AtEnd book) can = inr (book, refl)
 
 -- the first fault stands where the bytes leave the texts
-pub set_book_leaves_texts : (bytes : List ℕ) (fault : TextFault) → IsFirstSetBookFault bytes fault → LeavesAt IsSetBookText bytes fault
-set_book_leaves_texts = leaves_texts setbook_rules setbook_sharp TitleDue AtEnd same_end (λ book. refl) CanCome tt comes_next completes line_named line_or_end
+pub set_book_leaves_texts : (bytes : List ℕ) (fault : TextFault) → IsFirstSetBookFault bytes fault
+    → LeavesAt IsSetBookText bytes fault
+set_book_leaves_texts = leaves_texts setbook_rules setbook_sharp TitleDue AtEnd same_end
+    (λ book. refl) CanCome tt comes_next completes line_named line_or_end

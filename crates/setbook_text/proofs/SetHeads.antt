@@ -1,4 +1,5 @@
--- The head of a set book is read as one head, or has one first fault; and what it says in the text of a set book.
+-- The head of a set book is read as one head, or has one first fault; and what it says in the text
+-- of a set book.
 use Rattle.std.proofs.Common.{◌≡◌, ℕ, List, [], ◌∷◌, length, refl, ap, sym, subst, ◌∙◌, inl, inr}
 use Rattle.std.proofs.lemmas.List.{length-replicate}
 use Rattle.book_base.specs.declared.fault.TextFault.{TextFault}
@@ -17,7 +18,8 @@ use Rattle.setbook_text.specs.SetBookRules.{SetBookDue, TitleDue, ObjectDue, Cal
 use Rattle.setbook_text.proofs.SharpSetBooks.{setbook_sharp}
 
 -- the lines of the head are right, and wrong, in the text of a set book
-right : (due after : SetBookDue) (words : List (List ℕ)) → SetHeadPasses due words after → SetBookPasses due words after
+right : (due after : SetBookDue) (words : List (List ℕ)) → SetHeadPasses due words after
+    → SetBookPasses due words after
 right TitleDue after words h = h
 right ObjectDue after words h = h
 right CallersDue after words h = h
@@ -25,7 +27,8 @@ right (CountsDue n) after words h = h
 right (InCalls book calls) after words h = absurd h
 right (AtEnd book) after words h = h
 
-failing : (due : SetBookDue) (words : List (List ℕ)) (name : What) → SetHeadFails due words name → SetBookFails due words name
+failing : (due : SetBookDue) (words : List (List ℕ)) (name : What) → SetHeadFails due words name
+    → SetBookFails due words name
 failing TitleDue words name h = h
 failing ObjectDue words name h = h
 failing CallersDue words name h = h
@@ -33,26 +36,53 @@ failing (CountsDue n) words name h = h
 failing (InCalls book calls) words name h = absurd h
 failing (AtEnd book) words name h = h
 
-wrong : (due : SetBookDue) (bytes : List ℕ) (what : What) → IsWrong set_head_rules due (set_head_wanted due) bytes what → IsWrong setbook_rules due (setbook_wanted due) bytes what
+wrong : (due : SetBookDue) (bytes : List ℕ) (what : What)
+    → IsWrong set_head_rules due (set_head_wanted due) bytes what
+    → IsWrong setbook_rules due (setbook_wanted due) bytes what
 wrong TitleDue bytes what (inl h) = inl h
-wrong TitleDue bytes what (inr h) = inr (record { line = h.line; rest = h.rest; whole = h.whole; test = record { fails = h.test.fails; first = h.test.first } })
+wrong TitleDue bytes what (inr h) = inr (record {
+  line = h.line;
+  rest = h.rest;
+  whole = h.whole;
+  test = record { fails = h.test.fails; first = h.test.first };
+})
 wrong ObjectDue bytes what (inl h) = inl h
-wrong ObjectDue bytes what (inr h) = inr (record { line = h.line; rest = h.rest; whole = h.whole; test = record { fails = h.test.fails; first = h.test.first } })
+wrong ObjectDue bytes what (inr h) = inr (record {
+  line = h.line;
+  rest = h.rest;
+  whole = h.whole;
+  test = record { fails = h.test.fails; first = h.test.first };
+})
 wrong CallersDue bytes what (inl h) = inl h
-wrong CallersDue bytes what (inr h) = inr (record { line = h.line; rest = h.rest; whole = h.whole; test = record { fails = h.test.fails; first = h.test.first } })
+wrong CallersDue bytes what (inr h) = inr (record {
+  line = h.line;
+  rest = h.rest;
+  whole = h.whole;
+  test = record { fails = h.test.fails; first = h.test.first };
+})
 wrong (CountsDue n) bytes what (inl h) = inl h
-wrong (CountsDue n) bytes what (inr h) = inr (record { line = h.line; rest = h.rest; whole = h.whole; test = record { fails = h.test.fails; first = h.test.first } })
+wrong (CountsDue n) bytes what (inr h) = inr (record {
+  line = h.line;
+  rest = h.rest;
+  whole = h.whole;
+  test = record { fails = h.test.fails; first = h.test.first };
+})
 wrong (InCalls book calls) bytes what h = absurd h
 wrong (AtEnd book) bytes what h = absurd h
 
-pub head_goes : (calls : List ℕ) (text left : Unread) → IsSetHead calls text left → GoesTo setbook_rules TitleDue text (in_calls (no_call_read calls)) left
-head_goes calls text left h = goes_within set_head_rules setbook_rules (λ due. due) right wrong TitleDue (in_calls (no_call_read calls)) text left h
+pub head_goes : (calls : List ℕ) (text left : Unread) → IsSetHead calls text left
+    → GoesTo setbook_rules TitleDue text (in_calls (no_call_read calls)) left
+head_goes calls text left h = goes_within set_head_rules setbook_rules
+    (λ due. due) right wrong TitleDue (in_calls (no_call_read calls)) text left h
 
-pub head_stops : (bytes : List ℕ) (text : Unread) (fault : TextFault) → text ≡ whole_text bytes → IsSetHeadFault text fault → StopsFor setbook_rules TitleDue (whole_text bytes) (Text fault)
+pub head_stops : (bytes : List ℕ) (text : Unread) (fault : TextFault) → text ≡ whole_text bytes
+    → IsSetHeadFault text fault → StopsFor setbook_rules TitleDue (whole_text bytes) (Text fault)
 head_stops bytes text fault is h =
-    subst (λ (t : Unread). IsFirstFault setbook_rules TitleDue t fault) is (fault_within set_head_rules setbook_rules (λ due. due) right wrong TitleDue text fault h)
+    subst (λ (t : Unread). IsFirstFault setbook_rules TitleDue t fault) is
+    (fault_within set_head_rules setbook_rules (λ due. due) right wrong TitleDue text fault h)
 
-lines : (due after : SetBookDue) (words : List (List ℕ)) → SetHeadPasses due words after → set_head_wanted due ≡ ALine
+lines : (due after : SetBookDue) (words : List (List ℕ)) → SetHeadPasses due words after
+    → set_head_wanted due ≡ ALine
 lines TitleDue after words h = refl
 lines ObjectDue after words h = refl
 lines CallersDue after words h = refl
@@ -63,8 +93,10 @@ lines (AtEnd book) after words h = absurd h
 head_sharp : AreSharp set_head_rules
 head_sharp =
     record {
-      one_way = λ due a b words h k. setbook_sharp.one_way due a b words (right due a words h) (right due b words k);
-      apart = λ due after words name h k. setbook_sharp.apart due after words name (right due after words h) (failing due words name k);
+      one_way = λ due a b words h k.
+          setbook_sharp.one_way due a b words (right due a words h) (right due b words k);
+      apart = λ due after words name h k. setbook_sharp.apart due after words name
+          (right due after words h) (failing due words name k);
       solid = λ due after words h. setbook_sharp.solid due after words (right due after words h);
       lines = lines;
     }
@@ -72,20 +104,26 @@ head_sharp =
 -- a book without answers tells its numbers of calls
 announced_again : (calls : List ℕ) → announced (unanswered_book calls) ≡ calls
 announced_again [] = refl
-announced_again (count ∷ calls) = (λ i. length-replicate {A = ℕ} count 0 i ∷ announced_again calls i)
+announced_again (count ∷ calls) =
+    (λ i. length-replicate {A = ℕ} count 0 i ∷ announced_again calls i)
 
 same_calls : (a b : List ℕ) → in_calls (no_call_read a) ≡ in_calls (no_call_read b) → a ≡ b
 same_calls a b e =
     let books : unanswered_book a ≡ unanswered_book b = cc in
     sym (announced_again a) ∙ ap announced books ∙ announced_again b
 
-pub one_head : (a b : List ℕ) (text x y : Unread) → IsSetHead a text x → IsSetHead b text y → (a ≡ b) × (x ≡ y)
+pub one_head : (a b : List ℕ) (text x y : Unread) → IsSetHead a text x → IsSetHead b text y
+    → (a ≡ b) × (x ≡ y)
 one_head a b text x y h k =
-    let one = one_part set_head_rules head_sharp TitleDue text (in_calls (no_call_read a)) (in_calls (no_call_read b)) x y tt tt h k in
+    let one = one_part set_head_rules head_sharp TitleDue text (in_calls (no_call_read a))
+    (in_calls (no_call_read b)) x y tt tt h k in
     (same_calls a b one.0, one.1)
 
-pub no_head_fault : (calls : List ℕ) (text left : Unread) (fault : TextFault) → IsSetHead calls text left → IsSetHeadFault text fault → ⊥
-no_head_fault calls text left fault h k = no_part_fault set_head_rules head_sharp TitleDue text (in_calls (no_call_read calls)) left fault tt h k
+pub no_head_fault : (calls : List ℕ) (text left : Unread) (fault : TextFault)
+    → IsSetHead calls text left → IsSetHeadFault text fault → ⊥
+no_head_fault calls text left fault h k = no_part_fault set_head_rules head_sharp TitleDue text
+    (in_calls (no_call_read calls)) left fault tt h k
 
-pub one_head_fault : (text : Unread) (a b : TextFault) → IsSetHeadFault text a → IsSetHeadFault text b → a ≡ b
+pub one_head_fault : (text : Unread) (a b : TextFault) → IsSetHeadFault text a
+    → IsSetHeadFault text b → a ≡ b
 one_head_fault text a b h k = one_fault set_head_rules head_sharp TitleDue text a b h k

@@ -30,7 +30,8 @@ counter_unknown op nothing = elim (cases_Bool (is_operation_of op inc)) [
   | inr unknown ↦ cond-false (is_operation_of op inc) _ _ unknown
 ]
 
-pub words-join : (op : ℕ) → is_join op ≡ true → join_words op ≡ codes "join" ∷ decimal (op - 2 ^ 32) ∷ []
+pub words-join : (op : ℕ) → is_join op ≡ true
+    → join_words op ≡ codes "join" ∷ decimal (op - 2 ^ 32) ∷ []
 unfolding join_words
 words-join op joins = cond-true (is_join op) _ _ joins
 
@@ -48,34 +49,43 @@ as_counter op nothing = words-other op nothing ∙ sym (counter_words op nothing
 -- 'join' begins no word of an operation that joins nothing
 pub not_other : (op : ℕ) (x y : List (List ℕ)) → codes "join" ∷ x ≡ other_word op ∷ y → ⊥
 not_other op x y e =
-    let first : codes "join" ≡ other_word op = (same_first (codes "join") (other_word op) x y e).0 in
+    let first : codes "join" ≡ other_word op =
+    (same_first (codes "join") (other_word op) x y e).0 in
     absurd (omega (arith, ap (λ (word : List ℕ). get_or word 0 0) first))
 
-pub one_join : (a b : ℕ) (x y : List (List ℕ)) → IsTrue (nat_lt a (2 ^ 128)) → IsTrue (nat_lt b (2 ^ 128)) → join_words a ++ x ≡ join_words b ++ y → a ≡ b
+pub one_join : (a b : ℕ) (x y : List (List ℕ)) → IsTrue (nat_lt a (2 ^ 128))
+    → IsTrue (nat_lt b (2 ^ 128)) → join_words a ++ x ≡ join_words b ++ y → a ≡ b
 one_join a b x y h k e = elim (cases_Bool (is_join a)) [
   | inl ja ↦ elim (cases_Bool (is_join b)) [
     | inl jb ↦
-        let whole : codes "join" ∷ decimal (a - 2 ^ 32) ∷ x ≡ codes "join" ∷ decimal (b - 2 ^ 32) ∷ y =
-        ap (λ (w : List (List ℕ)). w ++ x) (sym (words-join a ja)) ∙ (e ∙ ap (λ (w : List (List ℕ)). w ++ y) (words-join b jb)) in
-        let suffix = (same_first (codes "join") (codes "join") (decimal (a - 2 ^ 32) ∷ x) (decimal (b - 2 ^ 32) ∷ y) whole).1 in
+        let whole : codes "join" ∷ decimal (a - 2 ^ 32) ∷ x
+        ≡ codes "join" ∷ decimal (b - 2 ^ 32) ∷ y =
+        ap (λ (w : List (List ℕ)). w ++ x) (sym (words-join a ja))
+        ∙ (e ∙ ap (λ (w : List (List ℕ)). w ++ y) (words-join b jb)) in
+        let suffix = (same_first (codes "join") (codes "join") (decimal (a - 2 ^ 32) ∷ x)
+        (decimal (b - 2 ^ 32) ∷ y) whole).1 in
         let number = (same_first (decimal (a - 2 ^ 32)) (decimal (b - 2 ^ 32)) x y suffix).0 in
         let low : a - 2 ^ 32 < 2 ^ 64 = omega (arith, join_small a ja) in
         let other : b - 2 ^ 32 < 2 ^ 64 = omega (arith, join_small b jb) in
-        let same : a - 2 ^ 32 ≡ b - 2 ^ 32 = same_number (a - 2 ^ 32) (b - 2 ^ 32) low other number in
+        let same : a - 2 ^ 32 ≡ b - 2 ^ 32 =
+        same_number (a - 2 ^ 32) (b - 2 ^ 32) low other number in
         omega (arith, join_least a ja, join_least b jb)
     | inr nb ↦
         let whole : codes "join" ∷ decimal (a - 2 ^ 32) ∷ x ≡ other_word b ∷ y =
-        ap (λ (w : List (List ℕ)). w ++ x) (sym (words-join a ja)) ∙ (e ∙ ap (λ (w : List (List ℕ)). w ++ y) (words-other b nb)) in
+        ap (λ (w : List (List ℕ)). w ++ x) (sym (words-join a ja))
+        ∙ (e ∙ ap (λ (w : List (List ℕ)). w ++ y) (words-other b nb)) in
         absurd (not_other b (decimal (a - 2 ^ 32) ∷ x) y whole)
   ]
   | inr na ↦ elim (cases_Bool (is_join b)) [
     | inl jb ↦
         let whole : codes "join" ∷ decimal (b - 2 ^ 32) ∷ y ≡ other_word a ∷ x =
-        ap (λ (w : List (List ℕ)). w ++ y) (sym (words-join b jb)) ∙ (sym e ∙ ap (λ (w : List (List ℕ)). w ++ x) (words-other a na)) in
+        ap (λ (w : List (List ℕ)). w ++ y) (sym (words-join b jb))
+        ∙ (sym e ∙ ap (λ (w : List (List ℕ)). w ++ x) (words-other a na)) in
         absurd (not_other a (decimal (b - 2 ^ 32) ∷ y) x whole)
     | inr nb ↦
         one_kind_operation Second Counter a b x y h k
-        (ap (λ (w : List (List ℕ)). w ++ x) (sym (as_counter a na)) ∙ (e ∙ ap (λ (w : List (List ℕ)). w ++ y) (as_counter b nb)))
+        (ap (λ (w : List (List ℕ)). w ++ x) (sym (as_counter a na))
+        ∙ (e ∙ ap (λ (w : List (List ℕ)). w ++ y) (as_counter b nb)))
   ]
 ]
 
@@ -85,13 +95,20 @@ solid_join op h = elim (cases_Bool (is_join op)) [
       let low : op - 2 ^ 32 < 2 ^ 64 = omega (arith, join_small op joins) in
       subst AreSolid (sym (words-join op joins)) (record {
         some = omega arith;
-        each = (plain (codes "join") (omega arith, (omega arith, (omega arith, (omega arith, tt)))) (omega arith), (solid_decimal (op - 2 ^ 32) low, tt));
+        each = (
+          plain (codes "join") (omega arith, (omega arith, (omega arith, (omega arith, tt))))
+              (omega arith),
+          (solid_decimal (op - 2 ^ 32) low, tt),
+        );
       })
-  | inr nothing ↦ subst AreSolid (sym (as_counter op nothing)) (solid_kind_words Second Counter op h)
+  | inr nothing ↦
+      subst AreSolid (sym (as_counter op nothing)) (solid_kind_words Second Counter op h)
 ]
 
 pub few_join : (op : ℕ) → length (join_words op) ≤ 3
 few_join op = elim (cases_Bool (is_join op)) [
-  | inl joins ↦ subst (λ (w : List (List ℕ)). length w ≤ 3) (sym (words-join op joins)) (omega arith)
-  | inr nothing ↦ subst (λ (w : List (List ℕ)). length w ≤ 3) (sym (as_counter op nothing)) (few_kind_words Counter op)
+  | inl joins ↦
+      subst (λ (w : List (List ℕ)). length w ≤ 3) (sym (words-join op joins)) (omega arith)
+  | inr nothing ↦ subst (λ (w : List (List ℕ)). length w ≤ 3) (sym (as_counter op nothing))
+      (few_kind_words Counter op)
 ]

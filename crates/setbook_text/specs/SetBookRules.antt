@@ -1,4 +1,5 @@
--- The lines of a set book's text, one after the other: which are right, and which test the others fail.
+-- The lines of a set book's text, one after the other: which are right, and which test the others
+-- fail.
 use Rattle.std.specs.Prelude.{◌≡◌, ◌≢◌, ℕ, List, [], ◌∷◌, codes}
 use Rattle.book_base.specs.declared.call.Call.{Call}
 use Rattle.book_base.specs.declared.fault.TextFault.{TextFault}
@@ -39,10 +40,13 @@ in_calls progress = InCalls progress.book progress.due
 abbrev pub SetBookPasses : SetBookDue → List (List ℕ) → SetBookDue → Type 0
 SetBookPasses TitleDue words after = (words ≡ title_words) × (after ≡ ObjectDue)
 SetBookPasses ObjectDue words after = (words ≡ object_words) × (after ≡ CallersDue)
-SetBookPasses CallersDue words after = (n : ℕ) × AreCallers Second n × (words ≡ callers_words n) × (after ≡ CountsDue n)
-SetBookPasses (CountsDue n) words after = (calls : List ℕ) × AreCalls Second n calls × (words ≡ calls_words calls) × (after ≡ in_calls (no_call_read calls))
+SetBookPasses CallersDue words after = (n : ℕ) × AreCallers Second n × (words ≡ callers_words n)
+    × (after ≡ CountsDue n)
+SetBookPasses (CountsDue n) words after = (calls : List ℕ) × AreCalls Second n calls
+    × (words ≡ calls_words calls) × (after ≡ in_calls (no_call_read calls))
 SetBookPasses (InCalls book []) words after = (words ≡ end_words) × (after ≡ AtEnd book)
-SetBookPasses (InCalls book (call ∷ calls)) words after = (next : Progress) × CallPasses Second join_operations book (call ∷ calls) words next × (after ≡ in_calls next)
+SetBookPasses (InCalls book (call ∷ calls)) words after = (next : Progress)
+    × CallPasses Second join_operations book (call ∷ calls) words next × (after ≡ in_calls next)
 SetBookPasses (AtEnd book) words after = ⊥
 
 -- the tests of the lines of a set book's text
@@ -52,13 +56,16 @@ SetBookFails TitleDue words name = (name ≡ what.Head) × (words ≢ title_word
 -- the line isn't 'object joins'
 SetBookFails ObjectDue words name = (name ≡ what.Object) × (words ≢ object_words)
 -- the line isn't 'callers' and a number in range
-SetBookFails CallersDue words name = (name ≡ what.Callers) × ((n : ℕ) → AreCallers Second n → words ≢ callers_words n)
+SetBookFails CallersDue words name = (name ≡ what.Callers)
+    × ((n : ℕ) → AreCallers Second n → words ≢ callers_words n)
 -- the line isn't 'calls' and as many numbers in range as there are callers
-SetBookFails (CountsDue n) words name = (name ≡ what.Calls) × ((calls : List ℕ) → AreCalls Second n calls → words ≢ calls_words calls)
+SetBookFails (CountsDue n) words name = (name ≡ what.Calls)
+    × ((calls : List ℕ) → AreCalls Second n calls → words ≢ calls_words calls)
 -- the line isn't the last one
 SetBookFails (InCalls book []) words name = (name ≡ what.End) × (words ≢ end_words)
 -- the line is no line for the call that is due
-SetBookFails (InCalls book (call ∷ calls)) words name = CallFails Second join_operations book (call ∷ calls) words name
+SetBookFails (InCalls book (call ∷ calls)) words name =
+    CallFails Second join_operations book (call ∷ calls) words name
 SetBookFails (AtEnd book) words name = ⊥
 
 -- what is wanted in the text of a set book
@@ -102,7 +109,8 @@ set_head_wanted (AtEnd book) = Nothing
 abbrev pub set_head_rules : Rules SetBookDue
 set_head_rules = record { Passes = SetHeadPasses; Fails = SetHeadFails; wanted = set_head_wanted }
 
--- The text begins with the head of a set book with these numbers of calls, and leaves the rest unread.
+-- The text begins with the head of a set book with these numbers of calls, and leaves the rest
+-- unread.
 abbrev pub IsSetHead : List ℕ → Unread → Unread → Type 0
 IsSetHead calls text left = GoesTo set_head_rules TitleDue text (in_calls (no_call_read calls)) left
 
@@ -116,7 +124,8 @@ IsFirstSetBookFault bytes fault = IsFirstFault setbook_rules TitleDue (whole_tex
 
 -- The bytes are the text of this set book: right lines from the title to the end of the bytes.
 abbrev pub IsSetBookText : List ℕ → List Page → Type 0
-IsSetBookText bytes book = (left : Unread) × IsReadTo setbook_rules TitleDue (whole_text bytes) (AtEnd book) left
+IsSetBookText bytes book = (left : Unread)
+    × IsReadTo setbook_rules TitleDue (whole_text bytes) (AtEnd book) left
 
 -- The bytes are the text of no set book.
 abbrev pub IsNoSetBookText : List ℕ → Type 0

@@ -10,8 +10,8 @@ use seq_objects::{Kind, number};
 use set_order::Joins;
 use text_fields::OpText;
 
-/// The words of the operations of joins in a text of version 2: `join` and a number below 32, or `#` and
-/// the whole operation word in digits.
+/// The words of the operations of joins in a text of version 2: `join` and a number below 32, or
+/// `#` and the whole operation word in digits.
 #[derive(Clone, Copy, Debug)]
 pub struct JoinWords;
 
@@ -60,8 +60,8 @@ fn joined(word: Option<&[u8]>) -> Option<u32>
     }
 }
 
-/// The operation that joins nothing and has this one word. A counter knows one operation word alone,
-/// which joins 0: so it reads each operation that joins nothing as a text of joins has it.
+/// The operation that joins nothing and has this one word. A counter knows one operation word
+/// alone, which joins 0: so it reads each operation that joins nothing as a text of joins has it.
 fn other(word: &[u8]) -> Option<OpWord>
     ensures found { IfSome result (λ op.
         (op < 2 ^ 128) × (is_join op ≡ false) × (word.now ≡ other_word op)) }

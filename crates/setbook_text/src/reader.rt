@@ -52,8 +52,8 @@ fn read_text(alloc: Global, bytes: &[u8]) -> Result<Book, ReadFault>
     Ok(book)
 }
 
-/// The head: the number of callers, and the number of calls of each. After a refusal the lines stay as
-/// they were.
+/// The head: the number of callers, and the number of calls of each. After a refusal the lines stay
+/// as they were.
 fn read_head(lines: &mut Lines) -> Result<(u32, Cut), TextFault>
     ensures found { IfOk result (λ (n, calls). IsSetHead calls lines.old lines.new) }
     ensures says { IfOk result (λ (n, calls). AreCallers Second n × AreCalls Second n calls) }

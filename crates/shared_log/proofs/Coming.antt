@@ -7,8 +7,10 @@ use Rattle.std.proofs.lemmas.List.Elements.{All-cons, All-nil, All-weaker}
 use Rattle.shared_log.specs.Holders.{has, only}
 use Rattle.shared_log.proofs.Holding.{only_here, length-only, with_here, with_else}
 
--- Of the seats of n callers, those after some prefix came back: a view has what each knows, and nothing of the others.
-pub record IsComing {S A : Type 0} (caller : S → ℕ) (known : S → A) (n : ℕ) (all rest gathered : List S) (v : List (Option A)) : Type 0 where
+-- Of the seats of n callers, those after some prefix came back: a view has what each knows, and
+-- nothing of the others.
+pub record IsComing {S A : Type 0} (caller : S → ℕ) (known : S → A) (n : ℕ)
+    (all rest gathered : List S) (v : List (Option A)) : Type 0 where
   pub split : all ≡ rest ++ gathered
   pub hands : All (λ s. has v (caller s) ≡ Some (known s)) gathered
   pub below : (i : ℕ) → i < length rest → has v i ≡ None
@@ -24,32 +26,40 @@ module _ {S A : Type 0} (caller : S → ℕ) (known : S → A) where
   callers_count a zero [] e = refl
   callers_count a zero (x ∷ xs) e = absurd (let long = ap length e in omega arith)
   callers_count a (suc n) [] e = absurd (let long = ap length e in omega arith)
-  callers_count a (suc n) (x ∷ xs) e = let rest : map caller xs ≡ range_with_len (a + 1) n = cc in ap suc (callers_count (a + 1) n xs rest)
+  callers_count a (suc n) (x ∷ xs) e = let rest : map caller xs ≡ range_with_len (a + 1) n = cc in
+      ap suc (callers_count (a + 1) n xs rest)
 
   -- in seats that are in order, a seat's caller is its place
-  caller_at : (a n : ℕ) (xs ys : List S) (s : S) → map caller (xs ++ s ∷ ys) ≡ range_with_len a n → (caller s ≡ a + length xs) × (length xs + suc (length ys) ≡ n)
+  caller_at : (a n : ℕ) (xs ys : List S) (s : S) → map caller (xs ++ s ∷ ys) ≡ range_with_len a n
+      → (caller s ≡ a + length xs) × (length xs + suc (length ys) ≡ n)
   caller_at a zero [] ys s e = absurd (let long = ap length e in omega arith)
   caller_at a zero (x ∷ xs) ys s e = absurd (let long = ap length e in omega arith)
   caller_at a (suc n) [] ys s e =
       let head : caller s ≡ a = cc in
-      let tail : map caller ys ≡ range_with_len (a + 1) n = cc in
-      ((let same = head in omega arith), (let long = callers_count (a + 1) n ys tail in omega arith))
+      let tail : map caller ys ≡ range_with_len (a + 1) n = cc in (
+        (let same = head in omega arith),
+        (let long = callers_count (a + 1) n ys tail in omega arith),
+      )
   caller_at a (suc n) (x ∷ xs) ys s e =
       let tail : map caller (xs ++ s ∷ ys) ≡ range_with_len (a + 1) n = cc in
       let deeper = caller_at (a + 1) n xs ys s tail in
       ((let same = deeper.0 in omega arith), (let long = deeper.1 in omega arith))
 
   -- the last one keeps its seat
-  pub starts_coming : (n : ℕ) (all rest : List S) (last : S) (v : List (Option A)) → all ≡ rest ++ last ∷ [] → map caller all ≡ range_with_len 0 n → v ≡ only (caller last) (known last)
+  pub starts_coming : (n : ℕ) (all rest : List S) (last : S) (v : List (Option A)) → all ≡ rest
+      ++ last ∷ [] → map caller all ≡ range_with_len 0 n → v ≡ only (caller last) (known last)
       → IsComing caller known n all rest (last ∷ []) v
   starts_coming n all rest last v is callers alone =
       let at = caller_at 0 n rest [] last (ap (map caller) (sym is) ∙ callers) in
       let who : caller last ≡ length rest = (let place = at.0 in omega arith) in
-      let here : has v (caller last) ≡ Some (known last) = ap (λ (w : List (Option A)). has w (caller last)) alone ∙ only_here (caller last) (known last) in
+      let here : has v (caller last) ≡ Some (known last) = ap
+      (λ (w : List (Option A)). has w (caller last)) alone ∙ only_here (caller last) (known last) in
       record {
         split = is;
-        hands = All-cons (λ s. has v (caller s) ≡ Some (known s)) last [] here (All-nil (λ s. has v (caller s) ≡ Some (known s)));
-        below = λ i low. ap (λ (w : List (Option A)). has w i) alone ∙ only_below (caller last) i (known last) (omega arith);
+        hands = All-cons (λ s. has v (caller s) ≡ Some (known s)) last [] here
+            (All-nil (λ s. has v (caller s) ≡ Some (known s)));
+        below = λ i low. ap (λ (w : List (Option A)). has w i) alone
+            ∙ only_below (caller last) i (known last) (omega arith);
         wide =
             let long = length-only (caller last) (known last) in
             let same = ap (λ (w : List (Option A)). length w) alone in
@@ -59,15 +69,18 @@ module _ {S A : Type 0} (caller : S → ℕ) (known : S → A) where
 
   -- where the next one comes back
   module _ (n : ℕ) (all rest rest' gathered : List S) (s : S) (v : List (Option A))
-      (callers : map caller all ≡ range_with_len 0 n) (h : IsComing caller known n all rest gathered v) (popped : rest ≡ rest' ++ s ∷ []) where
+      (callers : map caller all ≡ range_with_len 0 n)
+      (h : IsComing caller known n all rest gathered v) (popped : rest ≡ rest' ++ s ∷ []) where
     pub split_next : all ≡ rest' ++ s ∷ gathered
-    split_next = h.split ∙ ap (λ (r : List S). r ++ gathered) popped ∙ append_assoc rest' (s ∷ []) gathered
+    split_next =
+        h.split ∙ ap (λ (r : List S). r ++ gathered) popped ∙ append_assoc rest' (s ∷ []) gathered
 
     place : (caller s ≡ 0 + length rest') × (length rest' + suc (length gathered) ≡ n)
     place = caller_at 0 n rest' gathered s (ap (map caller) (sym split_next) ∙ callers)
 
     next_low : caller s < length rest
-    next_low = let at = place.0 in let long = ap length popped in omega (arith, length-append rest' (s ∷ []))
+    next_low = let at = place.0 in let long = ap length popped in
+        omega (arith, length-append rest' (s ∷ []))
 
     -- the view lacks it, and has a place for it
     pub next_gone : has v (caller s) ≡ None
@@ -81,26 +94,34 @@ module _ {S A : Type 0} (caller : S → ℕ) (known : S → A) where
       Has t = has u (caller t) ≡ Some (known t)
 
       own_known : Has s
-      own_known = ap (λ (w : List (Option A)). has w (caller s)) after ∙ with_here v (caller s) (known s) next_inside
+      own_known = ap (λ (w : List (Option A)). has w (caller s)) after
+          ∙ with_here v (caller s) (known s) next_inside
 
       other_known : (t : S) → has v (caller t) ≡ Some (known t) → Has t
       other_known t was =
           ap (λ (w : List (Option A)). has w (caller t)) after
-          ∙ with_else v (caller s) (caller t) (known s) (λ same. none-some (known t) (sym (ap (has v) same ∙ next_gone) ∙ was))
+          ∙ with_else v (caller s) (caller t) (known s)
+          (λ same. none-some (known t) (sym (ap (has v) same ∙ next_gone) ∙ was))
           ∙ was
 
       pub more_coming : IsComing caller known n all rest' (s ∷ gathered) u
       more_coming =
           record {
             split = split_next;
-            hands = All-cons Has s gathered own_known (All-weaker (λ t. has v (caller t) ≡ Some (known t)) Has other_known gathered h.hands);
+            hands = All-cons Has s gathered own_known (All-weaker
+                (λ t. has v (caller t) ≡ Some (known t)) Has other_known gathered h.hands);
             below = λ i low.
                 ap (λ (w : List (Option A)). has w i) after
-                ∙ with_else v (caller s) i (known s) (λ same. absurd (let at = place.0 in omega arith))
-                ∙ h.below i (let long = ap length popped in omega (arith, length-append rest' (s ∷ [])));
-            wide = ap (λ (w : List (Option A)). length w) after ∙ length-set v (caller s) (Some (known s)) ∙ h.wide;
+                ∙ with_else v (caller s) i (known s)
+                (λ same. absurd (let at = place.0 in omega arith))
+                ∙ h.below i
+                (let long = ap length popped in omega (arith, length-append rest' (s ∷ [])));
+            wide = ap (λ (w : List (Option A)). length w) after
+                ∙ length-set v (caller s) (Some (known s)) ∙ h.wide;
           }
 
   -- all came back
-  pub all_came : (n : ℕ) (all rest gathered : List S) (v : List (Option A)) → IsComing caller known n all rest gathered v → length rest ≡ 0 → gathered ≡ all
-  all_came n all rest gathered v h none = sym (h.split ∙ ap (λ (r : List S). r ++ gathered) (nil_from_length rest none))
+  pub all_came : (n : ℕ) (all rest gathered : List S) (v : List (Option A))
+      → IsComing caller known n all rest gathered v → length rest ≡ 0 → gathered ≡ all
+  all_came n all rest gathered v h none =
+      sym (h.split ∙ ap (λ (r : List S). r ++ gathered) (nil_from_length rest none))

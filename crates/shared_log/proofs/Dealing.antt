@@ -15,7 +15,8 @@ pub range_more : (a n : ℕ) → range_with_len a (suc n) ≡ range_with_len a n
 range_more a zero = ap (λ (k : ℕ). k ∷ []) (let same : a ≡ a + 0 = omega arith in same)
 range_more a (suc n) =
     let up : a + 1 + n ≡ a + suc n = omega arith in
-    ap (λ (l : List ℕ). a ∷ l) (range_more (a + 1) n ∙ ap (λ (k : ℕ). range_with_len (a + 1) n ++ k ∷ []) up)
+    ap (λ (l : List ℕ). a ∷ l)
+    (range_more (a + 1) n ∙ ap (λ (k : ℕ). range_with_len (a + 1) n ++ k ∷ []) up)
 
 pub within_none : (n cap : ℕ) → IsWithin n cap []
 within_none n cap = record { callers = λ k d low. absurd (omega arith); calls = λ i. omega arith }
@@ -26,12 +27,20 @@ pub record IsDealt (l : SharedLog) (who : ℕ) (seats : List LogSeat) : Type 0 w
   pub each : All (IsSeatOf l) seats
   pub fresh : All (λ s. log_of s ≡ []) seats
 
-pub dealt : (l : SharedLog) (who : ℕ) (seats new : List LogSeat) (s : LogSeat) (ok : Bool) → IsDealt l who seats
-    → new ≡ cond ok (seats ++ s ∷ []) seats → ok ≡ true → caller_of s ≡ who → IsPlaced l s.seat → s.cap ≡ l.cap → l.callers * l.cap ≤ vec_capacity s.log → log_of s ≡ []
+pub dealt : (l : SharedLog) (who : ℕ) (seats new : List LogSeat) (s : LogSeat) (ok : Bool)
+    → IsDealt l who seats
+    → new ≡ cond ok (seats ++ s ∷ []) seats → ok ≡ true → caller_of s ≡ who → IsPlaced l s.seat
+    → s.cap ≡ l.cap → l.callers * l.cap ≤ vec_capacity s.log → log_of s ≡ []
     → IsDealt l (who + 1) new
 dealt l who seats new s ok h is done own placed cap room none =
     let pushed : new ≡ seats ++ s ∷ [] = is ∙ cond-true ok (seats ++ s ∷ []) seats done in
-    let here : IsSeatOf l s = record { placed = placed; cap = cap; room = room; within = subst (λ (log : List Entry). IsWithin l.callers l.cap log) (sym none) (within_none l.callers l.cap) } in
+    let here : IsSeatOf l s = record {
+      placed = placed;
+      cap = cap;
+      room = room;
+      within = subst (λ (log : List Entry). IsWithin l.callers l.cap log) (sym none)
+          (within_none l.callers l.cap);
+    } in
     let up : suc who ≡ who + 1 = omega arith in
     let last : who ≡ 0 + who = omega arith in
     record {
@@ -41,6 +50,8 @@ dealt l who seats new s ok h is done own placed cap room none =
           ∙ (λ i. h.callers i ++ (own ∙ last) i ∷ [])
           ∙ sym (range_more 0 who)
           ∙ ap (range_with_len 0) up;
-      each = subst (λ (ss : List LogSeat). All (IsSeatOf l) ss) (sym pushed) (All-push (IsSeatOf l) seats s h.each here);
-      fresh = subst (λ (ss : List LogSeat). All (λ t. log_of t ≡ []) ss) (sym pushed) (All-push (λ t. log_of t ≡ []) seats s h.fresh none);
+      each = subst (λ (ss : List LogSeat). All (IsSeatOf l) ss) (sym pushed)
+          (All-push (IsSeatOf l) seats s h.each here);
+      fresh = subst (λ (ss : List LogSeat). All (λ t. log_of t ≡ []) ss) (sym pushed)
+          (All-push (λ t. log_of t ≡ []) seats s h.fresh none);
     }

@@ -12,12 +12,14 @@ use Rattle.shared_log.proofs.Logs.{ends_at, calls_by-at, calls_by-push_other, wi
 use Rattle.shared_log.proofs.Numbers.{number_low, not_ticket, not_other, not_stored, not_others}
 
 -- a word that isn't written stays
-stays : (words : List ℕ) (at other x : ℕ) → other ≢ at → slice_index (slice_set words at x) other ≡ slice_index words other
+stays : (words : List ℕ) (at other x : ℕ) → other ≢ at
+    → slice_index (slice_set words at x) other ≡ slice_index words other
 stays words at other x ne = get_or-set_other words at other x 0 ne
 
 -- a store of a word of the next operation of a caller
 module _ (n cap who : ℕ) (words : List ℕ) (log : List Entry) (h : Hand) (word x : ℕ)
-    (stand : AreWordsOf n cap words log) (fits : Fits n cap words log who h) (left : length (calls_by who h.log) < cap) (few : length h.staged < 2)
+    (stand : AreWordsOf n cap words log) (fits : Fits n cap words log who h)
+    (left : length (calls_by who h.log) < cap) (few : length h.staged < 2)
     (at : word ≡ operation_index (next_number cap who h) + length h.staged) where
   abbrev pub staged_words : List ℕ
   staged_words = slice_set words word x
@@ -25,20 +27,29 @@ module _ (n cap who : ℕ) (words : List ℕ) (log : List Entry) (h : Hand) (wor
   next_low : next_number cap who h < n * cap
   next_low = number_low n cap who (length (calls_by who h.log)) fits.caller left
 
-  ticket_stays : (place : ℕ) → slice_index staged_words (ticket_index n cap place) ≡ slice_index words (ticket_index n cap place)
-  ticket_stays place = stays words word (ticket_index n cap place) x (λ e. not_ticket n cap (next_number cap who h) (length h.staged) place next_low few (sym at ∙ sym e))
+  ticket_stays : (place : ℕ) → slice_index staged_words (ticket_index n cap place)
+      ≡ slice_index words (ticket_index n cap place)
+  ticket_stays place = stays words word (ticket_index n cap place) x (λ e. not_ticket n cap
+      (next_number cap who h) (length h.staged) place next_low few (sym at ∙ sym e))
 
-  operation_stays : (number half : ℕ) → number ≢ next_number cap who h → half < 2 → slice_index staged_words (operation_index number + half) ≡ slice_index words (operation_index number + half)
-  operation_stays number half ne low = stays words word (operation_index number + half) x (λ e. not_other number (next_number cap who h) half (length h.staged) ne low few (e ∙ at))
+  operation_stays : (number half : ℕ) → number ≢ next_number cap who h → half < 2
+      → slice_index staged_words (operation_index number + half)
+      ≡ slice_index words (operation_index number + half)
+  operation_stays number half ne low = stays words word (operation_index number + half) x
+      (λ e. not_other number (next_number cap who h) half (length h.staged) ne low few (e ∙ at))
 
-  stored_stays : (before rest : List Entry) (e : Entry) → log ≡ before ++ e ∷ rest → IsStored n cap staged_words before e
+  stored_stays : (before rest : List Entry) (e : Entry) → log ≡ before ++ e ∷ rest
+      → IsStored n cap staged_words before e
   stored_stays before rest e is =
       let was = stand.stored before rest e is in
       let apart = not_stored n cap who log before rest e h stand.within is fits.own left in
-      let at_low : operation_index (number_after cap before e) + 0 ≡ operation_index (number_after cap before e) = omega arith in
+      let at_low : operation_index (number_after cap before e) + 0
+      ≡ operation_index (number_after cap before e) = omega arith in
       record {
         ticket = ticket_stays (length before) ∙ was.ticket;
-        low = ap (slice_index staged_words) (sym at_low) ∙ operation_stays (number_after cap before e) 0 apart (omega arith) ∙ ap (slice_index words) at_low ∙ was.low;
+        low = ap (slice_index staged_words) (sym at_low)
+            ∙ operation_stays (number_after cap before e) 0 apart (omega arith)
+            ∙ ap (slice_index words) at_low ∙ was.low;
         high = operation_stays (number_after cap before e) 1 apart (omega arith) ∙ was.high;
       }
 
@@ -51,10 +62,12 @@ module _ (n cap who : ℕ) (words : List ℕ) (log : List Entry) (h : Hand) (wor
         free = λ place suffix low. ticket_stays place ∙ stand.free place suffix low;
       }
 
-  staged_at : (half : ℕ) → half < length (h.staged ++ x ∷ []) → slice_index staged_words (operation_index (next_number cap who h) + half) ≡ slice_index (h.staged ++ x ∷ []) half
+  staged_at : (half : ℕ) → half < length (h.staged ++ x ∷ []) → slice_index staged_words
+      (operation_index (next_number cap who h) + half) ≡ slice_index (h.staged ++ x ∷ []) half
   staged_at half low = elim (cases_lt half (length h.staged)) [
     | inl old ↦
-        stays words word (operation_index (next_number cap who h) + half) x (λ e. absurd (omega arith))
+        stays words word (operation_index (next_number cap who h) + half) x
+        (λ e. absurd (omega arith))
         ∙ fits.staged half old
         ∙ sym (get_or_append_left h.staged (x ∷ []) 0 half old)
     | inr new ↦
@@ -62,10 +75,12 @@ module _ (n cap who : ℕ) (words : List ℕ) (log : List Entry) (h : Hand) (wor
         let last : half ≡ length h.staged = omega arith in
         let zero_more : length h.staged + 0 ≡ length h.staged = omega arith in
         let here : operation_index (next_number cap who h) + half ≡ word = omega arith in
-        let inside : word < length words = (let low = next_low in let all = stand.count in omega arith) in
+        let inside : word < length words =
+        (let low = next_low in let all = stand.count in omega arith) in
         ap (slice_index staged_words) here
         ∙ get_or-set_same words word x 0 inside
-        ∙ sym (ap (slice_index (h.staged ++ x ∷ [])) (last ∙ sym zero_more) ∙ get_or-append-add h.staged (x ∷ []) 0 0)
+        ∙ sym (ap (slice_index (h.staged ++ x ∷ [])) (last ∙ sym zero_more)
+        ∙ get_or-append-add h.staged (x ∷ []) 0 0)
   ]
 
   pub stage_fits : Fits n cap staged_words log who (hand h.log (h.staged ++ x ∷ []) h.tried)
@@ -79,7 +94,8 @@ module _ (n cap who : ℕ) (words : List ℕ) (log : List Entry) (h : Hand) (wor
         staged = staged_at;
       }
 
-  pub stage_others : (i : ℕ) (m : Hand) → i ≢ who → Fits n cap words log i m → Fits n cap staged_words log i m
+  pub stage_others : (i : ℕ) (m : Hand) → i ≢ who → Fits n cap words log i m
+      → Fits n cap staged_words log i m
   stage_others i m ne was =
       record {
         caller = was.caller;
@@ -88,13 +104,16 @@ module _ (n cap who : ℕ) (words : List ℕ) (log : List Entry) (h : Hand) (wor
         room = was.room;
         few = was.few;
         staged = λ half low.
-            operation_stays (next_number cap i m) half (not_others cap i who m h ne (was.room (omega arith)) left) (let few = was.few in omega arith)
+            operation_stays (next_number cap i m) half
+            (not_others cap i who m h ne (was.room (omega arith)) left)
+            (let few = was.few in omega arith)
             ∙ was.staged half low;
       }
 
 -- the first place that a caller doesn't know
 module _ (n cap who : ℕ) (words : List ℕ) (log : List Entry) (h : Hand)
-    (stand : AreWordsOf n cap words log) (fits : Fits n cap words log who h) (here : length h.log < n * cap) where
+    (stand : AreWordsOf n cap words log) (fits : Fits n cap words log who h)
+    (here : length h.log < n * cap) where
   abbrev pub ticket_there : ℕ
   ticket_there = slice_index words (ticket_index n cap (length h.log))
 
@@ -107,10 +126,12 @@ module _ (n cap who : ℕ) (words : List ℕ) (log : List Entry) (h : Hand)
 
   -- a filled ticket: the entry there is the next of the log
   pub next_entry : ticket_there ≢ 0 → (e : Entry) × (rest : List Entry) × (log ≡ h.log ++ e ∷ rest)
-  next_entry filled = elim fits.prefix.0 as (λ rest. log ≡ h.log ++ rest → (e : Entry) × (rest' : List Entry) × (log ≡ h.log ++ e ∷ rest')) [
-    | [] ↦ λ is. absurd (let long = ap length (is ∙ append-nil h.log) in filled (stand.free (length h.log) (omega arith) here))
-    | (e ∷ rest) ↦ λ is. (e, rest, is)
-  ] fits.prefix.1
+  next_entry filled = elim fits.prefix.0 as (λ rest. log ≡ h.log ++ rest → (e : Entry)
+      × (rest' : List Entry) × (log ≡ h.log ++ e ∷ rest')) [
+        | [] ↦ λ is. absurd (let long = ap length (is ∙ append-nil h.log) in
+            filled (stand.free (length h.log) (omega arith) here))
+        | (e ∷ rest) ↦ λ is. (e, rest, is)
+      ] fits.prefix.1
 
   module _ (e : Entry) (rest : List Entry) (is : log ≡ h.log ++ e ∷ rest) (tried : List ℕ) where
     abbrev pub learnt : Hand
@@ -122,10 +143,13 @@ module _ (n cap who : ℕ) (words : List ℕ) (log : List Entry) (h : Hand)
     other : e.caller ≢ who
     other mine =
         let here = calls_by-at h.log rest e in
-        let all : length (calls_by e.caller log) ≡ length (calls_by e.caller (h.log ++ e ∷ rest)) = ap (λ (l : List Entry). length (calls_by e.caller l)) is in
-        let by_who : length (calls_by e.caller log) ≡ length (calls_by who log) = ap (λ (i : ℕ). length (calls_by i log)) mine in
+        let all : length (calls_by e.caller log) ≡ length (calls_by e.caller (h.log ++ e ∷ rest)) =
+        ap (λ (l : List Entry). length (calls_by e.caller l)) is in
+        let by_who : length (calls_by e.caller log) ≡ length (calls_by who log) =
+        ap (λ (i : ℕ). length (calls_by i log)) mine in
         let known : length (calls_by who log) ≡ length (calls_by who h.log) = ap length fits.own in
-        let by_who' : length (calls_by e.caller h.log) ≡ length (calls_by who h.log) = ap (λ (i : ℕ). length (calls_by i h.log)) mine in
+        let by_who' : length (calls_by e.caller h.log) ≡ length (calls_by who h.log) =
+        ap (λ (i : ℕ). length (calls_by i h.log)) mine in
         omega arith
 
     same_calls : calls_by who (h.log ++ e ∷ []) ≡ calls_by who h.log
@@ -133,14 +157,17 @@ module _ (n cap who : ℕ) (words : List ℕ) (log : List Entry) (h : Hand)
 
     pub learn_fits : Fits n cap words log who learnt
     learn_fits =
-        let count : length (calls_by who (h.log ++ e ∷ [])) ≡ length (calls_by who h.log) = ap length same_calls in
+        let count : length (calls_by who (h.log ++ e ∷ [])) ≡ length (calls_by who h.log) =
+        ap length same_calls in
         record {
           caller = fits.caller;
           prefix = (rest, prefix_is);
           own = fits.own ∙ sym same_calls;
           room = λ some. let was = fits.room some in omega arith;
           few = fits.few;
-          staged = λ half low. ap (λ (k : ℕ). slice_index words (operation_index (number_of cap who k) + half)) count ∙ fits.staged half low;
+          staged = λ half low.
+              ap (λ (k : ℕ). slice_index words (operation_index (number_of cap who k) + half)) count
+              ∙ fits.staged half low;
         }
 
     pub learn_tells : Learns n cap who ticket_there tried h learnt
@@ -150,11 +177,13 @@ module _ (n cap who : ℕ) (words : List ℕ) (log : List Entry) (h : Hand)
           log = refl;
           ticket = (stand.stored h.log rest e is).ticket;
           other = same_calls;
-          within = within_prefix n cap (h.log ++ e ∷ []) rest (subst (λ (l : List Entry). IsWithin n cap l) prefix_is stand.within);
+          within = within_prefix n cap (h.log ++ e ∷ []) rest
+              (subst (λ (l : List Entry). IsWithin n cap l) prefix_is stand.within);
         }
 
   -- the caller's own ticket goes to that place
-  module _ (op : ℕ) (left : length (calls_by who h.log) < cap) (staged : h.staged ≡ low_of op ∷ high_of op ∷ []) (free : ticket_there ≡ 0) (ticket : ℕ)
+  module _ (op : ℕ) (left : length (calls_by who h.log) < cap)
+      (staged : h.staged ≡ low_of op ∷ high_of op ∷ []) (free : ticket_there ≡ 0) (ticket : ℕ)
       (own_ticket : ticket ≡ next_number cap who h + 1) where
     abbrev pub mine : Entry
     mine = entry who op
@@ -174,35 +203,48 @@ module _ (n cap who : ℕ) (words : List ℕ) (log : List Entry) (h : Hand)
     left_in_log : length (calls_by who log) < cap
     left_in_log = let known = ap length fits.own in omega arith
 
-    operation_kept : (number half : ℕ) → number < n * cap → half < 2 → slice_index placed_words (operation_index number + half) ≡ slice_index words (operation_index number + half)
+    operation_kept : (number half : ℕ) → number < n * cap → half < 2 → slice_index placed_words
+        (operation_index number + half) ≡ slice_index words (operation_index number + half)
     operation_kept number half low one =
-        stays words (ticket_index n cap (length h.log)) (operation_index number + half) ticket (not_ticket n cap number half (length h.log) low one)
+        stays words (ticket_index n cap (length h.log)) (operation_index number + half) ticket
+        (not_ticket n cap number half (length h.log) low one)
 
-    ticket_kept : (place : ℕ) → place ≢ length h.log → slice_index placed_words (ticket_index n cap place) ≡ slice_index words (ticket_index n cap place)
-    ticket_kept place ne = stays words (ticket_index n cap (length h.log)) (ticket_index n cap place) ticket (λ e. ne (omega arith))
+    ticket_kept : (place : ℕ) → place ≢ length h.log → slice_index placed_words
+        (ticket_index n cap place) ≡ slice_index words (ticket_index n cap place)
+    ticket_kept place ne = stays words (ticket_index n cap (length h.log))
+        (ticket_index n cap place) ticket (λ e. ne (omega arith))
 
-    stored_kept : (before rest : List Entry) (e : Entry) → log ≡ before ++ e ∷ rest → IsStored n cap placed_words before e
+    stored_kept : (before rest : List Entry) (e : Entry) → log ≡ before ++ e ∷ rest
+        → IsStored n cap placed_words before e
     stored_kept before rest e is =
         let was = stand.stored before rest e is in
-        let at = within_at n cap before rest e (subst (λ (l : List Entry). IsWithin n cap l) is stand.within) in
-        let low : number_after cap before e < n * cap = number_low n cap e.caller (length (calls_by e.caller before)) at.0 at.1 in
+        let at = within_at n cap before rest e
+        (subst (λ (l : List Entry). IsWithin n cap l) is stand.within) in
+        let low : number_after cap before e < n * cap =
+        number_low n cap e.caller (length (calls_by e.caller before)) at.0 at.1 in
         let all = ap length is in
         let known = ap length whole in
         let parts = length-append before (e ∷ rest) in
-        let at_low : operation_index (number_after cap before e) + 0 ≡ operation_index (number_after cap before e) = omega arith in
+        let at_low : operation_index (number_after cap before e) + 0
+        ≡ operation_index (number_after cap before e) = omega arith in
         record {
           ticket = ticket_kept (length before) (λ same. absurd (omega arith)) ∙ was.ticket;
-          low = ap (slice_index placed_words) (sym at_low) ∙ operation_kept (number_after cap before e) 0 low (omega arith) ∙ ap (slice_index words) at_low ∙ was.low;
+          low = ap (slice_index placed_words) (sym at_low)
+              ∙ operation_kept (number_after cap before e) 0 low (omega arith)
+              ∙ ap (slice_index words) at_low ∙ was.low;
           high = operation_kept (number_after cap before e) 1 low (omega arith) ∙ was.high;
         }
 
     stored_mine : IsStored n cap placed_words log mine
     stored_mine =
-        let next : next_number cap who h < n * cap = number_low n cap who (length (calls_by who h.log)) fits.caller left in
+        let next : next_number cap who h < n * cap =
+        number_low n cap who (length (calls_by who h.log)) fits.caller left in
         let known : length log ≡ length h.log = ap length whole in
         let two : length h.staged ≡ 2 = ap length staged in
-        let at_low : operation_index (next_number cap who h) + 0 ≡ operation_index (next_number cap who h) = omega arith in
-        let inside : ticket_index n cap (length h.log) < length words = (let all = stand.count in omega arith) in
+        let at_low : operation_index (next_number cap who h) + 0
+        ≡ operation_index (next_number cap who h) = omega arith in
+        let inside : ticket_index n cap (length h.log) < length words =
+        (let all = stand.count in omega arith) in
         record {
           ticket =
               ap (λ (k : ℕ). slice_index placed_words (ticket_index n cap k)) known
@@ -222,9 +264,11 @@ module _ (n cap who : ℕ) (words : List ℕ) (log : List Entry) (h : Hand)
               ∙ ap (λ (l : List ℕ). slice_index l 1) staged;
         }
 
-    stored_placed : (before rest : List Entry) (e : Entry) → placed_log ≡ before ++ e ∷ rest → IsStored n cap placed_words before e
+    stored_placed : (before rest : List Entry) (e : Entry) → placed_log ≡ before ++ e ∷ rest
+        → IsStored n cap placed_words before e
     stored_placed before rest e is = elim (ends_at log before rest mine e is) [
-      | inl last ↦ subst (λ (y : List Entry × Entry). IsStored n cap placed_words y.0 y.1) (λ i. (last.0 i, last.1 i)) stored_mine
+      | inl last ↦ subst (λ (y : List Entry × Entry). IsStored n cap placed_words y.0 y.1)
+          (λ i. (last.0 i, last.1 i)) stored_mine
       | inr old ↦ stored_kept before old.0 e old.1
     ]
 
@@ -246,7 +290,8 @@ module _ (n cap who : ℕ) (words : List ℕ) (log : List Entry) (h : Hand)
     pub placed_is : placed_log ≡ h.log ++ mine ∷ []
     placed_is = ap (λ (l : List Entry). l ++ mine ∷ []) whole
 
-    pub place_fits : (tried : List ℕ) → Fits n cap placed_words placed_log who (hand (h.log ++ mine ∷ []) [] tried)
+    pub place_fits : (tried : List ℕ)
+        → Fits n cap placed_words placed_log who (hand (h.log ++ mine ∷ []) [] tried)
     place_fits tried =
         record {
           caller = fits.caller;
@@ -257,7 +302,8 @@ module _ (n cap who : ℕ) (words : List ℕ) (log : List Entry) (h : Hand)
           staged = λ half low. absurd (omega arith);
         }
 
-    pub place_others : (i : ℕ) (m : Hand) → i ≢ who → Fits n cap words log i m → Fits n cap placed_words placed_log i m
+    pub place_others : (i : ℕ) (m : Hand) → i ≢ who → Fits n cap words log i m
+        → Fits n cap placed_words placed_log i m
     place_others i m ne was =
         record {
           caller = was.caller;
@@ -266,6 +312,8 @@ module _ (n cap who : ℕ) (words : List ℕ) (log : List Entry) (h : Hand)
           room = was.room;
           few = was.few;
           staged = λ half low.
-              operation_kept (next_number cap i m) half (number_low n cap i (length (calls_by i m.log)) was.caller (was.room (omega arith))) (let few = was.few in omega arith)
+              operation_kept (next_number cap i m) half
+              (number_low n cap i (length (calls_by i m.log)) was.caller (was.room (omega arith)))
+              (let few = was.few in omega arith)
               ∙ was.staged half low;
         }

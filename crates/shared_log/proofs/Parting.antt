@@ -15,12 +15,14 @@ pub some_words : (n cap : ℕ) → 1 ≤ n → 1 ≤ cap → 0 < word_count n ca
 some_words n cap some few = let most = mul-le 1 1 n cap some few in omega arith
 
 -- a caller that the seat has leaves it
-pub leave_asks : (n cap id who jw : ℕ) (me : Me (Unit {0}) View) (h : Hand) → jw ≡ who → has me.0 who ≡ Some h
+pub leave_asks : (n cap id who jw : ℕ) (me : Me (Unit {0}) View) (h : Hand) → jw ≡ who
+    → has me.0 who ≡ Some h
     → Splits (Ruled n cap) id me.0 (slice_set me.0 jw None) (only jw (the (has me.0 jw)))
 leave_asks n cap id who jw me h is here = steps.leaves n cap 0 id jw me h (ap (has me.0) is ∙ here)
 
 -- the hand that it leaves with
-pub left_hand : (v : View) (me : Me (Unit {0}) View) (who jw own : ℕ) (h : Hand) → jw ≡ who → own ≡ who → has v who ≡ Some h → me ≡ (only jw (the (has v jw)), []) → the (has me.0 own) ≡ h
+pub left_hand : (v : View) (me : Me (Unit {0}) View) (who jw own : ℕ) (h : Hand) → jw ≡ who
+    → own ≡ who → has v who ≡ Some h → me ≡ (only jw (the (has v jw)), []) → the (has me.0 own) ≡ h
 left_hand v me who jw own h is mine here alone =
     ap (λ (m : Me (Unit {0}) View). the (has m.0 own)) alone
     ∙ ap (λ (i : ℕ). the (has (only jw (the (has v jw))) i)) (mine ∙ sym is)
@@ -29,18 +31,26 @@ left_hand v me who jw own h is mine here alone =
     ∙ ap the here
 
 -- the callers that are left
-pub left_others : (n who : ℕ) (v u : View) → ((i : ℕ) → who ≤ i → i < n → has v i ≡ Some empty) → u ≡ slice_set v who None
+pub left_others : (n who : ℕ) (v u : View) → ((i : ℕ) → who ≤ i → i < n → has v i ≡ Some empty)
+    → u ≡ slice_set v who None
     → (i : ℕ) → who + 1 ≤ i → i < n → has u i ≡ Some empty
 left_others n who v u all is i above low =
-    ap (λ (w : View). has w i) is ∙ without_else v who i (λ e. absurd (omega arith)) ∙ all i (omega arith) low
+    ap (λ (w : View). has w i) is ∙ without_else v who i (λ e. absurd (omega arith))
+    ∙ all i (omega arith) low
 
 -- a caller whose seat has one hand comes to a seat that lacks it
-pub return_asks : (n cap id other who : ℕ) (v : View) (me : Me (Unit {0}) View) (h : Hand) → me ≡ (only who (the (has me.0 who)), []) → the (has me.0 who) ≡ h → has v who ≡ None → who < length v
+pub return_asks : (n cap id other who : ℕ) (v : View) (me : Me (Unit {0}) View) (h : Hand)
+    → me ≡ (only who (the (has me.0 who)), []) → the (has me.0 who) ≡ h → has v who ≡ None
+    → who < length v
     → Joins (Ruled n cap) id v other me.0 (holders.joined v me.0) []
 return_asks n cap id other who v me h alone is gone low =
-    steps.returns n cap id other v me.0 who h (ap (λ (m : Me (Unit {0}) View). m.0) alone ∙ ap (only who) is) gone low
+    steps.returns n cap id other v me.0 who h
+    (ap (λ (m : Me (Unit {0}) View). m.0) alone ∙ ap (only who) is) gone low
 
-pub returned : (who : ℕ) (v : View) (me after : Me (Unit {0}) View) (h : Hand) → me ≡ (only who (the (has me.0 who)), []) → the (has me.0 who) ≡ h → has v who ≡ None → who < length v
+pub returned : (who : ℕ) (v : View) (me after : Me (Unit {0}) View) (h : Hand)
+    → me ≡ (only who (the (has me.0 who)), []) → the (has me.0 who) ≡ h → has v who ≡ None
+    → who < length v
     → after.0 ≡ holders.joined v me.0 → after.0 ≡ slice_set v who (Some h)
 returned who v me after h alone is gone low both =
-    both ∙ ap (λ (m : Me (Unit {0}) View). holders.joined v m.0) alone ∙ ap (λ (g : Hand). holders.joined v (only who g)) is ∙ joined_only v who h gone low
+    both ∙ ap (λ (m : Me (Unit {0}) View). holders.joined v m.0) alone
+    ∙ ap (λ (g : Hand). holders.joined v (only who g)) is ∙ joined_only v who h gone low

@@ -13,14 +13,16 @@ pub tried_none : (n cap from past : ℕ) (tried : List ℕ) → HasTried n cap f
 tried_none n cap from past tried = ([], sym (append-nil tried), tt)
 
 -- the places may go on
-tickets_further : (n cap from past past' : ℕ) (words : List ℕ) → past ≤ past' → AreTickets n cap from past words → AreTickets n cap from past' words
+tickets_further : (n cap from past past' : ℕ) (words : List ℕ) → past ≤ past'
+    → AreTickets n cap from past words → AreTickets n cap from past' words
 tickets_further n cap from past past' [] on h = tt
 tickets_further n cap from past past' (word ∷ words) on h =
     let low = h.2 in
     (h.0, h.1, omega arith, h.3, tickets_further n cap (h.0 + 1) past past' words on h.4)
 
 -- one more, at the next place
-tickets_push : (n cap from past : ℕ) (words : List ℕ) (word : ℕ) → from ≤ past → word ≡ ticket_index n cap past → AreTickets n cap from past words
+tickets_push : (n cap from past : ℕ) (words : List ℕ) (word : ℕ) → from ≤ past
+    → word ≡ ticket_index n cap past → AreTickets n cap from past words
     → AreTickets n cap from (past + 1) (words ++ word ∷ [])
 tickets_push n cap from past [] word on is h = (past, on, omega arith, is, tt)
 tickets_push n cap from past (first ∷ words) word on is h =
@@ -28,38 +30,61 @@ tickets_push n cap from past (first ∷ words) word on is h =
     (h.0, h.1, omega arith, h.3, tickets_push n cap (h.0 + 1) past words word (omega arith) is h.4)
 
 -- at most one exchange more, at the next place
-pub tries_on : (n cap from past word : ℕ) (before between after : List ℕ) → from ≤ past → word ≡ ticket_index n cap past
-    → HasTried n cap from past before between → MayHaveTried word between after → HasTried n cap from (past + 1) before after
-tries_on n cap from past word before between after on is h (inl none) = (h.0, none ∙ h.1, tickets_further n cap from past (past + 1) h.0 (omega arith) h.2)
-tries_on n cap from past word before between after on is h (inr one) =
-    (h.0 ++ word ∷ [], one ∙ ap (λ (ws : List ℕ). ws ++ word ∷ []) h.1 ∙ append_assoc before h.0 (word ∷ []), tickets_push n cap from past h.0 word on is h.2)
+pub tries_on : (n cap from past word : ℕ) (before between after : List ℕ) → from ≤ past
+    → word ≡ ticket_index n cap past
+    → HasTried n cap from past before between → MayHaveTried word between after
+    → HasTried n cap from (past + 1) before after
+tries_on n cap from past word before between after on is h (inl none) =
+    (h.0, none ∙ h.1, tickets_further n cap from past (past + 1) h.0 (omega arith) h.2)
+tries_on n cap from past word before between after on is h (inr one) = (
+  h.0 ++ word ∷ [],
+  one ∙ ap (λ (ws : List ℕ). ws ++ word ∷ []) h.1 ∙ append_assoc before h.0 (word ∷ []),
+  tickets_push n cap from past h.0 word on is h.2,
+)
 
 -- the same, where a log that began with another has one entry more
-tries_more : (n cap place : ℕ) (first log more : List Entry) (e : Entry) (before between after : List ℕ) → BeginsWith log first → place ≡ length log → more ≡ log ++ e ∷ []
-    → HasTried n cap (length first) (length log) before between → MayHaveTried (ticket_index n cap place) between after → HasTried n cap (length first) (length more) before after
+tries_more : (n cap place : ℕ) (first log more : List Entry) (e : Entry)
+    (before between after : List ℕ) → BeginsWith log first → place ≡ length log
+    → more ≡ log ++ e ∷ []
+    → HasTried n cap (length first) (length log) before between
+    → MayHaveTried (ticket_index n cap place) between after
+    → HasTried n cap (length first) (length more) before after
 tries_more n cap place first log more e before between after begins at is h may =
     let long = ap (λ (l : List Entry). length l) begins.1 in
     let on : length first ≤ length log = omega (arith, length-append first begins.0) in
     let more_long = ap (λ (l : List Entry). length l) is in
     let up : length log + 1 ≡ length more = omega (arith, length-append log (e ∷ [])) in
     subst (λ (k : ℕ). HasTried n cap (length first) k before after) up
-    (tries_on n cap (length first) (length log) (ticket_index n cap place) before between after on (ap (ticket_index n cap) at) h may)
+    (tries_on n cap (length first) (length log) (ticket_index n cap place) before between after on
+    (ap (ticket_index n cap) at) h may)
 
 -- what is found at the next place
-pub found_more : (n cap who op place : ℕ) (first log more : List Entry) (e : Entry) (before : List ℕ) (h next : Hand) → BeginsWith log first → place ≡ length log → more ≡ log ++ e ∷ []
-    → HasTried n cap (length first) (length log) before h.tried → Finds n cap who (ticket_index n cap place) op h next (Some e) → HasTried n cap (length first) (length more) before next.tried
+pub found_more : (n cap who op place : ℕ) (first log more : List Entry) (e : Entry)
+    (before : List ℕ) (h next : Hand) → BeginsWith log first → place ≡ length log
+    → more ≡ log ++ e ∷ []
+    → HasTried n cap (length first) (length log) before h.tried
+    → Finds n cap who (ticket_index n cap place) op h next (Some e)
+    → HasTried n cap (length first) (length more) before next.tried
 found_more n cap who op place first log more e before h next begins at is tried found =
-    subst (λ (ts : List ℕ). HasTried n cap (length first) (length more) before ts) (sym (ap (λ (g : Hand). g.tried) found.2))
+    subst (λ (ts : List ℕ). HasTried n cap (length first) (length more) before ts)
+    (sym (ap (λ (g : Hand). g.tried) found.2))
     (tries_more n cap place first log more e before h.tried found.0 begins at is tried found.1)
 
-pub placed_more : (n cap who op place : ℕ) (first log more : List Entry) (e : Entry) (before : List ℕ) (h next : Hand) → BeginsWith log first → place ≡ length log → more ≡ log ++ e ∷ []
-    → HasTried n cap (length first) (length log) before h.tried → Finds n cap who (ticket_index n cap place) op h next None → HasTried n cap (length first) (length more) before next.tried
+pub placed_more : (n cap who op place : ℕ) (first log more : List Entry) (e : Entry)
+    (before : List ℕ) (h next : Hand) → BeginsWith log first → place ≡ length log
+    → more ≡ log ++ e ∷ []
+    → HasTried n cap (length first) (length log) before h.tried
+    → Finds n cap who (ticket_index n cap place) op h next None
+    → HasTried n cap (length first) (length more) before next.tried
 placed_more n cap who op place first log more e before h next begins at is tried found =
-    subst (λ (ts : List ℕ). HasTried n cap (length first) (length more) before ts) (sym (ap (λ (g : Hand). g.tried) found.0))
-    (tries_more n cap place first log more e before h.tried (h.tried ++ ticket_index n cap place ∷ []) begins at is tried (inr refl))
+    subst (λ (ts : List ℕ). HasTried n cap (length first) (length more) before ts)
+    (sym (ap (λ (g : Hand). g.tried) found.0))
+    (tries_more n cap place first log more e before h.tried
+    (h.tried ++ ticket_index n cap place ∷ []) begins at is tried (inr refl))
 
 -- what a load found
-pub looked : (n cap who word found : ℕ) (h next : Hand) → Looks n cap who found h next → found ≢ 0 → Tries n cap who word found h next
+pub looked : (n cap who word found : ℕ) (h next : Hand) → Looks n cap who found h next → found ≢ 0
+    → Tries n cap who word found h next
 looked n cap who word found h next l filled =
     record {
       placed = λ free. absurd (filled free);
@@ -67,9 +92,13 @@ looked n cap who word found h next l filled =
     }
 
 -- and what an exchange found, after a load that found the ticket free
-pub exchanged : (n cap who word index seen found : ℕ) (h between next : Hand) → index ≡ word → seen ≡ 0 → Looks n cap who seen h between → Places n cap who index found between next
+pub exchanged : (n cap who word index seen found : ℕ) (h between next : Hand) → index ≡ word
+    → seen ≡ 0 → Looks n cap who seen h between → Places n cap who index found between next
     → Tries n cap who word found h next
 exchanged n cap who word index seen found h between next at free l p =
     let same : between ≡ h = l.free free in
     subst (λ (y : ℕ × Hand). Tries n cap who y.0 found y.1 next) (λ i. (at i, same i))
-    (record { placed = p.placed; filled = λ filled. (between.tried ++ index ∷ [], inr refl, p.filled filled) })
+    (record {
+      placed = p.placed;
+      filled = λ filled. (between.tried ++ index ∷ [], inr refl, p.filled filled);
+    })

@@ -20,7 +20,8 @@ pub record IsWithin (n cap : ℕ) (log : List Entry) : Type 0 where
 abbrev pub entry : ℕ → ℕ → Entry
 entry i op = record { caller = i; op = op }
 
--- A log after a call of a caller: it begins with the one before, ends with the call, and has no other new entry of this caller.
+-- A log after a call of a caller: it begins with the one before, ends with the call, and has no
+-- other new entry of this caller.
 pub record IsAfterCall (i op : ℕ) (before after : List Entry) : Type 0 where
   pub between : List Entry
   pub log : after ≡ (before ++ between) ++ entry i op ∷ []

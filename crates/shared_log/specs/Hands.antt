@@ -4,8 +4,8 @@ use Rattle.shared_log.specs.declared.entry.Entry.{Entry}
 use Rattle.shared_log.specs.Entries.{calls_by, BeginsWith}
 use Rattle.shared_log.specs.Words.{number_of, operation_index}
 
--- The log as far as a caller knows it, the words of its next operation that it has stored, and the words of the table at which it
--- made an exchange, in order.
+-- The log as far as a caller knows it, the words of its next operation that it has stored, and the
+-- words of the table at which it made an exchange, in order.
 pub record Hand : Type 0 where
   pub log : List Entry
   pub staged : List ℕ
@@ -30,12 +30,14 @@ the (Some h) = h
 abbrev pub next_number : ℕ → ℕ → Hand → ℕ
 next_number cap i h = number_of cap i (length (calls_by i h.log))
 
--- A hand of caller i is right beside these words and this log: the log begins with what the caller knows of it, and has no other
--- entries of the caller; and what the caller has staged stands in the words.
+-- A hand of caller i is right beside these words and this log: the log begins with what the caller
+-- knows of it, and has no other entries of the caller; and what the caller has staged stands in the
+-- words.
 pub record Fits (n cap : ℕ) (words : List ℕ) (log : List Entry) (i : ℕ) (h : Hand) : Type 0 where
   pub caller : i < n
   pub prefix : BeginsWith log h.log
   pub own : calls_by i log ≡ calls_by i h.log
   pub room : 0 < length h.staged → length (calls_by i h.log) < cap
   pub few : length h.staged ≤ 2
-  pub staged : (half : ℕ) → half < length h.staged → slice_index words (operation_index (next_number cap i h) + half) ≡ slice_index h.staged half
+  pub staged : (half : ℕ) → half < length h.staged
+      → slice_index words (operation_index (next_number cap i h) + half) ≡ slice_index h.staged half

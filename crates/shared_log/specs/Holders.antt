@@ -25,4 +25,5 @@ module _ {A : Type 0} where
   -- What is held of a caller is held by one seat alone, and is right for it.
   pub record AreHeld (fits : ℕ → A → Type 0) (views : List (List (Option A))) : Type 0 where
     pub owner : ℕ → ℕ
-    pub held : (i seat : ℕ) (v : List (Option A)) (x : A) → get_elem? views seat ≡ some v → has v i ≡ Some x → (owner i ≡ seat) × fits i x
+    pub held : (i seat : ℕ) (v : List (Option A)) (x : A) → get_elem? views seat ≡ some v
+        → has v i ≡ Some x → (owner i ≡ seat) × fits i x

@@ -14,7 +14,8 @@ use Rattle.shared_log.specs.Hands.{Hand, the}
 abbrev pub hand_with : OneSeat → Hand
 hand_with s = the (has s.seat.me.0 s.who)
 
--- The number of the caller, how many calls it may make, the log up to its last call, and how many calls it has made.
+-- The number of the caller, how many calls it may make, the log up to its last call, and how many
+-- calls it has made.
 abbrev pub caller_of : LogSeat → ℕ
 caller_of s = s.seat.who
 
@@ -46,7 +47,8 @@ pub record IsPlaced (l : SharedLog) (s : OneSeat) : Type 0 where
   pub table : s.seat.table_id ≡ l.table.shared.table_id
   pub caller : s.who < l.callers
 
--- The seat is one of this log: its caller is below the callers, it has room for all calls, and what it knows is within n and cap.
+-- The seat is one of this log: its caller is below the callers, it has room for all calls, and what
+-- it knows is within n and cap.
 pub record IsSeatOf (l : SharedLog) (s : LogSeat) : Type 0 where
   pub placed : IsPlaced l s.seat
   pub cap : s.cap ≡ l.cap
@@ -62,12 +64,14 @@ pub record AreSeatsOf (l : SharedLog) (seats : List LogSeat) : Type 0 where
 abbrev pub HasCalled : ℕ → LogSeat → LogSeat → Type 0
 HasCalled op before after = IsAfterCall (caller_of before) op (log_of before) (log_of after)
 
--- The exchanges of the seat's caller after a call: those before it, and at most one at the ticket of each place that the caller
--- didn't know before the call and knows after it, in order.
+-- The exchanges of the seat's caller after a call: those before it, and at most one at the ticket
+-- of each place that the caller didn't know before the call and knows after it, in order.
 abbrev pub HasExchanged : SharedLog → LogSeat → LogSeat → Type 0
-HasExchanged l before after = HasTried (callers_of l) (cap_of l) (length (log_of before)) (length (log_of after)) (tried_by before) (tried_by after)
+HasExchanged l before after = HasTried (callers_of l) (cap_of l) (length (log_of before))
+    (length (log_of after)) (tried_by before) (tried_by after)
 
--- The one log of some seats: it begins with what each knows, and its entries of each caller are those that this caller knows.
+-- The one log of some seats: it begins with what each knows, and its entries of each caller are
+-- those that this caller knows.
 pub record IsOneLog (log : List Entry) (seats : List LogSeat) : Type 0 where
   pub prefixes : All (λ s. BeginsWith log (log_of s)) seats
   pub calls : All (λ s. calls_by (caller_of s) log ≡ calls_by (caller_of s) (log_of s)) seats

@@ -20,13 +20,15 @@ ticket_index n cap place = 2 * (n * cap) + place
 abbrev pub word_count : ℕ → ℕ → ℕ
 word_count n cap = 3 * (n * cap)
 
--- The number of the call of an entry that stands after some others: its caller's calls are numbered in their order.
+-- The number of the call of an entry that stands after some others: its caller's calls are numbered
+-- in their order.
 abbrev pub number_after : ℕ → List Entry → Entry → ℕ
 number_after cap before e = number_of cap e.caller (length (calls_by e.caller before))
 
 -- An entry after some others is in the words: its ticket, and both words of its operation.
 pub record IsStored (n cap : ℕ) (words : List ℕ) (before : List Entry) (e : Entry) : Type 0 where
-  pub ticket : slice_index words (ticket_index n cap (length before)) ≡ number_after cap before e + 1
+  pub ticket : slice_index words (ticket_index n cap (length before))
+      ≡ number_after cap before e + 1
   pub low : slice_index words (operation_index (number_after cap before e)) ≡ low_of e.op
   pub high : slice_index words (operation_index (number_after cap before e) + 1) ≡ high_of e.op
 
@@ -34,17 +36,23 @@ pub record IsStored (n cap : ℕ) (words : List ℕ) (before : List Entry) (e : 
 pub record AreWordsOf (n cap : ℕ) (words : List ℕ) (log : List Entry) : Type 0 where
   pub count : length words ≡ word_count n cap
   pub within : IsWithin n cap log
-  pub stored : (before rest : List Entry) (e : Entry) → log ≡ before ++ e ∷ rest → IsStored n cap words before e
-  pub free : (place : ℕ) → length log ≤ place → place < n * cap → slice_index words (ticket_index n cap place) ≡ 0
+  pub stored : (before rest : List Entry) (e : Entry) → log ≡ before ++ e ∷ rest
+      → IsStored n cap words before e
+  pub free : (place : ℕ) → length log ≤ place → place < n * cap
+      → slice_index words (ticket_index n cap place) ≡ 0
 
--- These words are tickets of the log, in order and each at most once: those of places from one on, and before another.
+-- These words are tickets of the log, in order and each at most once: those of places from one on,
+-- and before another.
 abbrev pub AreTickets : ℕ → ℕ → ℕ → ℕ → List ℕ → Type 0
 AreTickets n cap from past [] = Unit {0}
-AreTickets n cap from past (word ∷ words) = (place : ℕ) × (from ≤ place) × (place < past) × (word ≡ ticket_index n cap place) × AreTickets n cap (place + 1) past words
+AreTickets n cap from past (word ∷ words) = (place : ℕ) × (from ≤ place) × (place < past)
+    × (word ≡ ticket_index n cap place) × AreTickets n cap (place + 1) past words
 
--- The words at which a caller made an exchange are those before, and then at most each ticket of the places from one on, and before another.
+-- The words at which a caller made an exchange are those before, and then at most each ticket of
+-- the places from one on, and before another.
 abbrev pub HasTried : ℕ → ℕ → ℕ → ℕ → List ℕ → List ℕ → Type 0
-HasTried n cap from past before after = (more : List ℕ) × (after ≡ before ++ more) × AreTickets n cap from past more
+HasTried n cap from past before after = (more : List ℕ) × (after ≡ before ++ more)
+    × AreTickets n cap from past more
 
 -- There was one exchange at a word, or none.
 abbrev pub MayHaveTried : ℕ → List ℕ → List ℕ → Type 0

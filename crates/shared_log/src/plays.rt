@@ -35,7 +35,8 @@ impl TableRule<(), Holding, Key> for OneLog {
     ghost first = { λ key. whole key.callers empty };
 }
 
-/// Whose step it is, in a log of how many callers with how many calls each. A call at `Brand` picks it.
+/// Whose step it is, in a log of how many callers with how many calls each. A call at `Brand` picks
+/// it.
 pub trait Part {
     ghost callers: { ℕ };
 

@@ -3,7 +3,8 @@ ghost use Rattle.shared_log.specs.declared.seat.LogSeat.{LogSeat as OwnSeat};
 
 use crate::seat::LogSeat;
 
-/// What has the seat of one caller of a log: the seat itself, or what a layer above keeps beside it.
+/// What has the seat of one caller of a log: the seat itself, or what a layer above keeps beside
+/// it.
 pub trait Seated {
     /// The seat.
     ghost seat: { Self → OwnSeat };

@@ -25,14 +25,17 @@ pub struct SharedLog {
     pub(crate) table: Table<(), Holding, Key, OneLog, Global>,
     pub(crate) callers: u32,
     pub(crate) cap: u64,
-    ghost sized: { (table.shared.table_id.words ≡ words.word_count callers cap) × (table.shared.table_id.slots ≡ 0) × (table.shared.key.callers ≡ callers) × (table.shared.key.cap ≡ cap) },
+    ghost sized: { (table.shared.table_id.words ≡ words.word_count callers cap)
+        × (table.shared.table_id.slots ≡ 0) × (table.shared.key.callers ≡ callers)
+        × (table.shared.key.cap ≡ cap) },
     ghost few: { (1 ≤ callers) × (callers ≤ MAX_CALLERS) × (1 ≤ cap) × (cap ≤ MAX_CALLS) },
 }
 
 // An empty log with room for all calls, for each of some callers.
 fn empty_logs(alloc: Global, n: u32, places: usize) -> Result<Vec<Vec<Entry>>, AllocError>
     ensures count { IfOk result (λ logs. vec_len logs ≡ n) }
-    ensures empty { IfOk result (λ logs. All (λ log. (log.items ≡ []) × (places ≤ vec_capacity log)) logs.items) }
+    ensures empty { IfOk result
+        (λ logs. All (λ log. (log.items ≡ []) × (places ≤ vec_capacity log)) logs.items) }
 {
     let mut logs = Vec::with_capacity(alloc, n as usize)?;
     for _caller in 0..n {
@@ -72,7 +75,8 @@ impl SharedLog {
         requires known { (hand_with seat.old).log ≡ log.old.items }
         requires staged { (hand_with seat.old).staged ≡ low_of op ∷ high_of op ∷ [] }
         requires call { length (calls_by seat.old.who log.old.items) < self.now.cap }
-        requires ticket { ticket ≡ words.number_of self.now.cap seat.old.who (length (calls_by seat.old.who log.old.items)) + 1 }
+        requires ticket { ticket ≡ words.number_of self.now.cap seat.old.who
+            (length (calls_by seat.old.who log.old.items)) + 1 }
         requires room { self.now.callers * self.now.cap ≤ vec_capacity log.old }
         requires within { IsWithin self.now.callers self.now.cap log.old.items }
         ensures seat { IsPlaced self.now seat.new × (seat.new.who ≡ seat.old.who) }
@@ -127,8 +131,10 @@ impl SharedLog {
         requires who { J.who ≡ who }
         requires seat { seat.old.table_id ≡ self.now.table.shared.table_id }
         requires here { has seat.old.me.0 who ≡ Some hands.empty }
-        ensures seat { (seat.new.table_id ≡ seat.old.table_id) × (seat.new.me.0 ≡ slice_set seat.old.me.0 who None) }
-        ensures caller { (result.who ≡ who) × (result.seat.table_id ≡ seat.old.table_id) × (hand_with result ≡ hands.empty) }
+        ensures seat { (seat.new.table_id ≡ seat.old.table_id)
+            × (seat.new.me.0 ≡ slice_set seat.old.me.0 who None) }
+        ensures caller { (result.who ≡ who) × (result.seat.table_id ≡ seat.old.table_id)
+            × (hand_with result ≡ hands.empty) }
     {
         let seat = self.table.shared.split_seat::<Leaves<J>>(seat);
         OneSeat { who, seat }
@@ -141,8 +147,11 @@ impl SharedLog {
         mut logs: Vec<Vec<Entry>>,
         mut seats: Vec<LogSeat>,
     ) -> Vec<LogSeat>
-        requires seat { (seat.table_id ≡ self.now.table.shared.table_id) × (seat.me.0 ≡ whole self.now.callers hands.empty) }
-        requires logs { (vec_len logs ≡ self.now.callers) × All (λ log. (log.items ≡ []) × (self.now.callers * self.now.cap ≤ vec_capacity log)) logs.items }
+        requires seat { (seat.table_id ≡ self.now.table.shared.table_id)
+            × (seat.me.0 ≡ whole self.now.callers hands.empty) }
+        requires logs { (vec_len logs ≡ self.now.callers)
+            × All (λ log. (log.items ≡ []) × (self.now.callers * self.now.cap ≤ vec_capacity log))
+            logs.items }
         requires seats { (seats.items ≡ []) × (self.now.callers ≤ vec_capacity seats) }
         ensures seats { AreSeatsOf self.now result.items }
         ensures empty { All (λ s. log_of s ≡ []) result.items }
@@ -206,7 +215,8 @@ impl SharedLog {
         requires seat { IsSeatOf self.now seat }
         requires gone { has keeper.old.me.0 (caller_of seat) ≡ None }
         requires wide { caller_of seat < length keeper.old.me.0 }
-        ensures keeper { (keeper.new.table_id ≡ keeper.old.table_id) × (keeper.new.me.0 ≡ slice_set keeper.old.me.0 (caller_of seat) (Some (hand_of seat))) }
+        ensures keeper { (keeper.new.table_id ≡ keeper.old.table_id)
+            × (keeper.new.me.0 ≡ slice_set keeper.old.me.0 (caller_of seat) (Some (hand_of seat))) }
         ensures longest { IsLonger longest.items (log_of seat) result.items }
     {
         let LogSeat {

@@ -21,10 +21,13 @@ impl SharedLog {
     // A store of one more word of the next operation.
     fn stage_as<J: Part>(&self, seat: &mut OneSeat, index: usize, word: u64)
         requires seat { IsPlaced self.now seat.old }
-        requires part { (J.callers ≡ self.now.callers) × (J.cap ≡ self.now.cap) × (J.who ≡ seat.old.who) }
+        requires part { (J.callers ≡ self.now.callers) × (J.cap ≡ self.now.cap)
+            × (J.who ≡ seat.old.who) }
         requires call { length (calls_by seat.old.who (hand_with seat.old).log) < self.now.cap }
         requires few { length (hand_with seat.old).staged < 2 }
-        requires index { index ≡ words.operation_index (hands.next_number self.now.cap seat.old.who (hand_with seat.old)) + length (hand_with seat.old).staged }
+        requires index { index ≡ words.operation_index
+            (hands.next_number self.now.cap seat.old.who (hand_with seat.old))
+            + length (hand_with seat.old).staged }
         ensures seat { IsPlaced self.now seat.new × (seat.new.who ≡ seat.old.who) }
         ensures hand { Stages word (hand_with seat.old) (hand_with seat.new) }
     {
@@ -36,11 +39,14 @@ impl SharedLog {
     // A load of the ticket at the first place that the caller doesn't know.
     fn look_as<J: Part>(&self, seat: &mut OneSeat, index: usize) -> u64
         requires seat { IsPlaced self.now seat.old }
-        requires part { (J.callers ≡ self.now.callers) × (J.cap ≡ self.now.cap) × (J.who ≡ seat.old.who) }
+        requires part { (J.callers ≡ self.now.callers) × (J.cap ≡ self.now.cap)
+            × (J.who ≡ seat.old.who) }
         requires place { length (hand_with seat.old).log < self.now.callers * self.now.cap }
-        requires index { index ≡ words.ticket_index self.now.callers self.now.cap (length (hand_with seat.old).log) }
+        requires index { index ≡ words.ticket_index self.now.callers self.now.cap
+            (length (hand_with seat.old).log) }
         ensures seat { IsPlaced self.now seat.new × (seat.new.who ≡ seat.old.who) }
-        ensures hand { Looks self.now.callers self.now.cap seat.old.who result (hand_with seat.old) (hand_with seat.new) }
+        ensures hand { Looks self.now.callers self.now.cap seat.old.who result (hand_with seat.old)
+            (hand_with seat.new) }
     {
         self.table.shared.load::<Look<J>>(&mut seat.seat, index)
     }
@@ -48,14 +54,18 @@ impl SharedLog {
     // A compare-exchange of a free ticket at that place for the ticket of the next call.
     fn place_as<J: Part>(&self, seat: &mut OneSeat, index: usize, ticket: u64, op: OpWord) -> u64
         requires seat { IsPlaced self.now seat.old }
-        requires part { (J.callers ≡ self.now.callers) × (J.cap ≡ self.now.cap) × (J.who ≡ seat.old.who) }
+        requires part { (J.callers ≡ self.now.callers) × (J.cap ≡ self.now.cap)
+            × (J.who ≡ seat.old.who) }
         requires call { length (calls_by seat.old.who (hand_with seat.old).log) < self.now.cap }
         requires staged { (hand_with seat.old).staged ≡ low_of op ∷ high_of op ∷ [] }
         requires place { length (hand_with seat.old).log < self.now.callers * self.now.cap }
-        requires index { index ≡ words.ticket_index self.now.callers self.now.cap (length (hand_with seat.old).log) }
-        requires ticket { ticket ≡ hands.next_number self.now.cap seat.old.who (hand_with seat.old) + 1 }
+        requires index { index ≡ words.ticket_index self.now.callers self.now.cap
+            (length (hand_with seat.old).log) }
+        requires ticket { ticket ≡ hands.next_number self.now.cap seat.old.who
+            (hand_with seat.old) + 1 }
         ensures seat { IsPlaced self.now seat.new × (seat.new.who ≡ seat.old.who) }
-        ensures hand { Places self.now.callers self.now.cap seat.old.who index result (hand_with seat.old) (hand_with seat.new) }
+        ensures hand { Places self.now.callers self.now.cap seat.old.who index result
+            (hand_with seat.old) (hand_with seat.new) }
     {
         self.table
             .shared
@@ -65,7 +75,8 @@ impl SharedLog {
     // A load of a word of an operation.
     fn read_as<J: Part>(&self, seat: &mut OneSeat, index: usize) -> u64
         requires seat { IsPlaced self.now seat.old }
-        requires part { (J.callers ≡ self.now.callers) × (J.cap ≡ self.now.cap) × (J.who ≡ seat.old.who) }
+        requires part { (J.callers ≡ self.now.callers) × (J.cap ≡ self.now.cap)
+            × (J.who ≡ seat.old.who) }
         requires index { index < 2 * (self.now.callers * self.now.cap) }
         ensures seat { IsPlaced self.now seat.new × (seat.new.who ≡ seat.old.who) }
         ensures hand { Reads self.now.cap index result (hand_with seat.old) (hand_with seat.new) }
@@ -76,7 +87,8 @@ impl SharedLog {
     // Both words of the next operation are stored.
     pub(crate) fn stage(&self, seat: &mut OneSeat, number: u64, op: OpWord)
         requires seat { IsPlaced self.now seat.old }
-        requires number { number ≡ hands.next_number self.now.cap seat.old.who (hand_with seat.old) }
+        requires number { number ≡ hands.next_number self.now.cap seat.old.who
+            (hand_with seat.old) }
         requires call { length (calls_by seat.old.who (hand_with seat.old).log) < self.now.cap }
         requires none { (hand_with seat.old).staged ≡ [] }
         ensures seat { IsPlaced self.now seat.new × (seat.new.who ≡ seat.old.who) }
@@ -97,10 +109,12 @@ impl SharedLog {
         requires staged { (hand_with seat.old).staged ≡ low_of op ∷ high_of op ∷ [] }
         requires place { place ≡ length (hand_with seat.old).log }
         requires room { place < self.now.callers * self.now.cap }
-        requires ticket { ticket ≡ hands.next_number self.now.cap seat.old.who (hand_with seat.old) + 1 }
+        requires ticket { ticket ≡ hands.next_number self.now.cap seat.old.who
+            (hand_with seat.old) + 1 }
         ensures seat { IsPlaced self.now seat.new × (seat.new.who ≡ seat.old.who) }
         ensures hand { Tries self.now.callers self.now.cap seat.old.who
-            (words.ticket_index self.now.callers self.now.cap place) result (hand_with seat.old) (hand_with seat.new) }
+            (words.ticket_index self.now.callers self.now.cap place) result (hand_with seat.old)
+            (hand_with seat.new) }
     {
         let index = 2 * place_count(self.callers, self.cap) + place;
         let found = self.look_as::<Brand>(seat, index);
@@ -116,7 +130,8 @@ impl SharedLog {
         requires number { number < self.now.callers * self.now.cap }
         ensures seat { IsPlaced self.now seat.new × (seat.new.who ≡ seat.old.who) }
         ensures hand { hand_with seat.new ≡ hand_with seat.old }
-        ensures operation { (before rest : List Item) (e : Item) → (hand_with seat.old).log ≡ before ++ e ∷ rest → number ≡ words.number_after self.now.cap before e → result ≡ e.op }
+        ensures operation { (before rest : List Item) (e : Item) → (hand_with seat.old).log ≡ before
+            ++ e ∷ rest → number ≡ words.number_after self.now.cap before e → result ≡ e.op }
     {
         let index = 2 * number as usize;
         let low = self.read_as::<Brand>(seat, index);
@@ -138,10 +153,12 @@ impl SharedLog {
         requires staged { (hand_with seat.old).staged ≡ low_of op ∷ high_of op ∷ [] }
         requires place { place ≡ length (hand_with seat.old).log }
         requires room { place < self.now.callers * self.now.cap }
-        requires ticket { ticket ≡ hands.next_number self.now.cap seat.old.who (hand_with seat.old) + 1 }
+        requires ticket { ticket ≡ hands.next_number self.now.cap seat.old.who
+            (hand_with seat.old) + 1 }
         ensures seat { IsPlaced self.now seat.new × (seat.new.who ≡ seat.old.who) }
         ensures hand { Finds self.now.callers self.now.cap seat.old.who
-            (words.ticket_index self.now.callers self.now.cap place) op (hand_with seat.old) (hand_with seat.new) result }
+            (words.ticket_index self.now.callers self.now.cap place) op (hand_with seat.old)
+            (hand_with seat.new) result }
     {
         let found = self.ticket_at(seat, place, ticket, op);
         if found == 0 {

@@ -24,65 +24,90 @@ pub record IsClosing (n : ℕ) (all rest : List WordsPass) (v : View) : Type 0 w
   pub coming : IsComing caller_of_pass history_in n all rest gathered v
 
 -- the last one keeps its seat
-pub starts_closing : (n : ℕ) (all rest : List WordsPass) (last : WordsPass) → all ≡ rest ++ last ∷ [] → map caller_of_pass all ≡ range_with_len 0 n → IsClosing n all rest last.seat.seat.me.0
+pub starts_closing : (n : ℕ) (all rest : List WordsPass) (last : WordsPass) → all ≡ rest ++ last
+    ∷ [] → map caller_of_pass all ≡ range_with_len 0 n → IsClosing n all rest last.seat.seat.me.0
 starts_closing n all rest last is callers =
     record {
       gathered = last ∷ [];
-      coming = starts_coming caller_of_pass history_in n all rest last last.seat.seat.me.0 is callers (ap (λ (m : Me (Unit {0}) View). m.0) last.seat.alone);
+      coming = starts_coming caller_of_pass history_in n all rest last last.seat.seat.me.0 is
+          callers (ap (λ (m : Me (Unit {0}) View). m.0) last.seat.alone);
     }
 
-module _ {U : Type 0} (may : ℕ → Deed → Type 0) (w : SharedWords U) (all rest rest' : List WordsPass) (p : WordsPass)
+module _ {U : Type 0} (may : ℕ → Deed → Type 0) (w : SharedWords U)
+    (all rest rest' : List WordsPass) (p : WordsPass)
     (seats : All (λ q. IsSeatOf may w (seat_in q)) all) where
   -- a pass that stands among them is one of these words
   pub seat_among : (back : List WordsPass) → all ≡ rest' ++ p ∷ back → IsSeatOf may w (seat_in p)
   seat_among back is =
       All-head (λ q. IsSeatOf may w (seat_in q)) p back
-      (All-suffix (λ q. IsSeatOf may w (seat_in q)) rest' (p ∷ back) (subst (λ (ps : List WordsPass). All (λ q. IsSeatOf may w (seat_in q)) ps) is seats))
+      (All-suffix (λ q. IsSeatOf may w (seat_in q)) rest' (p ∷ back)
+      (subst (λ (ps : List WordsPass). All (λ q. IsSeatOf may w (seat_in q)) ps) is seats))
 
-  module _ (v : View) (callers : map caller_of_pass all ≡ range_with_len 0 w.callers) (h : IsClosing w.callers all rest v) (popped : rest ≡ rest' ++ p ∷ []) where
+  module _ (v : View) (callers : map caller_of_pass all ≡ range_with_len 0 w.callers)
+      (h : IsClosing w.callers all rest v) (popped : rest ≡ rest' ++ p ∷ []) where
     pub next_seat : IsSeatOf may w (seat_in p)
-    next_seat = seat_among h.gathered (split_next caller_of_pass history_in w.callers all rest rest' h.gathered p v callers h.coming popped)
+    next_seat = seat_among h.gathered (split_next caller_of_pass history_in w.callers all rest rest'
+        h.gathered p v callers h.coming popped)
 
     pub is_gone : has v (caller_of_pass p) ≡ None
-    is_gone = next_gone caller_of_pass history_in w.callers all rest rest' h.gathered p v callers h.coming popped
+    is_gone = next_gone caller_of_pass history_in w.callers all rest rest' h.gathered p v callers
+        h.coming popped
 
     pub is_inside : caller_of_pass p < length v
-    is_inside = next_inside caller_of_pass history_in w.callers all rest rest' h.gathered p v callers h.coming popped
+    is_inside = next_inside caller_of_pass history_in w.callers all rest rest' h.gathered p v
+        callers h.coming popped
 
-    pub more_closing : (u : View) → u ≡ slice_set v (caller_of_pass p) (Some (history_in p)) → IsClosing w.callers all rest' u
+    pub more_closing : (u : View) → u ≡ slice_set v (caller_of_pass p) (Some (history_in p))
+        → IsClosing w.callers all rest' u
     more_closing u after =
         record {
           gathered = p ∷ h.gathered;
-          coming = more_coming caller_of_pass history_in w.callers all rest rest' h.gathered p v callers h.coming popped u after;
+          coming = more_coming caller_of_pass history_in w.callers all rest rest' h.gathered p v
+              callers h.coming popped u after;
         }
 
 -- what the rule says of passes whose callers are with one seat
-knows : (may : ℕ → Deed → Type 0) (n count id : ℕ) (v : View) (passes : List WordsPass) (words : List ℕ) (views : List View) (r : HaveOneHistory may n count words views) → get_elem? views id ≡ some v
-    → All (λ p. has v (caller_of_pass p) ≡ Some (history_in p)) passes → IsOneHistory may n r.history passes
+knows : (may : ℕ → Deed → Type 0) (n count id : ℕ) (v : View) (passes : List WordsPass)
+    (words : List ℕ) (views : List View) (r : HaveOneHistory may n count words views)
+    → get_elem? views id ≡ some v
+    → All (λ p. has v (caller_of_pass p) ≡ Some (history_in p)) passes
+    → IsOneHistory may n r.history passes
 knows may n count id v passes words views r at hands =
     record {
       callers = r.callers;
       lawful = r.lawful;
-      prefixes = All-weaker (λ p. has v (caller_of_pass p) ≡ Some (history_in p)) (λ p. IsPrefix (history_in p) r.history)
-          (λ p here. (r.hands.held (caller_of_pass p) id v (history_in p) at here).1.prefix) passes hands;
-      deeds = All-weaker (λ p. has v (caller_of_pass p) ≡ Some (history_in p)) (λ p. deeds_by (caller_of_pass p) r.history ≡ deeds_of p.seat)
-          (λ p here. (r.hands.held (caller_of_pass p) id v (history_in p) at here).1.own) passes hands;
+      prefixes = All-weaker (λ p. has v (caller_of_pass p) ≡ Some (history_in p))
+          (λ p. IsPrefix (history_in p) r.history)
+          (λ p here. (r.hands.held (caller_of_pass p) id v (history_in p) at here).1.prefix)
+          passes hands;
+      deeds = All-weaker (λ p. has v (caller_of_pass p) ≡ Some (history_in p))
+          (λ p. deeds_by (caller_of_pass p) r.history ≡ deeds_of p.seat)
+          (λ p here. (r.hands.held (caller_of_pass p) id v (history_in p) at here).1.own)
+          passes hands;
     }
 
 -- what a closed table says of the passes that all came back
-pub closed : {U : Type 0} (may : ℕ → Deed → Type 0) (w : SharedWords U) (id : ℕ) (v : View) (all rest : List WordsPass) (ws : List ℕ) (homes : List (Unit {0})) → IsClosing w.callers all rest v → length rest ≡ 0
-    → Final (Seen (Ruled may w.table.shared.key.callers w.table.shared.key.count) id v) ws homes → (history : List Access) × IsOneHistory may w.callers history all
+pub closed : {U : Type 0} (may : ℕ → Deed → Type 0) (w : SharedWords U) (id : ℕ) (v : View)
+    (all rest : List WordsPass) (ws : List ℕ) (homes : List (Unit {0}))
+    → IsClosing w.callers all rest v → length rest ≡ 0
+    → Final (Seen (Ruled may w.table.shared.key.callers w.table.shared.key.count) id v) ws homes
+    → (history : List Access) × IsOneHistory may w.callers history all
 closed may w id v all rest ws homes h none final =
-    let came : h.gathered ≡ all = all_came caller_of_pass history_in w.callers all rest h.gathered v h.coming none in
-    let hands = subst (λ (ps : List WordsPass). All (λ p. has v (caller_of_pass p) ≡ Some (history_in p)) ps) came h.coming.hands in
+    let came : h.gathered ≡ all =
+    all_came caller_of_pass history_in w.callers all rest h.gathered v h.coming none in
+    let hands =
+    subst (λ (ps : List WordsPass). All (λ p. has v (caller_of_pass p) ≡ Some (history_in p)) ps)
+    came h.coming.hands in
     let seen = final.1 in (
       seen.0.history,
       subst (λ (n : ℕ). IsOneHistory may n seen.0.history all) w.sized.2
-          (knows may w.table.shared.key.callers w.table.shared.key.count id v all final.0.words final.0.views seen.0 seen.1 hands),
+          (knows may w.table.shared.key.callers w.table.shared.key.count id v all final.0.words
+          final.0.views seen.0 seen.1 hands),
     )
 
 -- without callers there is no access
-pub closed_without : (may : ℕ → Deed → Type 0) (n : ℕ) (passes : List WordsPass) → length passes ≡ 0 → (history : List Access) × IsOneHistory may n history passes
+pub closed_without : (may : ℕ → Deed → Type 0) (n : ℕ) (passes : List WordsPass) → length passes ≡ 0
+    → (history : List Access) × IsOneHistory may n history passes
 closed_without may n passes none =
     let no_history : IsOneHistory may n [] [] =
     record {
@@ -90,29 +115,44 @@ closed_without may n passes none =
       lawful = lawful_none may [] refl;
       prefixes = All-nil (λ (p : WordsPass). IsPrefix (history_in p) []);
       deeds = All-nil (λ (p : WordsPass). deeds_by (caller_of_pass p) [] ≡ deeds_of p.seat);
-    } in
-    ([], subst (λ (ps : List WordsPass). IsOneHistory may n [] ps) (sym (nil_from_length passes none)) no_history)
+    } in (
+      [],
+      subst (λ (ps : List WordsPass). IsOneHistory may n [] ps)
+          (sym (nil_from_length passes none)) no_history,
+    )
 
 -- the calls of the passes are of that history
-calls_from : (call : ℕ → ℕ → ℕ → List Deed → List Deed → Type 0) (history : List Access) (p : WordsPass) → AreCalls (call (caller_of_pass p)) (pairs_in p) [] (deeds_of p.seat)
-    → deeds_by (caller_of_pass p) history ≡ deeds_of p.seat → AreCalls (call (caller_of_pass p)) (pairs_in p) [] (deeds_by (caller_of_pass p) history)
-calls_from call history p calls same = subst (λ (ds : List Deed). AreCalls (call (caller_of_pass p)) (pairs_in p) [] ds) (sym same) calls
+calls_from : (call : ℕ → ℕ → ℕ → List Deed → List Deed → Type 0) (history : List Access)
+    (p : WordsPass) → AreCalls (call (caller_of_pass p)) (pairs_in p) [] (deeds_of p.seat)
+    → deeds_by (caller_of_pass p) history ≡ deeds_of p.seat
+    → AreCalls (call (caller_of_pass p)) (pairs_in p) [] (deeds_by (caller_of_pass p) history)
+calls_from call history p calls same = subst
+    (λ (ds : List Deed). AreCalls (call (caller_of_pass p)) (pairs_in p) [] ds) (sym same) calls
 
-both : (P Q R : WordsPass → Type 0) → ((p : WordsPass) → P p → Q p → R p) → (passes : List WordsPass) → All P passes → All Q passes → All R passes
+both : (P Q R : WordsPass → Type 0) → ((p : WordsPass) → P p → Q p → R p)
+    → (passes : List WordsPass) → All P passes → All Q passes → All R passes
 both P Q R gives passes ps qs k d low = gives (get_or passes k d) (ps k d low) (qs k d low)
 
-pub of_one_history : {U : Type 0} (may : ℕ → Deed → Type 0) (call : ℕ → ℕ → ℕ → List Deed → List Deed → Type 0) (w : SharedWords U) (n : ℕ) (history : List Access) (passes : List WordsPass)
-    → All (IsPassOf may call w) passes → IsOneHistory may n history passes → AreOfOneHistory may call n history passes
+pub of_one_history : {U : Type 0} (may : ℕ → Deed → Type 0)
+    (call : ℕ → ℕ → ℕ → List Deed → List Deed → Type 0) (w : SharedWords U) (n : ℕ)
+    (history : List Access) (passes : List WordsPass)
+    → All (IsPassOf may call w) passes → IsOneHistory may n history passes
+    → AreOfOneHistory may call n history passes
 of_one_history may call w n history passes own one =
     record {
       callers = one.callers;
       lawful = one.lawful;
       calls =
-          both (IsPassOf may call w) (λ p. deeds_by (caller_of_pass p) history ≡ deeds_of p.seat) (λ p. AreCalls (call (caller_of_pass p)) (pairs_in p) [] (deeds_by (caller_of_pass p) history))
+          both (IsPassOf may call w) (λ p. deeds_by (caller_of_pass p) history ≡ deeds_of p.seat)
+          (λ p.
+          AreCalls (call (caller_of_pass p)) (pairs_in p) [] (deeds_by (caller_of_pass p) history))
           (λ p is same. calls_from call history p is.calls same) passes own one.deeds;
     }
 
 -- the seats of passes that are these words'
-pub seats_of : {U : Type 0} (may : ℕ → Deed → Type 0) (call : ℕ → ℕ → ℕ → List Deed → List Deed → Type 0) (w : SharedWords U) (passes : List WordsPass) → All (IsPassOf may call w) passes
+pub seats_of : {U : Type 0} (may : ℕ → Deed → Type 0)
+    (call : ℕ → ℕ → ℕ → List Deed → List Deed → Type 0) (w : SharedWords U)
+    (passes : List WordsPass) → All (IsPassOf may call w) passes
     → All (λ p. IsSeatOf may w (seat_in p)) passes
-seats_of may call w passes own = All-weaker (IsPassOf may call w) (λ p. IsSeatOf may w (seat_in p)) (λ p is. is.seat) passes own
+seats_of may call w passes own =
+    All-weaker (IsPassOf may call w) (λ p. IsSeatOf may w (seat_in p)) (λ p is. is.seat) passes own

@@ -18,8 +18,10 @@ module _ {U : Type 0} where
     pub callers : map caller_of_pass passes ≡ range_with_len 0 count
     pub new : All (IsNewPass w) passes
 
-  pub one_dealt : (w : SharedWords U) (count : ℕ) (passes all : List WordsPass) (p : WordsPass) (ok : Bool) → AreDealt w count passes
-      → all ≡ cond ok (passes ++ p ∷ []) passes → ok ≡ true → caller_of_pass p ≡ count → IsNewPass w p → AreDealt w (count + 1) all
+  pub one_dealt : (w : SharedWords U) (count : ℕ) (passes all : List WordsPass) (p : WordsPass)
+      (ok : Bool) → AreDealt w count passes
+      → all ≡ cond ok (passes ++ p ∷ []) passes → ok ≡ true → caller_of_pass p ≡ count
+      → IsNewPass w p → AreDealt w (count + 1) all
   one_dealt w count passes all p ok h is done own new =
       let pushed : all ≡ passes ++ p ∷ [] = is ∙ cond-true ok (passes ++ p ∷ []) passes done in
       let up : suc count ≡ count + 1 = omega arith in
@@ -31,21 +33,30 @@ module _ {U : Type 0} where
             ∙ (λ i. h.callers i ++ (own ∙ last) i ∷ [])
             ∙ sym (range_more 0 count)
             ∙ ap (range_with_len 0) up;
-        new = subst (λ (ps : List WordsPass). All (IsNewPass w) ps) (sym pushed) (All-push (IsNewPass w) passes p h.new new);
+        new = subst (λ (ps : List WordsPass). All (IsNewPass w) ps) (sym pushed)
+            (All-push (IsNewPass w) passes p h.new new);
       }
 
   -- new passes are passes of any kind of call
-  pub new_are_own : (may : ℕ → Deed → Type 0) (call : ℕ → ℕ → ℕ → List Deed → List Deed → Type 0) (w : SharedWords U) (passes : List WordsPass) → All (IsNewPass w) passes → All (IsPassOf may call w) passes
+  pub new_are_own : (may : ℕ → Deed → Type 0) (call : ℕ → ℕ → ℕ → List Deed → List Deed → Type 0)
+      (w : SharedWords U) (passes : List WordsPass) → All (IsNewPass w) passes
+      → All (IsPassOf may call w) passes
   new_are_own may call w passes new =
       All-weaker (IsNewPass w) (IsPassOf may call w)
       (λ p n. record {
         seat = record { table = n.table; caller = n.caller; lawful = lawful_none may _ n.history };
         cap = n.cap;
         room = n.room;
-        calls = subst (λ (y : List (ℕ × ℕ) × List Access). AreCalls (call (caller_of_pass p)) y.0 [] (deeds_by (caller_of_pass p) y.1)) (λ i. (sym n.pairs i, sym n.history i)) refl;
+        calls = subst (λ (y : List (ℕ × ℕ) × List Access). AreCalls (call (caller_of_pass p))
+            y.0 [] (deeds_by (caller_of_pass p) y.1)) (λ i. (sym n.pairs i, sym n.history i)) refl;
       })
       passes new
 
-  pub new_are_fresh : (w : SharedWords U) (cap : ℕ) (passes : List WordsPass) → cap_of w ≡ cap → All (IsNewPass w) passes → All (IsFreshPass cap) passes
+  pub new_are_fresh : (w : SharedWords U) (cap : ℕ) (passes : List WordsPass) → cap_of w ≡ cap
+      → All (IsNewPass w) passes → All (IsFreshPass cap) passes
   new_are_fresh w cap passes same new =
-      All-weaker (IsNewPass w) (IsFreshPass cap) (λ p n. record { made = ap (λ (l : List (ℕ × ℕ)). length l) n.pairs; cap = n.cap ∙ same; pairs = n.pairs }) passes new
+      All-weaker (IsNewPass w) (IsFreshPass cap) (λ p n. record {
+        made = ap (λ (l : List (ℕ × ℕ)). length l) n.pairs;
+        cap = n.cap ∙ same;
+        pairs = n.pairs;
+      }) passes new

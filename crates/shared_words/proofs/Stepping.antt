@@ -14,24 +14,37 @@ use Rattle.shared_words.proofs.Words.{word_at-here, accesses_leave_others}
 use Rattle.shared_words.proofs.Histories.{deeds_by-own, deeds_by-other, lawful_none, lawful_push, prefix_more}
 
 -- the seat of one caller has it
-pub alone_here : (me : Me (Unit {0}) View) (who : ℕ) (h : List Access) → me ≡ (only who h, []) → has me.0 who ≡ Some h
+pub alone_here : (me : Me (Unit {0}) View) (who : ℕ) (h : List Access) → me ≡ (only who h, [])
+    → has me.0 who ≡ Some h
 alone_here me who h alone = ap (λ (m : Me (Unit {0}) View). has m.0 who) alone ∙ only_here who h
 
--- A deed at a place, where the word found becomes f of it, by the caller of a seat that it has alone.
-module _ (may : ℕ → Deed → Type 0) (n count words slots id who : ℕ) (me : Me (Unit {0}) View) (h : List Access) (same : count ≡ words) (alone : me ≡ (only who h, [])) (place : ℕ) (f : ℕ → ℕ) (deed : ℕ → Deed)
-    (low : place < words) (at_place : (x : ℕ) → place_of (deed x) ≡ place) (acts : (x : ℕ) → leaves (deed x) x ≡ f x) (found : (x : ℕ) → HasFound (deed x) x) (allowed : (x : ℕ) → may who (deed x)) where
-  pub access_asks : Allows (Ruled may n count) slots id me place f (λ x after. Accesses may me after (deed x))
+-- A deed at a place, where the word found becomes f of it, by the caller of a seat that it has
+-- alone.
+module _ (may : ℕ → Deed → Type 0) (n count words slots id who : ℕ) (me : Me (Unit {0}) View)
+    (h : List Access) (same : count ≡ words) (alone : me ≡ (only who h, [])) (place : ℕ) (f : ℕ → ℕ)
+    (deed : ℕ → Deed)
+    (low : place < words) (at_place : (x : ℕ) → place_of (deed x) ≡ place)
+    (acts : (x : ℕ) → leaves (deed x) x ≡ f x) (found : (x : ℕ) → HasFound (deed x) x)
+    (allowed : (x : ℕ) → may who (deed x)) where
+  pub access_asks : Allows (Ruled may n count) slots id me place f
+      (λ x after. Accesses may me after (deed x))
   access_asks t r long at small =
       let here = alone_here me who h alone in
       let x : ℕ = slice_index t.words place in
       let a = access who (deed x) in
       let next = r.history ++ a ∷ [] in
       let knows = (r.hands.held who id me.0 h at here).1 in
-      let inside : place < length t.words = subst (λ (k : ℕ). place < k) (sym (r.long ∙ same)) low in
-      let stood : x ≡ word_at place r.history = r.left place (subst (λ (k : ℕ). place < k) (sym same) low) in
+      let inside : place < length t.words =
+      subst (λ (k : ℕ). place < k) (sym (r.long ∙ same)) low in
+      let stood : x ≡ word_at place r.history =
+      r.left place (subst (λ (k : ℕ). place < k) (sym same) low) in
       let lawful : IsLawful may next =
       lawful_push may r.history a r.lawful
-      (record { allowed = allowed x; found = subst (λ (y : ℕ). HasFound (deed x) y) (stood ∙ ap (λ (p : ℕ). word_at p r.history) (sym (at_place x))) (found x) }) in (
+      (record {
+        allowed = allowed x;
+        found = subst (λ (y : ℕ). HasFound (deed x) y)
+            (stood ∙ ap (λ (p : ℕ). word_at p r.history) (sym (at_place x))) (found x);
+      }) in (
         slice_set me.0 who (Some next),
         keeps,
         tt,
@@ -53,7 +66,8 @@ module _ (may : ℕ → Deed → Type 0) (n count words slots id who : ℕ) (me 
           callers = All-push (λ (b : Access). b.caller < n) r.history a r.callers knows.caller;
           lawful = lawful;
           hands =
-              held_changed (Knows n r.history) (Knows n next) t.views id me.0 who h next r.hands at here
+              held_changed (Knows n r.history)
+              (Knows n next) t.views id me.0 who h next r.hands at here
               (record { caller = knows.caller; prefix = (_, append-nil next); own = refl })
               (λ i z ne was. record {
                 caller = was.caller;
@@ -71,39 +85,52 @@ module _ (may : ℕ → Deed → Type 0) (n count words slots id who : ℕ) (me 
               record {
                 between = knows.prefix.0;
                 history = ap (λ (l : List Access). l ++ a ∷ []) (sym knows.prefix.1);
-                own = deeds_by-own who r.history a refl ∙ ap (λ (l : List Deed). l ++ deed x ∷ []) knows.own;
+                own = deeds_by-own who r.history a refl
+                    ∙ ap (λ (l : List Deed). l ++ deed x ∷ []) knows.own;
               };
           lawful = lawful;
         },
       )
 
 -- after a step the seat has that caller alone, which made the deed
-pub record HasMade (may : ℕ → Deed → Type 0) (who : ℕ) (after : Me (Unit {0}) View) (h : List Access) (deed : Deed) : Type 0 where
+pub record HasMade (may : ℕ → Deed → Type 0) (who : ℕ) (after : Me (Unit {0}) View)
+    (h : List Access) (deed : Deed) : Type 0 where
   pub alone : after ≡ (only who (known (has after.0 who)), [])
   pub made : IsAfterAccess who deed h (known (has after.0 who))
   pub lawful : IsLawful may (known (has after.0 who))
 
-pub turned : (may : ℕ → Deed → Type 0) (who : ℕ) (me after : Me (Unit {0}) View) (h : List Access) (deed : Deed) → me ≡ (only who h, []) → Accesses may me after deed → HasMade may who after h deed
+pub turned : (may : ℕ → Deed → Type 0) (who : ℕ) (me after : Me (Unit {0}) View) (h : List Access)
+    (deed : Deed) → me ≡ (only who h, []) → Accesses may me after deed
+    → HasMade may who after h deed
 turned may who me after h deed alone t =
-    let held : has (only who h) t.who ≡ Some t.before = ap (λ (m : Me (Unit {0}) View). has m.0 t.who) (sym alone) ∙ t.here in
+    let held : has (only who h) t.who ≡ Some t.before =
+    ap (λ (m : Me (Unit {0}) View). has m.0 t.who) (sym alone) ∙ t.here in
     let own : t.who ≡ who = only_else who t.who h t.before held in
-    let before : t.before ≡ h = same_Some t.before h (sym held ∙ ap (has (only who h)) own ∙ only_here who h) in
-    let moved : after ≡ (only who t.next, []) = t.moved ∙ (λ i. (slice_set (alone i).0 (own i) (Some t.next), (alone i).1)) ∙ (λ i. (only_set who h t.next i, [])) in
-    let here : known (has after.0 who) ≡ t.next = ap (λ (m : Me (Unit {0}) View). known (has m.0 who)) moved ∙ ap known (only_here who t.next) in
+    let before : t.before ≡ h =
+    same_Some t.before h (sym held ∙ ap (has (only who h)) own ∙ only_here who h) in
+    let moved : after ≡ (only who t.next, []) =
+    t.moved ∙ (λ i. (slice_set (alone i).0 (own i) (Some t.next), (alone i).1))
+    ∙ (λ i. (only_set who h t.next i, [])) in
+    let here : known (has after.0 who) ≡ t.next =
+    ap (λ (m : Me (Unit {0}) View). known (has m.0 who)) moved ∙ ap known (only_here who t.next) in
     record {
       alone = moved ∙ (λ i. (only who (sym here i), []));
-      made = subst (λ (y : ℕ × List Access × List Access). IsAfterAccess y.0 deed y.1 y.2) (λ i. (own i, before i, sym here i)) t.made;
+      made = subst (λ (y : ℕ × List Access × List Access). IsAfterAccess y.0 deed y.1 y.2)
+          (λ i. (own i, before i, sym here i)) t.made;
       lawful = subst (λ (l : List Access). IsLawful may l) (sym here) t.lawful;
     }
 
 -- the start: there is no access
-pub opens : (may : ℕ → Deed → Type 0) (n count : ℕ) (words : List ℕ) → words ≡ replicate count 0 → Ruled may n count (opening words [] (whole n []))
+pub opens : (may : ℕ → Deed → Type 0) (n count : ℕ) (words : List ℕ) → words ≡ replicate count 0
+    → Ruled may n count (opening words [] (whole n []))
 opens may n count words is =
     record {
       history = [];
       long = ap length is ∙ length-replicate count 0;
-      left = λ place low. ap (λ (ws : List ℕ). slice_index ws place) is ∙ get_or-replicate count place 0 0 low;
+      left = λ place low. ap (λ (ws : List ℕ). slice_index ws place) is
+          ∙ get_or-replicate count place 0 0 low;
       callers = All-nil (λ (a : Access). a.caller < n);
       lawful = lawful_none may [] refl;
-      hands = held_at_start (Knows n []) n [] (λ i low. record { caller = low; prefix = ([], refl); own = refl });
+      hands = held_at_start
+          (Knows n []) n [] (λ i low. record { caller = low; prefix = ([], refl); own = refl });
     }

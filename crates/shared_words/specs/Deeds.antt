@@ -1,8 +1,8 @@
 -- What callers do to shared words, and what calls made of such deeds are.
 use Rattle.std.specs.Prelude.{◌≡◌, ℕ, ◌+◌, ◌%◌, ◌^◌, List, [], ◌∷◌}
 
--- A deed on the word at a place: an addition of an amount to the word found, a store, a load of the word found, or a swap of the word
--- found for another.
+-- A deed on the word at a place: an addition of an amount to the word found, a store, a load of the
+-- word found, or a swap of the word found for another.
 pub data Deed : Type 0 where
   Added : (place amount found : ℕ) → Deed
   Stored : (place word : ℕ) → Deed
@@ -30,8 +30,10 @@ HasFound (Stored place word) before = Unit {0}
 HasFound (Loaded place found) before = found ≡ before
 HasFound (Swapped place word found) before = found ≡ before
 
--- These pairs of operations and replies are calls, one after the other, the first of which begins after some deeds and the last
--- of which ends after some: what one call is, is given.
-abbrev pub AreCalls : (ℕ → ℕ → List Deed → List Deed → Type 0) → List (ℕ × ℕ) → List Deed → List Deed → Type 0
+-- These pairs of operations and replies are calls, one after the other, the first of which begins
+-- after some deeds and the last of which ends after some: what one call is, is given.
+abbrev pub AreCalls : (ℕ → ℕ → List Deed → List Deed → Type 0) → List (ℕ × ℕ) → List Deed
+    → List Deed → Type 0
 AreCalls call [] before after = before ≡ after
-AreCalls call (pair ∷ pairs) before after = (between : List Deed) × call pair.0 pair.1 before between × AreCalls call pairs between after
+AreCalls call (pair ∷ pairs) before after = (between : List Deed)
+    × call pair.0 pair.1 before between × AreCalls call pairs between after

@@ -15,10 +15,12 @@ access caller deed = record { caller = caller; deed = deed }
 abbrev pub deeds_by : ℕ → List Access → List Deed
 deeds_by i history = map (λ a. a.deed) (filter (λ a. a.caller == i) history)
 
--- The word at a place after a history, where this word was there before it; and from 0 on, as all words begin.
+-- The word at a place after a history, where this word was there before it; and from 0 on, as all
+-- words begin.
 abbrev pub word_from : ℕ → ℕ → List Access → ℕ
 word_from place word [] = word
-word_from place word (a ∷ history) = word_from place (if place_of a.deed == place then leaves a.deed word else word) history
+word_from place word (a ∷ history) =
+    word_from place (if place_of a.deed == place then leaves a.deed word else word) history
 
 abbrev pub word_at : ℕ → List Access → ℕ
 word_at place history = word_from place 0 history
@@ -30,10 +32,11 @@ pub record IsRight (may : ℕ → Deed → Type 0) (before : List Access) (a : A
 
 -- Each access of a history is right after those before it.
 abbrev pub IsLawful : (ℕ → Deed → Type 0) → List Access → Type 0
-IsLawful may history = (before rest : List Access) (a : Access) → history ≡ before ++ a ∷ rest → IsRight may before a
+IsLawful may history = (before rest : List Access) (a : Access) → history ≡ before ++ a ∷ rest
+    → IsRight may before a
 
--- A history after an access of a caller: it begins with the one before, ends with the access, and has no other new access of this
--- caller.
+-- A history after an access of a caller: it begins with the one before, ends with the access, and
+-- has no other new access of this caller.
 pub record IsAfterAccess (who : ℕ) (deed : Deed) (before after : List Access) : Type 0 where
   pub between : List Access
   pub history : after ≡ (before ++ between) ++ access who deed ∷ []
@@ -48,13 +51,20 @@ abbrev pub known : Option (List Access) → List Access
 known None = []
 known (Some history) = history
 
--- After an addition a word is the sum modulo 2^64, after a store and a swap the new one, and after a load the one before.
+-- After an addition a word is the sum modulo 2^64, after a store and a swap the new one, and after
+-- a load the one before.
 pub record AccessesAct : Type 0 where
-  pub adds : (history : List Access) (who place amount found : ℕ) → word_at place (history ++ access who (Added place amount found) ∷ []) ≡ (word_at place history + amount) % 2 ^ 64
-  pub stores : (history : List Access) (who place word : ℕ) → word_at place (history ++ access who (Stored place word) ∷ []) ≡ word
-  pub loads : (history : List Access) (who place found : ℕ) → word_at place (history ++ access who (Loaded place found) ∷ []) ≡ word_at place history
-  pub swaps : (history : List Access) (who place word found : ℕ) → word_at place (history ++ access who (Swapped place word found) ∷ []) ≡ word
+  pub adds : (history : List Access) (who place amount found : ℕ)
+      → word_at place (history ++ access who (Added place amount found) ∷ [])
+      ≡ (word_at place history + amount) % 2 ^ 64
+  pub stores : (history : List Access) (who place word : ℕ)
+      → word_at place (history ++ access who (Stored place word) ∷ []) ≡ word
+  pub loads : (history : List Access) (who place found : ℕ)
+      → word_at place (history ++ access who (Loaded place found) ∷ []) ≡ word_at place history
+  pub swaps : (history : List Access) (who place word found : ℕ)
+      → word_at place (history ++ access who (Swapped place word found) ∷ []) ≡ word
 
 -- An access leaves the words at other places.
 abbrev pub AccessesLeaveOthers : Type 0
-AccessesLeaveOthers = (history : List Access) (a : Access) (place : ℕ) → place_of a.deed ≢ place → word_at place (history ++ a ∷ []) ≡ word_at place history
+AccessesLeaveOthers = (history : List Access) (a : Access) (place : ℕ) → place_of a.deed ≢ place
+    → word_at place (history ++ a ∷ []) ≡ word_at place history

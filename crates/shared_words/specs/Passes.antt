@@ -22,8 +22,8 @@ deeds_of s = deeds_by (caller_of_seat s) (history_of s)
 abbrev pub seat_in : WordsPass → WordSeat
 seat_in p = p.seat
 
--- The caller of a pass, how many calls it made, how many it may make, its calls, each as an operation and a reply, and for how many
--- there is memory; and the history up to its last access.
+-- The caller of a pass, how many calls it made, how many it may make, its calls, each as an
+-- operation and a reply, and for how many there is memory; and the history up to its last access.
 abbrev pub caller_of_pass : WordsPass → ℕ
 caller_of_pass p = caller_of_seat p.seat
 
@@ -48,20 +48,25 @@ pub record IsFreshPass (calls : ℕ) (p : WordsPass) : Type 0 where
   pub cap : cap_of_pass p ≡ calls
   pub pairs : pairs_in p ≡ []
 
--- One history of all accesses of n callers, of which each pass knows a part: it is lawful, begins with what the pass knows, and has
--- of the pass's caller just the deeds that the pass knows.
-pub record IsOneHistory (may : ℕ → Deed → Type 0) (n : ℕ) (history : List Access) (passes : List WordsPass) : Type 0 where
+-- One history of all accesses of n callers, of which each pass knows a part: it is lawful, begins
+-- with what the pass knows, and has of the pass's caller just the deeds that the pass knows.
+pub record IsOneHistory (may : ℕ → Deed → Type 0) (n : ℕ) (history : List Access)
+    (passes : List WordsPass) : Type 0 where
   pub callers : All (λ a. a.caller < n) history
   pub lawful : IsLawful may history
   pub prefixes : All (λ p. IsPrefix (history_in p) history) passes
   pub deeds : All (λ p. deeds_by (caller_of_pass p) history ≡ deeds_of p.seat) passes
 
--- The calls that some passes tell are of one history of all accesses of n callers: it is lawful, and the pairs of each pass are calls of
--- which each is as given, made of just the deeds that its caller has there.
-pub record AreOfOneHistory (may : ℕ → Deed → Type 0) (call : ℕ → ℕ → ℕ → List Deed → List Deed → Type 0) (n : ℕ) (history : List Access) (passes : List WordsPass) : Type 0 where
+-- The calls that some passes tell are of one history of all accesses of n callers: it is lawful,
+-- and the pairs of each pass are calls of which each is as given, made of just the deeds that its
+-- caller has there.
+pub record AreOfOneHistory (may : ℕ → Deed → Type 0)
+    (call : ℕ → ℕ → ℕ → List Deed → List Deed → Type 0) (n : ℕ) (history : List Access)
+    (passes : List WordsPass) : Type 0 where
   pub callers : All (λ a. a.caller < n) history
   pub lawful : IsLawful may history
-  pub calls : All (λ p. AreCalls (call (caller_of_pass p)) (pairs_in p) [] (deeds_by (caller_of_pass p) history)) passes
+  pub calls : All (λ p. AreCalls (call (caller_of_pass p))
+      (pairs_in p) [] (deeds_by (caller_of_pass p) history)) passes
 
 module _ {U : Type 0} where
   -- How many callers some words have, how many calls each may make, and how many words there are.
@@ -80,9 +85,10 @@ module _ {U : Type 0} where
     pub caller : caller_of_seat s < callers_of w
     pub lawful : IsLawful may (history_of s)
 
-  -- The pass is one of these words, and has room for all that its caller may ask; its pairs are calls of which each is as given,
-  -- made by its deeds.
-  pub record IsPassOf (may : ℕ → Deed → Type 0) (call : ℕ → ℕ → ℕ → List Deed → List Deed → Type 0) (w : SharedWords U) (p : WordsPass) : Type 0 where
+  -- The pass is one of these words, and has room for all that its caller may ask; its pairs are
+  -- calls of which each is as given, made by its deeds.
+  pub record IsPassOf (may : ℕ → Deed → Type 0) (call : ℕ → ℕ → ℕ → List Deed → List Deed → Type 0)
+      (w : SharedWords U) (p : WordsPass) : Type 0 where
     pub seat : IsSeatOf may w p.seat
     pub cap : cap_of_pass p ≡ cap_of w
     pub room : cap_of w ≤ room_of_pass p

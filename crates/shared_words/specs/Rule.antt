@@ -12,8 +12,10 @@ pub record Knows (n : ℕ) (history : List Access) (i : ℕ) (h : List Access) :
   pub prefix : IsPrefix h history
   pub own : deeds_by i history ≡ deeds_by i h
 
--- There is one history: it is lawful and of the callers alone, it leaves the words, and each caller knows a prefix of it.
-pub record HaveOneHistory (may : ℕ → Deed → Type 0) (n count : ℕ) (words : List ℕ) (views : List View) : Type 0 where
+-- There is one history: it is lawful and of the callers alone, it leaves the words, and each caller
+-- knows a prefix of it.
+pub record HaveOneHistory (may : ℕ → Deed → Type 0) (n count : ℕ) (words : List ℕ)
+    (views : List View) : Type 0 where
   pub history : List Access
   pub long : length words ≡ count
   pub left : (place : ℕ) → place < count → slice_index words place ≡ word_at place history
@@ -25,8 +27,10 @@ pub record HaveOneHistory (may : ℕ → Deed → Type 0) (n count : ℕ) (words
 abbrev pub Ruled : (ℕ → Deed → Type 0) → ℕ → ℕ → State (Unit {0}) View → Type 0
 Ruled may n count t = HaveOneHistory may n count t.words t.views
 
--- A step is an access of a caller that is with the seat: it learns the history up to it, which is lawful.
-pub record Accesses (may : ℕ → Deed → Type 0) (me after : Me (Unit {0}) View) (deed : Deed) : Type 0 where
+-- A step is an access of a caller that is with the seat: it learns the history up to it, which is
+-- lawful.
+pub record Accesses (may : ℕ → Deed → Type 0) (me after : Me (Unit {0}) View)
+    (deed : Deed) : Type 0 where
   pub who : ℕ
   pub before : List Access
   pub next : List Access

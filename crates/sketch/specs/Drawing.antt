@@ -24,7 +24,8 @@ pub record IsPartOf (book : List Page) (drawn : Drawn) : Type 0 where
   pub made : (i : ℕ) → slice_index drawn.invoked i ≤ calls_of book i
   pub answered : (i : ℕ) → slice_index drawn.returned i ≤ answers_of book i
   -- and what a returned call saw is invoked
-  pub seen : (call : Call) (r : Record) → record_of book call ≡ Some r → Holds drawn.returned call → IsWithin r.view drawn.invoked
+  pub seen : (call : Call) (r : Record) → record_of book call ≡ Some r → Holds drawn.returned call
+      → IsWithin r.view drawn.invoked
 
 -- the call is the next one of its caller after the calls of a cut
 abbrev pub IsNextOf : List ℕ → Call → Type 0
@@ -35,11 +36,13 @@ abbrev pub FollowsOn : Drawn → Event → Type 0
 FollowsOn drawn (Invoke call) = IsNextOf drawn.invoked call
 FollowsOn drawn (Return call) = IsNextOf drawn.returned call
 
--- The event comes next: it is one of the book that isn't drawn, and comes before each other such event.
+-- The event comes next: it is one of the book that isn't drawn, and comes before each other such
+-- event.
 pub record IsNext (book : List Page) (drawn : Drawn) (event : Event) : Type 0 where
   pub is_event : IsEventOf book event
   pub follows : FollowsOn drawn event
-  pub first : (other : Event) → IsEventOf book other → (IsDrawn drawn other → ⊥) → (other ≡ event) ⊎ ComesBefore book event other
+  pub first : (other : Event) → IsEventOf book other → (IsDrawn drawn other → ⊥) → (other ≡ event)
+      ⊎ ComesBefore book event other
 
 -- what is drawn with one more event
 abbrev pub with_event : Drawn → Event → Drawn

@@ -1,4 +1,5 @@
--- The sketch of a book: the history of invocations and returns that its views tell (Castañeda and Rodríguez 2023).
+-- The sketch of a book: the history of invocations and returns that its views tell (Castañeda and
+-- Rodríguez 2023).
 use Rattle.std.specs.Prelude.{◌≡◌, ℕ, ◌<◌, ◌≤◌, ◌⊎◌, ◌↔◌, List, Some, slice_get, slice_index}
 use Rattle.book_base.specs.declared.call.Call.{Call}
 use Rattle.book_base.specs.declared.call.Record.{Record}
@@ -14,7 +15,8 @@ IsEventOf book (Return call) = IsAnswered book call
 
 -- Each view of the book that holds call b holds call a.
 abbrev pub IsSeenWith : List Page → Call → Call → Type 0
-IsSeenWith book a b = (answered : Call) (r : Record) → record_of book answered ≡ Some r → Holds r.view b → Holds r.view a
+IsSeenWith book a b = (answered : Call) (r : Record) → record_of book answered ≡ Some r
+    → Holds r.view b → Holds r.view a
 
 -- Call a stands before call b, by caller and then by number.
 abbrev pub IsListedBefore : Call → Call → Type 0
@@ -22,15 +24,20 @@ IsListedBefore a b = (a.caller < b.caller) ⊎ ((a.caller ≡ b.caller) × (a.nu
 
 -- One event of a sketch comes before another.
 abbrev pub ComesBefore : List Page → Event → Event → Type 0
--- An invocation comes before another where no view holds the other alone, and calls that the same views hold, or none, are
--- invoked by caller and then by number.
-ComesBefore book (Invoke a) (Invoke b) = IsSeenWith book a b × (IsSeenWith book b a → IsListedBefore a b)
+-- An invocation comes before another where no view holds the other alone, and calls that the same
+-- views hold, or none, are invoked by caller and then by number.
+ComesBefore book (Invoke a) (Invoke b) = IsSeenWith book a b
+    × (IsSeenWith book b a → IsListedBefore a b)
 -- An invocation comes before a return where the view of the returning call holds the invoked one.
 ComesBefore book (Invoke a) (Return b) = (r : Record) → record_of book b ≡ Some r → Holds r.view a
--- A return comes before an invocation where the view of the returning call doesn't hold the invoked one.
-ComesBefore book (Return a) (Invoke b) = (r : Record) → record_of book a ≡ Some r → slice_index r.view b.caller ≤ b.number
--- A return comes before another where its view is within the other's, and calls with one view return by caller.
-ComesBefore book (Return a) (Return b) = (r s : Record) → record_of book a ≡ Some r → record_of book b ≡ Some s
+-- A return comes before an invocation where the view of the returning call doesn't hold the invoked
+-- one.
+ComesBefore book (Return a) (Invoke b) = (r : Record) → record_of book a ≡ Some r
+    → slice_index r.view b.caller ≤ b.number
+-- A return comes before another where its view is within the other's, and calls with one view
+-- return by caller.
+ComesBefore book (Return a) (Return b) = (r s : Record) → record_of book a ≡ Some r
+    → record_of book b ≡ Some s
     → IsWithin r.view s.view × (IsWithin s.view r.view → a.caller < b.caller)
 
 -- the event stands in the list
@@ -42,4 +49,5 @@ pub record IsSketch (book : List Page) (events : List Event) : Type 0 where
   -- it has the events of the book, and no others
   pub whole : (event : Event) → StandsIn events event ↔ IsEventOf book event
   -- and each stands after all that come before it
-  pub ordered : (j k : ℕ) (e f : Event) → slice_get events j ≡ Some e → slice_get events k ≡ Some f → j < k → ComesBefore book e f
+  pub ordered : (j k : ℕ) (e f : Event) → slice_get events j ≡ Some e → slice_get events k ≡ Some f
+      → j < k → ComesBefore book e f

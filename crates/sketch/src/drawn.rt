@@ -50,8 +50,8 @@ impl Drawn {
 
     /// The event that comes next, if all aren't drawn.
     ///
-    /// Until the least view of the calls that are still to return is invoked, a call that it holds is;
-    /// then its call returns. After the last return all other calls are invoked.
+    /// Until the least view of the calls that are still to return is invoked, a call that it holds
+    /// is; then its call returns. After the last return all other calls are invoked.
     pub fn next(&self, book: &Book) -> Option<Event>
         requires valid { IsValid book.now }
         requires part { IsPartOf book.now self.now }

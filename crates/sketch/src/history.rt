@@ -9,9 +9,10 @@ use std::alloc::Global;
 /// The sketch of a book: the one history of invocations and returns that its views tell
 /// (Castañeda and Rodríguez 2023).
 ///
-/// The distinct views are taken in rising order. For each, the calls that it holds and no smaller view
-/// holds are invoked, by caller and then by number, and then the calls whose view it is return, by
-/// caller. After the last view the calls that no view holds are invoked, by caller and then by number.
+/// The distinct views are taken in rising order. For each, the calls that it holds and no smaller
+/// view holds are invoked, by caller and then by number, and then the calls whose view it is
+/// return, by caller. After the last view the calls that no view holds are invoked, by caller and
+/// then by number.
 pub fn sketch(alloc: Global, book: &Book) -> Result<Vec<Event>, NoMemory>
     // The answered events are the book's one sketch.
     ensures { IfOk result (λ events. IsSketch book.now events.items) }

@@ -30,7 +30,8 @@ pub fn views_hold_what_was_invoked()
     ensures { ViewsHoldWhatWasInvoked }
 {}
 
-/// The return of a call stands before the invocation of another exactly where its view doesn't hold it.
+/// The return of a call stands before the invocation of another exactly where its view doesn't hold
+/// it.
 #[tactic(auto, using(crate::proofs::Orderly::returns_come_before_unseen_calls))]
 pub fn returns_come_before_unseen_calls()
     ensures { ReturnsComeBeforeUnseenCalls }

@@ -23,7 +23,9 @@ none_among (Some key) = refl
 
 -- all items stay where no keys go
 pub items_without-none : (kind : Kind) (list : List ℕ) → items_without kind no_keys list ≡ list
-items_without-none kind list = filter-all (λ (item : ℕ). not (is_among no_keys (key_of_item kind item))) list (λ (item : ℕ). none_among (key_of_item kind item))
+items_without-none kind list =
+    filter-all (λ (item : ℕ). not (is_among no_keys (key_of_item kind item))) list
+    (λ (item : ℕ). none_among (key_of_item kind item))
 
 or_on : (a b : Bool) → not a ≡ true → not (a || b) ≡ not b
 or_on true b on = absurd (true≢false (sym on))
@@ -33,27 +35,34 @@ or_off : (a b : Bool) → not a ≡ false → not (a || b) ≡ false
 or_off true b off = refl
 or_off false b off = absurd (true≢false off)
 
-among_on : (first second : ℕ → Bool) (o : Option ℕ) → not (is_among first o) ≡ true → not (is_among (either_keys first second) o) ≡ not (is_among second o)
+among_on : (first second : ℕ → Bool) (o : Option ℕ) → not (is_among first o) ≡ true
+    → not (is_among (either_keys first second) o) ≡ not (is_among second o)
 among_on first second None on = refl
 among_on first second (Some key) on = or_on (first key) (second key) on
 
-among_off : (first second : ℕ → Bool) (o : Option ℕ) → not (is_among first o) ≡ false → not (is_among (either_keys first second) o) ≡ false
+among_off : (first second : ℕ → Bool) (o : Option ℕ) → not (is_among first o) ≡ false
+    → not (is_among (either_keys first second) o) ≡ false
 among_off first second None off = off
 among_off first second (Some key) off = or_off (first key) (second key) off
 
 -- items without some keys and then without others
 pub items_without-twice : (kind : Kind) (first second : ℕ → Bool) (list : List ℕ)
-    → items_without kind second (items_without kind first list) ≡ items_without kind (either_keys first second) list
+    → items_without kind second (items_without kind first list)
+    ≡ items_without kind (either_keys first second) list
 items_without-twice kind first second list =
-    filter-filter (λ (item : ℕ). not (is_among first (key_of_item kind item))) (λ (item : ℕ). not (is_among second (key_of_item kind item)))
+    filter-filter (λ (item : ℕ). not (is_among first (key_of_item kind item)))
+    (λ (item : ℕ). not (is_among second (key_of_item kind item)))
     (λ (item : ℕ). not (is_among (either_keys first second) (key_of_item kind item))) list
     (λ (item : ℕ) on. among_on first second (key_of_item kind item) on)
     (λ (item : ℕ) off. among_off first second (key_of_item kind item) off)
 
 -- the items that stay are a well-formed list
-pub well_formed-without : (kind : Kind) (keys : ℕ → Bool) (list : List ℕ) → IsWellFormed kind list → IsWellFormed kind (items_without kind keys list)
-well_formed-without kinds.Pqueue keys list formed = rises-filter (λ (item : ℕ). not (is_among keys (key_of_item kinds.Pqueue item))) list formed
-well_formed-without kinds.Map keys list formed = keys_once-filter (λ (item : ℕ). not (is_among keys (key_of_item kinds.Map item))) list formed
+pub well_formed-without : (kind : Kind) (keys : ℕ → Bool) (list : List ℕ) → IsWellFormed kind list
+    → IsWellFormed kind (items_without kind keys list)
+well_formed-without kinds.Pqueue keys list formed =
+    rises-filter (λ (item : ℕ). not (is_among keys (key_of_item kinds.Pqueue item))) list formed
+well_formed-without kinds.Map keys list formed =
+    keys_once-filter (λ (item : ℕ). not (is_among keys (key_of_item kinds.Map item))) list formed
 well_formed-without kinds.Queue keys list formed = tt
 well_formed-without kinds.Stack keys list formed = tt
 well_formed-without kinds.IntSet keys list formed = tt
@@ -62,20 +71,25 @@ well_formed-without kinds.Counter keys list formed = tt
 well_formed-without kinds.CasRegister keys list formed = tt
 
 -- What carries over from each list is evidence without any keys.
-pub evidence_from_all : (kind : Kind) (book part : List Page) → CarriesOver (kind_next kind) book part → IsEvidence kind book part
+pub evidence_from_all : (kind : Kind) (book part : List Page)
+    → CarriesOver (kind_next kind) book part → IsEvidence kind book part
 evidence_from_all kind book part carries = (
   no_keys,
   λ list formed legal.
-      subst (λ (l : List ℕ). HasLegalOrder l (kind_next kind) part) (sym (items_without-none kind list)) (carries list legal),
+      subst (λ (l : List ℕ). HasLegalOrder l (kind_next kind) part)
+      (sym (items_without-none kind list)) (carries list legal),
 )
 
 -- Evidence of evidence is evidence.
-pub evidence_twice : (kind : Kind) (book mid part : List Page) → IsEvidence kind book mid → IsEvidence kind mid part → IsEvidence kind book part
+pub evidence_twice : (kind : Kind) (book mid part : List Page) → IsEvidence kind book mid
+    → IsEvidence kind mid part → IsEvidence kind book part
 evidence_twice kind book mid part (first, outer) (second, inner) = (
   either_keys first second,
   λ list formed legal.
-      subst (λ (l : List ℕ). HasLegalOrder l (kind_next kind) part) (items_without-twice kind first second list)
-      (inner (items_without kind first list) (well_formed-without kind first list formed) (outer list formed legal)),
+      subst (λ (l : List ℕ). HasLegalOrder l (kind_next kind) part)
+      (items_without-twice kind first second list)
+      (inner (items_without kind first list) (well_formed-without kind first list formed)
+      (outer list formed legal)),
 )
 
 -- no object begins with an item that has a key

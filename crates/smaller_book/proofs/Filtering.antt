@@ -13,48 +13,60 @@ use Rattle.smaller_book.specs.Keys.{Rises}
 -- ---- what a filter keeps
 
 -- an item stays, or goes
-pub filter-kept : {X : Type 0} (p : X → Bool) (x : X) (xs : List X) → p x ≡ true → filter p (x ∷ xs) ≡ x ∷ filter p xs
+pub filter-kept : {X : Type 0} (p : X → Bool) (x : X) (xs : List X) → p x ≡ true
+    → filter p (x ∷ xs) ≡ x ∷ filter p xs
 filter-kept p x xs kept = cond-true (p x) (x ∷ filter p xs) (filter p xs) kept
 
-pub filter-gone : {X : Type 0} (p : X → Bool) (x : X) (xs : List X) → p x ≡ false → filter p (x ∷ xs) ≡ filter p xs
+pub filter-gone : {X : Type 0} (p : X → Bool) (x : X) (xs : List X) → p x ≡ false
+    → filter p (x ∷ xs) ≡ filter p xs
 filter-gone p x xs gone = cond-false (p x) (x ∷ filter p xs) (filter p xs) gone
 
 -- all items stay
-pub filter-all : {X : Type 0} (p : X → Bool) (xs : List X) → ((x : X) → p x ≡ true) → filter p xs ≡ xs
+pub filter-all : {X : Type 0} (p : X → Bool) (xs : List X) → ((x : X) → p x ≡ true)
+    → filter p xs ≡ xs
 filter-all p [] all = refl
-filter-all {X} p (x ∷ xs) all = filter-kept p x xs (all x) ∙ ap (λ (ys : List X). x ∷ ys) (filter-all p xs all)
+filter-all {X} p (x ∷ xs) all =
+    filter-kept p x xs (all x) ∙ ap (λ (ys : List X). x ∷ ys) (filter-all p xs all)
 
 -- a filter after another one
-pub filter-filter : {X : Type 0} (p q r : X → Bool) (xs : List X) → ((x : X) → p x ≡ true → r x ≡ q x) → ((x : X) → p x ≡ false → r x ≡ false)
+pub filter-filter : {X : Type 0} (p q r : X → Bool) (xs : List X)
+    → ((x : X) → p x ≡ true → r x ≡ q x) → ((x : X) → p x ≡ false → r x ≡ false)
     → filter q (filter p xs) ≡ filter r xs
 filter-filter p q r [] on off = refl
 filter-filter {X} p q r (x ∷ xs) on off = elim (cases_Bool (p x)) [
   | inl kept ↦
       ap (filter q) (filter-kept p x xs kept)
-      ∙ ap (λ (b : Bool). cond b (x ∷ filter q (filter p xs)) (filter q (filter p xs))) (sym (on x kept))
+      ∙ ap (λ (b : Bool). cond b (x ∷ filter q (filter p xs)) (filter q (filter p xs)))
+      (sym (on x kept))
       ∙ ap (λ (ys : List X). cond (r x) (x ∷ ys) ys) (filter-filter p q r xs on off)
-  | inr gone ↦ ap (filter q) (filter-gone p x xs gone) ∙ filter-filter p q r xs on off ∙ sym (filter-gone r x xs (off x gone))
+  | inr gone ↦ ap (filter q) (filter-gone p x xs gone) ∙ filter-filter p q r xs on off
+      ∙ sym (filter-gone r x xs (off x gone))
 ]
 
 -- what stays passes
-pub filter-passes : {X : Type 0} (p : X → Bool) (xs : List X) (k : ℕ) (d : X) → k < length (filter p xs) → p (get_or (filter p xs) k d) ≡ true
+pub filter-passes : {X : Type 0} (p : X → Bool) (xs : List X) (k : ℕ) (d : X)
+    → k < length (filter p xs) → p (get_or (filter p xs) k d) ≡ true
 filter-passes p [] k d inside = absurd (omega arith)
 filter-passes {X} p (x ∷ xs) k d inside = elim (cases_Bool (p x)) [
   | inl kept ↦
       let P : List X → Type 0 = λ ys. (j : ℕ) → j < length ys → p (get_or ys j d) ≡ true in
-      let all : P (x ∷ filter p xs) = first x (filter p xs) kept (λ j less. filter-passes p xs j d less) in
+      let all : P (x ∷ filter p xs) =
+      first x (filter p xs) kept (λ j less. filter-passes p xs j d less) in
       subst P (sym (filter-kept p x xs kept)) all k inside
   | inr gone ↦
       let P : List X → Type 0 = λ ys. (j : ℕ) → j < length ys → p (get_or ys j d) ≡ true in
       subst P (sym (filter-gone p x xs gone)) (λ j less. filter-passes p xs j d less) k inside
 ]
   where
-    first : (y : X) (ys : List X) → p y ≡ true → ((j : ℕ) → j < length ys → p (get_or ys j d) ≡ true) → (j : ℕ) → j < length (y ∷ ys) → p (get_or (y ∷ ys) j d) ≡ true
+    first : (y : X) (ys : List X) → p y ≡ true
+        → ((j : ℕ) → j < length ys → p (get_or ys j d) ≡ true) → (j : ℕ) → j < length (y ∷ ys)
+        → p (get_or (y ∷ ys) j d) ≡ true
     first y ys kept rest zero less = kept
     first y ys kept rest (suc j) less = rest j (omega arith)
 
 -- and what passes stays
-pub filter-finds : {X : Type 0} (p : X → Bool) (xs : List X) (j : ℕ) (d : X) → j < length xs → p (get_or xs j d) ≡ true
+pub filter-finds : {X : Type 0} (p : X → Bool) (xs : List X) (j : ℕ) (d : X) → j < length xs
+    → p (get_or xs j d) ≡ true
     → (k : ℕ) × (k < length (filter p xs)) × (get_or (filter p xs) k d ≡ get_or xs j d)
 filter-finds p [] j d inside passes = absurd (omega arith)
 filter-finds {X} p (x ∷ xs) zero d inside passes =
@@ -79,60 +91,83 @@ filter-few p (x ∷ xs) = elim (cases_Bool (p x)) [
   | inr gone ↦ omega (arith, ap length (filter-gone p x xs gone), filter-few p xs)
 ]
 
-pub filter-fewer : {X : Type 0} (p : X → Bool) (xs : List X) (j : ℕ) (d : X) → j < length xs → p (get_or xs j d) ≡ false → length (filter p xs) < length xs
+pub filter-fewer : {X : Type 0} (p : X → Bool) (xs : List X) (j : ℕ) (d : X) → j < length xs
+    → p (get_or xs j d) ≡ false → length (filter p xs) < length xs
 filter-fewer p [] j d inside gone = absurd (omega arith)
-filter-fewer p (x ∷ xs) zero d inside gone = omega (arith, ap length (filter-gone p x xs gone), filter-few p xs)
+filter-fewer p (x ∷ xs) zero d inside gone =
+    omega (arith, ap length (filter-gone p x xs gone), filter-few p xs)
 filter-fewer p (x ∷ xs) (suc j) d inside gone = elim (cases_Bool (p x)) [
-  | inl kept ↦ omega (arith, ap length (filter-kept p x xs kept), filter-fewer p xs j d (omega arith) gone)
-  | inr other ↦ omega (arith, ap length (filter-gone p x xs other), filter-fewer p xs j d (omega arith) gone)
+  | inl kept ↦
+      omega (arith, ap length (filter-kept p x xs kept), filter-fewer p xs j d (omega arith) gone)
+  | inr other ↦
+      omega (arith, ap length (filter-gone p x xs other), filter-fewer p xs j d (omega arith) gone)
 ]
 
 -- numbers of a range rise, and so do those that stay
 pub rising-filter_range : (p : ℕ → Bool) (n : ℕ) → AreRising (filter p (range_with_len 0 n))
 rising-filter_range p n j k less inside =
     AllPairs-filter (λ (x y : ℕ). x < y) p (range_with_len 0 n)
-    (λ a b d below room. omega (arith, get_or-range_with_len 0 n a d (omega (arith, below, room, length-range_with_len 0 n)), get_or-range_with_len 0 n b d (omega (arith, room, length-range_with_len 0 n)), below))
+    (λ a b d below room. omega (
+      arith,
+      get_or-range_with_len 0 n a d (omega (arith, below, room, length-range_with_len 0 n)),
+      get_or-range_with_len 0 n b d (omega (arith, room, length-range_with_len 0 n)),
+      below,
+    ))
     j k 0 less inside
 
 -- ---- lists that rise
 
-pub above-filter : (p : ℕ → Bool) (x : ℕ) (xs : List ℕ) → AllByRecursion (λ y. x ≤ y) xs → AllByRecursion (λ y. x ≤ y) (filter p xs)
+pub above-filter : (p : ℕ → Bool) (x : ℕ) (xs : List ℕ) → AllByRecursion (λ y. x ≤ y) xs
+    → AllByRecursion (λ y. x ≤ y) (filter p xs)
 above-filter p x [] above = tt
 above-filter p x (y ∷ ys) above = elim (cases_Bool (p y)) [
-  | inl kept ↦ subst (AllByRecursion (λ z. x ≤ z)) (sym (filter-kept p y ys kept)) (above.0, above-filter p x ys above.1)
-  | inr gone ↦ subst (AllByRecursion (λ z. x ≤ z)) (sym (filter-gone p y ys gone)) (above-filter p x ys above.1)
+  | inl kept ↦ subst (AllByRecursion (λ z. x ≤ z)) (sym (filter-kept p y ys kept))
+      (above.0, above-filter p x ys above.1)
+  | inr gone ↦ subst (AllByRecursion (λ z. x ≤ z)) (sym (filter-gone p y ys gone))
+      (above-filter p x ys above.1)
 ]
 
 pub rises-filter : (p : ℕ → Bool) (xs : List ℕ) → Rises xs → Rises (filter p xs)
 rises-filter p [] rises = tt
 rises-filter p (x ∷ xs) rises = elim (cases_Bool (p x)) [
-  | inl kept ↦ subst Rises (sym (filter-kept p x xs kept)) (above-filter p x xs rises.0, rises-filter p xs rises.1)
+  | inl kept ↦ subst Rises (sym (filter-kept p x xs kept))
+      (above-filter p x xs rises.0, rises-filter p xs rises.1)
   | inr gone ↦ subst Rises (sym (filter-gone p x xs gone)) (rises-filter p xs rises.1)
 ]
 
 -- ---- lists of items with keys
 
-pub lacks_key-filter : (p : ℕ → Bool) (key : ℕ) (xs : List ℕ) → LacksKey key xs → LacksKey key (filter p xs)
+pub lacks_key-filter : (p : ℕ → Bool) (key : ℕ) (xs : List ℕ) → LacksKey key xs
+    → LacksKey key (filter p xs)
 lacks_key-filter p key [] lacks = tt
 lacks_key-filter p key (x ∷ xs) lacks = elim (cases_Bool (p x)) [
-  | inl kept ↦ subst (LacksKey key) (sym (filter-kept p x xs kept)) (lacks.0, lacks_key-filter p key xs lacks.1)
-  | inr gone ↦ subst (LacksKey key) (sym (filter-gone p x xs gone)) (lacks_key-filter p key xs lacks.1)
+  | inl kept ↦ subst (LacksKey key) (sym (filter-kept p x xs kept))
+      (lacks.0, lacks_key-filter p key xs lacks.1)
+  | inr gone ↦
+      subst (LacksKey key) (sym (filter-gone p x xs gone)) (lacks_key-filter p key xs lacks.1)
 ]
 
 pub keys_once-filter : (p : ℕ → Bool) (xs : List ℕ) → HasKeysOnce xs → HasKeysOnce (filter p xs)
 keys_once-filter p [] once = tt
 keys_once-filter p (x ∷ xs) once = elim (cases_Bool (p x)) [
-  | inl kept ↦ subst HasKeysOnce (sym (filter-kept p x xs kept)) (lacks_key-filter p (key_of x) xs once.0, keys_once-filter p xs once.1)
+  | inl kept ↦ subst HasKeysOnce (sym (filter-kept p x xs kept))
+      (lacks_key-filter p (key_of x) xs once.0, keys_once-filter p xs once.1)
   | inr gone ↦ subst HasKeysOnce (sym (filter-gone p x xs gone)) (keys_once-filter p xs once.1)
 ]
 
 -- ---- how often a value stays
 
-pub times-filter : (p : ℕ → Bool) (v : ℕ) (xs : List ℕ) → p v ≡ true → times v (filter p xs) ≡ times v xs
+pub times-filter : (p : ℕ → Bool) (v : ℕ) (xs : List ℕ) → p v ≡ true
+    → times v (filter p xs) ≡ times v xs
 times-filter p v [] stays = refl
 times-filter p v (x ∷ xs) stays = elim (cases_Bool (p x)) [
   | inl kept ↦ omega (arith, ap (times v) (filter-kept p x xs kept), times-filter p v xs stays)
   | inr gone ↦
       let other : x ≢ v = λ e. true≢false (sym stays ∙ (sym (ap p e) ∙ gone)) in
-      omega (arith, ap (times v) (filter-gone p x xs gone), times-filter p v xs stays, ap one_if (ne_eqb x v other))
+      omega (
+        arith,
+        ap (times v) (filter-gone p x xs gone),
+        times-filter p v xs stays,
+        ap one_if (ne_eqb x v other),
+      )
 ]

@@ -1,4 +1,5 @@
--- What is left of a legal order of a book in a part of it, where a relation of the object's lists says what each call does to both.
+-- What is left of a legal order of a book in a part of it, where a relation of the object's lists
+-- says what each call does to both.
 use Rattle.std.proofs.Common.{◌≡◌, ℕ, ◌+◌, ◌<◌, ◌≤◌, ◌⊎◌, ◌∙◌, List, [], ◌∷◌, length, get_or, replicate, unwrap_or, Option, Some, None, refl, sym, ap, subst, inl, inr, arith, ltb}
 use Rattle.std.specs.Option.{IsSomeAnd}
 use Rattle.std.proofs.lemmas.Bool.{cases_lt, cases_eq, cond-false, le-ltb}
@@ -18,53 +19,68 @@ use Rattle.smaller_book.specs.Part.{numbers_of, AreRising, count_below, original
 use Rattle.smaller_book.proofs.Counts.{counted_from_below, count_below-at, count_below-past, count_below-without, count_below-monotone, find_number}
 
 -- what a test of an option's value says of it
-pub some_that : {X : Type 0} (o : Option X) (P : X → Type 0) → IsSomeAnd o P → (x : X) × (o ≡ Some x) × P x
+pub some_that : {X : Type 0} (o : Option X) (P : X → Type 0) → IsSomeAnd o P → (x : X)
+    × (o ≡ Some x) × P x
 some_that None P h = absurd h
 some_that (Some x) P h = (x, refl, h)
 
 -- what is answered in a part is a call of it
-pub call_from_answer : (book : List Page) (names : List (List ℕ)) (part : List Page) → IsPart book names part → (call : Call) → IsAnswered part call → IsCall part call
+pub call_from_answer : (book : List Page) (names : List (List ℕ)) (part : List Page)
+    → IsPart book names part → (call : Call) → IsAnswered part call → IsCall part call
 call_from_answer book names part is call answered = omega (arith, answered, is.answers call.caller)
 
 -- the record of the book that a record of the part was
-pub record_was : (book : List Page) (names : List (List ℕ)) (part : List Page) → IsPart book names part → (call : Call) (r : Record) → record_of part call ≡ Some r
-    → (whole : Record) × (record_of book (original names call) ≡ Some whole) × IsRenumbered names whole r
+pub record_was : (book : List Page) (names : List (List ℕ)) (part : List Page)
+    → IsPart book names part → (call : Call) (r : Record) → record_of part call ≡ Some r
+    → (whole : Record) × (record_of book (original names call) ≡ Some whole)
+    × IsRenumbered names whole r
 record_was book names part is call r known =
-    some_that (record_of book (original names call)) (λ (whole : Record). IsRenumbered names whole r) (is.records call r known)
+    some_that (record_of book (original names call))
+    (λ (whole : Record). IsRenumbered names whole r) (is.records call r known)
 
--- The part lacks the first unanswered call of a caller in its order, which stands in the book's: of its caller nothing stands any more.
-record IsPassed (book : List Page) (names : List (List ℕ)) (cut small : List ℕ) (i : ℕ) : Type 0 where
+-- The part lacks the first unanswered call of a caller in its order, which stands in the book's: of
+-- its caller nothing stands any more.
+record IsPassed (book : List Page) (names : List (List ℕ)) (cut small : List ℕ)
+    (i : ℕ) : Type 0 where
   open_calls : HasOneOpen book
   past : answers_of book i < get_or cut i 0
   counts : count_below (numbers_of names i) (answers_of book i) ≤ get_or small i 0
 
--- A cut of the part has the calls that the part has of the book's cut, but for the callers that are passed.
+-- A cut of the part has the calls that the part has of the book's cut, but for the callers that are
+-- passed.
 record Follows (book : List Page) (names : List (List ℕ)) (cut small : List ℕ) : Type 0 where
   wide : length small ≡ length cut
-  counts : (i : ℕ) → (get_or small i 0 ≡ count_below (numbers_of names i) (get_or cut i 0)) ⊎ IsPassed book names cut small i
+  counts : (i : ℕ) → (get_or small i 0 ≡ count_below (numbers_of names i) (get_or cut i 0))
+      ⊎ IsPassed book names cut small i
 
 -- the part's cut holds an answered call of the part where the book's holds what it was
-held_in_part : (book : List Page) (names : List (List ℕ)) (part : List Page) (cut small : List ℕ) → IsPart book names part → Follows book names cut small
+held_in_part : (book : List Page) (names : List (List ℕ)) (part : List Page) (cut small : List ℕ)
+    → IsPart book names part → Follows book names cut small
     → (call : Call) → IsAnswered part call → Holds cut (original names call) → Holds small call
 held_in_part book names part cut small is follows call answered held =
     let xs : List ℕ = numbers_of names call.caller in
-    let there : call.number < length xs = omega (arith, answered, is.answers call.caller, is.calls call.caller) in
+    let there : call.number < length xs =
+    omega (arith, answered, is.answers call.caller, is.calls call.caller) in
     elim (follows.counts call.caller) as (λ _. call.number < get_or small call.caller 0) [
       | inl exact ↦
           let counted : call.number < count_below xs (get_or cut call.caller 0)
-          = counted_from_below xs (get_or cut call.caller 0) call.number (is.rising call.caller) there held in
+          = counted_from_below xs (get_or cut call.caller 0) call.number
+          (is.rising call.caller) there held in
           omega (arith, counted, exact)
       | inr passed ↦
           let known = answer_stands part call answered in
           let whole = record_was book names part is call known.0 known.1 in
-          let before : get_or xs call.number 0 < answers_of book call.caller = slice_get_within _ (original names call).number whole.0 whole.1 in
+          let before : get_or xs call.number 0 < answers_of book call.caller =
+          slice_get_within _ (original names call).number whole.0 whole.1 in
           let counted : call.number < count_below xs (answers_of book call.caller)
-          = counted_from_below xs (answers_of book call.caller) call.number (is.rising call.caller) there before in
+          = counted_from_below xs (answers_of book call.caller) call.number
+          (is.rising call.caller) there before in
           omega (arith, counted, passed.counts)
     ]
 
 -- all answered calls of the part are in the part's cut
-answered_in_part : (book : List Page) (names : List (List ℕ)) (part : List Page) (cut small : List ℕ) → IsPart book names part → Follows book names cut small
+answered_in_part : (book : List Page) (names : List (List ℕ)) (part : List Page)
+    (cut small : List ℕ) → IsPart book names part → Follows book names cut small
     → HoldsAnswered book cut → HoldsAnswered part small
 answered_in_part book names part cut small is follows holds call answered =
     let known = answer_stands part call answered in
@@ -80,50 +96,66 @@ record Stays (names : List (List ℕ)) (place : Place) (k : ℕ) : Type 0 where
 abbrev renumbered : Place → ℕ → Place
 renumbered place k = record { caller = place.caller; number = k; reply = place.reply }
 
-was_there : (names : List (List ℕ)) (place : Place) (k : ℕ) → Stays names place k → original names (call_at (renumbered place k)) ≡ call_at place
-was_there names place k stays = same_call (original names (call_at (renumbered place k))) (call_at place) refl stays.same
+was_there : (names : List (List ℕ)) (place : Place) (k : ℕ) → Stays names place k
+    → original names (call_at (renumbered place k)) ≡ call_at place
+was_there names place k stays =
+    same_call (original names (call_at (renumbered place k))) (call_at place) refl stays.same
 
-same_operation : (book : List Page) (names : List (List ℕ)) (part : List Page) → IsPart book names part → (place : Place) (k : ℕ) → Stays names place k
+same_operation : (book : List Page) (names : List (List ℕ)) (part : List Page)
+    → IsPart book names part → (place : Place) (k : ℕ) → Stays names place k
     → (step_at part (renumbered place k)).0 ≡ (step_at book place).0
 same_operation book names part is place k stays =
-    let inside : IsCall part (call_at (renumbered place k)) = omega (arith, is.calls place.caller, stays.inside) in
-    ap (λ o. unwrap_or o 0) (is.operations (call_at (renumbered place k)) inside ∙ ap (operation_of book) (was_there names place k stays))
+    let inside : IsCall part (call_at (renumbered place k)) =
+    omega (arith, is.calls place.caller, stays.inside) in
+    ap (λ o. unwrap_or o 0) (is.operations (call_at (renumbered place k)) inside
+    ∙ ap (operation_of book) (was_there names place k stays))
 
 -- the part's cut has as many calls of a caller as it has of those in the book's cut
 abbrev IsExact : List (List ℕ) → List ℕ → List ℕ → ℕ → Type 0
 IsExact names cut small i = get_or small i 0 ≡ count_below (numbers_of names i) (get_or cut i 0)
 
 -- the part's count of the caller is the number of the call there
-count_is : (names : List (List ℕ)) (cut small : List ℕ) (place : Place) (k : ℕ) → AreRising (numbers_of names place.caller) → IsExact names cut small place.caller → Stays names place k
+count_is : (names : List (List ℕ)) (cut small : List ℕ) (place : Place) (k : ℕ)
+    → AreRising (numbers_of names place.caller) → IsExact names cut small place.caller
+    → Stays names place k
     → place.number ≡ get_or cut place.caller 0 → get_or small place.caller 0 ≡ k
 count_is names cut small place k rising exact stays next =
     let xs : List ℕ = numbers_of names place.caller in
-    exact ∙ (ap (count_below xs) (sym next) ∙ (ap (count_below xs) (sym stays.same) ∙ count_below-at xs k rising stays.inside))
+    exact ∙ (ap (count_below xs) (sym next)
+    ∙ (ap (count_below xs) (sym stays.same) ∙ count_below-at xs k rising stays.inside))
 
 -- what precedes the call in the part precedes it in the book
-precedes_in_book : (book : List Page) (names : List (List ℕ)) (part : List Page) → IsPart book names part → (place : Place) (k : ℕ) → Stays names place k
-    → (a : Call) → IsSomeAnd (record_of part a) (λ r. get_or r.view place.caller 0 ≤ k) → Precedes book (original names a) (call_at place)
+precedes_in_book : (book : List Page) (names : List (List ℕ)) (part : List Page)
+    → IsPart book names part → (place : Place) (k : ℕ) → Stays names place k
+    → (a : Call) → IsSomeAnd (record_of part a) (λ r. get_or r.view place.caller 0 ≤ k)
+    → Precedes book (original names a) (call_at place)
 precedes_in_book book names part is place k stays a answered =
     let xs : List ℕ = numbers_of names place.caller in
     let says : Record → Type 0 = λ r. get_or r.view place.caller 0 ≤ k in
     let known = some_that (record_of part a) says answered in
     let whole = record_was book names part is a known.0 known.1 in
-    let below : get_or whole.0.view place.caller 0 ≤ place.number = elim (cases_lt place.number (get_or whole.0.view place.caller 0)) [
+    let below : get_or whole.0.view place.caller 0 ≤ place.number =
+    elim (cases_lt place.number (get_or whole.0.view place.caller 0)) [
       | inl seen ↦
           let counted : k < count_below xs (get_or whole.0.view place.caller 0)
-          = counted_from_below xs (get_or whole.0.view place.caller 0) k (is.rising place.caller) stays.inside (omega (arith, stays.same, seen)) in
+          = counted_from_below xs (get_or whole.0.view place.caller 0) k
+          (is.rising place.caller) stays.inside (omega (arith, stays.same, seen)) in
           absurd (omega (arith, counted, whole.2.view place.caller, known.2))
       | inr le ↦ le
     ] in
-    inl (subst (λ o. IsSomeAnd o (λ (r : Record). get_or r.view place.caller 0 ≤ place.number)) (sym whole.1) below)
+    inl (subst (λ o. IsSomeAnd o (λ (r : Record). get_or r.view place.caller 0 ≤ place.number))
+    (sym whole.1) below)
 
 -- a place that stays may stand next in the part, at a list with the same reply
-stands_in_part : (book : List Page) (names : List (List ℕ)) (part : List Page) (next : List ℕ → ℕ → List ℕ × ℕ) (cut small whole few : List ℕ) (place : Place) (k : ℕ)
-    → IsPart book names part → Follows book names cut small → IsExact names cut small place.caller → Stays names place k
+stands_in_part : (book : List Page) (names : List (List ℕ)) (part : List Page)
+    (next : List ℕ → ℕ → List ℕ × ℕ) (cut small whole few : List ℕ) (place : Place) (k : ℕ)
+    → IsPart book names part → Follows book names cut small → IsExact names cut small place.caller
+    → Stays names place k
     → (next few (step_at book place).0).1 ≡ (next whole (step_at book place).0).1
     → MayStandNext book next cut whole place → MayStandNext part next small few (renumbered place k)
 stands_in_part book names part next cut small list few place k is follows exact stays alike may =
-    let count : get_or small place.caller 0 ≡ k = count_is names cut small place k (is.rising place.caller) exact stays may.may_come.next in
+    let count : get_or small place.caller 0 ≡ k =
+    count_is names cut small place k (is.rising place.caller) exact stays may.may_come.next in
     record {
       may_come = record {
         is_call = omega (arith, is.calls place.caller, stays.inside);
@@ -132,22 +164,31 @@ stands_in_part book names part next cut small list few place k is follows exact 
           | inl answered ↦
               let says : Record → Type 0 = λ r. get_or r.view place.caller 0 ≤ k in
               let known = some_that (record_of part a) says answered in
-              held_in_part book names part cut small is follows a (slice_get_within _ a.number known.0 known.1)
-              (may.may_come.preceded (original names a) (precedes_in_book book names part is place k stays a answered))
+              held_in_part book names part cut small is follows a
+              (slice_get_within _ a.number known.0 known.1)
+              (may.may_come.preceded (original names a)
+              (precedes_in_book book names part is place k stays a answered))
           | inr own ↦ omega (arith, own.1, count, ap (λ (i : ℕ). get_or small i 0) own.0)
         ];
       };
       recorded = λ (r : Record) (known : record_of part (call_at (renumbered place k)) ≡ Some r).
           let whole = record_was book names part is (call_at (renumbered place k)) r known in
-          whole.2.reply ∙ may.recorded whole.0 (ap (record_of book) (sym (was_there names place k stays)) ∙ whole.1);
-      reply = ap (λ (op : ℕ). (next few op).1) (same_operation book names part is place k stays) ∙ (alike ∙ may.reply);
+          whole.2.reply ∙ may.recorded whole.0
+          (ap (record_of book) (sym (was_there names place k stays)) ∙ whole.1);
+      reply = ap (λ (op : ℕ). (next few op).1) (same_operation book names part is place k stays)
+          ∙ (alike ∙ may.reply);
     }
 
--- What a caller's counts say stays where another caller's call comes into the book's cut, and maybe into the part's.
-other_follows : (book : List Page) (names : List (List ℕ)) (cut small more few : List ℕ) (i : ℕ) → get_or more i 0 ≡ get_or cut i 0 → get_or few i 0 ≡ get_or small i 0
-    → (get_or small i 0 ≡ count_below (numbers_of names i) (get_or cut i 0)) ⊎ IsPassed book names cut small i
-    → (get_or few i 0 ≡ count_below (numbers_of names i) (get_or more i 0)) ⊎ IsPassed book names more few i
-other_follows book names cut small more few i same_cut same_small (inl exact) = inl (same_small ∙ (exact ∙ ap (count_below (numbers_of names i)) (sym same_cut)))
+-- What a caller's counts say stays where another caller's call comes into the book's cut, and maybe
+-- into the part's.
+other_follows : (book : List Page) (names : List (List ℕ)) (cut small more few : List ℕ) (i : ℕ)
+    → get_or more i 0 ≡ get_or cut i 0 → get_or few i 0 ≡ get_or small i 0
+    → (get_or small i 0 ≡ count_below (numbers_of names i) (get_or cut i 0))
+    ⊎ IsPassed book names cut small i
+    → (get_or few i 0 ≡ count_below (numbers_of names i) (get_or more i 0))
+    ⊎ IsPassed book names more few i
+other_follows book names cut small more few i same_cut same_small (inl exact) =
+    inl (same_small ∙ (exact ∙ ap (count_below (numbers_of names i)) (sym same_cut)))
 other_follows book names cut small more few i same_cut same_small (inr passed) = inr (record {
   open_calls = passed.open_calls;
   past = omega (arith, passed.past, same_cut);
@@ -155,78 +196,113 @@ other_follows book names cut small more few i same_cut same_small (inr passed) =
 })
 
 -- the part's cut follows by one more call
-follows_on : (book : List Page) (names : List (List ℕ)) (cut small : List ℕ) (place : Place) (k : ℕ) → AreRising (numbers_of names place.caller) → Follows book names cut small
+follows_on : (book : List Page) (names : List (List ℕ)) (cut small : List ℕ) (place : Place) (k : ℕ)
+    → AreRising (numbers_of names place.caller) → Follows book names cut small
     → IsExact names cut small place.caller → Stays names place k
-    → place.number ≡ get_or cut place.caller 0 → place.caller < length cut → Follows book names (raised cut place.caller) (raised small place.caller)
+    → place.number ≡ get_or cut place.caller 0 → place.caller < length cut
+    → Follows book names (raised cut place.caller) (raised small place.caller)
 follows_on book names cut small place k rising follows exact stays next inside =
     let i : ℕ = place.caller in
     let xs : List ℕ = numbers_of names i in
     let count : get_or small i 0 ≡ k = count_is names cut small place k rising exact stays next in
     let more : count_below xs (get_or (raised cut i) i 0) ≡ k + 1
-    = ap (count_below xs) (raised_same cut i inside ∙ ap (λ (n : ℕ). n + 1) (sym next ∙ sym stays.same)) ∙ count_below-past xs k rising stays.inside in
+    = ap (count_below xs)
+    (raised_same cut i inside ∙ ap (λ (n : ℕ). n + 1) (sym next ∙ sym stays.same))
+    ∙ count_below-past xs k rising stays.inside in
     let same : get_or (raised small i) i 0 ≡ k + 1
     = raised_same small i (omega (arith, follows.wide, inside)) ∙ ap (λ (n : ℕ). n + 1) count in
-    let P : ℕ → Type 0 = λ j. (get_or (raised small i) j 0 ≡ count_below (numbers_of names j) (get_or (raised cut i) j 0)) ⊎ IsPassed book names (raised cut i) (raised small i) j in
+    let P : ℕ → Type 0 = λ j. (get_or (raised small i) j 0 ≡ count_below (numbers_of names j)
+    (get_or (raised cut i) j 0)) ⊎ IsPassed book names (raised cut i) (raised small i) j in
     record {
-      wide = omega (arith, length-set small i (get_or small i 0 + 1), length-set cut i (get_or cut i 0 + 1), follows.wide);
+      wide = omega (
+        arith,
+        length-set small i (get_or small i 0 + 1),
+        length-set cut i (get_or cut i 0 + 1),
+        follows.wide,
+      );
       counts = λ (j : ℕ). elim (cases_eq j i) [
         | inl e ↦ subst P (sym e) (inl (same ∙ sym more))
-        | inr other ↦ other_follows book names cut small (raised cut i) (raised small i) j (raised_other cut i j other) (raised_other small i j other) (follows.counts j)
+        | inr other ↦ other_follows book names cut small (raised cut i) (raised small i) j
+            (raised_other cut i j other) (raised_other small i j other) (follows.counts j)
       ];
     }
 
 -- it stays where what holds of the caller's count holds of it with one call more in the book's cut
-follows_with : (book : List Page) (names : List (List ℕ)) (cut small : List ℕ) (i : ℕ) → Follows book names cut small
-    → (get_or small i 0 ≡ count_below (numbers_of names i) (get_or (raised cut i) i 0)) ⊎ IsPassed book names (raised cut i) small i
+follows_with : (book : List Page) (names : List (List ℕ)) (cut small : List ℕ) (i : ℕ)
+    → Follows book names cut small
+    → (get_or small i 0 ≡ count_below (numbers_of names i) (get_or (raised cut i) i 0))
+    ⊎ IsPassed book names (raised cut i) small i
     → Follows book names (raised cut i) small
 follows_with book names cut small i follows own =
-    let P : ℕ → Type 0 = λ j. (get_or small j 0 ≡ count_below (numbers_of names j) (get_or (raised cut i) j 0)) ⊎ IsPassed book names (raised cut i) small j in
+    let P : ℕ → Type 0 =
+    λ j. (get_or small j 0 ≡ count_below (numbers_of names j) (get_or (raised cut i) j 0))
+    ⊎ IsPassed book names (raised cut i) small j in
     record {
       wide = omega (arith, length-set cut i (get_or cut i 0 + 1), follows.wide);
       counts = λ (j : ℕ). elim (cases_eq j i) [
         | inl e ↦ subst P (sym e) own
-        | inr other ↦ other_follows book names cut small (raised cut i) small j (raised_other cut i j other) refl (follows.counts j)
+        | inr other ↦ other_follows book names cut small (raised cut i) small j
+            (raised_other cut i j other) refl (follows.counts j)
       ];
     }
 
 -- so it does where the part lacks the call
-follows_without : (book : List Page) (names : List (List ℕ)) (cut small : List ℕ) (place : Place) → Follows book names cut small → IsExact names cut small place.caller
-    → ((k : ℕ) → k < length (numbers_of names place.caller) → get_or (numbers_of names place.caller) k 0 ≡ place.number → ⊥)
-    → place.number ≡ get_or cut place.caller 0 → place.caller < length cut → Follows book names (raised cut place.caller) small
+follows_without : (book : List Page) (names : List (List ℕ)) (cut small : List ℕ) (place : Place)
+    → Follows book names cut small → IsExact names cut small place.caller
+    → ((k : ℕ) → k < length (numbers_of names place.caller)
+    → get_or (numbers_of names place.caller) k 0 ≡ place.number → ⊥)
+    → place.number ≡ get_or cut place.caller 0 → place.caller < length cut
+    → Follows book names (raised cut place.caller) small
 follows_without book names cut small place follows exact lacks next inside =
     let i : ℕ = place.caller in
     let xs : List ℕ = numbers_of names i in
     let more : count_below xs (get_or (raised cut i) i 0) ≡ count_below xs (get_or cut i 0)
-    = ap (count_below xs) (raised_same cut i inside ∙ ap (λ (n : ℕ). n + 1) (sym next)) ∙ (count_below-without xs place.number lacks ∙ ap (count_below xs) next) in
+    = ap (count_below xs) (raised_same cut i inside ∙ ap (λ (n : ℕ). n + 1) (sym next))
+    ∙ (count_below-without xs place.number lacks ∙ ap (count_below xs) next) in
     follows_with book names cut small i follows (inl (exact ∙ sym more))
 
 -- and where an unanswered call is passed
-follows_past : (book : List Page) (names : List (List ℕ)) (cut small : List ℕ) (place : Place) → AreRising (numbers_of names place.caller) → Follows book names cut small
+follows_past : (book : List Page) (names : List (List ℕ)) (cut small : List ℕ) (place : Place)
+    → AreRising (numbers_of names place.caller) → Follows book names cut small
     → IsExact names cut small place.caller → HasOneOpen book → (IsAnswered book (call_at place) → ⊥)
-    → place.number ≡ get_or cut place.caller 0 → place.caller < length cut → Follows book names (raised cut place.caller) small
+    → place.number ≡ get_or cut place.caller 0 → place.caller < length cut
+    → Follows book names (raised cut place.caller) small
 follows_past book names cut small place rising follows exact open_calls unanswered next inside =
     let i : ℕ = place.caller in
     let xs : List ℕ = numbers_of names i in
-    let late : answers_of book i ≤ get_or cut i 0 = elim (cases_lt place.number (answers_of book i)) [
+    let late : answers_of book i ≤ get_or cut i 0 =
+    elim (cases_lt place.number (answers_of book i)) [
       | inl answered ↦ absurd (unanswered answered)
       | inr le ↦ omega (arith, le, next)
     ] in
     follows_with book names cut small i follows (inr (record {
       open_calls = open_calls;
       past = omega (arith, raised_same cut i inside, late);
-      counts = omega (arith, exact, count_below-monotone xs (answers_of book i) (get_or cut i 0) rising late);
+      counts = omega
+          (arith, exact, count_below-monotone xs (answers_of book i) (get_or cut i 0) rising late);
     }))
 
--- Where a call of a passed caller stands next, all answered calls stand before it, since no view holds it.
-all_held : (book : List Page) (names : List (List ℕ)) (part : List Page) (next : List ℕ → ℕ → List ℕ × ℕ) (cut small list : List ℕ) (place : Place)
-    → IsPart book names part → Follows book names cut small → IsPassed book names cut small place.caller → MayStandNext book next cut list place → HoldsAnswered part small
+-- Where a call of a passed caller stands next, all answered calls stand before it, since no view
+-- holds it.
+all_held : (book : List Page) (names : List (List ℕ)) (part : List Page)
+    (next : List ℕ → ℕ → List ℕ × ℕ) (cut small list : List ℕ) (place : Place)
+    → IsPart book names part → Follows book names cut small
+    → IsPassed book names cut small place.caller → MayStandNext book next cut list place
+    → HoldsAnswered part small
 all_held book names part next cut small list place is follows passed may call answered =
     let known = answer_stands part call answered in
     let whole = record_was book names part is call known.0 known.1 in
     let before : get_or whole.0.view place.caller 0 ≤ place.number
-    = omega (arith, passed.open_calls (original names call) whole.0 place.caller whole.1, passed.past, may.may_come.next) in
+    = omega (
+      arith,
+      passed.open_calls (original names call) whole.0 place.caller whole.1,
+      passed.past,
+      may.may_come.next,
+    ) in
     held_in_part book names part cut small is follows call answered
-    (may.may_come.preceded (original names call) (inl (subst (λ o. IsSomeAnd o (λ (r : Record). get_or r.view place.caller 0 ≤ place.number)) (sym whole.1) before)))
+    (may.may_come.preceded (original names call)
+    (inl (subst (λ o. IsSomeAnd o (λ (r : Record). get_or r.view place.caller 0 ≤ place.number))
+    (sym whole.1) before)))
 
 -- the operation word of a call
 abbrev pub word_at : List Page → Call → ℕ
@@ -234,27 +310,42 @@ word_at book call = unwrap_or (operation_of book call) 0
 
 -- the recorded reply is the one that the object gives at a list
 abbrev pub AgreesAt : List Page → (List ℕ → ℕ → List ℕ × ℕ) → List ℕ → Call → Type 0
-AgreesAt book next whole call = (r : Record) → record_of book call ≡ Some r → r.reply ≡ (next whole (word_at book call)).1
+AgreesAt book next whole call = (r : Record) → record_of book call ≡ Some r
+    → r.reply ≡ (next whole (word_at book call)).1
 
 -- A relation of the lists with all calls and with the part's: each call keeps it.
-pub record IsFollowed (R : List ℕ → List ℕ → Type 0) (next : List ℕ → ℕ → List ℕ × ℕ) (book : List Page) (names : List (List ℕ)) : Type 0 where
+pub record IsFollowed (R : List ℕ → List ℕ → Type 0) (next : List ℕ → ℕ → List ℕ × ℕ)
+    (book : List Page) (names : List (List ℕ)) : Type 0 where
   -- a call that the part lacks, where it changes the first list alone
-  pub lacks : (whole few : List ℕ) (call : Call) → R whole few → IsCall book call → ¬ IsNamed names call → AgreesAt book next whole call → R (next whole (word_at book call)).0 few
-  -- a call that the part has, which is made on both lists with the same reply; or it is an unanswered one, and changes the first list alone
-  pub has : (whole few : List ℕ) (call : Call) → R whole few → IsCall book call → IsNamed names call → AgreesAt book next whole call
-      → (((next few (word_at book call)).1 ≡ (next whole (word_at book call)).1) × R (next whole (word_at book call)).0 (next few (word_at book call)).0)
+  pub lacks : (whole few : List ℕ) (call : Call) → R whole few → IsCall book call
+      → ¬ IsNamed names call → AgreesAt book next whole call
+      → R (next whole (word_at book call)).0 few
+  -- a call that the part has, which is made on both lists with the same reply; or it is an
+  -- unanswered one, and changes the first list alone
+  pub has : (whole few : List ℕ) (call : Call) → R whole few → IsCall book call → IsNamed names call
+      → AgreesAt book next whole call
+      → (((next few (word_at book call)).1 ≡ (next whole (word_at book call)).1)
+      × R (next whole (word_at book call)).0 (next few (word_at book call)).0)
       ⊎ (HasOneOpen book × (IsAnswered book call → ⊥) × R (next whole (word_at book call)).0 few)
 
--- What may stand one after another in the book does so in the part, without the calls that the part lacks.
-continues_in_part : (R : List ℕ → List ℕ → Type 0) (book : List Page) (names : List (List ℕ)) (part : List Page) (next : List ℕ → ℕ → List ℕ × ℕ) (cut small whole few : List ℕ) (order : List Place)
-    → IsPart book names part → IsFollowed R next book names → length book ≤ length cut → Follows book names cut small → R whole few → Continues book next cut whole order
+-- What may stand one after another in the book does so in the part, without the calls that the part
+-- lacks.
+continues_in_part : (R : List ℕ → List ℕ → Type 0) (book : List Page) (names : List (List ℕ))
+    (part : List Page) (next : List ℕ → ℕ → List ℕ × ℕ) (cut small whole few : List ℕ)
+    (order : List Place)
+    → IsPart book names part → IsFollowed R next book names → length book ≤ length cut
+    → Follows book names cut small → R whole few → Continues book next cut whole order
     → (rest : List Place) × Continues part next small few rest
-continues_in_part R book names part next cut small whole few [] is lists wide follows related holds = ([], answered_in_part book names part cut small is follows holds)
-continues_in_part R book names part next cut small whole few (place ∷ order) is lists wide follows related (may, later) =
+continues_in_part R book names part next cut small whole few [] is lists wide follows related
+    holds = ([], answered_in_part book names part cut small is follows holds)
+continues_in_part R book names part next cut small whole few
+    (place ∷ order) is lists wide follows related (may, later) =
     let i : ℕ = place.caller in
     let inside : i < length cut = within_cut book cut (call_at place) wide may.may_come.is_call in
-    let wider : length book ≤ length (raised cut i) = omega (arith, length-set cut i (get_or cut i 0 + 1)) in
-    let agrees : AgreesAt book next whole (call_at place) = λ r known. may.recorded r known ∙ sym may.reply in
+    let wider : length book ≤ length (raised cut i) =
+    omega (arith, length-set cut i (get_or cut i 0 + 1)) in
+    let agrees : AgreesAt book next whole (call_at place) =
+    λ r known. may.recorded r known ∙ sym may.reply in
     elim (follows.counts i) [
       | inr passed ↦ ([], all_held book names part next cut small whole place is follows passed may)
       | inl exact ↦ elim (find_number (numbers_of names i) place.number) [
@@ -262,24 +353,35 @@ continues_in_part R book names part next cut small whole few (place ∷ order) i
             let stays : Stays names place found.0 = record { inside = found.1; same = found.2 } in
             elim (lists.has whole few (call_at place) related may.may_come.is_call found agrees) [
               | inl alike ↦
-                  let rest = continues_in_part R book names part next (raised cut i) (raised small i) (list_after book next whole place) (next few (step_at book place).0).0 order is lists wider
-                  (follows_on book names cut small place found.0 (is.rising i) follows exact stays may.may_come.next inside) alike.1 later in
-                  let same : (next few (step_at book place).0).0 ≡ list_after part next few (renumbered place found.0)
-                  = ap (λ (op : ℕ). (next few op).0) (sym (same_operation book names part is place found.0 stays)) in (
+                  let rest = continues_in_part R book names part next (raised cut i)
+                  (raised small i) (list_after book next whole place)
+                  (next few (step_at book place).0).0 order is lists wider
+                  (follows_on book names cut small place found.0
+                  (is.rising i) follows exact stays may.may_come.next inside) alike.1 later in
+                  let same : (next few (step_at book place).0).0
+                  ≡ list_after part next few (renumbered place found.0)
+                  = ap (λ (op : ℕ). (next few op).0)
+                  (sym (same_operation book names part is place found.0 stays)) in (
                     renumbered place found.0 ∷ rest.0,
                     (
-                      stands_in_part book names part next cut small whole few place found.0 is follows exact stays alike.0 may,
-                      subst (λ (l : List ℕ). Continues part next (raised small i) l rest.0) same rest.1,
+                      stands_in_part book names part next cut small whole few place found.0 is
+                          follows exact stays alike.0 may,
+                      subst (λ (l : List ℕ). Continues part next (raised small i) l rest.0)
+                          same rest.1,
                     ),
                   )
               | inr passes ↦
-                  continues_in_part R book names part next (raised cut i) small (list_after book next whole place) few order is lists wider
-                  (follows_past book names cut small place (is.rising i) follows exact passes.0 passes.1 may.may_come.next inside) passes.2 later
+                  continues_in_part R book names part next (raised cut i) small
+                  (list_after book next whole place) few order is lists wider
+                  (follows_past book names cut small place (is.rising i) follows exact passes.0
+                  passes.1 may.may_come.next inside) passes.2 later
             ]
         | inr none ↦
-            continues_in_part R book names part next (raised cut i) small (list_after book next whole place) few order is lists wider
+            continues_in_part R book names part next (raised cut i) small
+            (list_after book next whole place) few order is lists wider
             (follows_without book names cut small place follows exact none may.may_come.next inside)
-            (lists.lacks whole few (call_at place) related may.may_come.is_call (λ named. none named.0 named.1 named.2) agrees) later
+            (lists.lacks whole few (call_at place) related may.may_come.is_call
+            (λ named. none named.0 named.1 named.2) agrees) later
       ]
     ]
 
@@ -288,15 +390,23 @@ no_call_below [] = refl
 no_call_below (x ∷ xs) = cond-false (ltb x 0) (1 + count_below xs 0) 0 (le-ltb x 0 (omega arith))
 
 -- Where the book has a legal order, the part has one from a related list on.
-pub has_one_in_part : (R : List ℕ → List ℕ → Type 0) (next : List ℕ → ℕ → List ℕ × ℕ) (book : List Page) (names : List (List ℕ)) (part : List Page) (whole few : List ℕ)
-    → IsPart book names part → IsFollowed R next book names → R whole few → HasLegalOrder whole next book → HasLegalOrder few next part
+pub has_one_in_part : (R : List ℕ → List ℕ → Type 0) (next : List ℕ → ℕ → List ℕ × ℕ)
+    (book : List Page) (names : List (List ℕ)) (part : List Page) (whole few : List ℕ)
+    → IsPart book names part → IsFollowed R next book names → R whole few
+    → HasLegalOrder whole next book → HasLegalOrder few next part
 has_one_in_part R next book names part whole few is lists related (order, legal) =
     let start : List ℕ = replicate (length book) 0 in
-    let wide : length book ≤ length start = omega (arith, length-replicate {A = ℕ} (length book) 0) in
+    let wide : length book ≤ length start =
+    omega (arith, length-replicate {A = ℕ} (length book) 0) in
     let zeros : (i : ℕ) → get_or start i 0 ≡ 0 = λ i. get_or-replicate_default (length book) i 0 in
     let follows : Follows book names start start = record {
       wide = refl;
-      counts = λ i. inl (zeros i ∙ (sym (no_call_below (numbers_of names i)) ∙ ap (count_below (numbers_of names i)) (sym (zeros i))));
+      counts = λ i. inl (zeros i ∙ (sym (no_call_below (numbers_of names i))
+          ∙ ap (count_below (numbers_of names i)) (sym (zeros i))));
     } in
-    let rest = continues_in_part R book names part next start start whole few order is lists wide follows related (continues_from_legal_order book whole next start order wide zeros legal) in
-    (rest.0, legal_order_from_continues part few next start rest.0 (omega (arith, is.callers, wide)) zeros rest.1)
+    let rest = continues_in_part R book names part next start start whole few order is lists wide
+    follows related (continues_from_legal_order book whole next start order wide zeros legal) in (
+      rest.0,
+      legal_order_from_continues part few next start rest.0
+          (omega (arith, is.callers, wide)) zeros rest.1,
+    )

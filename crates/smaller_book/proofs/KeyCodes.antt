@@ -7,11 +7,14 @@ use Rattle.seq_objects.specs.Words.{Entry, entries, entry_of, is_known_word, is_
 use Rattle.smaller_book.specs.Keys.{value_shown, value_moved, key_by_kind}
 
 -- the code of an operation
-has_code : (word : ℕ) (entry : Entry) → is_operation_of word entry ≡ true → code_of word ≡ entry.code
-has_code word entry is = eqb-true (code_of word) entry.code (and_parts (code_of word == entry.code) (has_arguments entry.arity word) is).0
+has_code : (word : ℕ) (entry : Entry) → is_operation_of word entry ≡ true
+    → code_of word ≡ entry.code
+has_code word entry is = eqb-true (code_of word) entry.code
+    (and_parts (code_of word == entry.code) (has_arguments entry.arity word) is).0
 
 -- a word of two entries is of the first one where it has its code
-of_two : (word : ℕ) (put taking : Entry) → put.code ≡ 1 → taking.code ≡ 2 → is_some (find (is_operation_of word) (put ∷ taking ∷ [])) ≡ true
+of_two : (word : ℕ) (put taking : Entry) → put.code ≡ 1 → taking.code ≡ 2
+    → is_some (find (is_operation_of word) (put ∷ taking ∷ [])) ≡ true
     → (code_of word == 1) ≡ is_operation_of word put
 of_two word put taking one two known = elim (cases_Bool (is_operation_of word put)) [
   | inl puts ↦ eq-eqb (code_of word) 1 (has_code word put puts ∙ one) ∙ sym puts
@@ -22,27 +25,38 @@ of_two word put taking one two known = elim (cases_Bool (is_operation_of word pu
     | inr not_taking ↦
         let none : is_some (find (is_operation_of word) (put ∷ taking ∷ [])) ≡ false
         = ap is_some
-        (cond-false (is_operation_of word put) (Some put) (find (is_operation_of word) (taking ∷ [])) not_put ∙ cond-false (is_operation_of word taking) (Some taking) None not_taking) in
+        (cond-false (is_operation_of word put) (Some put)
+        (find (is_operation_of word) (taking ∷ [])) not_put
+        ∙ cond-false (is_operation_of word taking) (Some taking) None not_taking) in
         absurd (true≢false (sym known ∙ none))
   ]
 ]
 
 -- what is read by the code is what the entry says
-moved_by_code : (word : ℕ) (reply : Option ℕ) (put : Entry) → (code_of word == 1) ≡ is_operation_of word put
-    → (if code_of word == 1 then Some (argument_of word) else value_shown reply) ≡ value_moved put word reply
-moved_by_code word reply put same = ap (λ (b : Bool). if b then Some (argument_of word) else value_shown reply) same
+moved_by_code : (word : ℕ) (reply : Option ℕ) (put : Entry)
+    → (code_of word == 1) ≡ is_operation_of word put
+    → (if code_of word == 1 then Some (argument_of word) else value_shown reply)
+    ≡ value_moved put word reply
+moved_by_code word reply put same =
+    ap (λ (b : Bool). if b then Some (argument_of word) else value_shown reply) same
 
 pub queue_by_code : (word : ℕ) (reply : Option ℕ) → is_known_word kinds.Queue word ≡ true
-    → (if code_of word == 1 then Some (argument_of word) else value_shown reply) ≡ key_by_kind kinds.Queue word reply
+    → (if code_of word == 1 then Some (argument_of word) else value_shown reply)
+    ≡ key_by_kind kinds.Queue word reply
 unfolding is_known_word entry_of entries
-queue_by_code word reply known = moved_by_code word reply words.enq (of_two word words.enq words.deq refl refl known)
+queue_by_code word reply known =
+    moved_by_code word reply words.enq (of_two word words.enq words.deq refl refl known)
 
 pub stack_by_code : (word : ℕ) (reply : Option ℕ) → is_known_word kinds.Stack word ≡ true
-    → (if code_of word == 1 then Some (argument_of word) else value_shown reply) ≡ key_by_kind kinds.Stack word reply
+    → (if code_of word == 1 then Some (argument_of word) else value_shown reply)
+    ≡ key_by_kind kinds.Stack word reply
 unfolding is_known_word entry_of entries
-stack_by_code word reply known = moved_by_code word reply words.push (of_two word words.push words.pop refl refl known)
+stack_by_code word reply known =
+    moved_by_code word reply words.push (of_two word words.push words.pop refl refl known)
 
 pub pqueue_by_code : (word : ℕ) (reply : Option ℕ) → is_known_word kinds.Pqueue word ≡ true
-    → (if code_of word == 1 then Some (argument_of word) else value_shown reply) ≡ key_by_kind kinds.Pqueue word reply
+    → (if code_of word == 1 then Some (argument_of word) else value_shown reply)
+    ≡ key_by_kind kinds.Pqueue word reply
 unfolding is_known_word entry_of entries
-pqueue_by_code word reply known = moved_by_code word reply words.insert (of_two word words.insert words.min refl refl known)
+pqueue_by_code word reply known =
+    moved_by_code word reply words.insert (of_two word words.insert words.min refl refl known)

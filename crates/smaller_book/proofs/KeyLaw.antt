@@ -18,16 +18,23 @@ use Rattle.smaller_book.proofs.KeySteps.{Restricts, keeps_keys}
 use Rattle.smaller_book.proofs.KeyRows.{named_stays, unnamed_goes}
 
 -- A key that an operation is about without a reply is its key with each reply.
-moved_with : (keys : ℕ → Bool) (put : Entry) (word reply : ℕ) → is_among keys (value_moved put word None) ≡ true → is_among keys (value_moved put word (Some reply)) ≡ true
+moved_with : (keys : ℕ → Bool) (put : Entry) (word reply : ℕ)
+    → is_among keys (value_moved put word None) ≡ true
+    → is_among keys (value_moved put word (Some reply)) ≡ true
 moved_with keys put word reply among = elim (cases_Bool (is_operation_of word put)) [
   | inl puts ↦
-      ap (is_among keys) (cond-true (is_operation_of word put) (Some (argument_of word)) (value_shown (Some reply)) puts ∙ sym (cond-true (is_operation_of word put) (Some (argument_of word)) None puts))
+      ap (is_among keys)
+      (cond-true (is_operation_of word put) (Some (argument_of word)) (value_shown (Some reply))
+      puts ∙ sym (cond-true (is_operation_of word put) (Some (argument_of word)) None puts))
       ∙ among
   | inr other ↦
-      absurd (true≢false (sym among ∙ ap (is_among keys) (cond-false (is_operation_of word put) (Some (argument_of word)) None other)))
+      absurd (true≢false (sym among ∙ ap (is_among keys)
+      (cond-false (is_operation_of word put) (Some (argument_of word)) None other)))
 ]
 
-kind_key_with : (kind : Kind) (keys : ℕ → Bool) (word reply : ℕ) → is_among keys (key_by_kind kind word None) ≡ true → is_among keys (key_by_kind kind word (Some reply)) ≡ true
+kind_key_with : (kind : Kind) (keys : ℕ → Bool) (word reply : ℕ)
+    → is_among keys (key_by_kind kind word None) ≡ true
+    → is_among keys (key_by_kind kind word (Some reply)) ≡ true
 kind_key_with kinds.Queue keys word reply among = moved_with keys words.enq word reply among
 kind_key_with kinds.Stack keys word reply among = moved_with keys words.push word reply among
 kind_key_with kinds.Pqueue keys word reply among = moved_with keys words.insert word reply among
@@ -37,42 +44,58 @@ kind_key_with kinds.Register keys word reply among = among
 kind_key_with kinds.Counter keys word reply among = among
 kind_key_with kinds.CasRegister keys word reply among = among
 
-key_with : (kind : Kind) (keys : ℕ → Bool) (word reply : ℕ) → is_among keys (key_of_step kind word None) ≡ true → is_among keys (key_of_step kind word (Some reply)) ≡ true
+key_with : (kind : Kind) (keys : ℕ → Bool) (word reply : ℕ)
+    → is_among keys (key_of_step kind word None) ≡ true
+    → is_among keys (key_of_step kind word (Some reply)) ≡ true
 key_with kind keys word reply among = elim (cases_Bool (is_known_word kind word)) [
   | inl known ↦
       let before : is_among keys (key_by_kind kind word None) ≡ true
-      = ap (is_among keys) (sym (cond-true (is_known_word kind word) (key_by_kind kind word None) None known)) ∙ among in
-      ap (is_among keys) (cond-true (is_known_word kind word) (key_by_kind kind word (Some reply)) None known) ∙ kind_key_with kind keys word reply before
+      = ap (is_among keys)
+      (sym (cond-true (is_known_word kind word) (key_by_kind kind word None) None known))
+      ∙ among in
+      ap (is_among keys)
+      (cond-true (is_known_word kind word) (key_by_kind kind word (Some reply)) None known)
+      ∙ kind_key_with kind keys word reply before
   | inr unknown ↦
-      absurd (true≢false (sym among ∙ ap (is_among keys) (cond-false (is_known_word kind word) (key_by_kind kind word None) None unknown)))
+      absurd (true≢false (sym among ∙ ap (is_among keys)
+      (cond-false (is_known_word kind word) (key_by_kind kind word None) None unknown)))
 ]
 
 -- the key of an answered call is that of its step, where the step has the recorded reply
-answered_key : (kind : Kind) (book : List Page) (whole : List ℕ) (call : Call) (r : Record) → AgreesAt book (kind_next kind) whole call → record_of book call ≡ Some r
-    → key_of_call kind book call ≡ key_of_step kind (word_at book call) (Some (kind_next kind whole (word_at book call)).1)
+answered_key : (kind : Kind) (book : List Page) (whole : List ℕ) (call : Call) (r : Record)
+    → AgreesAt book (kind_next kind) whole call → record_of book call ≡ Some r
+    → key_of_call kind book call
+    ≡ key_of_step kind (word_at book call) (Some (kind_next kind whole (word_at book call)).1)
 answered_key kind book whole call r agrees known =
     let word : ℕ = word_at book call in
     ap (λ (o : Option Record). key_of_step kind word (option_map (λ s. s.reply) o)) known
     ∙ ap (λ (reply : ℕ). key_of_step kind word (Some reply)) (agrees r known)
 
 -- A call whose key goes is one whose step's key goes.
-goes_at : (kind : Kind) (keys : ℕ → Bool) (book : List Page) (whole : List ℕ) (call : Call) → AgreesAt book (kind_next kind) whole call
-    → is_among keys (key_of_call kind book call) ≡ true → is_among keys (key_of_step kind (word_at book call) (Some (kind_next kind whole (word_at book call)).1)) ≡ true
+goes_at : (kind : Kind) (keys : ℕ → Bool) (book : List Page) (whole : List ℕ) (call : Call)
+    → AgreesAt book (kind_next kind) whole call
+    → is_among keys (key_of_call kind book call) ≡ true → is_among keys
+    (key_of_step kind (word_at book call) (Some (kind_next kind whole (word_at book call)).1))
+    ≡ true
 goes_at kind keys book whole call agrees goes =
     let word : ℕ = word_at book call in
     elim (cases_Option (record_of book call)) [
       | inl none ↦
           let before : is_among keys (key_of_step kind word None) ≡ true
-          = sym (ap (λ (o : Option Record). is_among keys (key_of_step kind word (option_map (λ s. s.reply) o))) none) ∙ goes in
+          = sym (ap (λ (o : Option Record).
+          is_among keys (key_of_step kind word (option_map (λ s. s.reply) o))) none) ∙ goes in
           key_with kind keys word (kind_next kind whole word).1 before
-      | inr some ↦ sym (ap (is_among keys) (answered_key kind book whole call some.0 agrees some.1)) ∙ goes
+      | inr some ↦
+          sym (ap (is_among keys) (answered_key kind book whole call some.0 agrees some.1)) ∙ goes
     ]
 
 -- so that each call keeps the relation of the lists
-followed : (kind : Kind) (keys : ℕ → Bool) (book : List Page) → HasOneOpen book → IsFollowed (Restricts kind keys) (kind_next kind) book (all_without kind keys book)
+followed : (kind : Kind) (keys : ℕ → Bool) (book : List Page) → HasOneOpen book
+    → IsFollowed (Restricts kind keys) (kind_next kind) book (all_without kind keys book)
 followed kind keys book one_open = record {
   lacks = λ whole few call related inside unnamed agrees.
-      (keeps_keys kind keys).gone whole few (word_at book call) related (goes_at kind keys book whole call agrees (unnamed_goes kind keys book call inside unnamed));
+      (keeps_keys kind keys).gone whole few (word_at book call) related
+      (goes_at kind keys book whole call agrees (unnamed_goes kind keys book call inside unnamed));
   has = λ whole few call related inside named agrees.
       let word : ℕ = word_at book call in
       let reply : ℕ = (kind_next kind whole word).1 in
@@ -83,7 +106,9 @@ followed kind keys book one_open = record {
           λ (answered : IsAnswered book call).
               let known = answer_stands book call answered in
               true≢false
-              (sym goes ∙ (sym (ap (is_among keys) (answered_key kind book whole call known.0 agrees known.1)) ∙ named_stays kind keys book call inside named)),
+              (sym goes
+              ∙ (sym (ap (is_among keys) (answered_key kind book whole call known.0 agrees known.1))
+              ∙ named_stays kind keys book call inside named)),
           (keeps_keys kind keys).gone whole few word related goes,
         )
       ];
@@ -91,5 +116,6 @@ followed kind keys book one_open = record {
 
 pub has_one_without_keys : HasOneWithoutKeys
 has_one_without_keys kind keys book part one_open is list formed legal =
-    has_one_in_part (Restricts kind keys) (kind_next kind) book (all_without kind keys book) part list (items_without kind keys list) is (followed kind keys book one_open)
+    has_one_in_part (Restricts kind keys) (kind_next kind) book (all_without kind keys book) part
+    list (items_without kind keys list) is (followed kind keys book one_open)
     ((keeps_keys kind keys).begins list formed) legal

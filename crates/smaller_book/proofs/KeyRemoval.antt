@@ -17,23 +17,32 @@ use Rattle.smaller_book.proofs.Removing.{size-less_at}
 
 -- a key is among those from it to it
 pub own_key : (key : ℕ) → keys_from_to key key key ≡ true
-own_key key = and_from (nat_le key key) (nat_le key key) (le-leb key key (omega arith)) (le-leb key key (omega arith))
+own_key key = and_from (nat_le key key) (nat_le key key) (le-leb key key (omega arith))
+    (le-leb key key (omega arith))
 
 -- one number more of a range
-pub filter_range-more : (p : ℕ → Bool) (n : ℕ) → filter p (range_with_len 0 (n + 1)) ≡ filter p (range_with_len 0 n) ++ (if p n then n ∷ [] else [])
-filter_range-more p n = ap (filter p) (range_with_len-more 0 n n (zero-add n)) ∙ filter-append p (range_with_len 0 n) (n ∷ [])
+pub filter_range-more : (p : ℕ → Bool) (n : ℕ) → filter p (range_with_len 0 (n + 1))
+    ≡ filter p (range_with_len 0 n) ++ (if p n then n ∷ [] else [])
+filter_range-more p n = ap (filter p) (range_with_len-more 0 n n (zero-add n))
+    ∙ filter-append p (range_with_len 0 n) (n ∷ [])
 
 -- Where a call goes, there are fewer calls.
-pub size-less_without : (kind : Kind) (keys : ℕ → Bool) (book : List Page) (call : Call) (part : List Page) → IsCall book call → is_among keys (key_of_call kind book call) ≡ true
+pub size-less_without : (kind : Kind) (keys : ℕ → Bool) (book : List Page) (call : Call)
+    (part : List Page) → IsCall book call → is_among keys (key_of_call kind book call) ≡ true
     → IsPart book (all_without kind keys book) part → size_of part < size_of book
 size-less_without kind keys book call part inside goes is =
     let i : ℕ = call.caller in
     let n : ℕ = calls_of book i in
     let remaining : ℕ → List ℕ = row_without kind keys book in
-    let stays : ℕ → Bool = λ number. not (is_among keys (key_of_call kind book (record { caller = i; number = number }))) in
+    let stays : ℕ → Bool = λ number.
+    not (is_among keys (key_of_call kind book (record { caller = i; number = number }))) in
     let same : numbers_of (all_without kind keys book) i ≡ remaining i
-    = get_or-map-range_with_len remaining 0 (length book) i i [] (caller_from_call book i call.number inside) (zero-add i) in
-    let at : get_or (range_with_len 0 n) call.number 0 ≡ call.number = get_or-range_with_len 0 n call.number 0 inside ∙ zero-add call.number in
+    = get_or-map-range_with_len remaining 0
+    (length book) i i [] (caller_from_call book i call.number inside) (zero-add i) in
+    let at : get_or (range_with_len 0 n) call.number 0 ≡ call.number =
+    get_or-range_with_len 0 n call.number 0 inside ∙ zero-add call.number in
     let fewer : length (remaining i) < length (range_with_len 0 n)
-    = filter-fewer stays (range_with_len 0 n) call.number 0 (omega (arith, inside, length-range_with_len 0 n)) (ap stays at ∙ ap not goes) in
-    size-less_at book (all_without kind keys book) part i is (omega (arith, fewer, length-range_with_len 0 n, is.calls i, ap length same))
+    = filter-fewer stays (range_with_len 0 n) call.number 0
+    (omega (arith, inside, length-range_with_len 0 n)) (ap stays at ∙ ap not goes) in
+    size-less_at book (all_without kind keys book) part i is
+    (omega (arith, fewer, length-range_with_len 0 n, is.calls i, ap length same))

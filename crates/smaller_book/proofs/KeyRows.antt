@@ -16,10 +16,12 @@ use Rattle.smaller_book.proofs.Filtering.{filter-passes, filter-finds, rising-fi
 
 -- a caller's call stays
 abbrev stays_in : Kind → (ℕ → Bool) → List Page → ℕ → ℕ → Bool
-stays_in kind keys book i number = not (is_among keys (key_of_call kind book (record { caller = i; number = number })))
+stays_in kind keys book i number =
+    not (is_among keys (key_of_call kind book (record { caller = i; number = number })))
 
 module _ (kind : Kind) (keys : ℕ → Bool) (book : List Page) where
-  numbers_of-here : (i : ℕ) → i < length book → numbers_of (all_without kind keys book) i ≡ row_without kind keys book i
+  numbers_of-here : (i : ℕ) → i < length book
+      → numbers_of (all_without kind keys book) i ≡ row_without kind keys book i
   numbers_of-here i inside =
       let remaining : ℕ → List ℕ = row_without kind keys book in
       get_or-map-range_with_len remaining 0 (length book) i i [] inside (zero-add i)
@@ -27,19 +29,29 @@ module _ (kind : Kind) (keys : ℕ → Bool) (book : List Page) where
   numbers_of-past : (i : ℕ) → length book ≤ i → numbers_of (all_without kind keys book) i ≡ []
   numbers_of-past i past =
       let remaining : ℕ → List ℕ = row_without kind keys book in
-      get_or_past (map remaining (range_with_len 0 (length book))) i [] (omega (arith, past, length-map-range_with_len remaining 0 (length book)))
+      get_or_past (map remaining (range_with_len 0 (length book)))
+      i [] (omega (arith, past, length-map-range_with_len remaining 0 (length book)))
 
   -- what holds of the rows and of no numbers holds of each caller's numbers
-  cases_rows : (P : ℕ → List ℕ → Type 0) → ((i : ℕ) → P i (row_without kind keys book i)) → ((i : ℕ) → P i []) → (i : ℕ) → P i (numbers_of (all_without kind keys book) i)
+  cases_rows : (P : ℕ → List ℕ → Type 0) → ((i : ℕ) → P i (row_without kind keys book i))
+      → ((i : ℕ) → P i []) → (i : ℕ) → P i (numbers_of (all_without kind keys book) i)
   cases_rows P here past i = elim (cases_lt i (length book)) [
     | inl inside ↦ subst (P i) (sym (numbers_of-here i inside)) (here i)
     | inr out ↦ subst (P i) (sym (numbers_of-past i out)) (past i)
   ]
 
-  inside-row : (i k : ℕ) → k < length (row_without kind keys book i) → get_or (row_without kind keys book i) k 0 < calls_of book i
+  inside-row : (i k : ℕ) → k < length (row_without kind keys book i)
+      → get_or (row_without kind keys book i) k 0 < calls_of book i
   inside-row i k room =
-      All-filter (stays_in kind keys book i) (λ (n : ℕ). n < calls_of book i) (range_with_len 0 (calls_of book i))
-      (λ j d less. omega (arith, less, length-range_with_len 0 (calls_of book i), get_or-range_with_len 0 (calls_of book i) j d (omega (arith, less, length-range_with_len 0 (calls_of book i)))))
+      All-filter (stays_in kind keys book i) (λ (n : ℕ). n < calls_of book i)
+      (range_with_len 0 (calls_of book i))
+      (λ j d less. omega (
+        arith,
+        less,
+        length-range_with_len 0 (calls_of book i),
+        get_or-range_with_len 0 (calls_of book i) j d
+            (omega (arith, less, length-range_with_len 0 (calls_of book i))),
+      ))
       k 0 room
 
   pub all_without_are_numbers : AreNumbersOf book (all_without kind keys book)
@@ -47,35 +59,50 @@ module _ (kind : Kind) (keys : ℕ → Bool) (book : List Page) where
     wide =
         let remaining : ℕ → List ℕ = row_without kind keys book in
         length-map-range_with_len remaining 0 (length book);
-    rising = cases_rows (λ i xs. AreRising xs) (λ i. rising-filter_range (stays_in kind keys book i) (calls_of book i)) (λ i j k less room. absurd (omega arith));
-    inside = cases_rows (λ i xs. (k : ℕ) → k < length xs → get_or xs k 0 < calls_of book i) (λ i k room. inside-row i k room) (λ i k room. absurd (omega arith));
+    rising = cases_rows (λ i xs. AreRising xs)
+        (λ i. rising-filter_range (stays_in kind keys book i) (calls_of book i))
+        (λ i j k less room. absurd (omega arith));
+    inside = cases_rows (λ i xs. (k : ℕ) → k < length xs → get_or xs k 0 < calls_of book i)
+        (λ i k room. inside-row i k room) (λ i k room. absurd (omega arith));
   }
 
   -- a call that is named stays
-  pub named_stays : (call : Call) → IsCall book call → IsNamed (all_without kind keys book) call → is_among keys (key_of_call kind book call) ≡ false
+  pub named_stays : (call : Call) → IsCall book call → IsNamed (all_without kind keys book) call
+      → is_among keys (key_of_call kind book call) ≡ false
   named_stays call inside named =
       let i : ℕ = call.caller in
-      let row : numbers_of (all_without kind keys book) i ≡ row_without kind keys book i = numbers_of-here i (caller_from_call book i call.number inside) in
+      let row : numbers_of (all_without kind keys book) i ≡ row_without kind keys book i =
+      numbers_of-here i (caller_from_call book i call.number inside) in
       let P : List ℕ → Type 0 = λ xs. (k : ℕ) × (k < length xs) × (get_or xs k 0 ≡ call.number) in
       let found : P (row_without kind keys book i) = subst P row named in
-      let passes : stays_in kind keys book i (get_or (row_without kind keys book i) found.0 0) ≡ true = filter-passes (stays_in kind keys book i) (range_with_len 0 (calls_of book i)) found.0 0 found.1 in
-      not_true (is_among keys (key_of_call kind book call)) (sym (ap (stays_in kind keys book i) found.2) ∙ passes)
+      let passes : stays_in kind keys book i (get_or (row_without kind keys book i) found.0 0)
+      ≡ true = filter-passes (stays_in kind keys book i)
+      (range_with_len 0 (calls_of book i)) found.0 0 found.1 in
+      not_true (is_among keys (key_of_call kind book call))
+      (sym (ap (stays_in kind keys book i) found.2) ∙ passes)
     where
       not_true : (b : Bool) → not b ≡ true → b ≡ false
       not_true true e = absurd (true≢false (sym e))
       not_true false e = refl
 
   -- and one that isn't goes
-  pub unnamed_goes : (call : Call) → IsCall book call → ¬ IsNamed (all_without kind keys book) call → is_among keys (key_of_call kind book call) ≡ true
-  unnamed_goes call inside unnamed = elim (cases_Bool (is_among keys (key_of_call kind book call))) [
-    | inl goes ↦ goes
-    | inr stays ↦
-        let i : ℕ = call.caller in
-        let n : ℕ = calls_of book i in
-        let row : numbers_of (all_without kind keys book) i ≡ row_without kind keys book i = numbers_of-here i (caller_from_call book i call.number inside) in
-        let P : List ℕ → Type 0 = λ xs. (k : ℕ) × (k < length xs) × (get_or xs k 0 ≡ call.number) in
-        let at : get_or (range_with_len 0 n) call.number 0 ≡ call.number = get_or-range_with_len 0 n call.number 0 inside ∙ zero-add call.number in
-        let found = filter-finds (stays_in kind keys book i) (range_with_len 0 n) call.number 0 (omega (arith, inside, length-range_with_len 0 n)) (ap (stays_in kind keys book i) at ∙ ap not stays) in
-        let there : P (row_without kind keys book i) = (found.0, found.1, found.2 ∙ at) in
-        absurd (unnamed (subst P (sym row) there))
-  ]
+  pub unnamed_goes : (call : Call) → IsCall book call → ¬ IsNamed (all_without kind keys book) call
+      → is_among keys (key_of_call kind book call) ≡ true
+  unnamed_goes call inside unnamed =
+      elim (cases_Bool (is_among keys (key_of_call kind book call))) [
+        | inl goes ↦ goes
+        | inr stays ↦
+            let i : ℕ = call.caller in
+            let n : ℕ = calls_of book i in
+            let row : numbers_of (all_without kind keys book) i ≡ row_without kind keys book i =
+            numbers_of-here i (caller_from_call book i call.number inside) in
+            let P : List ℕ → Type 0 =
+            λ xs. (k : ℕ) × (k < length xs) × (get_or xs k 0 ≡ call.number) in
+            let at : get_or (range_with_len 0 n) call.number 0 ≡ call.number =
+            get_or-range_with_len 0 n call.number 0 inside ∙ zero-add call.number in
+            let found = filter-finds (stays_in kind keys book i) (range_with_len 0 n) call.number 0
+            (omega (arith, inside, length-range_with_len 0 n))
+            (ap (stays_in kind keys book i) at ∙ ap not stays) in
+            let there : P (row_without kind keys book i) = (found.0, found.1, found.2 ∙ at) in
+            absurd (unnamed (subst P (sym row) there))
+      ]

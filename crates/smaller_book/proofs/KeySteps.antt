@@ -1,4 +1,5 @@
--- What a step does to a list with all items and to one with those of the keys that stay, by the kind of the object.
+-- What a step does to a list with all items and to one with those of the keys that stay, by the
+-- kind of the object.
 use Rattle.std.proofs.Common.{◌≡◌, ◌≢◌, ℕ, suc, ◌+◌, ◌^◌, ◌<◌, ◌≤◌, ◌⊎◌, ◌∙◌, Bool, true, false, not, ◌==◌, nat_lt, List, [], ◌∷◌, ◌++◌, length, filter, find, take, get_or, position, remove, Option, Some, None, is_some, if◌then◌else◌, refl, sym, ap, subst, inl, inr, arith}
 use Rattle.std.specs.List.{AllByRecursion, position_or_len}
 use Rattle.std.proofs.lemmas.Bool.{cases_Bool, cases_eq, cases_lt, cond-true, cond-false, true≢false, and_parts, eq-eqb, ne_eqb, ltb-true, ltb-false, lt-ltb, le-ltb}
@@ -33,26 +34,33 @@ pub record KeepsKeys (kind : Kind) (keys : ℕ → Bool) (R : List ℕ → List 
   -- the lists are so related at first
   pub begins : (list : List ℕ) → IsWellFormed kind list → R list (items_without kind keys list)
   -- a step of a key that goes changes the first list alone
-  pub gone : (whole few : List ℕ) (word : ℕ) → R whole few → is_among keys (key_of_step kind word (Some (kind_next kind whole word).1)) ≡ true
+  pub gone : (whole few : List ℕ) (word : ℕ) → R whole few
+      → is_among keys (key_of_step kind word (Some (kind_next kind whole word).1)) ≡ true
       → R (kind_next kind whole word).0 few
   -- and another step is made on both lists with the same reply
-  pub kept : (whole few : List ℕ) (word : ℕ) → R whole few → is_among keys (key_of_step kind word (Some (kind_next kind whole word).1)) ≡ false
-      → ((kind_next kind few word).1 ≡ (kind_next kind whole word).1) × R (kind_next kind whole word).0 (kind_next kind few word).0
+  pub kept : (whole few : List ℕ) (word : ℕ) → R whole few
+      → is_among keys (key_of_step kind word (Some (kind_next kind whole word).1)) ≡ false
+      → ((kind_next kind few word).1 ≡ (kind_next kind whole word).1)
+      × R (kind_next kind whole word).0 (kind_next kind few word).0
 
 -- ---- the keys of known words
 
-known_first : {X : Type 0} (p : X → Bool) (x : X) (xs : List X) → p x ≡ true → is_some (find p (x ∷ xs)) ≡ true
+known_first : {X : Type 0} (p : X → Bool) (x : X) (xs : List X) → p x ≡ true
+    → is_some (find p (x ∷ xs)) ≡ true
 known_first p x xs passes = ap is_some (cond-true (p x) (Some x) (find p xs) passes)
 
-known_later : {X : Type 0} (p : X → Bool) (x : X) (xs : List X) → is_some (find p xs) ≡ true → is_some (find p (x ∷ xs)) ≡ true
+known_later : {X : Type 0} (p : X → Bool) (x : X) (xs : List X) → is_some (find p xs) ≡ true
+    → is_some (find p (x ∷ xs)) ≡ true
 known_later p x xs found = elim (cases_Bool (p x)) [
   | inl passes ↦ known_first p x xs passes
   | inr fails ↦ ap is_some (cond-false (p x) (Some x) (find p xs) fails) ∙ found
 ]
 
 -- the key of a known word is the kind's
-known_key : (kind : Kind) (word : ℕ) (reply : Option ℕ) → is_known_word kind word ≡ true → key_of_step kind word reply ≡ key_by_kind kind word reply
-known_key kind word reply known = cond-true (is_known_word kind word) (key_by_kind kind word reply) None known
+known_key : (kind : Kind) (word : ℕ) (reply : Option ℕ) → is_known_word kind word ≡ true
+    → key_of_step kind word reply ≡ key_by_kind kind word reply
+known_key kind word reply known =
+    cond-true (is_known_word kind word) (key_by_kind kind word reply) None known
 
 -- ---- containers
 
@@ -60,24 +68,34 @@ known_key kind word reply known = cond-true (is_known_word kind word) (key_by_ki
 argument_value : (word : ℕ) → value_of (argument_of word) ≡ argument_of word
 argument_value word = omega arith
 
--- How a container of values makes its steps: an operation puts an item into the list, and another one takes one.
-record IsContainer (kind : Kind) (put taking : Entry) (put_into : List ℕ → ℕ → List ℕ) (taken : List ℕ → List ℕ × ℕ) : Type 0 where
-  puts : (list : List ℕ) (word : ℕ) → is_operation_of word put ≡ true → kind_next kind list word ≡ (put_into list (argument_of word), reply_done)
-  takes : (list : List ℕ) (word : ℕ) → is_operation_of word taking ≡ true → kind_next kind list word ≡ taken list
-  put_key : (word : ℕ) (reply : Option ℕ) → is_operation_of word put ≡ true → key_of_step kind word reply ≡ Some (argument_of word)
-  take_key : (word reply : ℕ) → is_operation_of word taking ≡ true → key_of_step kind word (Some reply) ≡ shown_value reply
-  others : (list : List ℕ) (word : ℕ) → is_operation_of word put ≡ false → is_operation_of word taking ≡ false → kind_next kind list word ≡ (list, reply_bad)
+-- How a container of values makes its steps: an operation puts an item into the list, and another
+-- one takes one.
+record IsContainer (kind : Kind) (put taking : Entry) (put_into : List ℕ → ℕ → List ℕ)
+    (taken : List ℕ → List ℕ × ℕ) : Type 0 where
+  puts : (list : List ℕ) (word : ℕ) → is_operation_of word put ≡ true
+      → kind_next kind list word ≡ (put_into list (argument_of word), reply_done)
+  takes : (list : List ℕ) (word : ℕ) → is_operation_of word taking ≡ true
+      → kind_next kind list word ≡ taken list
+  put_key : (word : ℕ) (reply : Option ℕ) → is_operation_of word put ≡ true
+      → key_of_step kind word reply ≡ Some (argument_of word)
+  take_key : (word reply : ℕ) → is_operation_of word taking ≡ true
+      → key_of_step kind word (Some reply) ≡ shown_value reply
+  others : (list : List ℕ) (word : ℕ) → is_operation_of word put ≡ false
+      → is_operation_of word taking ≡ false → kind_next kind list word ≡ (list, reply_bad)
 
 -- What a take does to all items and to those that pass: none is there, or it takes one.
 abbrev TakesOne : (ℕ → Bool) → (List ℕ → List ℕ × ℕ) → List ℕ → Type 0
 TakesOne p taken list =
     ((taken list ≡ (list, reply_none)) × (filter p list ≡ list))
-    ⊎ ((x : ℕ) × ((taken list).1 ≡ reply_value x) × (p x ≡ true → taken (filter p list) ≡ (filter p (taken list).0, reply_value x))
+    ⊎ ((x : ℕ) × ((taken list).1 ≡ reply_value x)
+    × (p x ≡ true → taken (filter p list) ≡ (filter p (taken list).0, reply_value x))
     × (p x ≡ false → filter p list ≡ filter p (taken list).0))
 
 -- How the items that pass come in and leave: as if no others were there.
-record IsSplitBy (p : ℕ → Bool) (formed : List ℕ → Type 0) (put_into : List ℕ → ℕ → List ℕ) (taken : List ℕ → List ℕ × ℕ) : Type 0 where
-  put_kept : (list : List ℕ) (v : ℕ) → formed list → p v ≡ true → filter p (put_into list v) ≡ put_into (filter p list) v
+record IsSplitBy (p : ℕ → Bool) (formed : List ℕ → Type 0) (put_into : List ℕ → ℕ → List ℕ)
+    (taken : List ℕ → List ℕ × ℕ) : Type 0 where
+  put_kept : (list : List ℕ) (v : ℕ) → formed list → p v ≡ true
+      → filter p (put_into list v) ≡ put_into (filter p list) v
   put_gone : (list : List ℕ) (v : ℕ) → p v ≡ false → filter p (put_into list v) ≡ filter p list
   put_formed : (list : List ℕ) (v : ℕ) → formed list → formed (put_into list v)
   take_one : (list : List ℕ) → TakesOne p taken list
@@ -91,73 +109,109 @@ stays keys item = not (keys (value_of item))
 abbrev pub IsRest : (ℕ → Bool) → (List ℕ → Type 0) → List ℕ → List ℕ → Type 0
 IsRest keys formed whole few = formed whole × (few ≡ filter (stays keys) whole)
 
-module _ (kind : Kind) (keys : ℕ → Bool) (formed : List ℕ → Type 0) (put taking : Entry) (put_into : List ℕ → ℕ → List ℕ) (taken : List ℕ → List ℕ × ℕ)
-    (container : IsContainer kind put taking put_into taken) (split : IsSplitBy (stays keys) formed put_into taken) where
+module _ (kind : Kind) (keys : ℕ → Bool) (formed : List ℕ → Type 0) (put taking : Entry)
+    (put_into : List ℕ → ℕ → List ℕ) (taken : List ℕ → List ℕ × ℕ)
+    (container : IsContainer kind put taking put_into taken)
+    (split : IsSplitBy (stays keys) formed put_into taken) where
   container_gone : (whole few : List ℕ) (word : ℕ) → IsRest keys formed whole few
-      → is_among keys (key_of_step kind word (Some (kind_next kind whole word).1)) ≡ true → IsRest keys formed (kind_next kind whole word).0 few
+      → is_among keys (key_of_step kind word (Some (kind_next kind whole word).1)) ≡ true
+      → IsRest keys formed (kind_next kind whole word).0 few
   container_gone whole few word (is, rest) among = elim (cases_Bool (is_operation_of word put)) [
     | inl puts ↦
         let v : ℕ = argument_of word in
-        let goes : keys v ≡ true = ap (is_among keys) (sym (container.put_key word (Some (kind_next kind whole word).1) puts)) ∙ among in
-        let out : stays keys v ≡ false = ap (λ (x : ℕ). not (keys x)) (argument_value word) ∙ ap not goes in
-        let new : IsRest keys formed (put_into whole v) few = (split.put_formed whole v is, rest ∙ sym (split.put_gone whole v out)) in
-        subst (λ (step : List ℕ × ℕ). IsRest keys formed step.0 few) (sym (container.puts whole word puts)) new
+        let goes : keys v ≡ true = ap (is_among keys)
+        (sym (container.put_key word (Some (kind_next kind whole word).1) puts)) ∙ among in
+        let out : stays keys v ≡ false =
+        ap (λ (x : ℕ). not (keys x)) (argument_value word) ∙ ap not goes in
+        let new : IsRest keys formed (put_into whole v) few =
+        (split.put_formed whole v is, rest ∙ sym (split.put_gone whole v out)) in
+        subst (λ (step : List ℕ × ℕ). IsRest keys formed step.0 few)
+        (sym (container.puts whole word puts)) new
     | inr not_put ↦ elim (cases_Bool (is_operation_of word taking)) [
       | inl takes ↦
           let key : is_among keys (shown_value (taken whole).1) ≡ true
-          = ap (λ (step : List ℕ × ℕ). is_among keys (shown_value step.1)) (sym (container.takes whole word takes))
-          ∙ (ap (is_among keys) (sym (container.take_key word (kind_next kind whole word).1 takes)) ∙ among) in
+          = ap (λ (step : List ℕ × ℕ). is_among keys (shown_value step.1))
+          (sym (container.takes whole word takes))
+          ∙ (ap (is_among keys) (sym (container.take_key word (kind_next kind whole word).1 takes))
+          ∙ among) in
           let new : IsRest keys formed (taken whole).0 few = elim (split.take_one whole) [
-            | inl none ↦ absurd (true≢false (sym key ∙ ap (λ (step : List ℕ × ℕ). is_among keys (shown_value step.1)) none.0))
+            | inl none ↦ absurd (true≢false
+                (sym key ∙ ap (λ (step : List ℕ × ℕ). is_among keys (shown_value step.1)) none.0))
             | inr one ↦
-                let goes : keys (value_of one.0) ≡ true = sym (ap (is_among keys) (ap shown_value one.1 ∙ shown_item one.0)) ∙ key in
+                let goes : keys (value_of one.0) ≡ true =
+                sym (ap (is_among keys) (ap shown_value one.1 ∙ shown_item one.0)) ∙ key in
                 (split.take_formed whole is, rest ∙ one.3 (ap not goes))
           ] in
-          subst (λ (step : List ℕ × ℕ). IsRest keys formed step.0 few) (sym (container.takes whole word takes)) new
-      | inr not_take ↦ subst (λ (step : List ℕ × ℕ). IsRest keys formed step.0 few) (sym (container.others whole word not_put not_take)) (is, rest)
+          subst (λ (step : List ℕ × ℕ). IsRest keys formed step.0 few)
+          (sym (container.takes whole word takes)) new
+      | inr not_take ↦ subst (λ (step : List ℕ × ℕ). IsRest keys formed step.0 few)
+          (sym (container.others whole word not_put not_take)) (is, rest)
     ]
   ]
 
   container_kept : (whole few : List ℕ) (word : ℕ) → IsRest keys formed whole few
       → is_among keys (key_of_step kind word (Some (kind_next kind whole word).1)) ≡ false
-      → ((kind_next kind few word).1 ≡ (kind_next kind whole word).1) × IsRest keys formed (kind_next kind whole word).0 (kind_next kind few word).0
+      → ((kind_next kind few word).1 ≡ (kind_next kind whole word).1)
+      × IsRest keys formed (kind_next kind whole word).0 (kind_next kind few word).0
   container_kept whole few word (is, rest) among =
-      let P : List ℕ × ℕ → List ℕ × ℕ → Type 0 = λ other step. (other.1 ≡ step.1) × IsRest keys formed step.0 other.0 in
-      let by_steps : (other step : List ℕ × ℕ) → kind_next kind few word ≡ other → kind_next kind whole word ≡ step → P other step → P (kind_next kind few word) (kind_next kind whole word)
-      = λ other step e f holds. subst (λ s. P (kind_next kind few word) s) (sym f) (subst (λ s. P s step) (sym e) holds) in
+      let P : List ℕ × ℕ → List ℕ × ℕ → Type 0 =
+      λ other step. (other.1 ≡ step.1) × IsRest keys formed step.0 other.0 in
+      let by_steps : (other step : List ℕ × ℕ) → kind_next kind few word ≡ other
+      → kind_next kind whole word ≡ step → P other step
+      → P (kind_next kind few word) (kind_next kind whole word)
+      = λ other step e f holds. subst (λ s. P (kind_next kind few word) s) (sym f)
+      (subst (λ s. P s step) (sym e) holds) in
       elim (cases_Bool (is_operation_of word put)) [
         | inl puts ↦
             let v : ℕ = argument_of word in
-            let stay : keys v ≡ false = ap (is_among keys) (sym (container.put_key word (Some (kind_next kind whole word).1) puts)) ∙ among in
-            let on : stays keys v ≡ true = ap (λ (x : ℕ). not (keys x)) (argument_value word) ∙ ap not stay in
-            by_steps (put_into few v, reply_done) (put_into whole v, reply_done) (container.puts few word puts) (container.puts whole word puts)
-            (refl, (split.put_formed whole v is, ap (λ (l : List ℕ). put_into l v) rest ∙ sym (split.put_kept whole v is on)))
+            let stay : keys v ≡ false = ap (is_among keys)
+            (sym (container.put_key word (Some (kind_next kind whole word).1) puts)) ∙ among in
+            let on : stays keys v ≡ true =
+            ap (λ (x : ℕ). not (keys x)) (argument_value word) ∙ ap not stay in
+            by_steps (put_into few v, reply_done) (put_into whole v, reply_done)
+            (container.puts few word puts) (container.puts whole word puts) (
+              refl,
+              (
+                split.put_formed whole v is,
+                ap (λ (l : List ℕ). put_into l v) rest ∙ sym (split.put_kept whole v is on),
+              ),
+            )
         | inr not_put ↦ elim (cases_Bool (is_operation_of word taking)) [
           | inl takes ↦
               let key : is_among keys (shown_value (taken whole).1) ≡ false
-              = ap (λ (step : List ℕ × ℕ). is_among keys (shown_value step.1)) (sym (container.takes whole word takes))
-              ∙ (ap (is_among keys) (sym (container.take_key word (kind_next kind whole word).1 takes)) ∙ among) in
+              = ap (λ (step : List ℕ × ℕ). is_among keys (shown_value step.1))
+              (sym (container.takes whole word takes))
+              ∙ (ap (is_among keys)
+              (sym (container.take_key word (kind_next kind whole word).1 takes)) ∙ among) in
               let new : P (taken few) (taken whole) = elim (split.take_one whole) [
                 | inl none ↦
                     let same : few ≡ whole = rest ∙ none.1 in
-                    let list : (taken whole).0 ≡ whole = ap (λ (step : List ℕ × ℕ). step.0) none.0 in
+                    let list : (taken whole).0 ≡ whole =
+                    ap (λ (step : List ℕ × ℕ). step.0) none.0 in
                     let formed_still : formed (taken whole).0 = subst formed (sym list) is in (
                       ap (λ (l : List ℕ). (taken l).1) same,
                       (
                         formed_still,
-                        ap (λ (l : List ℕ). (taken l).0) same ∙ (list ∙ (sym none.1 ∙ ap (filter (stays keys)) (sym list))),
+                        ap (λ (l : List ℕ). (taken l).0) same
+                            ∙ (list ∙ (sym none.1 ∙ ap (filter (stays keys)) (sym list))),
                       ),
                     )
                 | inr one ↦
-                    let stay : keys (value_of one.0) ≡ false = sym (ap (is_among keys) (ap shown_value one.1 ∙ shown_item one.0)) ∙ key in
-                    let made : taken few ≡ (filter (stays keys) (taken whole).0, reply_value one.0) = ap taken rest ∙ one.2 (ap not stay) in (
+                    let stay : keys (value_of one.0) ≡ false =
+                    sym (ap (is_among keys) (ap shown_value one.1 ∙ shown_item one.0)) ∙ key in
+                    let made : taken few
+                    ≡ (filter (stays keys) (taken whole).0, reply_value one.0) =
+                    ap taken rest ∙ one.2 (ap not stay) in (
                       ap (λ (step : List ℕ × ℕ). step.1) made ∙ sym one.1,
                       (split.take_formed whole is, ap (λ (step : List ℕ × ℕ). step.0) made),
                     )
               ] in
-              by_steps (taken few) (taken whole) (container.takes few word takes) (container.takes whole word takes) new
+              by_steps (taken few) (taken whole) (container.takes few word takes)
+              (container.takes whole word takes) new
           | inr not_take ↦
-              by_steps (few, reply_bad) (whole, reply_bad) (container.others few word not_put not_take) (container.others whole word not_put not_take)
+              by_steps (few, reply_bad) (whole, reply_bad)
+              (container.others few word not_put not_take)
+              (container.others whole word not_put not_take)
               (refl, (is, rest))
         ]
       ]
@@ -165,35 +219,45 @@ module _ (kind : Kind) (keys : ℕ → Bool) (formed : List ℕ → Type 0) (put
 -- a take of the first item
 first_one : (p : ℕ → Bool) (list : List ℕ) → TakesOne p first_taken list
 first_one p [] = inl (refl, refl)
-first_one p (x ∷ rest) = inr (x, refl, λ kept. ap first_taken (filter-kept p x rest kept), λ gone. filter-gone p x rest gone)
+first_one p (x ∷ rest) = inr
+    (x, refl, λ kept. ap first_taken (filter-kept p x rest kept), λ gone. filter-gone p x rest gone)
 
 -- ---- queues
 
-queue_is_container : IsContainer kinds.Queue words.enq words.deq (λ list v. list ++ v ∷ []) first_taken
+queue_is_container : IsContainer kinds.Queue words.enq words.deq
+    (λ list v. list ++ v ∷ []) first_taken
 unfolding kind_next is_known_word entry_of entries
 queue_is_container = record {
   puts = λ list word is. after_enq list word is;
   takes = λ list word is. after_deq list word is;
   put_key = λ word reply is.
-      known_key kinds.Queue word reply (known_first (is_operation_of word) words.enq (words.deq ∷ []) is)
+      known_key kinds.Queue word reply
+      (known_first (is_operation_of word) words.enq (words.deq ∷ []) is)
       ∙ cond-true (is_operation_of word words.enq) (Some (argument_of word)) (value_shown reply) is;
   take_key = λ word reply is.
-      known_key kinds.Queue word (Some reply) (known_later (is_operation_of word) words.enq (words.deq ∷ []) (known_first (is_operation_of word) words.deq [] is))
-      ∙ cond-false (is_operation_of word words.enq) (Some (argument_of word)) (shown_value reply) (apart word words.deq words.enq (omega arith) is);
+      known_key kinds.Queue word (Some reply) (known_later (is_operation_of word) words.enq
+      (words.deq ∷ []) (known_first (is_operation_of word) words.deq [] is))
+      ∙ cond-false (is_operation_of word words.enq) (Some (argument_of word)) (shown_value reply)
+      (apart word words.deq words.enq (omega arith) is);
   others = λ list word not_enq not_deq.
-      ap (queue_after list) (cond-false (is_operation_of word words.enq) _ _ not_enq ∙ cond-false (is_operation_of word words.deq) _ _ not_deq);
+      ap (queue_after list) (cond-false (is_operation_of word words.enq) _ _ not_enq
+      ∙ cond-false (is_operation_of word words.deq) _ _ not_deq);
 }
 
-pushed_kept : (p : ℕ → Bool) (list : List ℕ) (v : ℕ) → p v ≡ true → filter p (list ++ v ∷ []) ≡ filter p list ++ v ∷ []
-pushed_kept p list v kept = filter-append p list (v ∷ []) ∙ ap (λ (ys : List ℕ). filter p list ++ ys) (filter-kept p v [] kept)
+pushed_kept : (p : ℕ → Bool) (list : List ℕ) (v : ℕ) → p v ≡ true
+    → filter p (list ++ v ∷ []) ≡ filter p list ++ v ∷ []
+pushed_kept p list v kept = filter-append p list (v ∷ [])
+    ∙ ap (λ (ys : List ℕ). filter p list ++ ys) (filter-kept p v [] kept)
 
 append-none : (xs : List ℕ) → xs ++ [] ≡ xs
 append-none [] = refl
 append-none (x ∷ xs) = ap (λ (ys : List ℕ). x ∷ ys) (append-none xs)
 
-pushed_gone : (p : ℕ → Bool) (list : List ℕ) (v : ℕ) → p v ≡ false → filter p (list ++ v ∷ []) ≡ filter p list
+pushed_gone : (p : ℕ → Bool) (list : List ℕ) (v : ℕ) → p v ≡ false
+    → filter p (list ++ v ∷ []) ≡ filter p list
 pushed_gone p list v gone =
-    filter-append p list (v ∷ []) ∙ (ap (λ (ys : List ℕ). filter p list ++ ys) (filter-gone p v [] gone) ∙ append-none (filter p list))
+    filter-append p list (v ∷ []) ∙ (ap (λ (ys : List ℕ). filter p list ++ ys)
+    (filter-gone p v [] gone) ∙ append-none (filter p list))
 
 abbrev pub any_list : List ℕ → Type 0
 any_list list = Unit {0}
@@ -209,19 +273,25 @@ queue_is_split p = record {
 
 -- ---- stacks
 
-stack_is_container : IsContainer kinds.Stack words.push words.pop (λ list v. list ++ v ∷ []) last_taken
+stack_is_container : IsContainer kinds.Stack words.push words.pop
+    (λ list v. list ++ v ∷ []) last_taken
 unfolding kind_next is_known_word entry_of entries
 stack_is_container = record {
   puts = λ list word is. after_push list word is;
   takes = λ list word is. after_pop list word is;
   put_key = λ word reply is.
-      known_key kinds.Stack word reply (known_first (is_operation_of word) words.push (words.pop ∷ []) is)
-      ∙ cond-true (is_operation_of word words.push) (Some (argument_of word)) (value_shown reply) is;
+      known_key kinds.Stack word reply
+      (known_first (is_operation_of word) words.push (words.pop ∷ []) is)
+      ∙ cond-true (is_operation_of word words.push) (Some (argument_of word))
+      (value_shown reply) is;
   take_key = λ word reply is.
-      known_key kinds.Stack word (Some reply) (known_later (is_operation_of word) words.push (words.pop ∷ []) (known_first (is_operation_of word) words.pop [] is))
-      ∙ cond-false (is_operation_of word words.push) (Some (argument_of word)) (shown_value reply) (apart word words.pop words.push (omega arith) is);
+      known_key kinds.Stack word (Some reply) (known_later (is_operation_of word) words.push
+      (words.pop ∷ []) (known_first (is_operation_of word) words.pop [] is))
+      ∙ cond-false (is_operation_of word words.push) (Some (argument_of word)) (shown_value reply)
+      (apart word words.pop words.push (omega arith) is);
   others = λ list word not_push not_pop.
-      ap (stack_after list) (cond-false (is_operation_of word words.push) _ _ not_push ∙ cond-false (is_operation_of word words.pop) _ _ not_pop);
+      ap (stack_after list) (cond-false (is_operation_of word words.push) _ _ not_push
+      ∙ cond-false (is_operation_of word words.pop) _ _ not_pop);
 }
 
 -- the last of pushed items is taken
@@ -232,7 +302,8 @@ last_pushed (x ∷ prefix) y =
     let n : ℕ = length (prefix ++ y ∷ []) in
     let same : n ≡ length (x ∷ prefix) = omega (arith, length_push prefix y) in
     let items : take n whole ≡ x ∷ prefix
-    = ap (λ (k : ℕ). take k whole) same ∙ (take-append-le (length (x ∷ prefix)) (x ∷ prefix) (y ∷ []) (omega arith) ∙ take_all (length (x ∷ prefix)) (x ∷ prefix) (omega arith)) in
+    = ap (λ (k : ℕ). take k whole) same ∙ (take-append-le (length (x ∷ prefix)) (x ∷ prefix)
+    (y ∷ []) (omega arith) ∙ take_all (length (x ∷ prefix)) (x ∷ prefix) (omega arith)) in
     let last : get_or whole n 0 ≡ y = get_or_push (x ∷ prefix) y 0 n (sym same) in
     pair_is items (ap reply_value last)
 
@@ -243,11 +314,13 @@ last_one p (x ∷ rest) =
     let n : ℕ = length rest in
     let prefix : List ℕ = take n list in
     let last : ℕ = get_or list n 0 in
-    let whole : list ≡ prefix ++ last ∷ [] = sym (take_all (n + 1) list (omega arith)) ∙ take_more list n 0 (omega arith) in
+    let whole : list ≡ prefix ++ last ∷ [] =
+    sym (take_all (n + 1) list (omega arith)) ∙ take_more list n 0 (omega arith) in
     inr (
       last,
       refl,
-      λ kept. ap (λ (l : List ℕ). last_taken (filter p l)) whole ∙ (ap last_taken (pushed_kept p prefix last kept) ∙ last_pushed (filter p prefix) last),
+      λ kept. ap (λ (l : List ℕ). last_taken (filter p l)) whole
+          ∙ (ap last_taken (pushed_kept p prefix last kept) ∙ last_pushed (filter p prefix) last),
       λ gone. ap (filter p) whole ∙ pushed_gone p prefix last gone,
     )
 
@@ -266,70 +339,90 @@ pqueue_is_container : IsContainer kinds.Pqueue words.insert words.min inserted f
 unfolding kind_next is_known_word entry_of entries
 pqueue_is_container = record {
   puts = λ list word is. after_insert list word is;
-  takes = λ list word is. after_min list word (apart word words.min words.insert (omega arith) is) is;
+  takes =
+      λ list word is. after_min list word (apart word words.min words.insert (omega arith) is) is;
   put_key = λ word reply is.
-      known_key kinds.Pqueue word reply (known_first (is_operation_of word) words.insert (words.min ∷ []) is)
-      ∙ cond-true (is_operation_of word words.insert) (Some (argument_of word)) (value_shown reply) is;
+      known_key kinds.Pqueue word reply
+      (known_first (is_operation_of word) words.insert (words.min ∷ []) is)
+      ∙ cond-true (is_operation_of word words.insert) (Some (argument_of word))
+      (value_shown reply) is;
   take_key = λ word reply is.
-      known_key kinds.Pqueue word (Some reply) (known_later (is_operation_of word) words.insert (words.min ∷ []) (known_first (is_operation_of word) words.min [] is))
-      ∙ cond-false (is_operation_of word words.insert) (Some (argument_of word)) (shown_value reply) (apart word words.min words.insert (omega arith) is);
+      known_key kinds.Pqueue word (Some reply) (known_later (is_operation_of word) words.insert
+      (words.min ∷ []) (known_first (is_operation_of word) words.min [] is))
+      ∙ cond-false (is_operation_of word words.insert) (Some (argument_of word)) (shown_value reply)
+      (apart word words.min words.insert (omega arith) is);
   others = λ list word not_insert not_min. after_other list word not_insert not_min;
 }
 
 -- a value below all items is placed first
-placed_first : (v x : ℕ) (ys : List ℕ) → v < x → AllByRecursion (λ y. x ≤ y) ys → placed v ys ≡ v ∷ ys
+placed_first : (v x : ℕ) (ys : List ℕ) → v < x → AllByRecursion (λ y. x ≤ y) ys
+    → placed v ys ≡ v ∷ ys
 placed_first v x [] less above = refl
 placed_first v x (y ∷ ys) less above =
     let below : x ≤ y = above.0 in
     cond-true (nat_lt v y) (v ∷ y ∷ ys) (y ∷ placed v ys) (lt-ltb v y (omega arith))
 
-placed_kept : (p : ℕ → Bool) (v : ℕ) (xs : List ℕ) → Rises xs → p v ≡ true → filter p (placed v xs) ≡ placed v (filter p xs)
+placed_kept : (p : ℕ → Bool) (v : ℕ) (xs : List ℕ) → Rises xs → p v ≡ true
+    → filter p (placed v xs) ≡ placed v (filter p xs)
 placed_kept p v [] rises kept = filter-kept p v [] kept
 placed_kept p v (x ∷ xs) rises kept = elim (cases_Bool (nat_lt v x)) [
   | inl less ↦
       let before : v < x = ltb-true v x less in
       let here : filter p (placed v (x ∷ xs)) ≡ v ∷ filter p (x ∷ xs)
-      = ap (filter p) (cond-true (nat_lt v x) (v ∷ x ∷ xs) (x ∷ placed v xs) less) ∙ filter-kept p v (x ∷ xs) kept in
+      = ap (filter p) (cond-true (nat_lt v x) (v ∷ x ∷ xs) (x ∷ placed v xs) less)
+      ∙ filter-kept p v (x ∷ xs) kept in
       let all : AllByRecursion (λ y. x ≤ y) (x ∷ xs) = (omega arith, rises.0) in
       here ∙ sym (placed_first v x (filter p (x ∷ xs)) before (above-filter p x (x ∷ xs) all))
   | inr most ↦
-      let here : filter p (placed v (x ∷ xs)) ≡ filter p (x ∷ placed v xs) = ap (filter p) (cond-false (nat_lt v x) (v ∷ x ∷ xs) (x ∷ placed v xs) most) in
+      let here : filter p (placed v (x ∷ xs)) ≡ filter p (x ∷ placed v xs) =
+      ap (filter p) (cond-false (nat_lt v x) (v ∷ x ∷ xs) (x ∷ placed v xs) most) in
       elim (cases_Bool (p x)) [
         | inl stay ↦
             here
             ∙ (filter-kept p x (placed v xs) stay
             ∙ (ap (λ (ys : List ℕ). x ∷ ys) (placed_kept p v xs rises.1 kept)
-            ∙ (sym (cond-false (nat_lt v x) (v ∷ x ∷ filter p xs) (x ∷ placed v (filter p xs)) most) ∙ ap (placed v) (sym (filter-kept p x xs stay)))))
-        | inr gone ↦ here ∙ (filter-gone p x (placed v xs) gone ∙ (placed_kept p v xs rises.1 kept ∙ ap (placed v) (sym (filter-gone p x xs gone))))
+            ∙ (sym (cond-false (nat_lt v x) (v ∷ x ∷ filter p xs) (x ∷ placed v (filter p xs)) most)
+            ∙ ap (placed v) (sym (filter-kept p x xs stay)))))
+        | inr gone ↦ here ∙ (filter-gone p x (placed v xs) gone
+            ∙ (placed_kept p v xs rises.1 kept ∙ ap (placed v) (sym (filter-gone p x xs gone))))
       ]
 ]
 
-placed_gone : (p : ℕ → Bool) (v : ℕ) (xs : List ℕ) → p v ≡ false → filter p (placed v xs) ≡ filter p xs
+placed_gone : (p : ℕ → Bool) (v : ℕ) (xs : List ℕ) → p v ≡ false
+    → filter p (placed v xs) ≡ filter p xs
 placed_gone p v [] gone = filter-gone p v [] gone
 placed_gone p v (x ∷ xs) gone = elim (cases_Bool (nat_lt v x)) [
-  | inl less ↦ ap (filter p) (cond-true (nat_lt v x) (v ∷ x ∷ xs) (x ∷ placed v xs) less) ∙ filter-gone p v (x ∷ xs) gone
+  | inl less ↦ ap (filter p) (cond-true (nat_lt v x) (v ∷ x ∷ xs) (x ∷ placed v xs) less)
+      ∙ filter-gone p v (x ∷ xs) gone
   | inr most ↦
       ap (filter p) (cond-false (nat_lt v x) (v ∷ x ∷ xs) (x ∷ placed v xs) most)
       ∙ ap (λ (ys : List ℕ). if p x then x ∷ ys else ys) (placed_gone p v xs gone)
 ]
 
-above_placed : (x v : ℕ) (xs : List ℕ) → x ≤ v → AllByRecursion (λ y. x ≤ y) xs → AllByRecursion (λ y. x ≤ y) (placed v xs)
+above_placed : (x v : ℕ) (xs : List ℕ) → x ≤ v → AllByRecursion (λ y. x ≤ y) xs
+    → AllByRecursion (λ y. x ≤ y) (placed v xs)
 above_placed x v [] le all = (le, tt)
 above_placed x v (y ∷ ys) le all = elim (cases_Bool (nat_lt v y)) [
-  | inl less ↦ subst (AllByRecursion (λ z. x ≤ z)) (sym (cond-true (nat_lt v y) (v ∷ y ∷ ys) (y ∷ placed v ys) less)) (le, all)
-  | inr most ↦ subst (AllByRecursion (λ z. x ≤ z)) (sym (cond-false (nat_lt v y) (v ∷ y ∷ ys) (y ∷ placed v ys) most)) (all.0, above_placed x v ys le all.1)
+  | inl less ↦ subst (AllByRecursion (λ z. x ≤ z))
+      (sym (cond-true (nat_lt v y) (v ∷ y ∷ ys) (y ∷ placed v ys) less)) (le, all)
+  | inr most ↦ subst (AllByRecursion (λ z. x ≤ z))
+      (sym (cond-false (nat_lt v y) (v ∷ y ∷ ys) (y ∷ placed v ys) most))
+      (all.0, above_placed x v ys le all.1)
 ]
 
-above_less : (v x : ℕ) (xs : List ℕ) → v ≤ x → AllByRecursion (λ y. x ≤ y) xs → AllByRecursion (λ y. v ≤ y) xs
+above_less : (v x : ℕ) (xs : List ℕ) → v ≤ x → AllByRecursion (λ y. x ≤ y) xs
+    → AllByRecursion (λ y. v ≤ y) xs
 above_less v x [] le all = tt
-above_less v x (y ∷ ys) le all = (let here : x ≤ y = all.0 in omega arith, above_less v x ys le all.1)
+above_less v x (y ∷ ys) le all =
+    (let here : x ≤ y = all.0 in omega arith, above_less v x ys le all.1)
 
 rises_placed : (v : ℕ) (xs : List ℕ) → Rises xs → Rises (placed v xs)
 rises_placed v [] rises = (tt, tt)
 rises_placed v (x ∷ xs) rises = elim (cases_Bool (nat_lt v x)) [
   | inl less ↦
       let le : v ≤ x = omega (arith, ltb-true v x less) in
-      subst Rises (sym (cond-true (nat_lt v x) (v ∷ x ∷ xs) (x ∷ placed v xs) less)) ((le, above_less v x xs le rises.0), rises)
+      subst Rises (sym (cond-true (nat_lt v x) (v ∷ x ∷ xs) (x ∷ placed v xs) less))
+      ((le, above_less v x xs le rises.0), rises)
   | inr most ↦
       subst Rises (sym (cond-false (nat_lt v x) (v ∷ x ∷ xs) (x ∷ placed v xs) most))
       (above_placed x v xs (ltb-false v x most) rises.0, rises_placed v xs rises.1)
@@ -342,7 +435,8 @@ rises_taken (x ∷ rest) rises = rises.1
 pqueue_is_split : (p : ℕ → Bool) → IsSplitBy p Rises inserted first_taken
 pqueue_is_split p = record {
   put_kept = λ list v rises kept.
-      ap (filter p) (inserted_is v list) ∙ (placed_kept p v list rises kept ∙ sym (inserted_is v (filter p list)));
+      ap (filter p) (inserted_is v list)
+      ∙ (placed_kept p v list rises kept ∙ sym (inserted_is v (filter p list)));
   put_gone = λ list v gone. ap (filter p) (inserted_is v list) ∙ placed_gone p v list gone;
   put_formed = λ list v rises. subst Rises (sym (inserted_is v list)) (rises_placed v list rises);
   take_one = λ list. first_one p list;
@@ -356,7 +450,8 @@ abbrev pub HasSameValues : (ℕ → Bool) → List ℕ → List ℕ → Type 0
 HasSameValues keys whole few = (v : ℕ) → keys v ≡ false → times v few ≡ times v whole
 
 -- so that it is in both or in neither
-same_there : (v : ℕ) (xs ys : List ℕ) → times v xs ≡ times v ys → is_some (place_of xs v) ≡ is_some (place_of ys v)
+same_there : (v : ℕ) (xs ys : List ℕ) → times v xs ≡ times v ys
+    → is_some (place_of xs v) ≡ is_some (place_of ys v)
 same_there v xs ys same = elim (is_there v xs) [
   | inl here ↦ elim (is_there v ys) [
     | inl there ↦ here.0 ∙ sym there.0
@@ -369,17 +464,33 @@ same_there v xs ys same = elim (is_there v xs) [
 ]
 
 -- an add of the value makes as many of them
-times-added : (v : ℕ) (xs : List ℕ) → ((1 ≤ times v xs) × (times v (added xs v).0 ≡ times v xs)) ⊎ ((times v xs ≡ 0) × (times v (added xs v).0 ≡ 1))
+times-added : (v : ℕ) (xs : List ℕ) → ((1 ≤ times v xs) × (times v (added xs v).0 ≡ times v xs))
+    ⊎ ((times v xs ≡ 0) × (times v (added xs v).0 ≡ 1))
 times-added v xs = elim (is_there v xs) [
   | inl there ↦
-      inl (there.1, ap (λ (r : List ℕ × ℕ). times v r.0) (cond-true (is_some (place_of xs v)) (xs, reply_no) (inserted xs v, reply_yes) there.0))
+      inl (
+        there.1,
+        ap (λ (r : List ℕ × ℕ). times v r.0)
+            (cond-true (is_some (place_of xs v)) (xs, reply_no) (inserted xs v, reply_yes) there.0),
+      )
   | inr absent ↦
       let list : times v (added xs v).0 ≡ times v (inserted xs v)
-      = ap (λ (r : List ℕ × ℕ). times v r.0) (cond-false (is_some (place_of xs v)) (xs, reply_no) (inserted xs v, reply_yes) absent.0) in
-      inr (absent.1, omega (arith, list, times-insert v v xs (place_for xs v), absent.1, ap one_if (eq-eqb v v refl)))
+      = ap (λ (r : List ℕ × ℕ). times v r.0) (cond-false (is_some (place_of xs v)) (xs, reply_no)
+      (inserted xs v, reply_yes) absent.0) in
+      inr (
+        absent.1,
+        omega (
+          arith,
+          list,
+          times-insert v v xs (place_for xs v),
+          absent.1,
+          ap one_if (eq-eqb v v refl),
+        ),
+      )
 ]
 
-same_added : (v : ℕ) (xs ys : List ℕ) → times v xs ≡ times v ys → times v (added xs v).0 ≡ times v (added ys v).0
+same_added : (v : ℕ) (xs ys : List ℕ) → times v xs ≡ times v ys
+    → times v (added xs v).0 ≡ times v (added ys v).0
 same_added v xs ys same = elim (times-added v xs) [
   | inl here ↦ elim (times-added v ys) [
     | inl there ↦ here.1 ∙ (same ∙ sym there.1)
@@ -392,18 +503,32 @@ same_added v xs ys same = elim (times-added v xs) [
 ]
 
 -- and a remove of it as few
-times-removed : (v : ℕ) (xs : List ℕ) → times v (removed xs v).0 + one_if (is_some (place_of xs v)) ≡ times v xs
+times-removed : (v : ℕ) (xs : List ℕ)
+    → times v (removed xs v).0 + one_if (is_some (place_of xs v)) ≡ times v xs
 times-removed v xs = elim (cases_Option (place_of xs v)) [
   | inl none ↦
-      omega (arith, ap (λ (o : Option ℕ). times v (taken_out xs o).0) none, ap (λ (o : Option ℕ). one_if (is_some o)) none)
+      omega (
+        arith,
+        ap (λ (o : Option ℕ). times v (taken_out xs o).0) none,
+        ap (λ (o : Option ℕ). one_if (is_some o)) none,
+      )
   | inr some ↦
       let first = times-placed v xs some.0 some.1 in
-      let list : times v (removed xs v).0 ≡ times v (remove xs some.0) = ap (λ (o : Option ℕ). times v (taken_out xs o).0) some.1 in
-      omega (arith, list, times-remove v xs some.0 first.0, ap one_if (eq-eqb (get_or xs some.0 0) v first.1), ap (λ (o : Option ℕ). one_if (is_some o)) some.1)
+      let list : times v (removed xs v).0 ≡ times v (remove xs some.0) =
+      ap (λ (o : Option ℕ). times v (taken_out xs o).0) some.1 in
+      omega (
+        arith,
+        list,
+        times-remove v xs some.0 first.0,
+        ap one_if (eq-eqb (get_or xs some.0 0) v first.1),
+        ap (λ (o : Option ℕ). one_if (is_some o)) some.1,
+      )
 ]
 
-same_removed : (v : ℕ) (xs ys : List ℕ) → times v xs ≡ times v ys → times v (removed xs v).0 ≡ times v (removed ys v).0
-same_removed v xs ys same = omega (arith, times-removed v xs, times-removed v ys, ap one_if (same_there v xs ys same), same)
+same_removed : (v : ℕ) (xs ys : List ℕ) → times v xs ≡ times v ys
+    → times v (removed xs v).0 ≡ times v (removed ys v).0
+same_removed v xs ys same =
+    omega (arith, times-removed v xs, times-removed v ys, ap one_if (same_there v xs ys same), same)
 
 module _ (keys : ℕ → Bool) where
   -- a value that stays isn't one that goes
@@ -413,30 +538,38 @@ module _ (keys : ℕ → Bool) where
   added_alike : (whole few : List ℕ) (v : ℕ) → HasSameValues keys whole few → keys v ≡ false
       → ((added few v).1 ≡ (added whole v).1) × HasSameValues keys (added whole v).0 (added few v).0
   added_alike whole few v same stay = (
-    added_tells few v ∙ (ap (λ (b : Bool). if b then reply_no else reply_yes) (same_there v few whole (same v stay)) ∙ sym (added_tells whole v)),
+    added_tells few v ∙ (ap (λ (b : Bool). if b then reply_no else reply_yes)
+        (same_there v few whole (same v stay)) ∙ sym (added_tells whole v)),
     λ w on. elim (cases_eq v w) [
-      | inl e ↦ subst (λ (x : ℕ). times x (added few v).0 ≡ times x (added whole v).0) e (same_added v few whole (same v stay))
+      | inl e ↦ subst (λ (x : ℕ). times x (added few v).0 ≡ times x (added whole v).0) e
+          (same_added v few whole (same v stay))
       | inr other ↦ added_other v w few other ∙ (same w on ∙ sym (added_other v w whole other))
     ],
   )
 
   removed_alike : (whole few : List ℕ) (v : ℕ) → HasSameValues keys whole few → keys v ≡ false
-      → ((removed few v).1 ≡ (removed whole v).1) × HasSameValues keys (removed whole v).0 (removed few v).0
+      → ((removed few v).1 ≡ (removed whole v).1)
+      × HasSameValues keys (removed whole v).0 (removed few v).0
   removed_alike whole few v same stay = (
-    taken_out_tells few (place_of few v) ∙ (ap (λ (b : Bool). if b then reply_yes else reply_no) (same_there v few whole (same v stay)) ∙ sym (taken_out_tells whole (place_of whole v))),
+    taken_out_tells few (place_of few v) ∙ (ap (λ (b : Bool). if b then reply_yes else reply_no)
+        (same_there v few whole (same v stay)) ∙ sym (taken_out_tells whole (place_of whole v))),
     λ w on. elim (cases_eq v w) [
-      | inl e ↦ subst (λ (x : ℕ). times x (removed few v).0 ≡ times x (removed whole v).0) e (same_removed v few whole (same v stay))
+      | inl e ↦ subst (λ (x : ℕ). times x (removed few v).0 ≡ times x (removed whole v).0) e
+          (same_removed v few whole (same v stay))
       | inr other ↦ removed_other v w few other ∙ (same w on ∙ sym (removed_other v w whole other))
     ],
   )
 
 -- the key of a known word of a set or a map is its argument
-argument_goes : (kind : Kind) (keys : ℕ → Bool) (word reply : ℕ) (b : Bool) → is_known_word kind word ≡ true → key_by_kind kind word (Some reply) ≡ Some (argument_of word)
+argument_goes : (kind : Kind) (keys : ℕ → Bool) (word reply : ℕ) (b : Bool)
+    → is_known_word kind word ≡ true → key_by_kind kind word (Some reply) ≡ Some (argument_of word)
     → is_among keys (key_of_step kind word (Some reply)) ≡ b → keys (argument_of word) ≡ b
-argument_goes kind keys word reply b known own among = ap (is_among keys) (sym (known_key kind word (Some reply) known ∙ own)) ∙ among
+argument_goes kind keys word reply b known own among =
+    ap (is_among keys) (sym (known_key kind word (Some reply) known ∙ own)) ∙ among
 
 set_gone : (keys : ℕ → Bool) (whole few : List ℕ) (word : ℕ) → HasSameValues keys whole few
-    → is_among keys (key_of_step kinds.IntSet word (Some (kind_next kinds.IntSet whole word).1)) ≡ true → HasSameValues keys (kind_next kinds.IntSet whole word).0 few
+    → is_among keys (key_of_step kinds.IntSet word (Some (kind_next kinds.IntSet whole word).1))
+    ≡ true → HasSameValues keys (kind_next kinds.IntSet whole word).0 few
 unfolding kind_next
 set_gone keys whole few word same among =
     let v : ℕ = argument_of word in
@@ -444,52 +577,72 @@ set_gone keys whole few word same among =
     elim (cases_Bool (is_known_word kinds.IntSet word)) [
       | inr unknown ↦ subst P (sym (kind_next-unknown kinds.IntSet whole word unknown)) same
       | inl known ↦
-          let goes : keys v ≡ true = argument_goes kinds.IntSet keys word (kind_next kinds.IntSet whole word).1 true known refl among in
+          let goes : keys v ≡ true = argument_goes kinds.IntSet keys word
+          (kind_next kinds.IntSet whole word).1 true known refl among in
           elim (cases_Bool (is_operation_of word words.add)) [
             | inl add ↦
-                let new : P (added whole v) = λ w on. same w on ∙ sym (added_other v w whole (apart_from keys v w goes on)) in
+                let new : P (added whole v) =
+                λ w on. same w on ∙ sym (added_other v w whole (apart_from keys v w goes on)) in
                 subst P (sym (after_add whole word add)) new
             | inr not_add ↦ elim (cases_Bool (is_operation_of word words.remove)) [
               | inl remove ↦
-                  let new : P (removed whole v) = λ w on. same w on ∙ sym (removed_other v w whole (apart_from keys v w goes on)) in
+                  let new : P (removed whole v) =
+                  λ w on. same w on ∙ sym (removed_other v w whole (apart_from keys v w goes on)) in
                   subst P (sym (after_remove whole word remove)) new
               | inr not_remove ↦ elim (cases_Bool (is_operation_of word words.has)) [
                 | inl has ↦ subst P (sym (after_has whole word has)) same
                 | inr not_has ↦
                     subst P
                     (sym (ap (set_after whole)
-                    (cond-false (is_operation_of word words.add) _ _ not_add ∙ (cond-false (is_operation_of word words.remove) _ _ not_remove ∙ cond-false (is_operation_of word words.has) _ _ not_has)))) same
+                    (cond-false (is_operation_of word words.add) _ _ not_add
+                    ∙ (cond-false (is_operation_of word words.remove) _ _ not_remove
+                    ∙ cond-false (is_operation_of word words.has) _ _ not_has)))) same
               ]
             ]
           ]
     ]
 
 set_kept : (keys : ℕ → Bool) (whole few : List ℕ) (word : ℕ) → HasSameValues keys whole few
-    → is_among keys (key_of_step kinds.IntSet word (Some (kind_next kinds.IntSet whole word).1)) ≡ false
-    → ((kind_next kinds.IntSet few word).1 ≡ (kind_next kinds.IntSet whole word).1) × HasSameValues keys (kind_next kinds.IntSet whole word).0 (kind_next kinds.IntSet few word).0
+    → is_among keys
+    (key_of_step kinds.IntSet word (Some (kind_next kinds.IntSet whole word).1)) ≡ false
+    → ((kind_next kinds.IntSet few word).1 ≡ (kind_next kinds.IntSet whole word).1)
+    × HasSameValues keys (kind_next kinds.IntSet whole word).0 (kind_next kinds.IntSet few word).0
 unfolding kind_next
 set_kept keys whole few word same among =
     let v : ℕ = argument_of word in
-    let P : List ℕ × ℕ → List ℕ × ℕ → Type 0 = λ other step. (other.1 ≡ step.1) × HasSameValues keys step.0 other.0 in
-    let by_steps : (other step : List ℕ × ℕ) → kind_next kinds.IntSet few word ≡ other → kind_next kinds.IntSet whole word ≡ step → P other step
+    let P : List ℕ × ℕ → List ℕ × ℕ → Type 0 =
+    λ other step. (other.1 ≡ step.1) × HasSameValues keys step.0 other.0 in
+    let by_steps : (other step : List ℕ × ℕ) → kind_next kinds.IntSet few word ≡ other
+    → kind_next kinds.IntSet whole word ≡ step → P other step
     → P (kind_next kinds.IntSet few word) (kind_next kinds.IntSet whole word)
-    = λ other step e f holds. subst (λ s. P (kind_next kinds.IntSet few word) s) (sym f) (subst (λ s. P s step) (sym e) holds) in
+    = λ other step e f holds. subst (λ s. P (kind_next kinds.IntSet few word) s) (sym f)
+    (subst (λ s. P s step) (sym e) holds) in
     elim (cases_Bool (is_known_word kinds.IntSet word)) [
-      | inr unknown ↦ by_steps _ _ (kind_next-unknown kinds.IntSet few word unknown) (kind_next-unknown kinds.IntSet whole word unknown) (refl, same)
+      | inr unknown ↦ by_steps _ _ (kind_next-unknown kinds.IntSet few word unknown)
+          (kind_next-unknown kinds.IntSet whole word unknown) (refl, same)
       | inl known ↦
-          let stay : keys v ≡ false = argument_goes kinds.IntSet keys word (kind_next kinds.IntSet whole word).1 false known refl among in
+          let stay : keys v ≡ false = argument_goes kinds.IntSet keys word
+          (kind_next kinds.IntSet whole word).1 false known refl among in
           elim (cases_Bool (is_operation_of word words.add)) [
-            | inl add ↦ by_steps _ _ (after_add few word add) (after_add whole word add) (added_alike keys whole few v same stay)
+            | inl add ↦ by_steps _ _ (after_add few word add) (after_add whole word add)
+                (added_alike keys whole few v same stay)
             | inr not_add ↦ elim (cases_Bool (is_operation_of word words.remove)) [
-              | inl remove ↦ by_steps _ _ (after_remove few word remove) (after_remove whole word remove) (removed_alike keys whole few v same stay)
+              | inl remove ↦ by_steps _ _ (after_remove few word remove)
+                  (after_remove whole word remove) (removed_alike keys whole few v same stay)
               | inr not_remove ↦ elim (cases_Bool (is_operation_of word words.has)) [
                 | inl has ↦
-                    by_steps _ _ (after_has few word has) (after_has whole word has)
-                    (ap (λ (b : Bool). if b then reply_yes else reply_no) (same_there v few whole (same v stay)), same)
+                    by_steps _ _ (after_has few word has) (after_has whole word has) (
+                      ap (λ (b : Bool). if b then reply_yes else reply_no)
+                          (same_there v few whole (same v stay)),
+                      same,
+                    )
                 | inr not_has ↦
-                    let other : (list : List ℕ) → kind_next kinds.IntSet list word ≡ (list, reply_bad) = λ list.
+                    let other : (list : List ℕ)
+                    → kind_next kinds.IntSet list word ≡ (list, reply_bad) = λ list.
                     ap (set_after list)
-                    (cond-false (is_operation_of word words.add) _ _ not_add ∙ (cond-false (is_operation_of word words.remove) _ _ not_remove ∙ cond-false (is_operation_of word words.has) _ _ not_has)) in
+                    (cond-false (is_operation_of word words.add) _ _ not_add
+                    ∙ (cond-false (is_operation_of word words.remove) _ _ not_remove
+                    ∙ cond-false (is_operation_of word words.has) _ _ not_has)) in
                     by_steps _ _ (other few) (other whole) (refl, same)
               ]
             ]
@@ -505,87 +658,122 @@ pub record HasSameKeys (keys : ℕ → Bool) (whole few : List ℕ) : Type 0 whe
   pub same : (key : ℕ) → keys key ≡ false → got few key ≡ got whole key
 
 -- where the first item that passes stands, or that none passes
-first_at : (p : ℕ → Bool) (xs : List ℕ) (n : ℕ) → position_or_len p xs ≡ n → n < length xs → position p xs ≡ Some n
+first_at : (p : ℕ → Bool) (xs : List ℕ) (n : ℕ) → position_or_len p xs ≡ n → n < length xs
+    → position p xs ≡ Some n
 first_at p xs n e inside =
-    ap (λ (k : ℕ). if nat_lt k (length xs) then Some k else None) e ∙ cond-true (nat_lt n (length xs)) (Some n) None (lt-ltb n (length xs) inside)
+    ap (λ (k : ℕ). if nat_lt k (length xs) then Some k else None) e
+    ∙ cond-true (nat_lt n (length xs)) (Some n) None (lt-ltb n (length xs) inside)
 
-first_nowhere : (p : ℕ → Bool) (xs : List ℕ) (n : ℕ) → position_or_len p xs ≡ n → length xs ≤ n → position p xs ≡ None
+first_nowhere : (p : ℕ → Bool) (xs : List ℕ) (n : ℕ) → position_or_len p xs ≡ n → length xs ≤ n
+    → position p xs ≡ None
 first_nowhere p xs n e past =
-    ap (λ (k : ℕ). if nat_lt k (length xs) then Some k else None) e ∙ cond-false (nat_lt n (length xs)) (Some n) None (le-ltb n (length xs) past)
+    ap (λ (k : ℕ). if nat_lt k (length xs) then Some k else None) e
+    ∙ cond-false (nat_lt n (length xs)) (Some n) None (le-ltb n (length xs) past)
 
 -- what a longer list gives for a key: its first item's value, or what the rest gives
-got-cons : (key x : ℕ) (xs : List ℕ) → got (x ∷ xs) key ≡ (if key_of x == key then reply_value x else got xs key)
+got-cons : (key x : ℕ) (xs : List ℕ)
+    → got (x ∷ xs) key ≡ (if key_of x == key then reply_value x else got xs key)
 got-cons key x xs =
     let p : ℕ → Bool = λ item. key_of item == key in
     let n : ℕ = position_or_len p xs in
-    elim (cases_Bool (p x)) as (λ _. got (x ∷ xs) key ≡ (if p x then reply_value x else got xs key)) [
+    elim (cases_Bool (p x)) as
+    (λ _. got (x ∷ xs) key ≡ (if p x then reply_value x else got xs key)) [
       | inl here ↦
-          ap (value_at (x ∷ xs)) (first_at p (x ∷ xs) 0 (cond-false (not (p x)) (1 + n) 0 (ap not here)) (omega arith))
+          ap (value_at (x ∷ xs))
+          (first_at p (x ∷ xs) 0 (cond-false (not (p x)) (1 + n) 0 (ap not here)) (omega arith))
           ∙ sym (cond-true (p x) (reply_value x) (got xs key) here)
       | inr other ↦
-          let later : position_or_len p (x ∷ xs) ≡ suc n = cond-true (not (p x)) (1 + n) 0 (ap not other) ∙ omega arith in
-          let rest : got (x ∷ xs) key ≡ got xs key = elim (cases_lt n (length xs)) as (λ _. got (x ∷ xs) key ≡ got xs key) [
-            | inl inside ↦ ap (value_at (x ∷ xs)) (first_at p (x ∷ xs) (suc n) later (omega (arith, inside))) ∙ sym (ap (value_at xs) (first_at p xs n refl inside))
-            | inr past ↦ ap (value_at (x ∷ xs)) (first_nowhere p (x ∷ xs) (suc n) later (omega (arith, past))) ∙ sym (ap (value_at xs) (first_nowhere p xs n refl past))
+          let later : position_or_len p (x ∷ xs) ≡ suc n =
+          cond-true (not (p x)) (1 + n) 0 (ap not other) ∙ omega arith in
+          let rest : got (x ∷ xs) key ≡ got xs key =
+          elim (cases_lt n (length xs)) as (λ _. got (x ∷ xs) key ≡ got xs key) [
+            | inl inside ↦
+                ap (value_at (x ∷ xs)) (first_at p (x ∷ xs) (suc n) later (omega (arith, inside)))
+                ∙ sym (ap (value_at xs) (first_at p xs n refl inside))
+            | inr past ↦ ap (value_at (x ∷ xs))
+                (first_nowhere p (x ∷ xs) (suc n) later (omega (arith, past)))
+                ∙ sym (ap (value_at xs) (first_nowhere p xs n refl past))
           ] in
           rest ∙ sym (cond-false (p x) (reply_value x) (got xs key) other)
     ]
 
-got-filter : (p : ℕ → Bool) (key : ℕ) (xs : List ℕ) → ((x : ℕ) → key_of x ≡ key → p x ≡ true) → got (filter p xs) key ≡ got xs key
+got-filter : (p : ℕ → Bool) (key : ℕ) (xs : List ℕ) → ((x : ℕ) → key_of x ≡ key → p x ≡ true)
+    → got (filter p xs) key ≡ got xs key
 got-filter p key [] stay = refl
 got-filter p key (x ∷ xs) stay = elim (cases_Bool (p x)) [
   | inl kept ↦
       ap (λ (l : List ℕ). got l key) (filter-kept p x xs kept)
-      ∙ (got-cons key x (filter p xs) ∙ (ap (λ (r : ℕ). if key_of x == key then reply_value x else r) (got-filter p key xs stay) ∙ sym (got-cons key x xs)))
+      ∙ (got-cons key x (filter p xs)
+      ∙ (ap (λ (r : ℕ). if key_of x == key then reply_value x else r) (got-filter p key xs stay)
+      ∙ sym (got-cons key x xs)))
   | inr gone ↦
       let other : key_of x ≢ key = λ e. true≢false (sym (stay x e) ∙ gone) in
       ap (λ (l : List ℕ). got l key) (filter-gone p x xs gone)
-      ∙ (got-filter p key xs stay ∙ sym (got-cons key x xs ∙ cond-false (key_of x == key) (reply_value x) (got xs key) (ne_eqb (key_of x) key other)))
+      ∙ (got-filter p key xs stay ∙ sym (got-cons key x xs
+      ∙ cond-false (key_of x == key) (reply_value x) (got xs key) (ne_eqb (key_of x) key other)))
 ]
 
 -- the step of each operation of a map
-map_put : (list : List ℕ) (word : ℕ) → is_operation_of word words.put ≡ true → map_after list (map_operation word) ≡ put_in list (argument_of word) (extra_of word)
+map_put : (list : List ℕ) (word : ℕ) → is_operation_of word words.put ≡ true
+    → map_after list (map_operation word) ≡ put_in list (argument_of word) (extra_of word)
 map_put list word is = ap (map_after list) (cond-true (is_operation_of word words.put) _ _ is)
 
-map_get : (list : List ℕ) (word : ℕ) → is_operation_of word words.put ≡ false → is_operation_of word words.get ≡ true
-    → map_after list (map_operation word) ≡ (list, value_at list (place_of_key list (argument_of word)))
+map_get : (list : List ℕ) (word : ℕ) → is_operation_of word words.put ≡ false
+    → is_operation_of word words.get ≡ true
+    → map_after list (map_operation word)
+    ≡ (list, value_at list (place_of_key list (argument_of word)))
 map_get list word not_put is =
-    ap (map_after list) (cond-false (is_operation_of word words.put) _ _ not_put ∙ cond-true (is_operation_of word words.get) _ _ is)
+    ap (map_after list) (cond-false (is_operation_of word words.put) _ _ not_put
+    ∙ cond-true (is_operation_of word words.get) _ _ is)
 
-map_delete : (list : List ℕ) (word : ℕ) → is_operation_of word words.put ≡ false → is_operation_of word words.get ≡ false → is_operation_of word words.del ≡ true
-    → map_after list (map_operation word) ≡ (without list (place_of_key list (argument_of word)), value_at list (place_of_key list (argument_of word)))
+map_delete : (list : List ℕ) (word : ℕ) → is_operation_of word words.put ≡ false
+    → is_operation_of word words.get ≡ false → is_operation_of word words.del ≡ true
+    → map_after list (map_operation word) ≡ (
+      without list (place_of_key list (argument_of word)),
+      value_at list (place_of_key list (argument_of word)),
+    )
 map_delete list word not_put not_get is =
     ap (map_after list)
-    (cond-false (is_operation_of word words.put) _ _ not_put ∙ cond-false (is_operation_of word words.get) _ _ not_get ∙ cond-true (is_operation_of word words.del) _ _ is)
+    (cond-false (is_operation_of word words.put) _ _ not_put
+    ∙ cond-false (is_operation_of word words.get) _ _ not_get
+    ∙ cond-true (is_operation_of word words.del) _ _ is)
 
-map_other : (list : List ℕ) (word : ℕ) → is_operation_of word words.put ≡ false → is_operation_of word words.get ≡ false → is_operation_of word words.del ≡ false
+map_other : (list : List ℕ) (word : ℕ) → is_operation_of word words.put ≡ false
+    → is_operation_of word words.get ≡ false → is_operation_of word words.del ≡ false
     → map_after list (map_operation word) ≡ (list, reply_bad)
 map_other list word not_put not_get not_del =
     ap (map_after list)
-    (cond-false (is_operation_of word words.put) _ _ not_put ∙ cond-false (is_operation_of word words.get) _ _ not_get ∙ cond-false (is_operation_of word words.del) _ _ not_del)
+    (cond-false (is_operation_of word words.put) _ _ not_put
+    ∙ cond-false (is_operation_of word words.get) _ _ not_get
+    ∙ cond-false (is_operation_of word words.del) _ _ not_del)
 
 -- the value that a put puts is small
 put_is_small : (word : ℕ) → is_operation_of word words.put ≡ true → extra_of word < 2 ^ 32
-put_is_small word is = ltb-true (extra_of word) (2 ^ 32) (and_parts (code_of word == words.put.code) (has_arguments words.put.arity word) is).1
+put_is_small word is = ltb-true (extra_of word) (2 ^ 32)
+    (and_parts (code_of word == words.put.code) (has_arguments words.put.arity word) is).1
 
 -- A step leaves what each other key has.
-leaves_others : (list : List ℕ) (word other : ℕ) → other ≢ argument_of word → got (map_after list (map_operation word)).0 other ≡ got list other
+leaves_others : (list : List ℕ) (word other : ℕ) → other ≢ argument_of word
+    → got (map_after list (map_operation word)).0 other ≡ got list other
 leaves_others list word other apart_of = elim (cases_Bool (is_operation_of word words.put)) [
   | inl put ↦
       ap (λ (step : List ℕ × ℕ). got step.0 other) (map_put list word put)
-      ∙ put_leaves_others list (argument_of word) (extra_of word) other (put_is_small word put) apart_of
+      ∙ put_leaves_others list (argument_of word) (extra_of word) other
+      (put_is_small word put) apart_of
   | inr not_put ↦ elim (cases_Bool (is_operation_of word words.get)) [
     | inl get ↦ ap (λ (step : List ℕ × ℕ). got step.0 other) (map_get list word not_put get)
     | inr not_get ↦ elim (cases_Bool (is_operation_of word words.del)) [
       | inl del ↦
           ap (λ (step : List ℕ × ℕ). got step.0 other) (map_delete list word not_put not_get del)
           ∙ delete_leaves_others list (argument_of word) other apart_of
-      | inr not_del ↦ ap (λ (step : List ℕ × ℕ). got step.0 other) (map_other list word not_put not_get not_del)
+      | inr not_del ↦
+          ap (λ (step : List ℕ × ℕ). got step.0 other) (map_other list word not_put not_get not_del)
     ]
   ]
 ]
 
-put_reply : (list : List ℕ) (item : ℕ) (place : Option ℕ) → (put_at list item place).1 ≡ value_at list place
+put_reply : (list : List ℕ) (item : ℕ) (place : Option ℕ)
+    → (put_at list item place).1 ≡ value_at list place
 put_reply list item None = refl
 put_reply list item (Some place) = refl
 
@@ -596,74 +784,95 @@ AreAlike key one other = (one.1 ≡ other.1) × (got one.0 key ≡ got other.0 k
 alike_by : (key : ℕ) (a b c d : List ℕ × ℕ) → a ≡ c → b ≡ d → AreAlike key c d → AreAlike key a b
 alike_by key a b c d e f alike = (
   ap (λ (step : List ℕ × ℕ). step.1) e ∙ (alike.0 ∙ sym (ap (λ (step : List ℕ × ℕ). step.1) f)),
-  ap (λ (step : List ℕ × ℕ). got step.0 key) e ∙ (alike.1 ∙ sym (ap (λ (step : List ℕ × ℕ). got step.0 key) f)),
+  ap (λ (step : List ℕ × ℕ). got step.0 key) e
+      ∙ (alike.1 ∙ sym (ap (λ (step : List ℕ × ℕ). got step.0 key) f)),
 )
 
 -- The reply to a step, and what its key has then, depend on what the key has before.
-replies_alike : (xs ys : List ℕ) (word : ℕ) → HasKeysOnce xs → HasKeysOnce ys → got xs (argument_of word) ≡ got ys (argument_of word)
-    → AreAlike (argument_of word) (map_after xs (map_operation word)) (map_after ys (map_operation word))
+replies_alike : (xs ys : List ℕ) (word : ℕ) → HasKeysOnce xs → HasKeysOnce ys
+    → got xs (argument_of word) ≡ got ys (argument_of word)
+    → AreAlike (argument_of word) (map_after xs (map_operation word))
+    (map_after ys (map_operation word))
 replies_alike xs ys word once_xs once_ys same =
     let key : ℕ = argument_of word in
     let value : ℕ = extra_of word in
-    let by_steps : (c d : List ℕ × ℕ) → map_after xs (map_operation word) ≡ c → map_after ys (map_operation word) ≡ d → AreAlike key c d
+    let by_steps : (c d : List ℕ × ℕ) → map_after xs (map_operation word) ≡ c
+    → map_after ys (map_operation word) ≡ d → AreAlike key c d
     → AreAlike key (map_after xs (map_operation word)) (map_after ys (map_operation word))
     = alike_by key (map_after xs (map_operation word)) (map_after ys (map_operation word)) in
     elim (cases_Bool (is_operation_of word words.put)) [
       | inl put ↦
           let small : value < 2 ^ 32 = put_is_small word put in
-          by_steps (put_in xs key value) (put_in ys key value) (map_put xs word put) (map_put ys word put) (
-            put_reply xs (item_of key value) (place_of_key xs key) ∙ (same ∙ sym (put_reply ys (item_of key value) (place_of_key ys key))),
+          by_steps (put_in xs key value) (put_in ys key value) (map_put xs word put)
+          (map_put ys word put) (
+            put_reply xs (item_of key value) (place_of_key xs key)
+                ∙ (same ∙ sym (put_reply ys (item_of key value) (place_of_key ys key))),
             put_is_got xs key value small ∙ sym (put_is_got ys key value small),
           )
       | inr not_put ↦ elim (cases_Bool (is_operation_of word words.get)) [
         | inl get ↦
-            by_steps (xs, value_at xs (place_of_key xs key)) (ys, value_at ys (place_of_key ys key)) (map_get xs word not_put get) (map_get ys word not_put get) (same, same)
+            by_steps (xs, value_at xs (place_of_key xs key)) (ys, value_at ys (place_of_key ys key))
+            (map_get xs word not_put get) (map_get ys word not_put get) (same, same)
         | inr not_get ↦ elim (cases_Bool (is_operation_of word words.del)) [
           | inl del ↦
-              by_steps (without xs (place_of_key xs key), value_at xs (place_of_key xs key)) (without ys (place_of_key ys key), value_at ys (place_of_key ys key))
+              by_steps (without xs (place_of_key xs key), value_at xs (place_of_key xs key))
+              (without ys (place_of_key ys key), value_at ys (place_of_key ys key))
               (map_delete xs word not_put not_get del) (map_delete ys word not_put not_get del)
               (same, deleted_is_none xs key once_xs ∙ sym (deleted_is_none ys key once_ys))
           | inr not_del ↦
-              by_steps (xs, reply_bad) (ys, reply_bad) (map_other xs word not_put not_get not_del) (map_other ys word not_put not_get not_del) (refl, same)
+              by_steps (xs, reply_bad) (ys, reply_bad) (map_other xs word not_put not_get not_del)
+              (map_other ys word not_put not_get not_del) (refl, same)
         ]
       ]
     ]
 
 map_gone : (keys : ℕ → Bool) (whole few : List ℕ) (word : ℕ) → HasSameKeys keys whole few
-    → is_among keys (key_of_step kinds.Map word (Some (kind_next kinds.Map whole word).1)) ≡ true → HasSameKeys keys (kind_next kinds.Map whole word).0 few
+    → is_among keys (key_of_step kinds.Map word (Some (kind_next kinds.Map whole word).1)) ≡ true
+    → HasSameKeys keys (kind_next kinds.Map whole word).0 few
 unfolding kind_next
 map_gone keys whole few word related among = elim (cases_Bool (is_known_word kinds.Map word)) [
-  | inr unknown ↦ subst (λ (step : List ℕ × ℕ). HasSameKeys keys step.0 few) (sym (kind_next-unknown kinds.Map whole word unknown)) related
+  | inr unknown ↦ subst (λ (step : List ℕ × ℕ). HasSameKeys keys step.0 few)
+      (sym (kind_next-unknown kinds.Map whole word unknown)) related
   | inl known ↦
       let key : ℕ = argument_of word in
-      let goes : keys key ≡ true = argument_goes kinds.Map keys word (kind_next kinds.Map whole word).1 true known refl among in
+      let goes : keys key ≡ true =
+      argument_goes kinds.Map keys word (kind_next kinds.Map whole word).1 true known refl among in
       record {
         all_once = keys_stay_once whole word related.all_once;
         few_once = related.few_once;
-        same = λ k on. related.same k on ∙ sym (leaves_others whole word k (λ e. apart_from keys key k goes on (sym e)));
+        same = λ k on. related.same k on
+            ∙ sym (leaves_others whole word k (λ e. apart_from keys key k goes on (sym e)));
       }
 ]
 
 map_kept : (keys : ℕ → Bool) (whole few : List ℕ) (word : ℕ) → HasSameKeys keys whole few
     → is_among keys (key_of_step kinds.Map word (Some (kind_next kinds.Map whole word).1)) ≡ false
-    → ((kind_next kinds.Map few word).1 ≡ (kind_next kinds.Map whole word).1) × HasSameKeys keys (kind_next kinds.Map whole word).0 (kind_next kinds.Map few word).0
+    → ((kind_next kinds.Map few word).1 ≡ (kind_next kinds.Map whole word).1)
+    × HasSameKeys keys (kind_next kinds.Map whole word).0 (kind_next kinds.Map few word).0
 unfolding kind_next
 map_kept keys whole few word related among = elim (cases_Bool (is_known_word kinds.Map word)) [
   | inr unknown ↦
-      let P : List ℕ × ℕ → List ℕ × ℕ → Type 0 = λ other step. (other.1 ≡ step.1) × HasSameKeys keys step.0 other.0 in
-      subst (λ s. P (kind_next kinds.Map few word) s) (sym (kind_next-unknown kinds.Map whole word unknown))
-      (subst (λ s. P s (whole, reply_bad)) (sym (kind_next-unknown kinds.Map few word unknown)) (refl, related))
+      let P : List ℕ × ℕ → List ℕ × ℕ → Type 0 =
+      λ other step. (other.1 ≡ step.1) × HasSameKeys keys step.0 other.0 in
+      subst (λ s. P (kind_next kinds.Map few word) s)
+      (sym (kind_next-unknown kinds.Map whole word unknown))
+      (subst (λ s. P s (whole, reply_bad)) (sym (kind_next-unknown kinds.Map few word unknown))
+      (refl, related))
   | inl known ↦
       let key : ℕ = argument_of word in
-      let stay : keys key ≡ false = argument_goes kinds.Map keys word (kind_next kinds.Map whole word).1 false known refl among in
-      let alike = replies_alike few whole word related.few_once related.all_once (related.same key stay) in (
+      let stay : keys key ≡ false =
+      argument_goes kinds.Map keys word (kind_next kinds.Map whole word).1 false known refl among in
+      let alike =
+      replies_alike few whole word related.few_once related.all_once (related.same key stay) in (
         alike.0,
         record {
           all_once = keys_stay_once whole word related.all_once;
           few_once = keys_stay_once few word related.few_once;
           same = λ k on. elim (cases_eq k key) [
-            | inl e ↦ subst (λ (i : ℕ). got (map_after few (map_operation word)).0 i ≡ got (map_after whole (map_operation word)).0 i) (sym e) alike.1
-            | inr other ↦ leaves_others few word k other ∙ (related.same k on ∙ sym (leaves_others whole word k other))
+            | inl e ↦ subst (λ (i : ℕ). got (map_after few (map_operation word)).0 i
+                ≡ got (map_after whole (map_operation word)).0 i) (sym e) alike.1
+            | inr other ↦ leaves_others few word k other
+                ∙ (related.same k on ∙ sym (leaves_others whole word k other))
           ];
         },
       )
@@ -676,12 +885,17 @@ no_key : (known : Bool) (keys : ℕ → Bool) → is_among keys (if known then N
 no_key true keys = refl
 no_key false keys = refl
 
-keyless_gone : (known : Bool) (keys : ℕ → Bool) {P : Type 0} → is_among keys (if known then None else None) ≡ true → P
+keyless_gone : (known : Bool) (keys : ℕ → Bool) {P : Type 0}
+    → is_among keys (if known then None else None) ≡ true → P
 keyless_gone known keys among = absurd (true≢false (sym among ∙ no_key known keys))
 
 keyless_kept : (kind : Kind) (whole few : List ℕ) (word : ℕ) → whole ≡ few
-    → ((kind_next kind few word).1 ≡ (kind_next kind whole word).1) × ((kind_next kind whole word).0 ≡ (kind_next kind few word).0)
-keyless_kept kind whole few word same = (ap (λ (l : List ℕ). (kind_next kind l word).1) (sym same), ap (λ (l : List ℕ). (kind_next kind l word).0) same)
+    → ((kind_next kind few word).1 ≡ (kind_next kind whole word).1)
+    × ((kind_next kind whole word).0 ≡ (kind_next kind few word).0)
+keyless_kept kind whole few word same = (
+  ap (λ (l : List ℕ). (kind_next kind l word).1) (sym same),
+  ap (λ (l : List ℕ). (kind_next kind l word).0) same,
+)
 
 -- ---- all kinds
 
@@ -699,29 +913,38 @@ Restricts kinds.CasRegister keys whole few = whole ≡ few
 pub keeps_keys : (kind : Kind) (keys : ℕ → Bool) → KeepsKeys kind keys (Restricts kind keys)
 keeps_keys kinds.Queue keys = record {
   begins = λ list formed. (tt, refl);
-  gone = container_gone kinds.Queue keys any_list words.enq words.deq (λ list v. list ++ v ∷ []) first_taken queue_is_container (queue_is_split (stays keys));
-  kept = container_kept kinds.Queue keys any_list words.enq words.deq (λ list v. list ++ v ∷ []) first_taken queue_is_container (queue_is_split (stays keys));
+  gone = container_gone kinds.Queue keys any_list words.enq words.deq
+      (λ list v. list ++ v ∷ []) first_taken queue_is_container (queue_is_split (stays keys));
+  kept = container_kept kinds.Queue keys any_list words.enq words.deq
+      (λ list v. list ++ v ∷ []) first_taken queue_is_container (queue_is_split (stays keys));
 }
 keeps_keys kinds.Stack keys = record {
   begins = λ list formed. (tt, refl);
-  gone = container_gone kinds.Stack keys any_list words.push words.pop (λ list v. list ++ v ∷ []) last_taken stack_is_container (stack_is_split (stays keys));
-  kept = container_kept kinds.Stack keys any_list words.push words.pop (λ list v. list ++ v ∷ []) last_taken stack_is_container (stack_is_split (stays keys));
+  gone = container_gone kinds.Stack keys any_list words.push words.pop
+      (λ list v. list ++ v ∷ []) last_taken stack_is_container (stack_is_split (stays keys));
+  kept = container_kept kinds.Stack keys any_list words.push words.pop
+      (λ list v. list ++ v ∷ []) last_taken stack_is_container (stack_is_split (stays keys));
 }
 keeps_keys kinds.Pqueue keys = record {
   begins = λ list formed. (formed, refl);
-  gone = container_gone kinds.Pqueue keys Rises words.insert words.min inserted first_taken pqueue_is_container (pqueue_is_split (stays keys));
-  kept = container_kept kinds.Pqueue keys Rises words.insert words.min inserted first_taken pqueue_is_container (pqueue_is_split (stays keys));
+  gone = container_gone kinds.Pqueue keys Rises words.insert words.min inserted first_taken
+      pqueue_is_container (pqueue_is_split (stays keys));
+  kept = container_kept kinds.Pqueue keys Rises words.insert words.min inserted first_taken
+      pqueue_is_container (pqueue_is_split (stays keys));
 }
 keeps_keys kinds.IntSet keys = record {
-  begins = λ list formed v on. times-filter (λ (item : ℕ). not (is_among keys (key_of_item kinds.IntSet item))) v list (ap not on);
+  begins = λ list formed v on. times-filter
+      (λ (item : ℕ). not (is_among keys (key_of_item kinds.IntSet item))) v list (ap not on);
   gone = set_gone keys;
   kept = set_kept keys;
 }
 keeps_keys kinds.Map keys = record {
   begins = λ list formed. record {
     all_once = formed;
-    few_once = keys_once-filter (λ (item : ℕ). not (is_among keys (key_of_item kinds.Map item))) list formed;
-    same = λ key on. got-filter (λ (item : ℕ). not (is_among keys (key_of_item kinds.Map item))) key list (λ x e. ap not (ap keys e ∙ on));
+    few_once = keys_once-filter
+        (λ (item : ℕ). not (is_among keys (key_of_item kinds.Map item))) list formed;
+    same = λ key on. got-filter (λ (item : ℕ). not (is_among keys (key_of_item kinds.Map item))) key
+        list (λ x e. ap not (ap keys e ∙ on));
   };
   gone = map_gone keys;
   kept = map_kept keys;
@@ -738,6 +961,7 @@ keeps_keys kinds.Counter keys = record {
 }
 keeps_keys kinds.CasRegister keys = record {
   begins = λ list formed. sym (filter-all (λ (item : ℕ). true) list (λ x. refl));
-  gone = λ whole few word same among. keyless_gone (is_known_word kinds.CasRegister word) keys among;
+  gone =
+      λ whole few word same among. keyless_gone (is_known_word kinds.CasRegister word) keys among;
   kept = λ whole few word same among. keyless_kept kinds.CasRegister whole few word same;
 }

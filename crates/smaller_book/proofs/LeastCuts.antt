@@ -25,7 +25,8 @@ use Rattle.smaller_book.proofs.Counts.{counted_from_below, count_below-at, count
 pub range-rising : (n : ℕ) → AreRising (range_with_len 0 n)
 range-rising n j k less inside =
     let room : k < n = omega (arith, inside, length-range_with_len 0 n) in
-    omega (arith, get_or-range_with_len 0 n j 0 (omega arith), get_or-range_with_len 0 n k 0 room, less)
+    omega
+    (arith, get_or-range_with_len 0 n j 0 (omega arith), get_or-range_with_len 0 n k 0 room, less)
 
 pub count_below-range : (n bound : ℕ) → bound ≤ n → count_below (range_with_len 0 n) bound ≡ bound
 count_below-range n bound few =
@@ -33,7 +34,8 @@ count_below-range n bound few =
     let long : length xs ≡ n = length-range_with_len 0 n in
     elim (cases_lt bound n) [
       | inl less ↦
-          let at : get_or xs bound 0 ≡ bound = omega (arith, get_or-range_with_len 0 n bound 0 less) in
+          let at : get_or xs bound 0 ≡ bound =
+          omega (arith, get_or-range_with_len 0 n bound 0 less) in
           ap (count_below xs) (sym at) ∙ count_below-at xs bound (range-rising n) (omega arith)
       | inr most ↦ whole n bound (omega arith)
     ]
@@ -42,60 +44,77 @@ count_below-range n bound few =
     whole zero bound e = sym e
     whole (suc n) bound e =
         let long : length (range_with_len 0 (suc n)) ≡ suc n = length-range_with_len 0 (suc n) in
-        let last : get_or (range_with_len 0 (suc n)) n 0 < bound = omega (arith, get_or-range_with_len 0 (suc n) n 0 (omega arith), e) in
+        let last : get_or (range_with_len 0 (suc n)) n 0 < bound =
+        omega (arith, get_or-range_with_len 0 (suc n) n 0 (omega arith), e) in
         omega (
           arith,
-          counted_from_below (range_with_len 0 (suc n)) bound n (range-rising (suc n)) (omega (arith, long)) last,
+          counted_from_below (range_with_len 0 (suc n)) bound n (range-rising (suc n))
+              (omega (arith, long)) last,
           count_below-within (range_with_len 0 (suc n)) bound,
           long,
           e,
         )
 
 -- all numbers of a caller
-pub numbers_of-all : (book : List Page) (i : ℕ) → numbers_of (all_numbers book) i ≡ range_with_len 0 (calls_of book i)
+pub numbers_of-all : (book : List Page) (i : ℕ)
+    → numbers_of (all_numbers book) i ≡ range_with_len 0 (calls_of book i)
 numbers_of-all book i =
     let numbers : ℕ → List ℕ = λ j. range_with_len 0 (calls_of book j) in
     elim (cases_lt i (length book)) [
       | inl inside ↦ get_or-map-range_with_len numbers 0 (length book) i i [] inside (zero-add i)
       | inr past ↦
-          get_or_past (map numbers (range_with_len 0 (length book))) i [] (omega (arith, length-map-range_with_len numbers 0 (length book), past))
+          get_or_past (map numbers (range_with_len 0 (length book)))
+          i [] (omega (arith, length-map-range_with_len numbers 0 (length book), past))
           ∙ sym (ap (λ (p : Page). range_with_len 0 (length p.operations)) (page_past book i past))
     ]
 
 -- A caller's call of the book with all its numbers is the call.
-pub original-all : (book : List Page) (call : Call) → IsCall book call → original (all_numbers book) call ≡ call
+pub original-all : (book : List Page) (call : Call) → IsCall book call
+    → original (all_numbers book) call ≡ call
 original-all book call inside =
     let xs : List ℕ = numbers_of (all_numbers book) call.caller in
     let at : get_or xs call.number 0 ≡ call.number
-    = ap (λ (l : List ℕ). get_or l call.number 0) (numbers_of-all book call.caller) ∙ (get_or-range_with_len 0 (calls_of book call.caller) call.number 0 inside ∙ zero-add call.number) in
+    = ap (λ (l : List ℕ). get_or l call.number 0) (numbers_of-all book call.caller)
+    ∙ (get_or-range_with_len 0 (calls_of book call.caller) call.number 0 inside
+    ∙ zero-add call.number) in
     same_call (original (all_numbers book) call) call refl at
 
 -- The book at a cut is a part of the book, with the same numbers.
-pub part_from_book_at : (book : List Page) (cut : List ℕ) (part : List Page) → IsValid book → IsBookAt book cut part → IsPart book (all_numbers part) part
+pub part_from_book_at : (book : List Page) (cut : List ℕ) (part : List Page) → IsValid book
+    → IsBookAt book cut part → IsPart book (all_numbers part) part
 part_from_book_at book cut part valid at =
     let part_is : part ≡ book_at cut book = is_the_only_one book cut part valid at in
     let still : IsValid part = subst IsValid (sym part_is) (stays_valid book cut valid) in
     record {
       callers = at.callers;
-      calls = λ i. sym (ap length (numbers_of-all part i) ∙ length-range_with_len 0 (calls_of part i));
+      calls =
+          λ i. sym (ap length (numbers_of-all part i) ∙ length-range_with_len 0 (calls_of part i));
       rising = λ i. subst AreRising (sym (numbers_of-all part i)) (range-rising (calls_of part i));
-      operations = λ call inside. at.operations call inside ∙ ap (operation_of book) (sym (original-all part call inside));
+      operations = λ call inside. at.operations call inside
+          ∙ ap (operation_of book) (sym (original-all part call inside));
       answers = still.answers;
       records = λ call small known.
-          let inside : IsCall part call = omega (arith, still.answers call.caller, slice_get_within _ call.number small known) in
+          let inside : IsCall part call =
+          omega (arith, still.answers call.caller, slice_get_within _ call.number small known) in
           let was = record_from_part book cut part at call small known in
-          let same : record_of book (original (all_numbers part) call) ≡ Some small = ap (record_of book) (original-all part call inside) ∙ was.1 in
+          let same : record_of book (original (all_numbers part) call) ≡ Some small =
+          ap (record_of book) (original-all part call inside) ∙ was.1 in
           let kept : IsRenumbered (all_numbers part) small small = record {
             reply = refl;
             view = λ i.
-                let few : get_or small.view i 0 ≤ calls_of part i = below_calls part small.view (still.within call small known) i in
-                sym (ap (λ (l : List ℕ). count_below l (get_or small.view i 0)) (numbers_of-all part i) ∙ count_below-range (calls_of part i) (get_or small.view i 0) few);
+                let few : get_or small.view i 0 ≤ calls_of part i =
+                below_calls part small.view (still.within call small known) i in
+                sym
+                (ap (λ (l : List ℕ). count_below l (get_or small.view i 0)) (numbers_of-all part i)
+                ∙ count_below-range (calls_of part i) (get_or small.view i 0) few);
           } in
-          subst (λ o. IsSomeAnd o (λ (whole : Record). IsRenumbered (all_numbers part) whole small)) (sym same) kept;
+          subst (λ o. IsSomeAnd o (λ (whole : Record). IsRenumbered (all_numbers part) whole small))
+          (sym same) kept;
     }
 
 -- a book without a legal order has none at the cut of all its records
-pub illegal_at_all : (init : List ℕ) (next : List ℕ → ℕ → List ℕ × ℕ) (book : List Page) → IsValid book → ¬ HasLegalOrder init next book → IsIllegalCut init next book (answered book)
+pub illegal_at_all : (init : List ℕ) (next : List ℕ → ℕ → List ℕ × ℕ) (book : List Page)
+    → IsValid book → ¬ HasLegalOrder init next book → IsIllegalCut init next book (answered book)
 illegal_at_all init next book valid none = record {
   wide = length-map book (λ (p : Page). length p.records);
   within = λ i. omega arith;
@@ -103,31 +122,43 @@ illegal_at_all init next book valid none = record {
 }
 
 -- a smaller count of one caller makes a smaller cut
-pub set-within : (cut : List ℕ) (i count : ℕ) → count ≤ get_or cut i 0 → IsWithin (set cut i count) cut
+pub set-within : (cut : List ℕ) (i count : ℕ) → count ≤ get_or cut i 0
+    → IsWithin (set cut i count) cut
 set-within cut i count few j =
     elim (cases_eq j i) [
       | inl e ↦ elim (cases_lt i (length cut)) [
-        | inl inside ↦ subst (λ (k : ℕ). get_or (set cut i count) k 0 ≤ get_or cut k 0) (sym e) (omega (arith, get_or-set_same cut i count 0 inside, few))
-        | inr past ↦ omega (arith, get_or_past (set cut i count) j 0 (omega (arith, length-set cut i count, e, past)))
+        | inl inside ↦ subst (λ (k : ℕ). get_or (set cut i count) k 0 ≤ get_or cut k 0) (sym e)
+            (omega (arith, get_or-set_same cut i count 0 inside, few))
+        | inr past ↦ omega (
+          arith,
+          get_or_past (set cut i count) j 0 (omega (arith, length-set cut i count, e, past)),
+        )
       ]
       | inr other ↦ omega (arith, get_or-set_other cut i j count 0 other)
     ]
 
-pub set-within_answered : (init : List ℕ) (next : List ℕ → ℕ → List ℕ × ℕ) (book : List Page) (cut : List ℕ) (i count : ℕ) → IsIllegalCut init next book cut → count ≤ get_or cut i 0
+pub set-within_answered : (init : List ℕ) (next : List ℕ → ℕ → List ℕ × ℕ) (book : List Page)
+    (cut : List ℕ) (i count : ℕ) → IsIllegalCut init next book cut → count ≤ get_or cut i 0
     → (length (set cut i count) ≡ length book) × IsWithin (set cut i count) (answered book)
-set-within_answered init next book cut i count is few =
-    (length-set cut i count ∙ is.wide, λ (j : ℕ). omega (arith, set-within cut i count few j, is.within j))
+set-within_answered init next book cut i count is few = (
+  length-set cut i count ∙ is.wide,
+  λ (j : ℕ). omega (arith, set-within cut i count few j, is.within j),
+)
 
 -- where the book is illegal with this count of a caller
-pub illegal_with : (init : List ℕ) (next : List ℕ → ℕ → List ℕ × ℕ) (book : List Page) (cut : List ℕ) (i count : ℕ) → IsIllegalCut init next book cut → count ≤ get_or cut i 0
-    → ¬ HasLegalOrder init next (book_at (set cut i count) book) → IsIllegalCut init next book (set cut i count)
+pub illegal_with : (init : List ℕ) (next : List ℕ → ℕ → List ℕ × ℕ) (book : List Page)
+    (cut : List ℕ) (i count : ℕ) → IsIllegalCut init next book cut → count ≤ get_or cut i 0
+    → ¬ HasLegalOrder init next (book_at (set cut i count) book)
+    → IsIllegalCut init next book (set cut i count)
 illegal_with init next book cut i count is few none =
     let both = set-within_answered init next book cut i count is few in
     record { wide = both.0; within = both.1; illegal = none }
 
 -- a count is least where the next smaller one gives a legal order
-pub least_from_search : (init : List ℕ) (next : List ℕ → ℕ → List ℕ × ℕ) (book : List Page) (cut : List ℕ) (i count : ℕ) → i < length cut
-    → (count ≡ 0) ⊎ HasLegalOrder init next (book_at (set cut i (count - 1)) book) → IsLeastAt init next book (set cut i count) i
+pub least_from_search : (init : List ℕ) (next : List ℕ → ℕ → List ℕ × ℕ) (book : List Page)
+    (cut : List ℕ) (i count : ℕ) → i < length cut
+    → (count ≡ 0) ⊎ HasLegalOrder init next (book_at (set cut i (count - 1)) book)
+    → IsLeastAt init next book (set cut i count) i
 least_from_search init next book cut i count inside h =
     let at : get_or (set cut i count) i 0 ≡ count = get_or-set_same cut i count 0 inside in
     elim h [
@@ -139,76 +170,111 @@ least_from_search init next book cut i count inside h =
     ]
 
 -- what is least of a caller is so at a smaller cut with the same count of the caller
-pub least_stays : (init : List ℕ) (next : List ℕ → ℕ → List ℕ × ℕ) (book : List Page) (cut : List ℕ) (i j count : ℕ) → IsValid book → j ≢ i → count ≤ get_or cut i 0
+pub least_stays : (init : List ℕ) (next : List ℕ → ℕ → List ℕ × ℕ) (book : List Page) (cut : List ℕ)
+    (i j count : ℕ) → IsValid book → j ≢ i → count ≤ get_or cut i 0
     → IsLeastAt init next book cut j → IsLeastAt init next book (set cut i count) j
 least_stays init next book cut i j count valid other few h =
-    let same : get_or (set cut i count) j 0 ≡ get_or cut j 0 = get_or-set_other cut i j count 0 other in
+    let same : get_or (set cut i count) j 0 ≡ get_or cut j 0 =
+    get_or-set_other cut i j count 0 other in
     elim h [
       | inl none ↦ inl (same ∙ none)
-      | inr legal ↦ inr (smaller_has_one init next book (one_less (set cut i count) j) (one_less cut j) valid (within cut i j count other few same) legal)
+      | inr legal ↦ inr (smaller_has_one init next book (one_less (set cut i count) j)
+          (one_less cut j) valid (within cut i j count other few same) legal)
     ]
   where
-    within : (cut : List ℕ) (i j count : ℕ) → j ≢ i → count ≤ get_or cut i 0 → get_or (set cut i count) j 0 ≡ get_or cut j 0 → IsWithin (one_less (set cut i count) j) (one_less cut j)
+    within : (cut : List ℕ) (i j count : ℕ) → j ≢ i → count ≤ get_or cut i 0
+        → get_or (set cut i count) j 0 ≡ get_or cut j 0
+        → IsWithin (one_less (set cut i count) j) (one_less cut j)
     within cut i j count other few same k =
         let less : ℕ = get_or (set cut i count) j 0 - 1 in
         elim (cases_eq k j) [
           | inl e ↦ elim (cases_lt j (length cut)) [
             | inl inside ↦
-                let left : get_or (set (set cut i count) j less) j 0 ≡ less = get_or-set_same (set cut i count) j less 0 (omega (arith, length-set cut i count, inside)) in
-                let right : get_or (one_less cut j) j 0 ≡ get_or cut j 0 - 1 = get_or-set_same cut j (get_or cut j 0 - 1) 0 inside in
-                subst (λ (n : ℕ). get_or (one_less (set cut i count) j) n 0 ≤ get_or (one_less cut j) n 0) (sym e) (omega (arith, left, right, same))
-            | inr past ↦ omega (arith, get_or_past (set (set cut i count) j less) k 0 (omega (arith, length-set (set cut i count) j less, length-set cut i count, past, e)))
+                let left : get_or (set (set cut i count) j less) j 0 ≡ less = get_or-set_same
+                (set cut i count) j less 0 (omega (arith, length-set cut i count, inside)) in
+                let right : get_or (one_less cut j) j 0 ≡ get_or cut j 0 - 1 =
+                get_or-set_same cut j (get_or cut j 0 - 1) 0 inside in
+                subst
+                (λ (n : ℕ). get_or (one_less (set cut i count) j) n 0 ≤ get_or (one_less cut j) n 0)
+                (sym e) (omega (arith, left, right, same))
+            | inr past ↦ omega (
+              arith,
+              get_or_past (set (set cut i count) j less) k 0 (omega
+                  (arith, length-set (set cut i count) j less, length-set cut i count, past, e)),
+            )
           ]
-          | inr apart ↦ omega (arith, get_or-set_other (set cut i count) j k less 0 apart, get_or-set_other cut j k (get_or cut j 0 - 1) 0 apart, set-within cut i count few k)
+          | inr apart ↦ omega (
+            arith,
+            get_or-set_other (set cut i count) j k less 0 apart,
+            get_or-set_other cut j k (get_or cut j 0 - 1) 0 apart,
+            set-within cut i count few k,
+          )
         ]
 
 -- a cut that has less of a caller is within the cut with one less of it
-within_one_less : (cut other : List ℕ) (i : ℕ) → IsWithin other cut → get_or other i 0 < get_or cut i 0 → IsWithin other (one_less cut i)
+within_one_less : (cut other : List ℕ) (i : ℕ) → IsWithin other cut
+    → get_or other i 0 < get_or cut i 0 → IsWithin other (one_less cut i)
 within_one_less cut other i within less k =
     elim (cases_eq k i) [
       | inl e ↦ elim (cases_lt i (length cut)) [
-        | inl inside ↦ subst (λ (n : ℕ). get_or other n 0 ≤ get_or (one_less cut i) n 0) (sym e) (omega (arith, get_or-set_same cut i (get_or cut i 0 - 1) 0 inside, less))
+        | inl inside ↦ subst (λ (n : ℕ). get_or other n 0 ≤ get_or (one_less cut i) n 0) (sym e)
+            (omega (arith, get_or-set_same cut i (get_or cut i 0 - 1) 0 inside, less))
         | inr past ↦ absurd (omega (arith, get_or_past cut i 0 past, less))
       ]
-      | inr other_one ↦ omega (arith, get_or-set_other cut i k (get_or cut i 0 - 1) 0 other_one, within k)
+      | inr other_one ↦
+          omega (arith, get_or-set_other cut i k (get_or cut i 0 - 1) 0 other_one, within k)
     ]
 
 -- The book at a cut at which it has no legal order has none.
-pub illegal_from_cut : (init : List ℕ) (next : List ℕ → ℕ → List ℕ × ℕ) (book : List Page) (cut : List ℕ) (part : List Page) → IsValid book → IsIllegalCut init next book cut
+pub illegal_from_cut : (init : List ℕ) (next : List ℕ → ℕ → List ℕ × ℕ) (book : List Page)
+    (cut : List ℕ) (part : List Page) → IsValid book → IsIllegalCut init next book cut
     → IsBookAt book cut part → ¬ HasLegalOrder init next part
 illegal_from_cut init next book cut part valid is at h =
-    is.illegal (subst (λ (b : List Page). HasLegalOrder init next b) (is_the_only_one book cut part valid at) h)
+    is.illegal (subst (λ (b : List Page). HasLegalOrder init next b)
+    (is_the_only_one book cut part valid at) h)
 
--- The book at a least cut has a legal order at each earlier cut, and has only calls that some view holds.
-pub earliest_from_least : (init : List ℕ) (next : List ℕ → ℕ → List ℕ × ℕ) (book : List Page) (cut : List ℕ) (part : List Page) → IsValid book → IsLeastCut init next book cut
+-- The book at a least cut has a legal order at each earlier cut, and has only calls that some view
+-- holds.
+pub earliest_from_least : (init : List ℕ) (next : List ℕ → ℕ → List ℕ × ℕ) (book : List Page)
+    (cut : List ℕ) (part : List Page) → IsValid book → IsLeastCut init next book cut
     → IsBookAt book cut part → IsEarliest init next part
 earliest_from_least init next book cut part valid is at =
     let part_is : part ≡ book_at cut book = is_the_only_one book cut part valid at in
-    let counts : answered part ≡ cut = ap answered part_is ∙ record_counts_are_the_cut book cut is.here.wide is.here.within in
+    let counts : answered part ≡ cut =
+    ap answered part_is ∙ record_counts_are_the_cut book cut is.here.wide is.here.within in
     record {
       earlier = λ other i within less.
           let few : IsWithin other cut = subst (IsWithin other) counts within in
-          let below : get_or other i 0 < get_or cut i 0 = omega (arith, less, answered_at part i, ap (λ (c : List ℕ). get_or c i 0) counts) in
-          let same : book_at other part ≡ book_at other book = ap (book_at other) part_is ∙ is_the_book_at_the_smaller book other cut valid few in
+          let below : get_or other i 0 < get_or cut i 0 =
+          omega (arith, less, answered_at part i, ap (λ (c : List ℕ). get_or c i 0) counts) in
+          let same : book_at other part ≡ book_at other book =
+          ap (book_at other) part_is ∙ is_the_book_at_the_smaller book other cut valid few in
           elim (is.least i) [
             | inl none ↦ absurd (omega arith)
             | inr legal ↦
                 subst (λ (b : List Page). HasLegalOrder init next b) (sym same)
-                (smaller_has_one init next book other (one_less cut i) valid (within_one_less cut other i few below) legal)
+                (smaller_has_one init next book other (one_less cut i) valid
+                (within_one_less cut other i few below) legal)
           ];
       held = λ call inside.
           let found = (at.calls call).0 inside in
-          let there : record_of part found.0 ≡ Some found.1 = record_of-part book cut part at found.0 found.2 ∙ found.3 in
+          let there : record_of part found.0 ≡ Some found.1 =
+          record_of-part book cut part at found.0 found.2 ∙ found.3 in
           (found.0, found.1, there, found.4);
     }
 
-pub illegal_from_least : (init : List ℕ) (next : List ℕ → ℕ → List ℕ × ℕ) (book : List Page) (cut : List ℕ) (part : List Page) → IsValid book → IsLeastCut init next book cut
+pub illegal_from_least : (init : List ℕ) (next : List ℕ → ℕ → List ℕ × ℕ) (book : List Page)
+    (cut : List ℕ) (part : List Page) → IsValid book → IsLeastCut init next book cut
     → IsBookAt book cut part → ¬ HasLegalOrder init next part
-illegal_from_least init next book cut part valid is at = illegal_from_cut init next book cut part valid is.here at
+illegal_from_least init next book cut part valid is at =
+    illegal_from_cut init next book cut part valid is.here at
 
 -- A legal order of the book gives one of the book at the cut.
-pub carried_to_cut : (next : List ℕ → ℕ → List ℕ × ℕ) (book : List Page) (cut : List ℕ) (part : List Page) → IsValid book → IsWithin cut (answered book) → IsBookAt book cut part
+pub carried_to_cut : (next : List ℕ → ℕ → List ℕ × ℕ) (book : List Page) (cut : List ℕ)
+    (part : List Page) → IsValid book → IsWithin cut (answered book) → IsBookAt book cut part
     → CarriesOver next book part
 carried_to_cut next book cut part valid within at init legal =
-    subst (λ (b : List Page). HasLegalOrder init next b) (sym (is_the_only_one book cut part valid at))
-    (smaller_has_one init next book cut (answered book) valid within ((has_one_where_the_book_has init next book valid).1 legal))
+    subst (λ (b : List Page). HasLegalOrder init next b)
+    (sym (is_the_only_one book cut part valid at))
+    (smaller_has_one init next book cut (answered book) valid within
+    ((has_one_where_the_book_has init next book valid).1 legal))

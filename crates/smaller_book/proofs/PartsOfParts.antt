@@ -20,18 +20,22 @@ use Rattle.smaller_book.proofs.Evidence.{evidence_twice}
 use Rattle.smaller_book.proofs.Removing.{original_is_call}
 
 -- the numbers of a caller
-numbers_of-composed : (first second : List (List ℕ)) (i : ℕ) → numbers_of (composed first second) i ≡ picked (numbers_of first i) (numbers_of second i)
+numbers_of-composed : (first second : List (List ℕ)) (i : ℕ)
+    → numbers_of (composed first second) i ≡ picked (numbers_of first i) (numbers_of second i)
 numbers_of-composed first second i =
     let kept_by : ℕ → List ℕ = λ j. picked (numbers_of first j) (numbers_of second j) in
     elim (cases_lt i (length second)) [
       | inl inside ↦ get_or-map-range_with_len kept_by 0 (length second) i i [] inside (zero-add i)
       | inr past ↦
-          get_or_past (map kept_by (range_with_len 0 (length second))) i [] (omega (arith, length-map-range_with_len kept_by 0 (length second), past))
+          get_or_past (map kept_by (range_with_len 0 (length second)))
+          i [] (omega (arith, length-map-range_with_len kept_by 0 (length second), past))
           ∙ sym (ap (picked (numbers_of first i)) (get_or_past second i [] past))
     ]
 
-get_or-picked : (numbers places : List ℕ) (k : ℕ) → k < length places → get_or (picked numbers places) k 0 ≡ get_or numbers (get_or places k 0) 0
-get_or-picked numbers places k inside = get_or-map (λ (place : ℕ). get_or numbers place 0) places k 0 0 inside
+get_or-picked : (numbers places : List ℕ) (k : ℕ) → k < length places
+    → get_or (picked numbers places) k 0 ≡ get_or numbers (get_or places k 0) 0
+get_or-picked numbers places k inside =
+    get_or-map (λ (place : ℕ). get_or numbers place 0) places k 0 0 inside
 
 same_from_below : (m n : ℕ) → ((k : ℕ) → k < m → k < n) → ((k : ℕ) → k < n → k < m) → m ≡ n
 same_from_below m n up down =
@@ -44,83 +48,119 @@ same_from_below m n up down =
     ]
 
 -- rising numbers at rising places rise
-picked-rising : (numbers places : List ℕ) → AreRising numbers → AreRising places → ((k : ℕ) → k < length places → get_or places k 0 < length numbers) → AreRising (picked numbers places)
+picked-rising : (numbers places : List ℕ) → AreRising numbers → AreRising places
+    → ((k : ℕ) → k < length places → get_or places k 0 < length numbers)
+    → AreRising (picked numbers places)
 picked-rising numbers places first second inside j k less room =
-    let few : k < length places = omega (arith, room, length-map places (λ (place : ℕ). get_or numbers place 0)) in
-    let apart : get_or numbers (get_or places j 0) 0 < get_or numbers (get_or places k 0) 0 = first (get_or places j 0) (get_or places k 0) (second j k less few) (inside k few) in
-    omega (arith, apart, get_or-picked numbers places j (omega arith), get_or-picked numbers places k few)
+    let few : k < length places =
+    omega (arith, room, length-map places (λ (place : ℕ). get_or numbers place 0)) in
+    let apart : get_or numbers (get_or places j 0) 0 < get_or numbers (get_or places k 0) 0 =
+    first (get_or places j 0) (get_or places k 0) (second j k less few) (inside k few) in
+    omega
+    (arith, apart, get_or-picked numbers places j (omega arith), get_or-picked numbers places k few)
 
 -- and as many of them are below a bound as places are below the count of numbers below it
-count_below-picked : (numbers places : List ℕ) (bound : ℕ) → AreRising numbers → AreRising places → ((k : ℕ) → k < length places → get_or places k 0 < length numbers)
+count_below-picked : (numbers places : List ℕ) (bound : ℕ) → AreRising numbers → AreRising places
+    → ((k : ℕ) → k < length places → get_or places k 0 < length numbers)
     → count_below (picked numbers places) bound ≡ count_below places (count_below numbers bound)
 count_below-picked numbers places bound first second inside =
-    let long : length (picked numbers places) ≡ length places = length-map places (λ (place : ℕ). get_or numbers place 0) in
-    same_from_below (count_below (picked numbers places) bound) (count_below places (count_below numbers bound))
+    let long : length (picked numbers places) ≡ length places =
+    length-map places (λ (place : ℕ). get_or numbers place 0) in
+    same_from_below (count_below (picked numbers places) bound)
+    (count_below places (count_below numbers bound))
     (λ (k : ℕ) (less : k < count_below (picked numbers places) bound).
-    let few : k < length places = omega (arith, less, count_below-within (picked numbers places) bound, long) in
-    let below : get_or numbers (get_or places k 0) 0 < bound = omega (arith, below_from_counted (picked numbers places) bound k less, get_or-picked numbers places k few) in
-    counted_from_below places (count_below numbers bound) k second few (counted_from_below numbers bound (get_or places k 0) first (inside k few) below))
+    let few : k < length places =
+    omega (arith, less, count_below-within (picked numbers places) bound, long) in
+    let below : get_or numbers (get_or places k 0) 0 < bound = omega (
+      arith,
+      below_from_counted (picked numbers places) bound k less,
+      get_or-picked numbers places k few,
+    ) in
+    counted_from_below places (count_below numbers bound) k second few
+    (counted_from_below numbers bound (get_or places k 0) first (inside k few) below))
     (λ (k : ℕ) (less : k < count_below places (count_below numbers bound)).
-    let few : k < length places = omega (arith, less, count_below-within places (count_below numbers bound)) in
+    let few : k < length places =
+    omega (arith, less, count_below-within places (count_below numbers bound)) in
     let below : get_or numbers (get_or places k 0) 0 < bound
-    = below_from_counted numbers bound (get_or places k 0) (below_from_counted places (count_below numbers bound) k less) in
-    counted_from_below (picked numbers places) bound k (picked-rising numbers places first second inside) (omega (arith, few, long))
+    = below_from_counted numbers bound (get_or places k 0)
+    (below_from_counted places (count_below numbers bound) k less) in
+    counted_from_below (picked numbers places) bound k
+    (picked-rising numbers places first second inside) (omega (arith, few, long))
     (omega (arith, below, get_or-picked numbers places k few)))
 
 -- the places are places of the first numbers
-pub places_inside : (book mid part : List Page) (first second : List (List ℕ)) → IsPart book first mid → IsPart mid second part
-    → (i k : ℕ) → k < length (numbers_of second i) → get_or (numbers_of second i) k 0 < length (numbers_of first i)
+pub places_inside : (book mid part : List Page) (first second : List (List ℕ))
+    → IsPart book first mid → IsPart mid second part
+    → (i k : ℕ) → k < length (numbers_of second i)
+    → get_or (numbers_of second i) k 0 < length (numbers_of first i)
 places_inside book mid part first second outer inner i k room =
     let inside : get_or (numbers_of second i) k 0 < calls_of mid i
-    = original_is_call mid second part inner (record { caller = i; number = k }) (omega (arith, room, inner.calls i)) in
+    = original_is_call mid second part inner (record { caller = i; number = k })
+    (omega (arith, room, inner.calls i)) in
     omega (arith, inside, outer.calls i)
 
 -- the call of the book that a call of the part of the part is
-original-composed : (book mid part : List Page) (first second : List (List ℕ)) → IsPart book first mid → IsPart mid second part → (call : Call) → IsCall part call
+original-composed : (book mid part : List Page) (first second : List (List ℕ))
+    → IsPart book first mid → IsPart mid second part → (call : Call) → IsCall part call
     → original (composed first second) call ≡ original first (original second call)
 original-composed book mid part first second outer inner call inside =
     let i : ℕ = call.caller in
     let few : call.number < length (numbers_of second i) = omega (arith, inside, inner.calls i) in
     same_call (original (composed first second) call) (original first (original second call)) refl
-    (ap (λ (xs : List ℕ). get_or xs call.number 0) (numbers_of-composed first second i) ∙ get_or-picked (numbers_of first i) (numbers_of second i) call.number few)
+    (ap (λ (xs : List ℕ). get_or xs call.number 0) (numbers_of-composed first second i)
+    ∙ get_or-picked (numbers_of first i) (numbers_of second i) call.number few)
 
 -- there is a list of them for each caller
-wide-composed : (book mid : List Page) (first second : List (List ℕ)) → IsPart book first mid → length second ≡ length mid → length (composed first second) ≡ length book
+wide-composed : (book mid : List Page) (first second : List (List ℕ)) → IsPart book first mid
+    → length second ≡ length mid → length (composed first second) ≡ length book
 wide-composed book mid first second outer wide =
     let kept_by : ℕ → List ℕ = λ i. picked (numbers_of first i) (numbers_of second i) in
     length-map-range_with_len kept_by 0 (length second) ∙ (wide ∙ outer.callers)
 
 -- A part of a part is a part, by the first numbers at the second ones.
-pub part_of_part : (book mid part : List Page) (first second : List (List ℕ)) → IsPart book first mid → IsPart mid second part → IsPart book (composed first second) part
+pub part_of_part : (book mid part : List Page) (first second : List (List ℕ))
+    → IsPart book first mid → IsPart mid second part → IsPart book (composed first second) part
 part_of_part book mid part first second outer inner = record {
   callers = inner.callers ∙ outer.callers;
-  calls = λ i. inner.calls i ∙ (sym (length-map (numbers_of second i) (λ (place : ℕ). get_or (numbers_of first i) place 0)) ∙ sym (ap length (numbers_of-composed first second i)));
+  calls = λ i. inner.calls i
+      ∙ (sym (length-map (numbers_of second i) (λ (place : ℕ). get_or (numbers_of first i) place 0))
+      ∙ sym (ap length (numbers_of-composed first second i)));
   rising = λ i. subst AreRising (sym (numbers_of-composed first second i))
-      (picked-rising (numbers_of first i) (numbers_of second i) (outer.rising i) (inner.rising i) (places_inside book mid part first second outer inner i));
+      (picked-rising (numbers_of first i) (numbers_of second i) (outer.rising i) (inner.rising i)
+      (places_inside book mid part first second outer inner i));
   operations = λ call inside.
       inner.operations call inside
-      ∙ (outer.operations (original second call) (original_is_call mid second part inner call inside)
-      ∙ ap (operation_of book) (sym (original-composed book mid part first second outer inner call inside)));
+      ∙ (outer.operations (original second call)
+      (original_is_call mid second part inner call inside)
+      ∙ ap (operation_of book)
+      (sym (original-composed book mid part first second outer inner call inside)));
   answers = inner.answers;
   records = λ call small known.
-      let inside : IsCall part call = call_from_answer mid second part inner call (slice_get_within _ call.number small known) in
+      let inside : IsCall part call =
+      call_from_answer mid second part inner call (slice_get_within _ call.number small known) in
       let middle = record_was mid second part inner call small known in
       let whole = record_was book first mid outer (original second call) middle.0 middle.1 in
       let found : record_of book (original (composed first second) call) ≡ Some whole.0
-      = ap (record_of book) (original-composed book mid part first second outer inner call inside) ∙ whole.1 in
+      = ap (record_of book) (original-composed book mid part first second outer inner call inside)
+      ∙ whole.1 in
       let kept : IsRenumbered (composed first second) whole.0 small = record {
         reply = middle.2.reply ∙ whole.2.reply;
         view = λ i.
             middle.2.view i
             ∙ (ap (count_below (numbers_of second i)) (whole.2.view i)
-            ∙ (sym (count_below-picked (numbers_of first i) (numbers_of second i) (get_or whole.0.view i 0) (outer.rising i) (inner.rising i) (places_inside book mid part first second outer inner i))
-            ∙ ap (λ (xs : List ℕ). count_below xs (get_or whole.0.view i 0)) (sym (numbers_of-composed first second i))));
+            ∙ (sym (count_below-picked (numbers_of first i) (numbers_of second i)
+            (get_or whole.0.view i 0) (outer.rising i) (inner.rising i)
+            (places_inside book mid part first second outer inner i))
+            ∙ ap (λ (xs : List ℕ). count_below xs (get_or whole.0.view i 0))
+            (sym (numbers_of-composed first second i))));
       } in
-      subst (λ o. IsSomeAnd o (λ (w : Record). IsRenumbered (composed first second) w small)) (sym found) kept;
+      subst (λ o. IsSomeAnd o (λ (w : Record). IsRenumbered (composed first second) w small))
+      (sym found) kept;
 }
 
 -- What is shrunk twice is shrunk.
-pub shrunk_twice : (kind : Kind) (book mid part : List Page) (first second : List (List ℕ)) → IsPart book first mid → IsEvidence kind book mid
+pub shrunk_twice : (kind : Kind) (book mid part : List Page) (first second : List (List ℕ))
+    → IsPart book first mid → IsEvidence kind book mid
     → IsShrunk kind mid second part → IsShrunk kind book (composed first second) part
 shrunk_twice kind book mid part first second outer evidence inner = record {
   is_part = part_of_part book mid part first second outer inner.is_part;
@@ -131,7 +171,8 @@ shrunk_twice kind book mid part first second outer evidence inner = record {
 }
 
 -- And a smaller book of a smaller book is smaller.
-pub smaller_twice : (kind : Kind) (book mid part : List Page) (first second : List (List ℕ)) → IsSmaller kind book first mid → IsSmaller kind mid second part
+pub smaller_twice : (kind : Kind) (book mid part : List Page) (first second : List (List ℕ))
+    → IsSmaller kind book first mid → IsSmaller kind mid second part
     → IsSmaller kind book (composed first second) part
 smaller_twice kind book mid part first second outer inner = record {
   is_part = part_of_part book mid part first second outer.is_part inner.is_part;

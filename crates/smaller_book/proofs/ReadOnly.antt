@@ -8,16 +8,20 @@ use Rattle.smaller_book.specs.ReadOnly.{IsReadOnly, LacksReadOnlyAlone, HasOneWi
 use Rattle.smaller_book.proofs.Following.{some_that, word_at, AgreesAt, IsFollowed, has_one_in_part}
 
 -- a read-only call leaves the one that it is made on
-list_stays : (next : List ℕ → ℕ → List ℕ × ℕ) (book : List Page) (list : List ℕ) (call : Call) → AgreesAt book next list call
+list_stays : (next : List ℕ → ℕ → List ℕ × ℕ) (book : List Page) (list : List ℕ) (call : Call)
+    → AgreesAt book next list call
     → IsReadOnly next book call → (next list (word_at book call)).0 ≡ list
 list_stays next book list call agrees leaves =
-    let known = some_that (record_of book call) (λ (r : Record). Leaves next (unwrap_or (operation_of book call) 0) r.reply) leaves in
+    let known = some_that (record_of book call)
+    (λ (r : Record). Leaves next (unwrap_or (operation_of book call) 0) r.reply) leaves in
     known.2 list (sym (agrees known.0 known.1))
 
 -- so that the lists stay the same
-followed : (next : List ℕ → ℕ → List ℕ × ℕ) (book : List Page) (names : List (List ℕ)) → LacksReadOnlyAlone next book names → IsFollowed (λ whole few. whole ≡ few) next book names
+followed : (next : List ℕ → ℕ → List ℕ × ℕ) (book : List Page) (names : List (List ℕ))
+    → LacksReadOnlyAlone next book names → IsFollowed (λ whole few. whole ≡ few) next book names
 followed next book names lacks = record {
-  lacks = λ whole few call same inside unnamed agrees. list_stays next book whole call agrees (lacks call inside unnamed) ∙ same;
+  lacks = λ whole few call same inside unnamed agrees.
+      list_stays next book whole call agrees (lacks call inside unnamed) ∙ same;
   has = λ whole few call same inside named agrees. inl (
     ap (λ (list : List ℕ). (next list (word_at book call)).1) (sym same),
     ap (λ (list : List ℕ). (next list (word_at book call)).0) same,
@@ -26,4 +30,5 @@ followed next book names lacks = record {
 
 pub has_one_without_read_only : HasOneWithoutReadOnly
 has_one_without_read_only next book names part is lacks init legal =
-    has_one_in_part (λ whole few. whole ≡ few) next book names part init init is (followed next book names lacks) refl legal
+    has_one_in_part (λ whole few. whole ≡ few) next book names part init init is
+    (followed next book names lacks) refl legal

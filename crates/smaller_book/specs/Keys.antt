@@ -22,10 +22,11 @@ value_shown (Some reply) = shown_value reply
 
 -- the value that an operation of this entry puts in, or that the reply to another operation shows
 abbrev pub value_moved : Entry → ℕ → Option ℕ → Option ℕ
-value_moved put word reply = if is_operation_of word put then Some (argument_of word) else value_shown reply
+value_moved put word reply =
+    if is_operation_of word put then Some (argument_of word) else value_shown reply
 
--- the key that an operation is about, which the kind knows: a value of a queue, a stack or a priority queue, and the argument of an
--- operation of a set or a map
+-- the key that an operation is about, which the kind knows: a value of a queue, a stack or a
+-- priority queue, and the argument of an operation of a set or a map
 abbrev pub key_by_kind : Kind → ℕ → Option ℕ → Option ℕ
 key_by_kind kinds.Queue word reply = value_moved words.enq word reply
 key_by_kind kinds.Stack word reply = value_moved words.push word reply
@@ -42,7 +43,8 @@ key_of_step kind word reply = if is_known_word kind word then key_by_kind kind w
 
 -- the key that a call is about, where it has one: an unanswered take has none
 abbrev pub key_of_call : Kind → List Page → Call → Option ℕ
-key_of_call kind book call = key_of_step kind (unwrap_or (operation_of book call) 0) (option_map (λ r. r.reply) (record_of book call))
+key_of_call kind book call = key_of_step kind (unwrap_or (operation_of book call) 0)
+    (option_map (λ r. r.reply) (record_of book call))
 
 -- the key of an item of an object's list
 abbrev pub key_of_item : Kind → ℕ → Option ℕ
@@ -67,7 +69,9 @@ keys_from_to first last key = nat_le first key && nat_le key last
 -- the numbers of a caller's calls that are about none of these keys
 abbrev pub row_without : Kind → (ℕ → Bool) → List Page → ℕ → List ℕ
 row_without kind keys book i =
-    filter (λ number. not (is_among keys (key_of_call kind book (record { caller = i; number = number })))) (range_with_len 0 (calls_of book i))
+    filter
+    (λ number. not (is_among keys (key_of_call kind book (record { caller = i; number = number }))))
+    (range_with_len 0 (calls_of book i))
 
 -- the numbers of all calls that are about none of these keys
 abbrev pub all_without : Kind → (ℕ → Bool) → List Page → List (List ℕ)
@@ -82,7 +86,8 @@ abbrev pub Rises : List ℕ → Type 0
 Rises [] = Unit {0}
 Rises (x ∷ xs) = AllByRecursion (λ y. x ≤ y) xs × Rises xs
 
--- The list is one that an object of the kind may have: the items of a priority queue rise, and no two items of a map have one key.
+-- The list is one that an object of the kind may have: the items of a priority queue rise, and no
+-- two items of a map have one key.
 abbrev pub IsWellFormed : Kind → List ℕ → Type 0
 IsWellFormed kinds.Pqueue list = Rises list
 IsWellFormed kinds.Map list = HasKeysOnce list
@@ -93,23 +98,27 @@ IsWellFormed kinds.Register list = Unit {0}
 IsWellFormed kinds.Counter list = Unit {0}
 IsWellFormed kinds.CasRegister list = Unit {0}
 
--- Whichever well-formed list the object begins with: where the book has a legal order, the part has one from the items without
--- these keys on.
+-- Whichever well-formed list the object begins with: where the book has a legal order, the part has
+-- one from the items without these keys on.
 abbrev pub CarriesOverWithout : Kind → (ℕ → Bool) → List Page → List Page → Type 0
 CarriesOverWithout kind keys book part = (list : List ℕ) → IsWellFormed kind list
-    → HasLegalOrder list (kind_next kind) book → HasLegalOrder (items_without kind keys list) (kind_next kind) part
+    → HasLegalOrder list (kind_next kind) book
+    → HasLegalOrder (items_without kind keys list) (kind_next kind) part
 
 -- A part is evidence of the book: but for some keys, it has a legal order where the book has one.
 abbrev pub IsEvidence : Kind → List Page → List Page → Type 0
 IsEvidence kind book part = (keys : ℕ → Bool) × CarriesOverWithout kind keys book part
 
--- An object begins without items that have a key: so a legal order of the book gives one of a part that is evidence of it, and
--- where the part has none, the book has none.
+-- An object begins without items that have a key: so a legal order of the book gives one of a part
+-- that is evidence of it, and where the part has none, the book has none.
 abbrev pub EvidenceTells : Type 0
 EvidenceTells = (kind : Kind) (book part : List Page) → IsEvidence kind book part
-    → HasLegalOrder (kind_init kind) (kind_next kind) book → HasLegalOrder (kind_init kind) (kind_next kind) part
+    → HasLegalOrder (kind_init kind) (kind_next kind) book
+    → HasLegalOrder (kind_init kind) (kind_next kind) part
 
--- Where each view holds at most one unanswered call of each caller, the calls of these keys may be left out together.
+-- Where each view holds at most one unanswered call of each caller, the calls of these keys may be
+-- left out together.
 abbrev pub HasOneWithoutKeys : Type 0
 HasOneWithoutKeys = (kind : Kind) (keys : ℕ → Bool) (book part : List Page)
-    → HasOneOpen book → IsPart book (all_without kind keys book) part → CarriesOverWithout kind keys book part
+    → HasOneOpen book → IsPart book (all_without kind keys book) part
+    → CarriesOverWithout kind keys book part

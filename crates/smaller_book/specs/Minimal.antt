@@ -14,11 +14,13 @@ use Rattle.smaller_book.specs.Keys.{key_of_call, keys_from_to, all_without, IsEv
 
 -- the numbers below a count, but this one
 abbrev pub numbers_except : ℕ → ℕ → List ℕ
-numbers_except count number = range_with_len 0 number ++ range_with_len (number + 1) (count - (number + 1))
+numbers_except count number =
+    range_with_len 0 number ++ range_with_len (number + 1) (count - (number + 1))
 
 -- the numbers of a caller's calls but this call
 abbrev pub row_but : List Page → Call → ℕ → List ℕ
-row_but book call i = cond (nat_eq i call.caller) (numbers_except (calls_of book i) call.number) (range_with_len 0 (calls_of book i))
+row_but book call i = cond (nat_eq i call.caller) (numbers_except (calls_of book i) call.number)
+    (range_with_len 0 (calls_of book i))
 
 -- the numbers of all calls of a book but this call
 abbrev pub all_but : List Page → Call → List (List ℕ)
@@ -27,7 +29,8 @@ all_but book call = map (row_but book call) (range_with_len 0 (length book))
 -- The part of the book that has these calls alone has a legal order.
 abbrev pub HasOneWith : Kind → List Page → List (List ℕ) → Type 0
 HasOneWith kind book names =
-    (part : List Page) × IsPart book names part × KeepsAnswers book names part × HasLegalOrder (kind_init kind) (kind_next kind) part
+    (part : List Page) × IsPart book names part × KeepsAnswers book names part
+    × HasLegalOrder (kind_init kind) (kind_next kind) part
 
 -- The part of the book without this call has a legal order.
 abbrev pub IsNeeded : Kind → List Page → Call → Type 0
@@ -43,15 +46,18 @@ pub record IsMinimal (kind : Kind) (book : List Page) : Type 0 where
   pub earliest : IsEarliest (kind_init kind) (kind_next kind) book
   -- and so does the book without a read-only call
   pub read_only : (call : Call) → IsReadOnly (kind_next kind) book call → IsNeeded kind book call
-  -- and, where each view holds at most one unanswered call of each caller, the book without all calls of one key
-  pub keys : HasOneOpen book → (call : Call) (key : ℕ) → IsCall book call → key_of_call kind book call ≡ Some key → IsKeyNeeded kind book key
+  -- and, where each view holds at most one unanswered call of each caller, the book without all
+  -- calls of one key
+  pub keys : HasOneOpen book → (call : Call) (key : ℕ) → IsCall book call
+      → key_of_call kind book call ≡ Some key → IsKeyNeeded kind book key
 
 -- how many calls a book has
 abbrev pub size_of : List Page → ℕ
 size_of book = sum (announced book)
 
 -- A part of a book that has no legal order, and lacks a call.
-pub record IsSmaller (kind : Kind) (book : List Page) (names : List (List ℕ)) (part : List Page) : Type 0 where
+pub record IsSmaller (kind : Kind) (book : List Page) (names : List (List ℕ))
+    (part : List Page) : Type 0 where
   pub is_part : IsPart book names part
   pub wide : length names ≡ length book
   pub evidence : IsEvidence kind book part
@@ -64,10 +70,12 @@ picked numbers places = map (λ place. slice_index numbers place) places
 
 -- the numbers in a book of the calls of a part of a part
 abbrev pub composed : List (List ℕ) → List (List ℕ) → List (List ℕ)
-composed first second = map (λ i. picked (numbers_of first i) (numbers_of second i)) (range_with_len 0 (length second))
+composed first second =
+    map (λ i. picked (numbers_of first i) (numbers_of second i)) (range_with_len 0 (length second))
 
 -- A part of a book that has no legal order, while each earlier cut of it has one.
-pub record IsShrunk (kind : Kind) (book : List Page) (names : List (List ℕ)) (part : List Page) : Type 0 where
+pub record IsShrunk (kind : Kind) (book : List Page) (names : List (List ℕ))
+    (part : List Page) : Type 0 where
   pub is_part : IsPart book names part
   pub wide : length names ≡ length book
   pub evidence : IsEvidence kind book part

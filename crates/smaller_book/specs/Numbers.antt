@@ -11,4 +11,5 @@ numbers_in rows = map (λ row. row.items) rows
 pub record AreNumbersOf (book : List Page) (names : List (List ℕ)) : Type 0 where
   pub wide : length names ≡ length book
   pub rising : (i : ℕ) → AreRising (numbers_of names i)
-  pub inside : (i k : ℕ) → k < length (numbers_of names i) → slice_index (numbers_of names i) k < calls_of book i
+  pub inside : (i k : ℕ) → k < length (numbers_of names i)
+      → slice_index (numbers_of names i) k < calls_of book i

@@ -7,20 +7,26 @@ use Rattle.smaller_book.specs.Part.{AreRising, IsNamed, IsPart, CarriesOver}
 
 -- The call is answered, and its operation leaves every list of the object with this reply.
 abbrev pub IsReadOnly : (List ℕ → ℕ → List ℕ × ℕ) → List Page → Call → Type 0
-IsReadOnly next book call = IsSomeAnd (record_of book call) (λ r. Leaves next (unwrap_or (operation_of book call) 0) r.reply)
+IsReadOnly next book call = IsSomeAnd (record_of book call)
+    (λ r. Leaves next (unwrap_or (operation_of book call) 0) r.reply)
 
 -- Each call of the book that isn't named leaves every list.
 abbrev pub LacksReadOnlyAlone : (List ℕ → ℕ → List ℕ × ℕ) → List Page → List (List ℕ) → Type 0
-LacksReadOnlyAlone next book names = (call : Call) → IsCall book call → ¬ IsNamed names call → IsReadOnly next book call
+LacksReadOnlyAlone next book names = (call : Call) → IsCall book call → ¬ IsNamed names call
+    → IsReadOnly next book call
 
--- These are rising numbers of a caller's first calls, and each of those calls that isn't among them leaves every list.
-pub record LacksReadOnlyOf (next : List ℕ → ℕ → List ℕ × ℕ) (book : List Page) (i below : ℕ) (numbers : List ℕ) : Type 0 where
+-- These are rising numbers of a caller's first calls, and each of those calls that isn't among them
+-- leaves every list.
+pub record LacksReadOnlyOf (next : List ℕ → ℕ → List ℕ × ℕ) (book : List Page) (i below : ℕ)
+    (numbers : List ℕ) : Type 0 where
   pub rising : AreRising numbers
   pub inside : (k : ℕ) → k < length numbers → slice_index numbers k < below
   pub lacks : (number : ℕ) → number < below
-      → ((k : ℕ) × (k < length numbers) × (slice_index numbers k ≡ number)) ⊎ IsReadOnly next book (record { caller = i; number = number })
+      → ((k : ℕ) × (k < length numbers) × (slice_index numbers k ≡ number))
+      ⊎ IsReadOnly next book (record { caller = i; number = number })
 
 -- A part that lacks only read-only calls has a legal order where the book has one.
 abbrev pub HasOneWithoutReadOnly : Type 0
-HasOneWithoutReadOnly = (next : List ℕ → ℕ → List ℕ × ℕ) (book : List Page) (names : List (List ℕ)) (part : List Page)
+HasOneWithoutReadOnly =
+    (next : List ℕ → ℕ → List ℕ × ℕ) (book : List Page) (names : List (List ℕ)) (part : List Page)
     → IsPart book names part → LacksReadOnlyAlone next book names → CarriesOver next book part

@@ -1,4 +1,5 @@
--- Worked books: small ones, written out, with calls that the rules take out and calls that they don't.
+-- Worked books: small ones, written out, with calls that the rules take out and calls that they
+-- don't.
 use Rattle.std.specs.Prelude.{List, [], ◌∷◌}
 use Rattle.book_base.specs.Book.{Page}
 use Rattle.book_laws.specs.Cases.{answer, caller_page}
@@ -6,19 +7,23 @@ use Rattle.seq_objects.specs.Words.{enq, deq, add, has}
 use Rattle.seq_objects.specs.Replies.{reply_done, reply_none, reply_value, reply_yes, reply_no}
 use Rattle.object_laws.specs.Worked.{operation}
 
--- Caller 0 puts 5, 6 and 5 into a queue. Caller 1 takes 5, finds none, and takes once more, without an answer.
+-- Caller 0 puts 5, 6 and 5 into a queue. Caller 1 takes 5, finds none, and takes once more, without
+-- an answer.
 abbrev pub put_twice : List Page
 put_twice =
     caller_page (operation enq 5 ∷ operation enq 6 ∷ operation enq 5 ∷ [])
-    (answer reply_done (1 ∷ 0 ∷ []) ∷ answer reply_done (2 ∷ 0 ∷ []) ∷ answer reply_done (3 ∷ 0 ∷ []) ∷ [])
+    (answer reply_done (1 ∷ 0 ∷ []) ∷ answer reply_done (2 ∷ 0 ∷ [])
+    ∷ answer reply_done (3 ∷ 0 ∷ []) ∷ [])
     ∷ caller_page (operation deq 0 ∷ operation deq 0 ∷ operation deq 0 ∷ [])
     (answer (reply_value 5) (3 ∷ 1 ∷ []) ∷ answer reply_none (3 ∷ 2 ∷ []) ∷ [])
     ∷ []
 
--- Caller 0 adds 3 to a set and looks for 4. Caller 1 looks for 3 and finds it, and adds 4, without an answer.
+-- Caller 0 adds 3 to a set and looks for 4. Caller 1 looks for 3 and finds it, and adds 4, without
+-- an answer.
 abbrev pub of_two_keys : List Page
 of_two_keys =
-    caller_page (operation add 3 ∷ operation has 4 ∷ []) (answer reply_yes (1 ∷ 0 ∷ []) ∷ answer reply_no (2 ∷ 1 ∷ []) ∷ [])
+    caller_page (operation add 3 ∷ operation has 4 ∷ [])
+    (answer reply_yes (1 ∷ 0 ∷ []) ∷ answer reply_no (2 ∷ 1 ∷ []) ∷ [])
     ∷ caller_page (operation has 3 ∷ operation add 4 ∷ []) (answer reply_yes (2 ∷ 1 ∷ []) ∷ [])
     ∷ []
 

@@ -15,8 +15,8 @@ ghost use Rattle.smaller_book.specs.Minimal.{numbers_except, all_but, composed};
 ghost use Rattle.smaller_book.specs.Keys.{key_of_step, keys_from_to, all_without, items_without};
 ghost use Rattle.smaller_book.specs.Worked.{put_twice, of_two_keys, two_open, one_open};
 
-/// A view counts the calls that a part has: of calls 0, 2 and 5 two are among the first three, and all
-/// are among the first six.
+/// A view counts the calls that a part has: of calls 0, 2 and 5 two are among the first three, and
+/// all are among the first six.
 pub fn views_count_what_is_kept()
     // Of calls 0, 2 and 5 none is among the first 0 calls.
     ensures none { count_below (0 ∷ 2 ∷ 5 ∷ []) 0 ≡ 0 }
@@ -28,8 +28,8 @@ pub fn views_count_what_is_kept()
     ensures all { count_below (0 ∷ 2 ∷ 5 ∷ []) 6 ≡ 3 }
 {}
 
-/// The numbers that stay without one call, and the numbers in a book of a part of a part: of calls 0, 2
-/// and 3 the first and the third are calls 0 and 3.
+/// The numbers that stay without one call, and the numbers in a book of a part of a part: of calls
+/// 0, 2 and 3 the first and the third are calls 0 and 3.
 pub fn numbers_that_stay()
     // Of three calls without the first one the numbers 1 and 2 stay.
     ensures first { numbers_except 3 0 ≡ 1 ∷ 2 ∷ [] }
@@ -38,16 +38,18 @@ pub fn numbers_that_stay()
     // Of two calls without the last one the number 0 stays.
     ensures last { numbers_except 2 1 ≡ 0 ∷ [] }
     // Without the second call of caller 0 its calls 0 and 2 stay, and the one of caller 1.
-    ensures one_caller { all_but overtaken (record { caller = 0; number = 1 }) ≡ (0 ∷ 2 ∷ []) ∷ (0 ∷ []) ∷ [] }
+    ensures one_caller { all_but overtaken (record { caller = 0; number = 1 })
+        ≡ (0 ∷ 2 ∷ []) ∷ (0 ∷ []) ∷ [] }
     // Without its only call caller 1 has none, and caller 0 keeps all three.
-    ensures only_call { all_but overtaken (record { caller = 1; number = 0 }) ≡ (0 ∷ 1 ∷ 2 ∷ []) ∷ [] ∷ [] }
+    ensures only_call { all_but overtaken (record { caller = 1; number = 0 })
+        ≡ (0 ∷ 1 ∷ 2 ∷ []) ∷ [] ∷ [] }
     // Of the part with calls 0, 2 and 3 the part with calls 0 and 2 is that of calls 0 and 3 of the
     // book.
     ensures through { composed ((0 ∷ 2 ∷ 3 ∷ []) ∷ []) ((0 ∷ 2 ∷ []) ∷ []) ≡ (0 ∷ 3 ∷ []) ∷ [] }
 {}
 
-/// An operation that only replies may be left out. One that takes may not, whatever it replies, where a
-/// list may have that first: a reply of 0 says "none" or "the item 0".
+/// An operation that only replies may be left out. One that takes may not, whatever it replies,
+/// where a list may have that first: a reply of 0 says "none" or "the item 0".
 pub fn calls_that_leave()
     // A call of an object that keeps nothing leaves every list.
     ensures replies { IsReadOnly tenfold_next mistaken (record { caller = 1; number = 0 }) }
@@ -67,13 +69,14 @@ pub fn reads_leave()
     ensures writes { ¬ Leaves (kind_next kinds.Register) (operation words.write 9) reply_done }
 {}
 
-/// The keys that operations are about: a put and a take that shows the value are about it, and a take that
-/// finds nothing or has no reply is about none.
+/// The keys that operations are about: a put and a take that shows the value are about it, and a
+/// take that finds nothing or has no reply is about none.
 pub fn keys_of_operations()
     // The key of a put of 5 is 5.
     ensures puts { key_of_step kinds.Queue (operation words.enq 5) None ≡ Some 5 }
     // The key of a take that shows 5 is 5.
-    ensures takes { key_of_step kinds.Queue (operation words.deq 0) (Some (reply_value 5)) ≡ Some 5 }
+    ensures takes { key_of_step kinds.Queue (operation words.deq 0)
+        (Some (reply_value 5)) ≡ Some 5 }
     // A take that found nothing has no key.
     ensures finds_none { key_of_step kinds.Queue (operation words.deq 0) (Some reply_none) ≡ None }
     // A take without a reply has no key.
@@ -81,43 +84,53 @@ pub fn keys_of_operations()
     // The key of a look for 3 in a set is 3.
     ensures of_a_set { key_of_step kinds.IntSet (operation words.has 3) (Some reply_yes) ≡ Some 3 }
     // The key of a get of key 3 of a map is 3, whatever value it replies.
-    ensures of_a_map { key_of_step kinds.Map (operation words.get 3) (Some (reply_value 5)) ≡ Some 3 }
+    ensures of_a_map { key_of_step kinds.Map (operation words.get 3)
+        (Some (reply_value 5)) ≡ Some 3 }
     // A write of a register has no key.
-    ensures of_a_register { key_of_step kinds.Register (operation words.write 5) (Some reply_done) ≡ None }
+    ensures of_a_register { key_of_step kinds.Register (operation words.write 5)
+        (Some reply_done) ≡ None }
     // An operation that the kind doesn't know has no key.
-    ensures unknown { key_of_step kinds.Queue (operation words.has 5) (Some (reply_value 5)) ≡ None }
+    ensures unknown { key_of_step kinds.Queue (operation words.has 5)
+        (Some (reply_value 5)) ≡ None }
 {}
 
-/// All calls of a key go together: both puts of a value that is put twice and the take that shows it, and of
-/// a set the answered calls and the unanswered one. A take without an answer stays.
+/// All calls of a key go together: both puts of a value that is put twice and the take that shows
+/// it, and of a set the answered calls and the unanswered one. A take without an answer stays.
 pub fn calls_without_a_key()
     // Without the key 5 the put of 6 stays, and of caller 1 the take that found nothing and the
     // unanswered one.
-    ensures value { all_without kinds.Queue (keys_from_to 5 5) put_twice ≡ (1 ∷ []) ∷ (1 ∷ 2 ∷ []) ∷ [] }
+    ensures value { all_without kinds.Queue (keys_from_to 5 5) put_twice
+        ≡ (1 ∷ []) ∷ (1 ∷ 2 ∷ []) ∷ [] }
     // Without the keys 5 and 6 no put stays, and of caller 1 the take that found nothing and the
     // unanswered one.
     ensures values { all_without kinds.Queue (keys_from_to 5 6) put_twice ≡ [] ∷ (1 ∷ 2 ∷ []) ∷ [] }
     // Without keys that no call is about all calls stay.
-    ensures no_call { all_without kinds.Queue (keys_from_to 7 9) put_twice ≡ (0 ∷ 1 ∷ 2 ∷ []) ∷ (0 ∷ 1 ∷ 2 ∷ []) ∷ [] }
+    ensures no_call { all_without kinds.Queue (keys_from_to 7 9) put_twice
+        ≡ (0 ∷ 1 ∷ 2 ∷ []) ∷ (0 ∷ 1 ∷ 2 ∷ []) ∷ [] }
     // Of the book on a set the two calls on key 3 stay without the key 4.
-    ensures of_a_set { all_without kinds.IntSet (keys_from_to 4 4) of_two_keys ≡ (0 ∷ []) ∷ (0 ∷ []) ∷ [] }
+    ensures of_a_set { all_without kinds.IntSet (keys_from_to 4 4) of_two_keys
+        ≡ (0 ∷ []) ∷ (0 ∷ []) ∷ [] }
     // Of the book on a set the two calls on key 4 stay without the key 3, the unanswered one among
     // them.
-    ensures other_of_a_set { all_without kinds.IntSet (keys_from_to 3 3) of_two_keys ≡ (1 ∷ []) ∷ (1 ∷ []) ∷ [] }
+    ensures other_of_a_set { all_without kinds.IntSet (keys_from_to 3 3) of_two_keys
+        ≡ (1 ∷ []) ∷ (1 ∷ []) ∷ [] }
 {}
 
-/// The items of a list without a key: values by their low 32 bits, and items of a map by their keys.
+/// The items of a list without a key: values by their low 32 bits, and items of a map by their
+/// keys.
 pub fn items_without_a_key()
     // Of the items of a queue without the key 5 those stay whose low 32 bits aren't 5.
-    ensures values { items_without kinds.Queue (keys_from_to 5 5) (5 ∷ 6 ∷ 4294967301 ∷ []) ≡ 6 ∷ [] }
+    ensures values { items_without kinds.Queue (keys_from_to 5 5)
+        (5 ∷ 6 ∷ 4294967301 ∷ []) ≡ 6 ∷ [] }
     // Of the items of a map without the key 1 the one of key 2 stays.
-    ensures keys { items_without kinds.Map (keys_from_to 1 1) (4294967301 ∷ 8589934592 ∷ []) ≡ 8589934592 ∷ [] }
+    ensures keys { items_without kinds.Map (keys_from_to 1 1) (4294967301 ∷ 8589934592 ∷ [])
+        ≡ 8589934592 ∷ [] }
     // The items of a register have no key, and stay.
     ensures no_keys { items_without kinds.Register (keys_from_to 0 9) (5 ∷ []) ≡ 5 ∷ [] }
 {}
 
-/// A book with a view that holds two unanswered calls of a caller hasn't one open, and one whose views hold one
-/// has.
+/// A book with a view that holds two unanswered calls of a caller hasn't one open, and one whose
+/// views hold one has.
 pub fn open_calls()
     // A book with a view that holds two unanswered calls of one caller hasn't one open.
     ensures two { ¬ HasOneOpen two_open }

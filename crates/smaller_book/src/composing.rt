@@ -53,7 +53,8 @@ pub fn numbers_through(
 ) -> Result<Vec<Vec<u64>>, NoMemory>
     requires callers { length first.now ≡ length second.now }
     requires inside { (i k : ℕ) → k < length (numbers_of (numbers_in second.now) i)
-        → slice_index (numbers_of (numbers_in second.now) i) k < length (numbers_of (numbers_in first.now) i) }
+        → slice_index (numbers_of (numbers_in second.now) i) k
+        < length (numbers_of (numbers_in first.now) i) }
     ensures { IfOk result (λ rows.
         numbers_in rows.items ≡ composed (numbers_in first.now) (numbers_in second.now)) }
 {

@@ -16,11 +16,11 @@ use book_base::{Book, Call, Cut, NoMemory};
 use seq_objects::Kind;
 use std::alloc::Global;
 
-/// The book at a cut at which it has no legal order, where it has one at each earlier cut. Its calls are
-/// those that its views hold.
+/// The book at a cut at which it has no legal order, where it has one at each earlier cut. Its
+/// calls are those that its views hold.
 ///
-/// An error is final (Castañeda and Rodríguez 2023), so that the cuts are found by halving: first those of the
-/// records whose views hold few calls, and then the least count of each caller.
+/// An error is final (Castañeda and Rodríguez 2023), so that the cuts are found by halving: first
+/// those of the records whose views hold few calls, and then the least count of each caller.
 pub fn earliest(alloc: Global, kind: Kind, book: &Book) -> Result<Book, NoMemory>
     // The book has no legal order.
     requires { ¬ HasLegalOrder (kind_init kind) (kind_next kind) book.now }
@@ -43,7 +43,8 @@ pub fn earliest(alloc: Global, kind: Kind, book: &Book) -> Result<Book, NoMemory
     Ok(part)
 }
 
-/// The book without the calls that only later views hold than those of an earlier cut at which it has no legal order.
+/// The book without the calls that only later views hold than those of an earlier cut at which it
+/// has no legal order.
 pub fn without_later(alloc: Global, kind: Kind, book: &Book) -> Result<Option<Smaller>, NoMemory>
     requires { ¬ HasLegalOrder (kind_init kind) (kind_next kind) book.now }
     ensures { IfOk result (λ found. IfSome found (λ smaller.
@@ -73,8 +74,8 @@ fn all_records(book: &Book) -> Cut
     cut
 }
 
-// A cut at which the book has no legal order, of the records whose views hold at most this many calls: the least
-// such number. Where no record goes with a lower number, nothing is asked.
+// A cut at which the book has no legal order, of the records whose views hold at most this many
+// calls: the least such number. Where no record goes with a lower number, nothing is asked.
 fn first_illegal(alloc: Global, kind: Kind, book: &Book) -> Result<Cut, NoMemory>
     requires { ¬ HasLegalOrder (kind_init kind) (kind_next kind) book.now }
     ensures { IfOk result (IsIllegalCut (kind_init kind) (kind_next kind) book.now) }
@@ -146,8 +147,9 @@ fn least_cut(alloc: Global, kind: Kind, book: &Book, cut: Cut) -> Result<Cut, No
     Ok(least)
 }
 
-// The least count of a caller at which the book has no legal order, with the other counts of a cut. Few steps
-// are tried first, since most counts are little above the least ones; after a legal order halves are.
+// The least count of a caller at which the book has no legal order, with the other counts of a cut.
+// Few steps are tried first, since most counts are little above the least ones; after a legal order
+// halves are.
 fn least_count(
     alloc: Global,
     kind: Kind,
@@ -161,7 +163,8 @@ fn least_count(
     ensures illegal { IfOk result (λ count.
         IsIllegalCut (kind_init kind) (kind_next kind) book.now (slice_set cut.now caller count)) }
     ensures least { IfOk result (λ count.
-        IsLeastAt (kind_init kind) (kind_next kind) book.now (slice_set cut.now caller count) caller) }
+        IsLeastAt (kind_init kind) (kind_next kind) book.now
+        (slice_set cut.now caller count) caller) }
 {
     let mut low = 0;
     let mut high = cut.get(caller);

@@ -29,11 +29,12 @@ pub fn is_illegal(alloc: Global, kind: Kind, book: &Book) -> Result<bool, NoMemo
     }
 }
 
-/// All pairs of a book's calls are looked at for a broken rule, where it has no more calls than this.
+/// All pairs of a book's calls are looked at for a broken rule, where it has no more calls than
+/// this.
 const MOST_PAIRED: u64 = 256;
 
-/// A book with a view that holds several unanswered calls of a caller may have more calls: a search finds little there
-/// that it may leave out.
+/// A book with a view that holds several unanswered calls of a caller may have more calls: a search
+/// finds little there that it may leave out.
 const MOST_PAIRED_OPEN: u64 = 512;
 
 // Whether a book is found to break a rule of its kind.

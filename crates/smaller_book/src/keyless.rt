@@ -18,8 +18,8 @@ use book_base::{Book, Call, NoMemory};
 use seq_objects::Kind;
 use std::alloc::Global;
 
-/// The book without as many keys as can be left out one half after another: all keys, their halves, their
-/// quarters, down to single ones.
+/// The book without as many keys as can be left out one half after another: all keys, their halves,
+/// their quarters, down to single ones.
 pub fn without_halves(alloc: Global, kind: Kind, book: &Book) -> Result<Option<Smaller>, NoMemory>
     ensures { IfOk result (λ found. IfSome found (λ smaller.
         IsSmaller kind book.now (numbers_in smaller.numbers.items) smaller.book)) }
@@ -58,7 +58,8 @@ fn without_chunks(
     Ok(fewest)
 }
 
-// The book without the keys from a first one to a last one too, where it has no legal order without them.
+// The book without the keys from a first one to a last one too, where it has no legal order without
+// them.
 fn without_chunk(
     alloc: Global,
     kind: Kind,
@@ -81,8 +82,8 @@ fn without_chunk(
     }
 }
 
-// The book without the keys from a first one to a last one, where it has fewer calls and no legal order
-// without them.
+// The book without the keys from a first one to a last one, where it has fewer calls and no legal
+// order without them.
 fn without_some(
     alloc: Global,
     kind: Kind,
@@ -107,13 +108,14 @@ fn without_some(
     }
 }
 
-/// The book without the first key that isn't needed for the book to have no legal order. None is looked for
-/// where a view holds two unanswered calls of a caller.
+/// The book without the first key that isn't needed for the book to have no legal order. None is
+/// looked for where a view holds two unanswered calls of a caller.
 pub fn without_one_key(alloc: Global, kind: Kind, book: &Book) -> Result<Option<Smaller>, NoMemory>
     ensures smaller { IfOk result (λ found. IfSome found (λ smaller.
         IsSmaller kind book.now (numbers_in smaller.numbers.items) smaller.book)) }
     ensures none { IfOk result (λ found. IfNone found (HasOneOpen book.now → (call : Call) (key : ℕ)
-        → IsCall book.now call → key_of_call kind book.now call ≡ Some key → IsKeyNeeded kind book.now key)) }
+        → IsCall book.now call → key_of_call kind book.now call ≡ Some key
+        → IsKeyNeeded kind book.now key)) }
 {
     if !has_one_open(book) {
         return Ok(None);
@@ -139,7 +141,8 @@ fn without_key_of_caller(
     requires caller { caller < length book.now }
     ensures smaller { IfOk result (λ found. IfSome found (λ smaller.
         IsSmaller kind book.now (numbers_in smaller.numbers.items) smaller.book)) }
-    ensures none { IfOk result (λ found. IfNone found ((number key : ℕ) → number < calls_of book.now caller
+    ensures none { IfOk result
+        (λ found. IfNone found ((number key : ℕ) → number < calls_of book.now caller
         → key_of_call kind book.now (record { caller = caller; number = number }) ≡ Some key
         → IsKeyNeeded kind book.now key)) }
 {

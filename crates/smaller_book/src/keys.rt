@@ -17,8 +17,8 @@ const VALUE_TAG: u64 = 2;
 /// The code of the operation that puts a value in.
 const PUT: u64 = 1;
 
-/// The key that a call is about, where it has one: a value of a queue, a stack or a priority queue, which the
-/// call puts in or shows, or a key of a set or a map.
+/// The key that a call is about, where it has one: a value of a queue, a stack or a priority queue,
+/// which the call puts in or shows, or a key of a set or a map.
 pub fn key_of(kind: Kind, book: &Book, call: Call) -> Option<u64>
     requires { IsCall book.now call }
     ensures { result ≡ key_of_call kind book.now call }

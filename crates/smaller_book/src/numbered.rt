@@ -34,7 +34,8 @@ pub fn part(alloc: Global, book: &Book, numbers: &[Vec<u64>]) -> Result<Book, No
 fn sizes(book: &Book, numbers: &[Vec<u64>]) -> Cut
     requires { length numbers.now ≡ length book.now }
     ensures wide { length result ≡ length book.now }
-    ensures counts { (i : ℕ) → slice_index result i ≡ length (numbers_of (numbers_in numbers.now) i) }
+    ensures counts { (i : ℕ)
+        → slice_index result i ≡ length (numbers_of (numbers_in numbers.now) i) }
 {
     let mut sizes = Cut::zero(book.callers());
     for caller in 0..book.callers() {
@@ -45,7 +46,8 @@ fn sizes(book: &Book, numbers: &[Vec<u64>]) -> Cut
 
 // Puts in the operations of a caller's calls.
 fn put_operations(book: &Book, numbers: &[u64], caller: u32, part: &mut Book)
-    requires inside { (k : ℕ) → k < length numbers.now → slice_index numbers.now k < calls_of book.now caller }
+    requires inside { (k : ℕ) → k < length numbers.now
+        → slice_index numbers.now k < calls_of book.now caller }
     requires calls { calls_of part.old caller ≡ length numbers.now }
     ensures callers { length part.new ≡ length part.old }
     ensures calls { (i : ℕ) → calls_of part.new i ≡ calls_of part.old i }
@@ -110,8 +112,10 @@ fn put_answer(
     requires numbers { AreNumbersOf book.now (numbers_in numbers.now) }
     requires answered { number < answers_of book.now caller }
     requires part { IsPart book.now (numbers_in numbers.now) part.old }
-    requires inside { answers_of part.old caller < length (numbers_of (numbers_in numbers.now) caller) }
-    requires here { slice_index (numbers_of (numbers_in numbers.now) caller) (answers_of part.old caller) ≡ number }
+    requires inside { answers_of part.old caller
+        < length (numbers_of (numbers_in numbers.now) caller) }
+    requires here { slice_index (numbers_of (numbers_in numbers.now) caller)
+        (answers_of part.old caller) ≡ number }
     ensures part { OnOk result (IsPart book.now (numbers_in numbers.now) part.new) }
     ensures answers { OnOk result (answers_of part.new caller ≡ answers_of part.old caller + 1) }
     ensures others { OnOk result ((j : ℕ)

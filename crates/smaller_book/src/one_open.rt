@@ -6,8 +6,8 @@ ghost use Rattle.book_base.specs.Pruning.{HasOneOpen};
 
 use book_base::{Book, Call, Cut};
 
-/// Whether each view of a book holds at most one unanswered call of each caller, as in each book that a run
-/// gathers.
+/// Whether each view of a book holds at most one unanswered call of each caller, as in each book
+/// that a run gathers.
 pub fn has_one_open(book: &Book) -> bool
     ensures one { IsTrue result → HasOneOpen book.now }
     ensures more { result ≡ false → ¬ HasOneOpen book.now }

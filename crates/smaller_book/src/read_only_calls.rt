@@ -32,8 +32,8 @@ pub fn without_read_only(
     }
 }
 
-/// The book without single read-only calls. Each is tried once: what a book needs, each part of it that
-/// has no legal order needs too.
+/// The book without single read-only calls. Each is tried once: what a book needs, each part of it
+/// that has no legal order needs too.
 pub fn without_singles(alloc: Global, kind: Kind, book: &Book) -> Result<Option<Smaller>, NoMemory>
     ensures { IfOk result (λ found. IfSome found (λ smaller.
         IsSmaller kind book.now (numbers_in smaller.numbers.items) smaller.book)) }
@@ -45,8 +45,8 @@ pub fn without_singles(alloc: Global, kind: Kind, book: &Book) -> Result<Option<
     Ok(found)
 }
 
-// The book without more single calls, of this caller: the last one is tried first, so that the numbers of those that
-// are still to be tried stay.
+// The book without more single calls, of this caller: the last one is tried first, so that the
+// numbers of those that are still to be tried stay.
 fn without_singles_of(
     alloc: Global,
     kind: Kind,
@@ -94,8 +94,8 @@ fn without_single_too(
     }
 }
 
-// The book without this call, where it is an answered one that leaves every list, and the book has no legal order
-// without it.
+// The book without this call, where it is an answered one that leaves every list, and the book has
+// no legal order without it.
 fn without_single(
     alloc: Global,
     kind: Kind,
@@ -175,8 +175,8 @@ fn without_slice_too(
     }
 }
 
-// The book without the calls of a slice that leave every list, where it has fewer calls and no legal order
-// without them.
+// The book without the calls of a slice that leave every list, where it has fewer calls and no
+// legal order without them.
 fn without_slice(
     alloc: Global,
     kind: Kind,

@@ -21,8 +21,8 @@ pub struct Smaller {
     pub numbers: Vec<Vec<u64>>,
 }
 
-/// The book without the first call, from this caller on, that leaves every list and isn't needed for the
-/// book to have no legal order.
+/// The book without the first call, from this caller on, that leaves every list and isn't needed
+/// for the book to have no legal order.
 pub fn without_one(
     alloc: Global,
     kind: Kind,

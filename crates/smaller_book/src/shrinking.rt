@@ -22,14 +22,14 @@ use book_base::{Book, NoMemory};
 use seq_objects::Kind;
 use std::alloc::Global;
 
-/// Of a book without a legal order a smaller one, which no rule makes smaller still; none, where the book
-/// has a legal order.
+/// Of a book without a legal order a smaller one, which no rule makes smaller still; none, where
+/// the book has a legal order.
 ///
-/// The rules are three: the book at an earlier cut, the book without an answered read-only call
-/// of the object, and the book without all calls of one key, where each view holds at most one unanswered
-/// call of each caller. A key is a value of a queue, a stack or a priority queue, or a key of a set or a map.
-/// The numbers of the calls and their views are made anew, and the numbers that the calls had come with the
-/// book.
+/// The rules are three: the book at an earlier cut, the book without an answered read-only call of
+/// the object, and the book without all calls of one key, where each view holds at most one
+/// unanswered call of each caller. A key is a value of a queue, a stack or a priority queue, or a
+/// key of a set or a map. The numbers of the calls and their views are made anew, and the numbers
+/// that the calls had come with the book.
 pub fn shrink(alloc: Global, kind: Kind, book: &Book) -> Result<Option<Smaller>, NoMemory>
     // No book is answered only where the book has a legal order.
     ensures none { IfOk result (λ found. IfNone found
@@ -67,8 +67,9 @@ pub fn shrink(alloc: Global, kind: Kind, book: &Book) -> Result<Option<Smaller>,
     }
 }
 
-// The book without much that isn't needed, at the earliest cuts at which that has no legal order. Many calls go before
-// single records do: each record that goes leaves an unanswered call, and a search has more to try.
+// The book without much that isn't needed, at the earliest cuts at which that has no legal order.
+// Many calls go before single records do: each record that goes leaves an unanswered call, and a
+// search has more to try.
 fn begun(alloc: Global, kind: Kind, book: &Book) -> Result<Smaller, NoMemory>
     requires { ¬ HasLegalOrder (kind_init kind) (kind_next kind) book.now }
     ensures { IfOk result (λ smaller. IsShrunk kind
@@ -103,7 +104,8 @@ fn next_smaller(alloc: Global, kind: Kind, book: &Book) -> Result<Option<Smaller
     ensures read_only { IfOk result (λ found. IfNone found ((call : Call)
         → IsReadOnly (kind_next kind) book.now call → IsNeeded kind book.now call)) }
     ensures keys { IfOk result (λ found. IfNone found (HasOneOpen book.now → (call : Call) (key : ℕ)
-        → IsCall book.now call → key_of_call kind book.now call ≡ Some key → IsKeyNeeded kind book.now key)) }
+        → IsCall book.now call → key_of_call kind book.now call ≡ Some key
+        → IsKeyNeeded kind book.now key)) }
 {
     match without_calls(alloc, kind, book)? {
         Some(without) => Ok(Some(settled(alloc, kind, book, without)?)),
@@ -118,7 +120,8 @@ fn without_calls(alloc: Global, kind: Kind, book: &Book) -> Result<Option<Smalle
     ensures read_only { IfOk result (λ found. IfNone found ((call : Call)
         → IsReadOnly (kind_next kind) book.now call → IsNeeded kind book.now call)) }
     ensures keys { IfOk result (λ found. IfNone found (HasOneOpen book.now → (call : Call) (key : ℕ)
-        → IsCall book.now call → key_of_call kind book.now call ≡ Some key → IsKeyNeeded kind book.now key)) }
+        → IsCall book.now call → key_of_call kind book.now call ≡ Some key
+        → IsKeyNeeded kind book.now key)) }
 {
     match without_one_key(alloc, kind, book)? {
         Some(smaller) => Ok(Some(smaller)),
@@ -126,7 +129,8 @@ fn without_calls(alloc: Global, kind: Kind, book: &Book) -> Result<Option<Smalle
     }
 }
 
-// A smaller book without much that isn't needed, at the earliest cuts at which that has no legal order.
+// A smaller book without much that isn't needed, at the earliest cuts at which that has no legal
+// order.
 fn settled(alloc: Global, kind: Kind, book: &Book, without: Smaller) -> Result<Smaller, NoMemory>
     requires { IsSmaller kind book.now (numbers_in without.numbers.items) without.book }
     ensures shrunk { IfOk result (λ smaller. IsShrunk kind

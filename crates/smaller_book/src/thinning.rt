@@ -14,11 +14,11 @@ use book_base::{Book, NoMemory};
 use seq_objects::Kind;
 use std::alloc::Global;
 
-/// The book up to the first views at which it has no legal order, without keys and read-only calls that can
-/// be left out: many at once, and then single ones (after Zeller and Hildebrandt 2002).
+/// The book up to the first views at which it has no legal order, without keys and read-only calls
+/// that can be left out: many at once, and then single ones (after Zeller and Hildebrandt 2002).
 ///
-/// No answer of a call that stays is dropped: while each view holds at most one unanswered call of each caller, a
-/// search is short.
+/// No answer of a call that stays is dropped: while each view holds at most one unanswered call of
+/// each caller, a search is short.
 pub fn thinned(alloc: Global, kind: Kind, book: &Book) -> Result<Option<Smaller>, NoMemory>
     requires { ¬ HasLegalOrder (kind_init kind) (kind_next kind) book.now }
     ensures { IfOk result (λ found. IfSome found (λ smaller.

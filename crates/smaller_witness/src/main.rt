@@ -1,4 +1,5 @@
-//! The program: it reads a book, or the whole output of a run, and writes a smaller book that is illegal still.
+//! The program: it reads a book, or the whole output of a run, and writes a smaller book that is
+//! illegal still.
 #![tactic(auto)]
 
 ghost use Rattle.given_book.specs.Given.{IsFirstGivenFault};

@@ -1,4 +1,5 @@
--- Nodes of a table that lead to one another alone: what is found of the table in memory holds of its levels.
+-- Nodes of a table that lead to one another alone: what is found of the table in memory holds of
+-- its levels.
 use Rattle.std.proofs.Common.{◌≡◌, ℕ, ◌+◌, ◌<◌, ◌≤◌, ◌∙◌, Bool, true, false, not, IsTrue, List, length, get_or, set, take, replicate, Some, option_map, refl, sym, ap, subst, slice_get, arith}
 use Rattle.std.proofs.lemmas.List.{take-replicate, get_or-take}
 use Rattle.std.proofs.Math.Seq.{take-set-lt}
@@ -25,20 +26,24 @@ use Rattle.stack_levels.specs.Tables.{layer_of, layers_of, cut_at, nodes_of, Beg
 use Rattle.stack_levels.proofs.Refuting.{no_order_where_closed}
 
 -- a level of a table is one of its layers
-pub layer_at : (levels : List Level) (l : ℕ) (level : Level) → slice_get levels l ≡ Some level → slice_get (layers_of levels) l ≡ Some (layer_of level)
+pub layer_at : (levels : List Level) (l : ℕ) (level : Level) → slice_get levels l ≡ Some level
+    → slice_get (layers_of levels) l ≡ Some (layer_of level)
 layer_at levels l level at = slice_get-map layer_of levels l ∙ ap (option_map layer_of) at
 
 -- a node of a table is one of its pairs
-pub node_there : (book : List Page) (nodes : List Node) (place : ℕ) (node : Node) → slice_get nodes place ≡ Some node
+pub node_there : (book : List Page) (nodes : List Node) (place : ℕ) (node : Node)
+    → slice_get nodes place ≡ Some node
     → nodes_of book nodes node.level (cut_at book node)
 node_there book nodes place node at = (place, node, at, refl, refl)
 
 -- no counts are the cut without calls
-pub zero_counts : (book : List Page) → length book ≤ MAX_CALLERS → take (length book) (replicate MAX_CALLERS 0) ≡ no_calls book
+pub zero_counts : (book : List Page) → length book ≤ MAX_CALLERS
+    → take (length book) (replicate MAX_CALLERS 0) ≡ no_calls book
 zero_counts book few = take-replicate (length book) MAX_CALLERS 0 few
 
 -- one more call of a caller, in the counts and in the cut
-pub cut_raised : (n : ℕ) (counts : List ℕ) (i : ℕ) → i < n → take n (set counts i (get_or counts i 0 + 1)) ≡ raised (take n counts) i
+pub cut_raised : (n : ℕ) (counts : List ℕ) (i : ℕ) → i < n
+    → take n (set counts i (get_or counts i 0 + 1)) ≡ raised (take n counts) i
 cut_raised n counts i below =
     take-set-lt n counts i (get_or counts i 0 + 1) below
     ∙ ap (λ (m : ℕ). set (take n counts) i (m + 1)) (sym (get_or-take n counts i 0 below))
@@ -49,54 +54,73 @@ not_true true told = sym told
 not_true false told = refl
 
 -- what no call outside the cut without calls reads is never taken
-pub never_taken : (reading : Reading) (book : List Page) (n v : ℕ) → (IsRead reading book (replicate n 0) v → ⊥) → IsNeverTaken reading book v
+pub never_taken : (reading : Reading) (book : List Page) (n v : ℕ)
+    → (IsRead reading book (replicate n 0) v → ⊥) → IsNeverTaken reading book v
 never_taken reading book n v unread call takes =
     let none_of : ℕ → List ℕ = λ m. replicate m 0 in
     let zeros : (m i : ℕ) → get_or (none_of m) i 0 ≡ 0 = λ m i. get_or-replicate_default m i 0 in
     unread (call, (takes, omega (arith, zeros n call.caller)))
 
 -- what holds of the level at each index holds of each level
-pub each_one : (P : ℕ → Type 0) (levels : List ℕ) → ((j : ℕ) → j < length levels → P (get_or levels j 0)) → (p : ℕ) → IsOneOf levels p → P p
+pub each_one : (P : ℕ → Type 0) (levels : List ℕ)
+    → ((j : ℕ) → j < length levels → P (get_or levels j 0)) → (p : ℕ) → IsOneOf levels p → P p
 each_one P levels each p one =
-    subst P (get_or_from_slice_get levels one.0 p 0 one.1) (each one.0 (slice_get_within levels one.0 p one.1))
+    subst P (get_or_from_slice_get levels one.0 p 0 one.1)
+    (each one.0 (slice_get_within levels one.0 p one.1))
 
 -- a node is closed where all its marked callers are followed
-pub closed_at : (reading : Reading) (book : List Page) (levels : List Level) (nodes : Nodes) (l : ℕ) (level : Level) (cut mine : List ℕ) (marks : Marks)
+pub closed_at : (reading : Reading) (book : List Page) (levels : List Level) (nodes : Nodes) (l : ℕ)
+    (level : Level) (cut mine : List ℕ) (marks : Marks)
     → length book ≤ length cut → slice_get levels l ≡ Some level → mine ≡ cut
-    → ((next : List ℕ → ℕ → List ℕ × ℕ) (bound : ℕ) (list : List ℕ) → GivesLastFirst reading next bound
+    → ((next : List ℕ → ℕ → List ℕ × ℕ) (bound : ℕ) (list : List ℕ)
+    → GivesLastFirst reading next bound
     → HasTop reading book mine bound level.top list → MarksSuffice book next mine list marks)
-    → ((i : ℕ) → IsMarked marks i → IsFollowed reading book (layers_of levels) nodes l (layer_of level) mine (next_call mine i))
+    → ((i : ℕ) → IsMarked marks i
+    → IsFollowed reading book (layers_of levels) nodes l (layer_of level) mine (next_call mine i))
     → IsClosedAt reading book (layers_of levels) nodes l cut
 closed_at reading book levels nodes l level cut mine marks wide at same suffice followed = record {
   wide = wide;
   layer = layer_of level;
   there = layer_at levels l level at;
   marks = marks;
-  suffice = λ next bound list is top. subst (λ (c : List ℕ). MarksSuffice book next c list marks) same
-      (suffice next bound list is (subst (λ (c : List ℕ). HasTop reading book c bound level.top list) (sym same) top));
-  followed = λ i marked. subst (λ (c : List ℕ). IsFollowed reading book (layers_of levels) nodes l (layer_of level) c (next_call c i)) same (followed i marked);
+  suffice =
+      λ next bound list is top. subst (λ (c : List ℕ). MarksSuffice book next c list marks) same
+      (suffice next bound list is
+      (subst (λ (c : List ℕ). HasTop reading book c bound level.top list) (sym same) top));
+  followed = λ i marked. subst (λ (c : List ℕ). IsFollowed reading book (layers_of levels) nodes l
+      (layer_of level) c (next_call c i)) same (followed i marked);
 }
 
 -- A call leads where what it does leads after its counts.
-pub call_leads : (reading : Reading) (book : List Page) (layers : List Layer) (nodes : Nodes) (node : Node) (layer : Layer) (cut new : List ℕ) (call : Call)
-    (op : ℕ) (role its : Role) → operation_of book call ≡ Some op → deed_of role ≡ reading.deed op → role ≡ its → cut ≡ cut_at book node
-    → call.caller < length book → new ≡ set node.counts call.caller (get_or node.counts call.caller 0 + 1)
-    → DeedLeads layers nodes node.level layer (take (length book) new) (deed_of its) → CallLeads reading book layers nodes node.level layer cut call
-call_leads reading book layers nodes node layer cut new call op role its known deed is same below made leads =
+pub call_leads : (reading : Reading) (book : List Page) (layers : List Layer) (nodes : Nodes)
+    (node : Node) (layer : Layer) (cut new : List ℕ) (call : Call)
+    (op : ℕ) (role its : Role) → operation_of book call ≡ Some op → deed_of role ≡ reading.deed op
+    → role ≡ its → cut ≡ cut_at book node
+    → call.caller < length book
+    → new ≡ set node.counts call.caller (get_or node.counts call.caller 0 + 1)
+    → DeedLeads layers nodes node.level layer (take (length book) new) (deed_of its)
+    → CallLeads reading book layers nodes node.level layer cut call
+call_leads reading book layers nodes node layer cut new call op role its known deed is same below
+    made leads =
     let after : take (length book) new ≡ raised cut call.caller
-    = ap (take (length book)) made ∙ (cut_raised (length book) node.counts call.caller below ∙ ap (λ (c : List ℕ). raised c call.caller) (sym same)) in (
+    = ap (take (length book)) made ∙ (cut_raised (length book) node.counts call.caller below
+    ∙ ap (λ (c : List ℕ). raised c call.caller) (sym same)) in (
       op,
       known,
       subst (λ (c : List ℕ). DeedLeads layers nodes node.level layer c (reading.deed op)) after
-          (subst (λ (d : Deed). DeedLeads layers nodes node.level layer (take (length book) new) d) (sym (ap deed_of is) ∙ deed) leads),
+          (subst (λ (d : Deed). DeedLeads layers nodes node.level layer (take (length book) new) d)
+          (sym (ap deed_of is) ∙ deed) leads),
     )
 
 -- A table refutes a book whose nodes are closed, and that begins with the bottom.
-pub refuted : (reading : Reading) (book : List Page) (levels : List Level) (nodes : List Node) → IsValid book → HasOneOpen book
+pub refuted : (reading : Reading) (book : List Page) (levels : List Level) (nodes : List Node)
+    → IsValid book → HasOneOpen book
     → Begins book levels nodes
-    → ((l : ℕ) (level : Level) → slice_get levels l ≡ Some level → IsTrue level.top.kept → IsKeptLayer reading book (layers_of levels) (layer_of level))
+    → ((l : ℕ) (level : Level) → slice_get levels l ≡ Some level → IsTrue level.top.kept
+    → IsKeptLayer reading book (layers_of levels) (layer_of level))
     → ((k : ℕ) (node : Node) → slice_get nodes k ≡ Some node
-    → IsClosedAt reading book (layers_of levels) (nodes_of book nodes) node.level (cut_at book node))
+    → IsClosedAt reading book (layers_of levels) (nodes_of book nodes) node.level
+    (cut_at book node))
     → HasNoOrder reading book
 refuted reading book levels nodes valid one begins kept closed =
     no_order_where_closed reading book (layers_of levels) (nodes_of book nodes) valid one (record {
@@ -105,11 +129,13 @@ refuted reading book levels nodes valid one begins kept closed =
       empty = begins.empty;
       start = begins.start;
       kept = λ l layer at said.
-          let found = map_some (slice_get levels l) layer_of layer (sym (slice_get-map layer_of levels l) ∙ at) in
+          let found = map_some (slice_get levels l) layer_of layer
+          (sym (slice_get-map layer_of levels l) ∙ at) in
           subst (IsKeptLayer reading book (layers_of levels)) found.2
           (kept l found.0 found.1 (subst (λ (x : Layer). IsTrue x.top.kept) (sym found.2) said));
       closed = λ l cut node.
           subst (IsClosedAt reading book (layers_of levels) (nodes_of book nodes) l) node.4
-          (subst (λ (m : ℕ). IsClosedAt reading book (layers_of levels) (nodes_of book nodes) m (cut_at book node.1)) node.3
+          (subst (λ (m : ℕ). IsClosedAt reading book (layers_of levels) (nodes_of book nodes) m
+          (cut_at book node.1)) node.3
           (closed node.0 node.1 node.2));
     })

@@ -12,8 +12,8 @@ use Rattle.history_rules.specs.Calls.{IsNeverTaken, TakesShowing}
 use Rattle.stack_pruning.specs.declared.top.Top.{Top}
 use Rattle.stack_pruning.specs.LastFirst.{GivesLastFirst, HasTop}
 
--- A level: what is known of the lists that it ends, and the levels that may lie below it. The bottom
--- has no last word, and ends the empty list.
+-- A level: what is known of the lists that it ends, and the levels that may lie below it. The
+-- bottom has no last word, and ends the empty list.
 pub record Layer : Type 0 where
   pub top : Top
   pub parents : List ℕ
@@ -36,10 +36,11 @@ abbrev pub TakeLeads : Nodes → ℕ → Option ℕ → List ℕ → List ℕ �
 TakeLeads nodes l None parents after = nodes l after
 TakeLeads nodes l (Some v) parents after = (p : ℕ) → IsOneOf parents p → nodes p after
 
--- where what a call does leads from a level: a put leads to a level of its value that has this level
--- below it, and what is neither put nor take stays
+-- where what a call does leads from a level: a put leads to a level of its value that has this
+-- level below it, and what is neither put nor take stays
 abbrev pub DeedLeads : List Layer → Nodes → ℕ → Layer → List ℕ → Deed → Type 0
-DeedLeads layers nodes l layer after (Puts v) = (m : ℕ) × (above : Layer) × (slice_get layers m ≡ Some above)
+DeedLeads layers nodes l layer after (Puts v) = (m : ℕ) × (above : Layer)
+    × (slice_get layers m ≡ Some above)
     × (above.top.last ≡ Some v) × IsOneOf above.parents l × nodes m after
 DeedLeads layers nodes l layer after Takes = TakeLeads nodes l layer.top.last layer.parents after
 DeedLeads layers nodes l layer after Neither = nodes l after
@@ -51,26 +52,31 @@ CallLeads reading book layers nodes l layer cut call = (op : ℕ) × (operation_
 
 -- An answered call takes, and shows something else than the last word.
 abbrev pub ShowsAnother : Reading → List Page → Option ℕ → Call → Type 0
-ShowsAnother reading book last call = (shown : Option ℕ) × TakesShowing reading book call shown × (shown ≢ last)
+ShowsAnother reading book last call = (shown : Option ℕ) × TakesShowing reading book call shown
+    × (shown ≢ last)
 
 -- An unanswered call leaves each list with this last word: it is neither put nor take, or it takes
 -- where nothing is.
 abbrev pub LeavesTop : Reading → List Page → Option ℕ → Call → Type 0
-LeavesTop reading book last call = (IsAnswered book call → ⊥) × ((op : ℕ) × (operation_of book call ≡ Some op)
+LeavesTop reading book last call = (IsAnswered book call → ⊥)
+    × ((op : ℕ) × (operation_of book call ≡ Some op)
     × ((reading.deed op ≡ Neither) ⊎ ((reading.deed op ≡ Takes) × (last ≡ None))))
 
 -- Two answered calls have one reply, and the first has a view within that of the second.
 abbrev pub AreAnsweredAlike : List Page → Call → Call → Type 0
-AreAnsweredAlike book a b = (r s : Record) × (record_of book a ≡ Some r) × (record_of book b ≡ Some s)
+AreAnsweredAlike book a b = (r s : Record) × (record_of book a ≡ Some r)
+    × (record_of book b ≡ Some s)
     × (r.reply ≡ s.reply) × ViewsAreWithin book a b
 
 -- An answered call takes the last word, and another one is unanswered.
 abbrev pub TakesForOpen : Reading → List Page → Option ℕ → Call → Call → Type 0
-TakesForOpen reading book last a b = (v : ℕ) × (last ≡ Some v) × TakesShowing reading book a (Some v)
+TakesForOpen reading book last a b = (v : ℕ) × (last ≡ Some v)
+    × TakesShowing reading book a (Some v)
     × (IsAnswered book b → ⊥)
 
 -- A call serves for another caller's one of the same operation, at each list with this last word.
-pub record ServesFor (reading : Reading) (book : List Page) (last : Option ℕ) (a b : Call) : Type 0 where
+pub record ServesFor (reading : Reading) (book : List Page) (last : Option ℕ)
+    (a b : Call) : Type 0 where
   pub apart : a.caller ≢ b.caller
   pub same : operation_of book a ≡ operation_of book b
   pub sooner : AreAnsweredAlike book a b ⊎ (TakesForOpen reading book last a b
@@ -78,13 +84,17 @@ pub record ServesFor (reading : Reading) (book : List Page) (last : Option ℕ) 
 
 -- The next call of a caller that serves for this one leads to the pairs.
 abbrev pub IsServed : Reading → List Page → List Layer → Nodes → ℕ → Layer → List ℕ → Call → Type 0
-IsServed reading book layers nodes l layer cut call = (i : ℕ) × MayComeNext book cut (next_call cut i)
+IsServed reading book layers nodes l layer cut call = (i : ℕ)
+    × MayComeNext book cut (next_call cut i)
     × ServesFor reading book layer.top.last (next_call cut i) call
     × CallLeads reading book layers nodes l layer cut (next_call cut i)
 
--- What goes on by a call leads to the pairs, or it goes on by another one or without it, or not at all.
-abbrev pub IsFollowed : Reading → List Page → List Layer → Nodes → ℕ → Layer → List ℕ → Call → Type 0
-IsFollowed reading book layers nodes l layer cut call = ShowsAnother reading book layer.top.last call
+-- What goes on by a call leads to the pairs, or it goes on by another one or without it, or not at
+-- all.
+abbrev pub IsFollowed : Reading → List Page → List Layer → Nodes → ℕ → Layer → List ℕ
+    → Call → Type 0
+IsFollowed reading book layers nodes l layer cut call =
+    ShowsAnother reading book layer.top.last call
     ⊎ (LeavesTop reading book layer.top.last call
     ⊎ (CallLeads reading book layers nodes l layer cut call
     ⊎ IsServed reading book layers nodes l layer cut call))
@@ -97,13 +107,16 @@ pub record IsClosedAt (reading : Reading) (book : List Page) (layers : List Laye
   pub layer : Layer
   pub there : slice_get layers l ≡ Some layer
   pub marks : Marks
-  pub suffice : (next : List ℕ → ℕ → List ℕ × ℕ) (bound : ℕ) (list : List ℕ) → GivesLastFirst reading next bound
+  pub suffice : (next : List ℕ → ℕ → List ℕ × ℕ) (bound : ℕ) (list : List ℕ)
+      → GivesLastFirst reading next bound
       → HasTop reading book cut bound layer.top list → MarksSuffice book next cut list marks
-  pub followed : (i : ℕ) → IsMarked marks i → IsFollowed reading book layers nodes l layer cut (next_call cut i)
+  pub followed : (i : ℕ) → IsMarked marks i
+      → IsFollowed reading book layers nodes l layer cut (next_call cut i)
 
--- A level is said to be kept only where no answered call takes its word, and all levels below it are
--- said to be.
-pub record IsKeptLayer (reading : Reading) (book : List Page) (layers : List Layer) (layer : Layer) : Type 0 where
+-- A level is said to be kept only where no answered call takes its word, and all levels below it
+-- are said to be.
+pub record IsKeptLayer (reading : Reading) (book : List Page) (layers : List Layer)
+    (layer : Layer) : Type 0 where
   pub word : IfSome layer.top.last (IsNeverTaken reading book)
   pub below : (p : ℕ) → IsOneOf layer.parents p
       → (under : Layer) × (slice_get layers p ≡ Some under) × IsTrue under.top.kept
@@ -112,9 +125,10 @@ pub record IsKeptLayer (reading : Reading) (book : List Page) (layers : List Lay
 abbrev pub no_calls : List Page → List ℕ
 no_calls book = replicate (length book) 0
 
--- A table is closed: it begins with the bottom after no call, levels are kept where this is said, and
--- from each of its pairs all leads to its pairs.
-pub record IsClosed (reading : Reading) (book : List Page) (layers : List Layer) (nodes : Nodes) : Type 0 where
+-- A table is closed: it begins with the bottom after no call, levels are kept where this is said,
+-- and from each of its pairs all leads to its pairs.
+pub record IsClosed (reading : Reading) (book : List Page) (layers : List Layer)
+    (nodes : Nodes) : Type 0 where
   pub bottom : Layer
   pub first : slice_get layers 0 ≡ Some bottom
   pub empty : bottom.top.last ≡ None

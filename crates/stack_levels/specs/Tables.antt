@@ -18,7 +18,8 @@ cut_at book node = take (length book) node.counts
 
 -- the pairs that these nodes are
 abbrev pub nodes_of : List Page → List Node → Nodes
-nodes_of book nodes l cut = (k : ℕ) × (node : Node) × (slice_get nodes k ≡ Some node) × (node.level ≡ l)
+nodes_of book nodes l cut = (k : ℕ) × (node : Node) × (slice_get nodes k ≡ Some node)
+    × (node.level ≡ l)
     × (cut_at book node ≡ cut)
 
 -- The bottom is the first level, and one of the nodes is the bottom after no call.
@@ -34,5 +35,6 @@ IsSaidKept layers p = (under : Layer) × (slice_get layers p ≡ Some under) × 
 
 -- a level of these with this last word and this level below it
 abbrev pub LiesOn : List Layer → ℕ → ℕ → ℕ → Type 0
-LiesOn layers m l v = (above : Layer) × (slice_get layers m ≡ Some above) × (above.top.last ≡ Some v)
+LiesOn layers m l v = (above : Layer) × (slice_get layers m ≡ Some above)
+    × (above.top.last ≡ Some v)
     × IsOneOf above.parents l

@@ -19,8 +19,8 @@ use next_calls::has_one_open;
 use object_foresight::{Reader, Role};
 use stack_pruning::Top;
 
-/// A table of levels, to be looked at once more. Where all that may come next at each of its nodes leads to one of
-/// them, no order goes on from any.
+/// A table of levels, to be looked at once more. Where all that may come next at each of its nodes
+/// leads to one of them, no order goes on from any.
 pub struct Closure<'a, R> {
     pub on: &'a StackBook<'a, R>,
     pub table: &'a LevelTable,
@@ -33,15 +33,17 @@ impl<R> Drop for Closure<'_, R> {
 }
 
 impl<R: Reader> Closure<'_, R> {
-    /// Whether the table shows that a stack's book has no legal order: it has the start, and its nodes lead to one
-    /// another alone. No clause says that it does so wherever there is none.
+    /// Whether the table shows that a stack's book has no legal order: it has the start, and its
+    /// nodes lead to one another alone. No clause says that it does so wherever there is none.
     pub fn refute(&self) -> bool
-        // The sight lists each call of the book that puts in a value, and each answered one that takes
-        // it out.
-        requires sight { ListsValues (R.reading self.now.on.now.reader.now) self.now.on.now.book.now self.now.on.now.sight.now }
+        // The sight lists each call of the book that puts in a value, and each answered one that
+        // takes it out.
+        requires sight { ListsValues (R.reading self.now.on.now.reader.now) self.now.on.now.book.now
+            self.now.on.now.sight.now }
         // `true` is answered only where no object that gives its last value first, and begins with
         // nothing, has a legal order of the book.
-        ensures { IsTrue result → HasNoOrder (R.reading self.now.on.now.reader.now) self.now.on.now.book.now }
+        ensures { IsTrue result
+            → HasNoOrder (R.reading self.now.on.now.reader.now) self.now.on.now.book.now }
     {
         let _callers = self.on.book.callers();
         if !has_one_open(self.on.book) {
@@ -58,7 +60,8 @@ impl<R: Reader> Closure<'_, R> {
 
     // Whether the first level is the bottom, and one of the nodes is the bottom after no call.
     fn begins(&self) -> bool
-        ensures { IsTrue result → Begins self.now.on.now.book.now self.now.table.now.levels.items self.now.table.now.nodes.keys }
+        ensures { IsTrue result → Begins self.now.on.now.book.now self.now.table.now.levels.items
+            self.now.table.now.nodes.keys }
     {
         let _callers = self.on.book.callers();
         let Some(bottom) = self.level(0) else {
@@ -72,14 +75,16 @@ impl<R: Reader> Closure<'_, R> {
 
     // The level with this number, if there is one.
     fn level(&self, number: usize) -> Option<&Level>
-        ensures { IfSome result (λ level. slice_get self.now.table.now.levels.items number ≡ Some level.now) }
+        ensures { IfSome result
+            (λ level. slice_get self.now.table.now.levels.items number ≡ Some level.now) }
     {
         self.table.levels.get(number)
     }
 
     // Whether a level after these counts is one of the nodes.
     fn has(&self, level: usize, counts: [u16; MAX_CALLERS]) -> bool
-        ensures { IsTrue result → nodes_of self.now.on.now.book.now self.now.table.now.nodes.keys level
+        ensures { IsTrue result
+            → nodes_of self.now.on.now.book.now self.now.table.now.nodes.keys level
             (take (length self.now.on.now.book.now) counts) }
     {
         let node = Node { level, counts };
@@ -91,9 +96,12 @@ impl<R: Reader> Closure<'_, R> {
 
     // Whether all levels are kept that are said to be.
     fn levels_are_kept(&self) -> bool
-        requires sight { ListsValues (R.reading self.now.on.now.reader.now) self.now.on.now.book.now self.now.on.now.sight.now }
-        ensures { IsTrue result → (l : ℕ) (level : Level) → slice_get self.now.table.now.levels.items l ≡ Some level → IsTrue level.top.kept
-            → IsKeptLayer (R.reading self.now.on.now.reader.now) self.now.on.now.book.now (layers_of self.now.table.now.levels.items) (layer_of level) }
+        requires sight { ListsValues (R.reading self.now.on.now.reader.now) self.now.on.now.book.now
+            self.now.on.now.sight.now }
+        ensures { IsTrue result → (l : ℕ) (level : Level)
+            → slice_get self.now.table.now.levels.items l ≡ Some level → IsTrue level.top.kept
+            → IsKeptLayer (R.reading self.now.on.now.reader.now) self.now.on.now.book.now
+            (layers_of self.now.table.now.levels.items) (layer_of level) }
     {
         for k in 0..self.table.levels.len() {
             if !self.level_is_kept_at(k) {
@@ -105,9 +113,12 @@ impl<R: Reader> Closure<'_, R> {
 
     // Whether the level with this number is kept, or isn't said to be.
     fn level_is_kept_at(&self, number: usize) -> bool
-        requires sight { ListsValues (R.reading self.now.on.now.reader.now) self.now.on.now.book.now self.now.on.now.sight.now }
-        ensures { IsTrue result → (level : Level) → slice_get self.now.table.now.levels.items number ≡ Some level → IsTrue level.top.kept
-            → IsKeptLayer (R.reading self.now.on.now.reader.now) self.now.on.now.book.now (layers_of self.now.table.now.levels.items) (layer_of level) }
+        requires sight { ListsValues (R.reading self.now.on.now.reader.now) self.now.on.now.book.now
+            self.now.on.now.sight.now }
+        ensures { IsTrue result → (level : Level)
+            → slice_get self.now.table.now.levels.items number ≡ Some level → IsTrue level.top.kept
+            → IsKeptLayer (R.reading self.now.on.now.reader.now) self.now.on.now.book.now
+            (layers_of self.now.table.now.levels.items) (layer_of level) }
     {
         match self.level(number) {
             Some(level) => self.level_is_kept(level),
@@ -117,9 +128,11 @@ impl<R: Reader> Closure<'_, R> {
 
     // Whether a level is kept, or isn't said to be.
     fn level_is_kept(&self, level: &Level) -> bool
-        requires sight { ListsValues (R.reading self.now.on.now.reader.now) self.now.on.now.book.now self.now.on.now.sight.now }
+        requires sight { ListsValues (R.reading self.now.on.now.reader.now) self.now.on.now.book.now
+            self.now.on.now.sight.now }
         ensures { IsTrue result → IsTrue level.now.top.kept
-            → IsKeptLayer (R.reading self.now.on.now.reader.now) self.now.on.now.book.now (layers_of self.now.table.now.levels.items) (layer_of level.now) }
+            → IsKeptLayer (R.reading self.now.on.now.reader.now) self.now.on.now.book.now
+            (layers_of self.now.table.now.levels.items) (layer_of level.now) }
     {
         if !level.top.kept {
             return true;
@@ -132,8 +145,10 @@ impl<R: Reader> Closure<'_, R> {
 
     // Whether no answered call takes the last word, if there is one.
     fn is_free(&self, last: Option<u64>) -> bool
-        requires sight { ListsValues (R.reading self.now.on.now.reader.now) self.now.on.now.book.now self.now.on.now.sight.now }
-        ensures { IsTrue result → IfSome last (IsNeverTaken (R.reading self.now.on.now.reader.now) self.now.on.now.book.now) }
+        requires sight { ListsValues (R.reading self.now.on.now.reader.now) self.now.on.now.book.now
+            self.now.on.now.sight.now }
+        ensures { IsTrue result → IfSome last
+            (IsNeverTaken (R.reading self.now.on.now.reader.now) self.now.on.now.book.now) }
     {
         match last {
             Some(value) => !self.on.is_taken(value),
@@ -143,7 +158,8 @@ impl<R: Reader> Closure<'_, R> {
 
     // Whether all of these levels are said to be kept.
     fn are_said_kept(&self, parents: &[usize]) -> bool
-        ensures { IsTrue result → (p : ℕ) → IsOneOf parents.now p → IsSaidKept (layers_of self.now.table.now.levels.items) p }
+        ensures { IsTrue result → (p : ℕ) → IsOneOf parents.now p
+            → IsSaidKept (layers_of self.now.table.now.levels.items) p }
     {
         for k in 0..parents.len() {
             if !self.is_said_kept(parents[k]) {
@@ -165,11 +181,15 @@ impl<R: Reader> Closure<'_, R> {
 
     // Whether each of the nodes leads to them alone.
     fn are_closed(&self) -> bool
-        requires sight { ListsValues (R.reading self.now.on.now.reader.now) self.now.on.now.book.now self.now.on.now.sight.now }
+        requires sight { ListsValues (R.reading self.now.on.now.reader.now) self.now.on.now.book.now
+            self.now.on.now.sight.now }
         requires open { HasOneOpen self.now.on.now.book.now }
-        ensures { IsTrue result → (k : ℕ) (node : Node) → slice_get self.now.table.now.nodes.keys k ≡ Some node
-            → IsClosedAt (R.reading self.now.on.now.reader.now) self.now.on.now.book.now (layers_of self.now.table.now.levels.items)
-            (nodes_of self.now.on.now.book.now self.now.table.now.nodes.keys) node.level (cut_at self.now.on.now.book.now node) }
+        ensures { IsTrue result → (k : ℕ) (node : Node)
+            → slice_get self.now.table.now.nodes.keys k ≡ Some node
+            → IsClosedAt (R.reading self.now.on.now.reader.now) self.now.on.now.book.now
+            (layers_of self.now.table.now.levels.items)
+            (nodes_of self.now.on.now.book.now self.now.table.now.nodes.keys) node.level
+            (cut_at self.now.on.now.book.now node) }
     {
         for place in 0..self.table.nodes.len() {
             if !self.is_closed_at(place) {
@@ -181,11 +201,15 @@ impl<R: Reader> Closure<'_, R> {
 
     // Whether the node at a place leads to them alone.
     fn is_closed_at(&self, place: usize) -> bool
-        requires sight { ListsValues (R.reading self.now.on.now.reader.now) self.now.on.now.book.now self.now.on.now.sight.now }
+        requires sight { ListsValues (R.reading self.now.on.now.reader.now) self.now.on.now.book.now
+            self.now.on.now.sight.now }
         requires open { HasOneOpen self.now.on.now.book.now }
-        ensures { IsTrue result → (node : Node) → slice_get self.now.table.now.nodes.keys place ≡ Some node
-            → IsClosedAt (R.reading self.now.on.now.reader.now) self.now.on.now.book.now (layers_of self.now.table.now.levels.items)
-            (nodes_of self.now.on.now.book.now self.now.table.now.nodes.keys) node.level (cut_at self.now.on.now.book.now node) }
+        ensures { IsTrue result → (node : Node)
+            → slice_get self.now.table.now.nodes.keys place ≡ Some node
+            → IsClosedAt (R.reading self.now.on.now.reader.now) self.now.on.now.book.now
+            (layers_of self.now.table.now.levels.items)
+            (nodes_of self.now.on.now.book.now self.now.table.now.nodes.keys) node.level
+            (cut_at self.now.on.now.book.now node) }
     {
         match self.table.nodes.get_index(place) {
             Some(node) => self.is_closed(node),
@@ -195,11 +219,14 @@ impl<R: Reader> Closure<'_, R> {
 
     // Whether a node leads to them alone.
     fn is_closed(&self, node: &Node) -> bool
-        requires sight { ListsValues (R.reading self.now.on.now.reader.now) self.now.on.now.book.now self.now.on.now.sight.now }
+        requires sight { ListsValues (R.reading self.now.on.now.reader.now) self.now.on.now.book.now
+            self.now.on.now.sight.now }
         requires open { HasOneOpen self.now.on.now.book.now }
         ensures { IsTrue result
-            → IsClosedAt (R.reading self.now.on.now.reader.now) self.now.on.now.book.now (layers_of self.now.table.now.levels.items)
-            (nodes_of self.now.on.now.book.now self.now.table.now.nodes.keys) node.now.level (cut_at self.now.on.now.book.now node.now) }
+            → IsClosedAt (R.reading self.now.on.now.reader.now) self.now.on.now.book.now
+            (layers_of self.now.table.now.levels.items)
+            (nodes_of self.now.on.now.book.now self.now.table.now.nodes.keys) node.now.level
+            (cut_at self.now.on.now.book.now node.now) }
     {
         let callers = self.on.book.callers() as usize;
         let Some(level) = self.level(node.level) else {
@@ -217,8 +244,11 @@ impl<R: Reader> Closure<'_, R> {
         requires all { MarksAllNext self.now.on.now.book.now look.now.cut look.now.all }
         requires fewer { IsMarkedWithin look.now.marks look.now.all }
         requires wide { length look.now.cut ≡ length self.now.on.now.book.now }
-        ensures { IsTrue result → (i : ℕ) → IsMarked look.now.marks i → IsFollowed (R.reading self.now.on.now.reader.now) self.now.on.now.book.now (layers_of self.now.table.now.levels.items)
-            (nodes_of self.now.on.now.book.now self.now.table.now.nodes.keys) node.now.level (layer_of level.now) look.now.cut (next_call look.now.cut i) }
+        ensures { IsTrue result → (i : ℕ) → IsMarked look.now.marks i
+            → IsFollowed (R.reading self.now.on.now.reader.now) self.now.on.now.book.now
+            (layers_of self.now.table.now.levels.items)
+            (nodes_of self.now.on.now.book.now self.now.table.now.nodes.keys) node.now.level
+            (layer_of level.now) look.now.cut (next_call look.now.cut i) }
     {
         for caller in 0..self.on.book.callers() {
             if !self.caller_is_followed(node, level, look, caller) {
@@ -235,8 +265,11 @@ impl<R: Reader> Closure<'_, R> {
         requires fewer { IsMarkedWithin look.now.marks look.now.all }
         requires caller { caller < length self.now.on.now.book.now }
         requires wide { length look.now.cut ≡ length self.now.on.now.book.now }
-        ensures { IsTrue result → IsMarked look.now.marks caller → IsFollowed (R.reading self.now.on.now.reader.now) self.now.on.now.book.now (layers_of self.now.table.now.levels.items)
-            (nodes_of self.now.on.now.book.now self.now.table.now.nodes.keys) node.now.level (layer_of level.now) look.now.cut (next_call look.now.cut caller) }
+        ensures { IsTrue result → IsMarked look.now.marks caller
+            → IsFollowed (R.reading self.now.on.now.reader.now) self.now.on.now.book.now
+            (layers_of self.now.table.now.levels.items)
+            (nodes_of self.now.on.now.book.now self.now.table.now.nodes.keys) node.now.level
+            (layer_of level.now) look.now.cut (next_call look.now.cut caller) }
     {
         if !look.marks.has(caller) {
             return true;
@@ -253,8 +286,10 @@ impl<R: Reader> Closure<'_, R> {
         requires caller { call.caller < length self.now.on.now.book.now }
         requires call { IsCall self.now.on.now.book.now call }
         requires number { call.number ≡ slice_index look.now.cut call.caller }
-        ensures { IsTrue result → IsFollowed (R.reading self.now.on.now.reader.now) self.now.on.now.book.now (layers_of self.now.table.now.levels.items)
-            (nodes_of self.now.on.now.book.now self.now.table.now.nodes.keys) node.now.level (layer_of level.now) look.now.cut call }
+        ensures { IsTrue result → IsFollowed (R.reading self.now.on.now.reader.now)
+            self.now.on.now.book.now (layers_of self.now.table.now.levels.items)
+            (nodes_of self.now.on.now.book.now self.now.table.now.nodes.keys) node.now.level
+            (layer_of level.now) look.now.cut call }
     {
         if self.on.shows_another(level.top.last, call) {
             return true;
@@ -275,8 +310,10 @@ impl<R: Reader> Closure<'_, R> {
         requires wide { length look.now.cut ≡ length self.now.on.now.book.now }
         requires caller { call.caller < length self.now.on.now.book.now }
         requires call { IsCall self.now.on.now.book.now call }
-        ensures { IsTrue result → IsServed (R.reading self.now.on.now.reader.now) self.now.on.now.book.now (layers_of self.now.table.now.levels.items)
-            (nodes_of self.now.on.now.book.now self.now.table.now.nodes.keys) node.now.level (layer_of level.now) look.now.cut call }
+        ensures { IsTrue result → IsServed (R.reading self.now.on.now.reader.now)
+            self.now.on.now.book.now (layers_of self.now.table.now.levels.items)
+            (nodes_of self.now.on.now.book.now self.now.table.now.nodes.keys) node.now.level
+            (layer_of level.now) look.now.cut call }
     {
         for caller in 0..self.on.book.callers() {
             if self.serves(node, level, look, caller, call) {
@@ -286,7 +323,8 @@ impl<R: Reader> Closure<'_, R> {
         false
     }
 
-    // Whether the next call of a caller may come next, serves for another call, and leads to the nodes.
+    // Whether the next call of a caller may come next, serves for another call, and leads to the
+    // nodes.
     fn serves(&self, node: &Node, level: &Level, look: &Look, caller: u32, call: Call) -> bool
         requires cut { look.now.cut ≡ cut_at self.now.on.now.book.now node.now }
         requires all { MarksAllNext self.now.on.now.book.now look.now.cut look.now.all }
@@ -294,8 +332,10 @@ impl<R: Reader> Closure<'_, R> {
         requires its_caller { caller < length self.now.on.now.book.now }
         requires caller { call.caller < length self.now.on.now.book.now }
         requires call { IsCall self.now.on.now.book.now call }
-        ensures { IsTrue result → IsServed (R.reading self.now.on.now.reader.now) self.now.on.now.book.now (layers_of self.now.table.now.levels.items)
-            (nodes_of self.now.on.now.book.now self.now.table.now.nodes.keys) node.now.level (layer_of level.now) look.now.cut call }
+        ensures { IsTrue result → IsServed (R.reading self.now.on.now.reader.now)
+            self.now.on.now.book.now (layers_of self.now.table.now.levels.items)
+            (nodes_of self.now.on.now.book.now self.now.table.now.nodes.keys) node.now.level
+            (layer_of level.now) look.now.cut call }
     {
         if !look.all.has(caller) {
             return false;
@@ -314,8 +354,10 @@ impl<R: Reader> Closure<'_, R> {
         requires caller { call.caller < length self.now.on.now.book.now }
         requires call { IsCall self.now.on.now.book.now call }
         requires number { call.number ≡ slice_index look.now.cut call.caller }
-        ensures { IsTrue result → CallLeads (R.reading self.now.on.now.reader.now) self.now.on.now.book.now (layers_of self.now.table.now.levels.items)
-            (nodes_of self.now.on.now.book.now self.now.table.now.nodes.keys) node.now.level (layer_of level.now) look.now.cut call }
+        ensures { IsTrue result → CallLeads (R.reading self.now.on.now.reader.now)
+            self.now.on.now.book.now (layers_of self.now.table.now.levels.items)
+            (nodes_of self.now.on.now.book.now self.now.table.now.nodes.keys) node.now.level
+            (layer_of level.now) look.now.cut call }
     {
         let _callers = self.on.book.callers();
         let counts = raised(&node.counts, call.caller);
@@ -328,8 +370,10 @@ impl<R: Reader> Closure<'_, R> {
 
     // Whether a put of a value leads from a level to one of the nodes.
     fn put_leads(&self, level: usize, value: u64, counts: [u16; MAX_CALLERS]) -> bool
-        ensures { IsTrue result → (m : ℕ) × LiesOn (layers_of self.now.table.now.levels.items) m level value
-            × nodes_of self.now.on.now.book.now self.now.table.now.nodes.keys m (take (length self.now.on.now.book.now) counts) }
+        ensures { IsTrue result → (m : ℕ)
+            × LiesOn (layers_of self.now.table.now.levels.items) m level value
+            × nodes_of self.now.on.now.book.now self.now.table.now.nodes.keys m
+            (take (length self.now.on.now.book.now) counts) }
     {
         if self.put_leads_to(level, value, counts, true) {
             return true;
@@ -339,8 +383,10 @@ impl<R: Reader> Closure<'_, R> {
 
     // Whether it leads to one with this answer to whether the level is kept.
     fn put_leads_to(&self, level: usize, value: u64, counts: [u16; MAX_CALLERS], kept: bool) -> bool
-        ensures { IsTrue result → (m : ℕ) × LiesOn (layers_of self.now.table.now.levels.items) m level value
-            × nodes_of self.now.on.now.book.now self.now.table.now.nodes.keys m (take (length self.now.on.now.book.now) counts) }
+        ensures { IsTrue result → (m : ℕ)
+            × LiesOn (layers_of self.now.table.now.levels.items) m level value
+            × nodes_of self.now.on.now.book.now self.now.table.now.nodes.keys m
+            (take (length self.now.on.now.book.now) counts) }
     {
         let top = Top {
             last: Some(value),
@@ -352,10 +398,13 @@ impl<R: Reader> Closure<'_, R> {
         }
     }
 
-    // Whether a level has this last word and another level below it, and is one of the nodes after these counts.
+    // Whether a level has this last word and another level below it, and is one of the nodes after
+    // these counts.
     fn leads_to(&self, above: usize, level: usize, value: u64, counts: [u16; MAX_CALLERS]) -> bool
-        ensures { IsTrue result → LiesOn (layers_of self.now.table.now.levels.items) above level value
-            × nodes_of self.now.on.now.book.now self.now.table.now.nodes.keys above (take (length self.now.on.now.book.now) counts) }
+        ensures { IsTrue result
+            → LiesOn (layers_of self.now.table.now.levels.items) above level value
+            × nodes_of self.now.on.now.book.now self.now.table.now.nodes.keys above
+            (take (length self.now.on.now.book.now) counts) }
     {
         if !self.lies_on(above, level, value) {
             return false;
@@ -365,7 +414,8 @@ impl<R: Reader> Closure<'_, R> {
 
     // Whether a level has this last word, and another level below it.
     fn lies_on(&self, above: usize, level: usize, value: u64) -> bool
-        ensures { IsTrue result → LiesOn (layers_of self.now.table.now.levels.items) above level value }
+        ensures { IsTrue result
+            → LiesOn (layers_of self.now.table.now.levels.items) above level value }
     {
         let Some(upper) = self.level(above) else {
             return false;
@@ -376,10 +426,12 @@ impl<R: Reader> Closure<'_, R> {
         is_among(&upper.parents, level)
     }
 
-    // Whether a take leads from a level to the nodes: to each of the levels below it, and from the bottom nowhere
-    // else.
+    // Whether a take leads from a level to the nodes: to each of the levels below it, and from the
+    // bottom nowhere else.
     fn take_leads(&self, place: usize, level: &Level, counts: [u16; MAX_CALLERS]) -> bool
-        ensures { IsTrue result → TakeLeads (nodes_of self.now.on.now.book.now self.now.table.now.nodes.keys) place level.now.top.last
+        ensures { IsTrue result
+            → TakeLeads (nodes_of self.now.on.now.book.now self.now.table.now.nodes.keys) place
+            level.now.top.last
             level.now.parents.items (take (length self.now.on.now.book.now) counts) }
     {
         match level.top.last {
@@ -391,7 +443,8 @@ impl<R: Reader> Closure<'_, R> {
     // Whether all of these levels after these counts are among the nodes.
     fn has_all(&self, parents: &[usize], counts: [u16; MAX_CALLERS]) -> bool
         ensures { IsTrue result → (p : ℕ) → IsOneOf parents.now p
-            → nodes_of self.now.on.now.book.now self.now.table.now.nodes.keys p (take (length self.now.on.now.book.now) counts) }
+            → nodes_of self.now.on.now.book.now self.now.table.now.nodes.keys p
+            (take (length self.now.on.now.book.now) counts) }
     {
         for k in 0..parents.len() {
             if !self.has(parents[k], counts) {

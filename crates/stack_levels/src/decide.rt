@@ -15,15 +15,15 @@ use queue_pairs::places_of;
 use std::alloc::Global;
 use value_pruning::sight_of_values;
 
-/// What the levels of a stack's book say of it: a search of pairs of a level and a cut, as of a pushdown system
-/// (Bouajjani, Esparza and Maler 1997), so that no list is kept.
+/// What the levels of a stack's book say of it: a search of pairs of a level and a cut, as of a
+/// pushdown system (Bouajjani, Esparza and Maler 1997), so that no list is kept.
 ///
-/// Levels serve where values are put in more than once, so that many lists end alike: where all values differ, nothing
-/// is said, and a search of orders has few lists at each cut.
+/// Levels serve where values are put in more than once, so that many lists end alike: where all
+/// values differ, nothing is said, and a search of orders has few lists at each cut.
 ///
-/// The search isn't trusted: the order that it finds is judged, and one that isn't legal isn't delivered; and the
-/// pairs that it found are looked at once more. No clause says how often anything is said: that costs time
-/// alone.
+/// The search isn't trusted: the order that it finds is judged, and one that isn't legal isn't
+/// delivered; and the pairs that it found are looked at once more. No clause says how often
+/// anything is said: that costs time alone.
 pub fn decide_stack<S: SeqObject + Reader>(
     alloc: Global,
     stack: &S,

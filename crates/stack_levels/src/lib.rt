@@ -1,5 +1,6 @@
-//! Stacks decided by levels, without a search of orders: an order that is found is judged, and there is none where all
-//! that may come next at each pair of a level and a cut leads to one of the pairs.
+//! Stacks decided by levels, without a search of orders: an order that is found is judged, and
+//! there is none where all that may come next at each pair of a level and a cut leads to one of the
+//! pairs.
 #![tactic(auto)]
 
 mod closure;

@@ -40,7 +40,8 @@ pub fn calls_to(alloc: Global, table: &LevelTable, place: usize) -> Result<Vec<C
     Ok(calls)
 }
 
-// The last call that leads to a node in its level, and what leads there. The calls are read from the last one on.
+// The last call that leads to a node in its level, and what leads there. The calls are read from
+// the last one on.
 fn read_in_level(
     table: &LevelTable,
     place: usize,

@@ -39,8 +39,8 @@ impl<R> Drop for LevelSearch<'_, R> {
     }
 }
 
-/// The levels that were found, the numbers of the nodes that are still to be looked at, and how often something led to
-/// a node.
+/// The levels that were found, the numbers of the nodes that are still to be looked at, and how
+/// often something led to a node.
 #[derive(Drop)]
 struct Progress {
     table: LevelTable,
@@ -66,7 +66,8 @@ struct Turn {
 impl<R: Reader> LevelSearch<'_, R> {
     /// Looks for a node after all answered calls.
     pub fn run(&self) -> Result<Found, NoMemory>
-        requires sight { ListsValues (R.reading self.now.on.now.reader.now) self.now.on.now.book.now self.now.on.now.sight.now }
+        requires sight { ListsValues (R.reading self.now.on.now.reader.now) self.now.on.now.book.now
+            self.now.on.now.sight.now }
         requires open { HasOneOpen self.now.on.now.book.now }
     {
         let mut progress = Progress {
@@ -90,7 +91,8 @@ impl<R: Reader> LevelSearch<'_, R> {
 
     // Goes on from a node by each call that is to be tried, and tells whether none is left there.
     fn look_at(&self, progress: &mut Progress, place: usize) -> Result<bool, NoMemory>
-        requires sight { ListsValues (R.reading self.now.on.now.reader.now) self.now.on.now.book.now self.now.on.now.sight.now }
+        requires sight { ListsValues (R.reading self.now.on.now.reader.now) self.now.on.now.book.now
+            self.now.on.now.sight.now }
         requires open { HasOneOpen self.now.on.now.book.now }
     {
         let Some(node) = progress.table.nodes.get_index(place).copied() else {
@@ -132,8 +134,8 @@ impl<R: Reader> LevelSearch<'_, R> {
         Ok(turns)
     }
 
-    // Adds a call to those that are to be tried, unless it leaves the list, or may not come there, or another one
-    // serves for it.
+    // Adds a call to those that are to be tried, unless it leaves the list, or may not come there,
+    // or another one serves for it.
     fn consider(&self, turns: &mut Vec<Turn>, top: Top, call: Call) -> Result<(), NoMemory> {
         if !self.is_call(call) {
             return Ok(());
@@ -165,7 +167,8 @@ impl<R: Reader> LevelSearch<'_, R> {
         call.caller < self.on.book.callers() && call.number < self.on.book.calls(call.caller)
     }
 
-    // A call and its turn: the calls with the least views first, takes before puts, and unanswered calls last.
+    // A call and its turn: the calls with the least views first, takes before puts, and unanswered
+    // calls last.
     fn turn_of(&self, call: Call) -> Turn {
         if !self.is_call(call) || call.number >= self.on.book.answers(call.caller) {
             return Turn {
@@ -185,7 +188,8 @@ impl<R: Reader> LevelSearch<'_, R> {
 
     // Goes on from a node by a call.
     fn follow(&self, progress: &mut Progress, here: Here, call: Call) -> Result<(), NoMemory>
-        requires sight { ListsValues (R.reading self.now.on.now.reader.now) self.now.on.now.book.now self.now.on.now.sight.now }
+        requires sight { ListsValues (R.reading self.now.on.now.reader.now) self.now.on.now.book.now
+            self.now.on.now.sight.now }
     {
         if !self.is_call(call) {
             return Ok(());
@@ -211,7 +215,8 @@ impl<R: Reader> LevelSearch<'_, R> {
         }
     }
 
-    // Goes on by a put: to the level that it shares with all puts of its value that lead to one cut.
+    // Goes on by a put: to the level that it shares with all puts of its value that lead to one
+    // cut.
     fn begin(
         &self,
         progress: &mut Progress,
@@ -220,7 +225,8 @@ impl<R: Reader> LevelSearch<'_, R> {
         put: Call,
         counts: [u16; MAX_CALLERS],
     ) -> Result<(), NoMemory>
-        requires sight { ListsValues (R.reading self.now.on.now.reader.now) self.now.on.now.book.now self.now.on.now.sight.now }
+        requires sight { ListsValues (R.reading self.now.on.now.reader.now) self.now.on.now.book.now
+            self.now.on.now.sight.now }
     {
         let top = Top {
             last: Some(value),

@@ -29,7 +29,8 @@ impl<R> Drop for StackBook<'_, R> {
     }
 }
 
-/// What may come next after a cut: the callers whose next calls may, and those of them that have to be tried.
+/// What may come next after a cut: the callers whose next calls may, and those of them that have to
+/// be tried.
 #[derive(Drop)]
 pub struct Look {
     pub cut: Cut,
@@ -38,12 +39,13 @@ pub struct Look {
 }
 
 impl<R: Reader> StackBook<'_, R> {
-    /// What may come next after the calls of a cut, at a list with this top; nothing is said where the cut holds all
-    /// answered calls.
+    /// What may come next after the calls of a cut, at a list with this top; nothing is said where
+    /// the cut holds all answered calls.
     pub fn look(&self, counts: &[u16], top: Top) -> Option<Look>
-        // The sight lists each call of the book that puts in a value, and each answered one that takes
-        // it out.
-        requires sight { ListsValues (R.reading self.now.reader.now) self.now.book.now self.now.sight.now }
+        // The sight lists each call of the book that puts in a value, and each answered one that
+        // takes it out.
+        requires sight { ListsValues (R.reading self.now.reader.now) self.now.book.now
+            self.now.sight.now }
         // Each view of the book holds at most one unanswered call of each caller.
         requires open { HasOneOpen self.now.book.now }
         // The cut has a count for each caller of the book.
@@ -56,7 +58,8 @@ impl<R: Reader> StackBook<'_, R> {
         ensures fewer { IfSome result (λ look. IsMarkedWithin look.marks look.all) }
         // For each object that gives its last value first, and each list with this top, those that
         // have to be tried suffice.
-        ensures suffice { IfSome result (λ look. (next : List ℕ → ℕ → List ℕ × ℕ) (bound : ℕ) (list : List ℕ)
+        ensures suffice { IfSome result
+            (λ look. (next : List ℕ → ℕ → List ℕ × ℕ) (bound : ℕ) (list : List ℕ)
             → GivesLastFirst (R.reading self.now.reader.now) next bound
             → HasTop (R.reading self.now.reader.now) self.now.book.now look.cut bound top list
             → MarksSuffice self.now.book.now next look.cut list look.marks) }
@@ -75,7 +78,8 @@ impl<R: Reader> StackBook<'_, R> {
         // The call is one of the book's.
         requires caller { call.caller < length self.now.book.now }
         requires call { IsCall self.now.book.now call }
-        ensures { IsTrue result → ShowsAnother (R.reading self.now.reader.now) self.now.book.now last call }
+        ensures { IsTrue result
+            → ShowsAnother (R.reading self.now.reader.now) self.now.book.now last call }
     {
         if call.number >= self.book.answers(call.caller) {
             return false;
@@ -91,7 +95,8 @@ impl<R: Reader> StackBook<'_, R> {
         // The call is one of the book's.
         requires caller { call.caller < length self.now.book.now }
         requires call { IsCall self.now.book.now call }
-        ensures { IsTrue result → LeavesTop (R.reading self.now.reader.now) self.now.book.now last call }
+        ensures { IsTrue result
+            → LeavesTop (R.reading self.now.reader.now) self.now.book.now last call }
     {
         if call.number < self.book.answers(call.caller) {
             return false;
@@ -110,7 +115,8 @@ impl<R: Reader> StackBook<'_, R> {
         requires one { IsCall self.now.book.now one }
         requires other_caller { other.caller < length self.now.book.now }
         requires other { IsCall self.now.book.now other }
-        ensures { IsTrue result → ServesFor (R.reading self.now.reader.now) self.now.book.now last one other }
+        ensures { IsTrue result
+            → ServesFor (R.reading self.now.reader.now) self.now.book.now last one other }
     {
         if one.caller == other.caller {
             return false;
@@ -129,11 +135,13 @@ impl<R: Reader> StackBook<'_, R> {
 
     /// Whether an answered call takes a value.
     pub fn is_taken(&self, value: u64) -> bool
-        // The sight lists each call of the book that puts in a value, and each answered one that takes
-        // it out.
-        requires sight { ListsValues (R.reading self.now.reader.now) self.now.book.now self.now.sight.now }
+        // The sight lists each call of the book that puts in a value, and each answered one that
+        // takes it out.
+        requires sight { ListsValues (R.reading self.now.reader.now) self.now.book.now
+            self.now.sight.now }
         // `false` is answered only where no answered call takes the value.
-        ensures { result ≡ false → IsNeverTaken (R.reading self.now.reader.now) self.now.book.now value }
+        ensures { result ≡ false
+            → IsNeverTaken (R.reading self.now.reader.now) self.now.book.now value }
     {
         let none = Cut::zero(self.book.callers());
         is_read(self.reader, self.sight, self.book, &none, value)
@@ -141,7 +149,8 @@ impl<R: Reader> StackBook<'_, R> {
 
     // Whether an answered call takes the last word.
     fn takes_last(&self, last: Option<u64>, call: Call) -> bool
-        ensures { IsTrue result → (v : ℕ) × (last ≡ Some v) × TakesOut (R.reading self.now.reader.now) self.now.book.now call v }
+        ensures { IsTrue result → (v : ℕ) × (last ≡ Some v)
+            × TakesOut (R.reading self.now.reader.now) self.now.book.now call v }
     {
         match last {
             Some(value) => self.takes(value, call),
@@ -151,7 +160,8 @@ impl<R: Reader> StackBook<'_, R> {
 
     // Whether an answered call takes a value.
     fn takes(&self, value: u64, call: Call) -> bool
-        ensures { IsTrue result → TakesOut (R.reading self.now.reader.now) self.now.book.now call value }
+        ensures { IsTrue result
+            → TakesOut (R.reading self.now.reader.now) self.now.book.now call value }
     {
         match value_taken(self.reader, self.book, call) {
             Some(shown) => shown == value,
@@ -159,7 +169,8 @@ impl<R: Reader> StackBook<'_, R> {
         }
     }
 
-    // Whether two answered calls have one reply, and the first has a view within that of the second.
+    // Whether two answered calls have one reply, and the first has a view within that of the
+    // second.
     fn are_alike(&self, one: Call, other: Call) -> bool
         requires one { IsAnswered self.now.book.now one }
         requires other { IsAnswered self.now.book.now other }

@@ -13,7 +13,8 @@ pub struct Node {
     pub counts: [u16; MAX_CALLERS],
 }
 
-/// What a level is shared by: all puts of one value that lead to one cut, with one answer to whether all below is kept.
+/// What a level is shared by: all puts of one value that lead to one cut, with one answer to
+/// whether all below is kept.
 #[derive(Clone, Copy, Debug, PartialEq, Eq, Hash)]
 pub struct Beginning {
     pub counts: [u16; MAX_CALLERS],
@@ -27,7 +28,8 @@ pub struct Origin {
     pub put: Call,
 }
 
-/// A take that ended a level, the number of the node that it comes from, and the counts that it leads to.
+/// A take that ended a level, the number of the node that it comes from, and the counts that it
+/// leads to.
 #[derive(Clone, Copy)]
 pub struct Ending {
     pub node: usize,
@@ -35,8 +37,9 @@ pub struct Ending {
     pub counts: [u16; MAX_CALLERS],
 }
 
-/// A level: what is known of the lists that it ends, the levels that may lie below it with the puts that come from each,
-/// and the takes that end it. The bottom has no last word, and no levels below it.
+/// A level: what is known of the lists that it ends, the levels that may lie below it with the puts
+/// that come from each, and the takes that end it. The bottom has no last word, and no levels below
+/// it.
 #[derive(Drop)]
 pub struct Level {
     pub top: Top,
@@ -52,12 +55,13 @@ pub enum Reached {
     Begins,
     /// By a read-only call, from another node of the level.
     Stays(usize, Call),
-    /// From a node of the level by a put, and by a take that ended the level which the put began, from this node.
+    /// From a node of the level by a put, and by a take that ended the level which the put began,
+    /// from this node.
     Returns(Origin, usize, Call),
 }
 
-/// The levels of a search and its nodes. The bottom is the first level; a level's number is that of its beginning, and
-/// a node's number that of how it was reached.
+/// The levels of a search and its nodes. The bottom is the first level; a level's number is that of
+/// its beginning, and a node's number that of how it was reached.
 #[derive(Drop)]
 pub struct LevelTable {
     pub levels: Vec<Level>,

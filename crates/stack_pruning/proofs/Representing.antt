@@ -14,13 +14,22 @@ use Rattle.stack_pruning.specs.declared.top.Top.{Top}
 use Rattle.stack_pruning.specs.LastFirst.{IsSmall, Lacks, EndsWith, TakesLast, PutsPaired, IsKept, PutsKept, PutsNeedless, IsItem, HasTop, StandFor}
 use Rattle.stack_pruning.proofs.Stepping.{all-prefix}
 
-pub takes_last : (reading : Reading) (book : List Page) (cut ends others list : List ℕ) (look : Bool) (caller : ℕ)
-    → StandFor reading book cut ends others look list → TakesLast reading book cut ends caller → TakesLast reading book cut list caller
+pub takes_last : (reading : Reading) (book : List Page) (cut ends others list : List ℕ)
+    (look : Bool) (caller : ℕ)
+    → StandFor reading book cut ends others look list → TakesLast reading book cut ends caller
+    → TakesLast reading book cut list caller
 takes_last reading book cut ends others list look caller stands it =
-    record { value = it.value; last = stands.last it.value it.last; no_more = it.no_more; takes = it.takes }
+    record {
+      value = it.value;
+      last = stands.last it.value it.last;
+      no_more = it.no_more;
+      takes = it.takes;
+    }
 
-pub puts_paired_in : (reading : Reading) (book : List Page) (cut ends others list : List ℕ) (look : Bool) (caller : ℕ)
-    → StandFor reading book cut ends others look list → PutsPaired reading book cut others caller → PutsPaired reading book cut list caller
+pub puts_paired_in : (reading : Reading) (book : List Page) (cut ends others list : List ℕ)
+    (look : Bool) (caller : ℕ)
+    → StandFor reading book cut ends others look list → PutsPaired reading book cut others caller
+    → PutsPaired reading book cut list caller
 puts_paired_in reading book cut ends others list look caller stands it = record {
   value = it.value;
   taker = it.taker;
@@ -30,64 +39,83 @@ puts_paired_in reading book cut ends others list look caller stands it = record 
   takes = it.takes;
 }
 
-pub puts_kept : (reading : Reading) (book : List Page) (cut ends others list : List ℕ) (look : Bool) (caller : ℕ) → IsTrue look
-    → StandFor reading book cut ends others look list → PutsKept reading book cut others caller → PutsKept reading book cut list caller
+pub puts_kept : (reading : Reading) (book : List Page) (cut ends others list : List ℕ) (look : Bool)
+    (caller : ℕ) → IsTrue look
+    → StandFor reading book cut ends others look list → PutsKept reading book cut others caller
+    → PutsKept reading book cut list caller
 puts_kept reading book cut ends others list look caller told stands it =
     record { put = it.put; below = stands.kept told it.below; never_empty = it.never_empty }
 
-pub puts_needless : (reading : Reading) (book : List Page) (cut ends others list : List ℕ) (look : Bool) (shown : Option ℕ) (all left : Marks)
+pub puts_needless : (reading : Reading) (book : List Page) (cut ends others list : List ℕ)
+    (look : Bool) (shown : Option ℕ) (all left : Marks)
     → StandFor reading book cut ends others look list
     → ((i : ℕ) → IsMarked all i → IsMarked left i ⊎ PutsNeedless reading book cut ends shown i)
     → (i : ℕ) → IsMarked all i → IsMarked left i ⊎ PutsNeedless reading book cut list shown i
-puts_needless reading book cut ends others list look shown all left stands needless i marked = elim (needless i marked) [
-  | inl kept ↦ inl kept
-  | inr out ↦ elim out.2 [
-    | inl other ↦ inr (out.0, out.1, inl other)
-    | inr last ↦ inr (out.0, out.1, inr (stands.last out.0 last))
-  ]
-]
+puts_needless reading book cut ends others list look shown all left stands needless i marked =
+    elim (needless i marked) [
+      | inl kept ↦ inl kept
+      | inr out ↦ elim out.2 [
+        | inl other ↦ inr (out.0, out.1, inl other)
+        | inr last ↦ inr (out.0, out.1, inr (stands.last out.0 last))
+      ]
+    ]
 
 -- a list stands for itself
-pub stand_for_itself : (reading : Reading) (book : List Page) (cut list : List ℕ) → StandFor reading book cut list list true list
+pub stand_for_itself : (reading : Reading) (book : List Page) (cut list : List ℕ)
+    → StandFor reading book cut list list true list
 stand_for_itself reading book cut list =
     record { last = λ v ends. ends; lacks = λ caller v alone lacks. lacks; kept = λ told all. all }
 
 -- ---- by the top alone
 
-pub small_items : (reading : Reading) (book : List Page) (cut : List ℕ) (bound : ℕ) (list : List ℕ) → AllByRecursion (IsItem reading book cut bound) list → IsSmall bound list
+pub small_items : (reading : Reading) (book : List Page) (cut : List ℕ) (bound : ℕ) (list : List ℕ)
+    → AllByRecursion (IsItem reading book cut bound) list → IsSmall bound list
 small_items reading book cut bound list all =
-    all-weaker (IsItem reading book cut bound) (λ (x : ℕ). x < bound) list (λ (x : ℕ) (item : IsItem reading book cut bound x). item.small) all
+    all-weaker (IsItem reading book cut bound) (λ (x : ℕ). x < bound) list
+    (λ (x : ℕ) (item : IsItem reading book cut bound x). item.small) all
 
 -- a value that a call outside the cut alone puts in is none of the items
-lacks_it : (reading : Reading) (book : List Page) (cut : List ℕ) (bound : ℕ) (list : List ℕ) (caller v : ℕ) → AllByRecursion (IsItem reading book cut bound) list
+lacks_it : (reading : Reading) (book : List Page) (cut : List ℕ) (bound : ℕ) (list : List ℕ)
+    (caller v : ℕ) → AllByRecursion (IsItem reading book cut bound) list
     → PutsInAlone reading book (next_call cut caller) v → Lacks list v
 lacks_it reading book cut bound list caller v all alone =
     all-weaker (IsItem reading book cut bound) (λ (x : ℕ). x ≢ v) list
     (λ (x : ℕ) (item : IsItem reading book cut bound x) (e : x ≡ v).
-    let same : item.put ≡ next_call cut caller = alone.1 item.put (subst (λ (w : ℕ). PutsIn reading book item.put w) e item.puts) in
-    absurd (omega (arith, item.inside, ap (λ (c : Call). get_or cut c.caller 0) same, ap (λ (c : Call). c.number) same)))
+    let same : item.put ≡ next_call cut caller =
+    alone.1 item.put (subst (λ (w : ℕ). PutsIn reading book item.put w) e item.puts) in
+    absurd (omega (
+      arith,
+      item.inside,
+      ap (λ (c : Call). get_or cut c.caller 0) same,
+      ap (λ (c : Call). c.number) same,
+    )))
     all
 
 -- a list of one word ends with it alone, and one of none with none
 ends_with_one : (w v : ℕ) → EndsWith (w ∷ []) v → v ≡ w
 ends_with_one w v ends =
-    (all-prefix (λ (x : ℕ). x ≡ w) ends.0 v (subst (λ (xs : List ℕ). AllByRecursion (λ (x : ℕ). x ≡ w) xs) ends.1 (refl, tt))).1
+    (all-prefix (λ (x : ℕ). x ≡ w) ends.0 v
+    (subst (λ (xs : List ℕ). AllByRecursion (λ (x : ℕ). x ≡ w) xs) ends.1 (refl, tt))).1
 
 ends_with_none : (v : ℕ) → EndsWith [] v → ⊥
-ends_with_none v ends = (all-prefix (λ (x : ℕ). ⊥) ends.0 v (subst (λ (xs : List ℕ). AllByRecursion (λ (x : ℕ). ⊥) xs) ends.1 tt)).1
+ends_with_none v ends = (all-prefix (λ (x : ℕ). ⊥) ends.0 v
+    (subst (λ (xs : List ℕ). AllByRecursion (λ (x : ℕ). ⊥) xs) ends.1 tt)).1
 
 -- the last word stands for each list with the top
-pub stand_for_last : (reading : Reading) (book : List Page) (cut : List ℕ) (bound : ℕ) (top : Top) (list : List ℕ) (w : ℕ) → top.last ≡ Some w
+pub stand_for_last : (reading : Reading) (book : List Page) (cut : List ℕ) (bound : ℕ) (top : Top)
+    (list : List ℕ) (w : ℕ) → top.last ≡ Some w
     → HasTop reading book cut bound top list → StandFor reading book cut (w ∷ []) [] top.kept list
 stand_for_last reading book cut bound top list w is has =
     let last : EndsWith list w = subst (λ (o : Option ℕ). IfSome o (EndsWith list)) is has.last in
     record {
-      last = λ (v : ℕ) (ends : EndsWith (w ∷ []) v). subst (EndsWith list) (sym (ends_with_one w v ends)) last;
+      last = λ (v : ℕ) (ends : EndsWith (w ∷ []) v).
+          subst (EndsWith list) (sym (ends_with_one w v ends)) last;
       lacks = λ caller v alone lacks. lacks_it reading book cut bound list caller v has.items alone;
       kept = λ told all. has.kept told;
     }
 
-pub stand_for_none : (reading : Reading) (book : List Page) (cut : List ℕ) (bound : ℕ) (top : Top) (list : List ℕ)
+pub stand_for_none : (reading : Reading) (book : List Page) (cut : List ℕ) (bound : ℕ) (top : Top)
+    (list : List ℕ)
     → HasTop reading book cut bound top list → StandFor reading book cut [] [] top.kept list
 stand_for_none reading book cut bound top list has =
     record {

@@ -11,7 +11,8 @@ use Rattle.value_pruning.proofs.Placing.{cases_deed}
 use Rattle.stack_pruning.specs.LastFirst.{GivesLastFirst, IsSmall, EndsWith}
 
 -- a list is empty, or it has a last item
-pub cases_end : (list : List ℕ) → (list ≡ []) ⊎ ((prefix : List ℕ) × (x : ℕ) × (list ≡ prefix ++ x ∷ []))
+pub cases_end : (list : List ℕ) → (list ≡ [])
+    ⊎ ((prefix : List ℕ) × (x : ℕ) × (list ≡ prefix ++ x ∷ []))
 cases_end [] = inl refl
 cases_end (y ∷ rest) = elim (cases_end rest) [
   | inl none ↦ inr ([], y, ap (λ (xs : List ℕ). y ∷ xs) none)
@@ -19,24 +20,34 @@ cases_end (y ∷ rest) = elim (cases_end rest) [
 ]
 
 -- what holds of the items of two lists, and of a list's parts
-pub all-append : (P : ℕ → Type 0) (xs : List ℕ) (y : ℕ) → AllByRecursion P xs → P y → AllByRecursion P (xs ++ y ∷ [])
+pub all-append : (P : ℕ → Type 0) (xs : List ℕ) (y : ℕ) → AllByRecursion P xs → P y
+    → AllByRecursion P (xs ++ y ∷ [])
 all-append P [] y all it = (it, tt)
 all-append P (x ∷ xs) y all it = (all.0, all-append P xs y all.1 it)
 
-pub all-prefix : (P : ℕ → Type 0) (xs : List ℕ) (y : ℕ) → AllByRecursion P (xs ++ y ∷ []) → AllByRecursion P xs × P y
+pub all-prefix : (P : ℕ → Type 0) (xs : List ℕ) (y : ℕ) → AllByRecursion P (xs ++ y ∷ [])
+    → AllByRecursion P xs × P y
 all-prefix P [] y all = (tt, all.0)
 all-prefix P (x ∷ xs) y all = let rest = all-prefix P xs y all.1 in ((all.0, rest.0), rest.1)
 
 -- what holds at each index holds of each item
-pub all_by_index : (P : ℕ → Type 0) (list : List ℕ) → ((k : ℕ) → k < length list → P (get_or list k 0)) → AllByRecursion P list
+pub all_by_index : (P : ℕ → Type 0) (list : List ℕ)
+    → ((k : ℕ) → k < length list → P (get_or list k 0)) → AllByRecursion P list
 all_by_index P [] all = tt
-all_by_index P (x ∷ rest) all = (all 0 (omega arith), all_by_index P rest (λ (k : ℕ) (below : k < length rest). all (suc k) (omega (arith, below))))
+all_by_index P (x ∷ rest) all = (
+  all 0 (omega arith),
+  all_by_index P rest (λ (k : ℕ) (below : k < length rest). all (suc k) (omega (arith, below))),
+)
 
 -- a list with items ends with the last one
 pub ends_with_last : (list : List ℕ) (n : ℕ) → length list ≡ n + 1 → EndsWith list (get_or list n 0)
-ends_with_last list n long = (take n list, sym (take_all (n + 1) list (omega (arith, long))) ∙ take_more list n 0 (omega (arith, long)))
+ends_with_last list n long = (
+  take n list,
+  sym (take_all (n + 1) list (omega (arith, long))) ∙ take_more list n 0 (omega (arith, long)),
+)
 
-pub ends_with_before : (list : List ℕ) → length list - 1 < length list → EndsWith list (get_or list (length list - 1) 0)
+pub ends_with_before : (list : List ℕ) → length list - 1 < length list
+    → EndsWith list (get_or list (length list - 1) 0)
 ends_with_before list some = ends_with_last list (length list - 1) (omega (arith, some))
 
 pub put_no_take : (v : ℕ) → Puts v ≡ Takes → ⊥
@@ -45,19 +56,25 @@ put_no_take v e = cc
 pub neither_no_take : Neither ≡ Takes → ⊥
 neither_no_take e = cc
 
--- What an operation makes of two lists that end alike: it changes the end alone, and has one reply. A take shows an item of the end.
-pub record StepsAbove (reading : Reading) (next : List ℕ → ℕ → List ℕ × ℕ) (P : ℕ → Type 0) (op : ℕ) (low other above : List ℕ) : Type 0 where
+-- What an operation makes of two lists that end alike: it changes the end alone, and has one reply.
+-- A take shows an item of the end.
+pub record StepsAbove (reading : Reading) (next : List ℕ → ℕ → List ℕ × ℕ) (P : ℕ → Type 0) (op : ℕ)
+    (low other above : List ℕ) : Type 0 where
   pub new_above : List ℕ
   pub all : AllByRecursion P new_above
   pub one : (next (low ++ above) op).0 ≡ low ++ new_above
   pub two : (next (other ++ above) op).0 ≡ other ++ new_above
   pub reply : (next (low ++ above) op).1 ≡ (next (other ++ above) op).1
-  pub shown : reading.deed op ≡ Takes → (x : ℕ) × P x × (reading.shown (next (low ++ above) op).1 ≡ Some x)
+  pub shown : reading.deed op ≡ Takes → (x : ℕ) × P x
+      × (reading.shown (next (low ++ above) op).1 ≡ Some x)
 
-above-put : (reading : Reading) (next : List ℕ → ℕ → List ℕ × ℕ) (bound : ℕ) → GivesLastFirst reading next bound → (P : ℕ → Type 0) (op v : ℕ) (low other above : List ℕ)
-    → reading.deed op ≡ Puts v → P v → AllByRecursion P above → StepsAbove reading next P op low other above
+above-put : (reading : Reading) (next : List ℕ → ℕ → List ℕ × ℕ) (bound : ℕ)
+    → GivesLastFirst reading next bound → (P : ℕ → Type 0) (op v : ℕ) (low other above : List ℕ)
+    → reading.deed op ≡ Puts v → P v → AllByRecursion P above
+    → StepsAbove reading next P op low other above
 above-put reading next bound is P op v low other above put it all =
-    let no : reading.deed op ≢ Takes = λ (e : reading.deed op ≡ Takes). put_no_take v (sym put ∙ e) in
+    let no : reading.deed op ≢ Takes =
+    λ (e : reading.deed op ≡ Takes). put_no_take v (sym put ∙ e) in
     record {
       new_above = above ++ v ∷ [];
       all = all-append P above v all it;
@@ -67,16 +84,23 @@ above-put reading next bound is P op v low other above put it all =
       shown = λ (e : reading.deed op ≡ Takes). absurd (no e);
     }
 
-above-take : (reading : Reading) (next : List ℕ → ℕ → List ℕ × ℕ) (bound : ℕ) → GivesLastFirst reading next bound → (P : ℕ → Type 0) → ((x : ℕ) → P x → x < bound)
-    → (op x : ℕ) (low other prefix : List ℕ) → reading.deed op ≡ Takes → AllByRecursion P (prefix ++ x ∷ []) → StepsAbove reading next P op low other (prefix ++ x ∷ [])
+above-take : (reading : Reading) (next : List ℕ → ℕ → List ℕ × ℕ) (bound : ℕ)
+    → GivesLastFirst reading next bound → (P : ℕ → Type 0) → ((x : ℕ) → P x → x < bound)
+    → (op x : ℕ) (low other prefix : List ℕ) → reading.deed op ≡ Takes
+    → AllByRecursion P (prefix ++ x ∷ [])
+    → StepsAbove reading next P op low other (prefix ++ x ∷ [])
 above-take reading next bound is P small op x low other prefix takes all =
     let parts = all-prefix P prefix x all in
-    let mine : low ++ (prefix ++ x ∷ []) ≡ (low ++ prefix) ++ x ∷ [] = sym (append_assoc low prefix (x ∷ [])) in
-    let its : other ++ (prefix ++ x ∷ []) ≡ (other ++ prefix) ++ x ∷ [] = sym (append_assoc other prefix (x ∷ [])) in
+    let mine : low ++ (prefix ++ x ∷ []) ≡ (low ++ prefix) ++ x ∷ [] =
+    sym (append_assoc low prefix (x ∷ [])) in
+    let its : other ++ (prefix ++ x ∷ []) ≡ (other ++ prefix) ++ x ∷ [] =
+    sym (append_assoc other prefix (x ∷ [])) in
     let shows : reading.shown (next (low ++ (prefix ++ x ∷ [])) op).1 ≡ Some x
-    = ap (λ (xs : List ℕ). reading.shown (next xs op).1) mine ∙ is.shows (low ++ prefix) x op (small x parts.1) takes in
+    = ap (λ (xs : List ℕ). reading.shown (next xs op).1) mine
+    ∙ is.shows (low ++ prefix) x op (small x parts.1) takes in
     let also : reading.shown (next (other ++ (prefix ++ x ∷ [])) op).1 ≡ Some x
-    = ap (λ (xs : List ℕ). reading.shown (next xs op).1) its ∙ is.shows (other ++ prefix) x op (small x parts.1) takes in
+    = ap (λ (xs : List ℕ). reading.shown (next xs op).1) its
+    ∙ is.shows (other ++ prefix) x op (small x parts.1) takes in
     record {
       new_above = prefix;
       all = parts.0;
@@ -86,10 +110,13 @@ above-take reading next bound is P small op x low other prefix takes all =
       shown = λ e. (x, parts.1, shows);
     }
 
-above-neither : (reading : Reading) (next : List ℕ → ℕ → List ℕ × ℕ) (bound : ℕ) → GivesLastFirst reading next bound → (P : ℕ → Type 0) (op : ℕ) (low other above : List ℕ)
-    → reading.deed op ≡ Neither → AllByRecursion P above → StepsAbove reading next P op low other above
+above-neither : (reading : Reading) (next : List ℕ → ℕ → List ℕ × ℕ) (bound : ℕ)
+    → GivesLastFirst reading next bound → (P : ℕ → Type 0) (op : ℕ) (low other above : List ℕ)
+    → reading.deed op ≡ Neither → AllByRecursion P above
+    → StepsAbove reading next P op low other above
 above-neither reading next bound is P op low other above neither all =
-    let no : reading.deed op ≢ Takes = λ (e : reading.deed op ≡ Takes). neither_no_take (sym neither ∙ e) in
+    let no : reading.deed op ≢ Takes =
+    λ (e : reading.deed op ≡ Takes). neither_no_take (sym neither ∙ e) in
     record {
       new_above = above;
       all = all;
@@ -100,54 +127,72 @@ above-neither reading next bound is P op low other above neither all =
     }
 
 -- An operation changes the end alone, or it takes from what lies below.
-pub steps_above : (reading : Reading) (next : List ℕ → ℕ → List ℕ × ℕ) (bound : ℕ) → GivesLastFirst reading next bound → (P : ℕ → Type 0) → ((x : ℕ) → P x → x < bound)
-    → (op : ℕ) (low other above : List ℕ) → ((v : ℕ) → reading.deed op ≡ Puts v → P v) → AllByRecursion P above
+pub steps_above : (reading : Reading) (next : List ℕ → ℕ → List ℕ × ℕ) (bound : ℕ)
+    → GivesLastFirst reading next bound → (P : ℕ → Type 0) → ((x : ℕ) → P x → x < bound)
+    → (op : ℕ) (low other above : List ℕ) → ((v : ℕ) → reading.deed op ≡ Puts v → P v)
+    → AllByRecursion P above
     → StepsAbove reading next P op low other above ⊎ ((reading.deed op ≡ Takes) × (above ≡ []))
-steps_above reading next bound is P small op low other above puts all = elim (cases_deed (reading.deed op)) [
-  | inl put ↦ inl (above-put reading next bound is P op put.0 low other above put.1 (puts put.0 put.1) all)
-  | inr else ↦ elim else [
-    | inl takes ↦ elim (cases_end above) [
-      | inl none ↦ inr (takes, none)
-      | inr some ↦
-          inl (subst (λ (xs : List ℕ). StepsAbove reading next P op low other xs) (sym some.2)
-          (above-take reading next bound is P small op some.1 low other some.0 takes (subst (λ (xs : List ℕ). AllByRecursion P xs) some.2 all)))
+steps_above reading next bound is P small op low other above puts all =
+    elim (cases_deed (reading.deed op)) [
+      | inl put ↦
+          inl
+          (above-put reading next bound is P op put.0 low other above put.1 (puts put.0 put.1) all)
+      | inr else ↦ elim else [
+        | inl takes ↦ elim (cases_end above) [
+          | inl none ↦ inr (takes, none)
+          | inr some ↦
+              inl (subst (λ (xs : List ℕ). StepsAbove reading next P op low other xs) (sym some.2)
+              (above-take reading next bound is P small op some.1 low other some.0 takes
+              (subst (λ (xs : List ℕ). AllByRecursion P xs) some.2 all)))
+        ]
+        | inr neither ↦ inl (above-neither reading next bound is P op low other above neither all)
+      ]
     ]
-    | inr neither ↦ inl (above-neither reading next bound is P op low other above neither all)
-  ]
-]
 
 -- ---- all items stay below the bound
 
-small-taken : (reading : Reading) (next : List ℕ → ℕ → List ℕ × ℕ) (bound : ℕ) → GivesLastFirst reading next bound → (P : ℕ → Type 0) (list : List ℕ) (op : ℕ)
+small-taken : (reading : Reading) (next : List ℕ → ℕ → List ℕ × ℕ) (bound : ℕ)
+    → GivesLastFirst reading next bound → (P : ℕ → Type 0) (list : List ℕ) (op : ℕ)
     → reading.deed op ≡ Takes → AllByRecursion P list → AllByRecursion P (next list op).0
 small-taken reading next bound is P list op takes all = elim (cases_end list) [
   | inl none ↦
-      let nothing : (next list op).0 ≡ [] = ap (λ (xs : List ℕ). (next xs op).0) none ∙ (is.empty op takes).0 in
+      let nothing : (next list op).0 ≡ [] =
+      ap (λ (xs : List ℕ). (next xs op).0) none ∙ (is.empty op takes).0 in
       subst (λ (xs : List ℕ). AllByRecursion P xs) (sym nothing) tt
   | inr some ↦
-      let left : (next list op).0 ≡ some.0 = ap (λ (xs : List ℕ). (next xs op).0) some.2 ∙ is.take some.0 some.1 op takes in
-      subst (λ (xs : List ℕ). AllByRecursion P xs) (sym left) (all-prefix P some.0 some.1 (subst (λ (xs : List ℕ). AllByRecursion P xs) some.2 all)).0
+      let left : (next list op).0 ≡ some.0 =
+      ap (λ (xs : List ℕ). (next xs op).0) some.2 ∙ is.take some.0 some.1 op takes in
+      subst (λ (xs : List ℕ). AllByRecursion P xs) (sym left)
+      (all-prefix P some.0 some.1 (subst (λ (xs : List ℕ). AllByRecursion P xs) some.2 all)).0
 ]
 
 -- What holds of each item holds after an operation, where it holds of what is put in.
-pub all_next : (reading : Reading) (next : List ℕ → ℕ → List ℕ × ℕ) (bound : ℕ) → GivesLastFirst reading next bound → (P : ℕ → Type 0) (list : List ℕ) (op : ℕ)
-    → ((v : ℕ) → reading.deed op ≡ Puts v → P v) → AllByRecursion P list → AllByRecursion P (next list op).0
+pub all_next : (reading : Reading) (next : List ℕ → ℕ → List ℕ × ℕ) (bound : ℕ)
+    → GivesLastFirst reading next bound → (P : ℕ → Type 0) (list : List ℕ) (op : ℕ)
+    → ((v : ℕ) → reading.deed op ≡ Puts v → P v) → AllByRecursion P list
+    → AllByRecursion P (next list op).0
 all_next reading next bound is P list op puts all = elim (cases_deed (reading.deed op)) [
-  | inl put ↦ subst (λ (xs : List ℕ). AllByRecursion P xs) (sym (is.put list op put.0 put.1)) (all-append P list put.0 all (puts put.0 put.1))
+  | inl put ↦ subst (λ (xs : List ℕ). AllByRecursion P xs) (sym (is.put list op put.0 put.1))
+      (all-append P list put.0 all (puts put.0 put.1))
   | inr other ↦ elim other [
     | inl takes ↦ small-taken reading next bound is P list op takes all
-    | inr neither ↦ subst (λ (xs : List ℕ). AllByRecursion P xs) (sym (is.neither list op neither)) all
+    | inr neither ↦
+        subst (λ (xs : List ℕ). AllByRecursion P xs) (sym (is.neither list op neither)) all
   ]
 ]
 
-small-run : (reading : Reading) (next : List ℕ → ℕ → List ℕ × ℕ) (bound : ℕ) → GivesLastFirst reading next bound → (list : List ℕ) (steps : List (ℕ × ℕ))
+small-run : (reading : Reading) (next : List ℕ → ℕ → List ℕ × ℕ) (bound : ℕ)
+    → GivesLastFirst reading next bound → (list : List ℕ) (steps : List (ℕ × ℕ))
     → IsSmall bound list → IsSmall bound (list_after_run next list steps)
 small-run reading next bound is list [] small = small
 small-run reading next bound is list (step ∷ steps) small =
-    small-run reading next bound is (next list step.0).0 steps (all_next reading next bound is (λ (x : ℕ). x < bound) list step.0 (is.small step.0) small)
+    small-run reading next bound is (next list step.0).0 steps
+    (all_next reading next bound is (λ (x : ℕ). x < bound) list step.0 (is.small step.0) small)
 
 -- Each item of a list that is reached is below the bound.
-pub small_reached : (reading : Reading) (init : List ℕ) (next : List ℕ → ℕ → List ℕ × ℕ) (bound : ℕ) (book : List Page) (cut list : List ℕ) → GivesLastFirst reading next bound
+pub small_reached : (reading : Reading) (init : List ℕ) (next : List ℕ → ℕ → List ℕ × ℕ) (bound : ℕ)
+    (book : List Page) (cut list : List ℕ) → GivesLastFirst reading next bound
     → IsSmall bound init → IsReached init next book cut list → IsSmall bound list
 small_reached reading init next bound book cut list is small reached =
-    subst (λ (xs : List ℕ). IsSmall bound xs) reached.reaches.reached (small-run reading next bound is init (map (step_at book) reached.before) small)
+    subst (λ (xs : List ℕ). IsSmall bound xs) reached.reaches.reached
+    (small-run reading next bound is init (map (step_at book) reached.before) small)

@@ -23,28 +23,39 @@ Lacks list v = AllByRecursion (λ x. x ≢ v) list
 abbrev pub EndsWith : List ℕ → ℕ → Type 0
 EndsWith list v = (below : List ℕ) × (list ≡ below ++ v ∷ [])
 
--- An object that gives its last value first: a put adds its value, below a bound, at the end, and a take gives out the last item.
--- What is no take has the same reply at each list, all takes are one operation, and a value is shown by one reply.
-pub record GivesLastFirst (reading : Reading) (next : List ℕ → ℕ → List ℕ × ℕ) (bound : ℕ) : Type 0 where
+-- An object that gives its last value first: a put adds its value, below a bound, at the end, and a
+-- take gives out the last item. What is no take has the same reply at each list, all takes are one
+-- operation, and a value is shown by one reply.
+pub record GivesLastFirst (reading : Reading) (next : List ℕ → ℕ → List ℕ × ℕ)
+    (bound : ℕ) : Type 0 where
   pub small : (op v : ℕ) → reading.deed op ≡ Puts v → v < bound
-  pub put : (list : List ℕ) (op v : ℕ) → reading.deed op ≡ Puts v → (next list op).0 ≡ list ++ v ∷ []
-  pub take : (list : List ℕ) (x op : ℕ) → reading.deed op ≡ Takes → (next (list ++ x ∷ []) op).0 ≡ list
-  pub shows : (list : List ℕ) (x op : ℕ) → x < bound → reading.deed op ≡ Takes → reading.shown (next (list ++ x ∷ []) op).1 ≡ Some x
-  pub empty : (op : ℕ) → reading.deed op ≡ Takes → ((next [] op).0 ≡ []) × (reading.shown (next [] op).1 ≡ None)
+  pub put : (list : List ℕ) (op v : ℕ) → reading.deed op ≡ Puts v
+      → (next list op).0 ≡ list ++ v ∷ []
+  pub take : (list : List ℕ) (x op : ℕ) → reading.deed op ≡ Takes
+      → (next (list ++ x ∷ []) op).0 ≡ list
+  pub shows : (list : List ℕ) (x op : ℕ) → x < bound → reading.deed op ≡ Takes
+      → reading.shown (next (list ++ x ∷ []) op).1 ≡ Some x
+  pub empty : (op : ℕ) → reading.deed op ≡ Takes → ((next [] op).0 ≡ [])
+      × (reading.shown (next [] op).1 ≡ None)
   pub neither : (list : List ℕ) (op : ℕ) → reading.deed op ≡ Neither → (next list op).0 ≡ list
-  pub blind : (one other : List ℕ) (op : ℕ) → reading.deed op ≢ Takes → (next one op).1 ≡ (next other op).1
+  pub blind : (one other : List ℕ) (op : ℕ) → reading.deed op ≢ Takes
+      → (next one op).1 ≡ (next other op).1
   pub one_take : (a b : ℕ) → reading.deed a ≡ Takes → reading.deed b ≡ Takes → a ≡ b
   pub one_reply : (a b v : ℕ) → reading.shown a ≡ Some v → reading.shown b ≡ Some v → a ≡ b
 
--- The next call of a caller takes the last item with the least view, and no call outside the cut puts this value in again.
-pub record TakesLast (reading : Reading) (book : List Page) (cut list : List ℕ) (caller : ℕ) : Type 0 where
+-- The next call of a caller takes the last item with the least view, and no call outside the cut
+-- puts this value in again.
+pub record TakesLast (reading : Reading) (book : List Page) (cut list : List ℕ)
+    (caller : ℕ) : Type 0 where
   pub value : ℕ
   pub last : EndsWith list value
   pub no_more : IsWritten reading book cut value → ⊥
   pub takes : IsLeastTake reading book cut value (next_call cut caller)
 
--- The next call of a caller alone puts in a value that isn't in the list, and the next call of another one takes it.
-pub record PutsPaired (reading : Reading) (book : List Page) (cut list : List ℕ) (caller : ℕ) : Type 0 where
+-- The next call of a caller alone puts in a value that isn't in the list, and the next call of
+-- another one takes it.
+pub record PutsPaired (reading : Reading) (book : List Page) (cut list : List ℕ)
+    (caller : ℕ) : Type 0 where
   pub value : ℕ
   pub taker : ℕ
   pub alone : PutsInAlone reading book (next_call cut caller) value
@@ -58,22 +69,28 @@ IsKept reading book cut v = IsRead reading book cut v → ⊥
 
 -- no answered call outside a cut finds nothing
 abbrev pub IsNeverEmpty : Reading → List Page → List ℕ → Type 0
-IsNeverEmpty reading book cut = (call : Call) → FindsNothing reading book call → slice_index cut call.caller ≤ call.number → ⊥
+IsNeverEmpty reading book cut = (call : Call) → FindsNothing reading book call
+    → slice_index cut call.caller ≤ call.number → ⊥
 
 -- the next call of a caller is answered, and puts in a kept value
 abbrev pub IsKeptPut : Reading → List Page → List ℕ → ℕ → Type 0
-IsKeptPut reading book cut caller = IsAnswered book (next_call cut caller) × IsUnreadWrite reading book cut (next_call cut caller)
+IsKeptPut reading book cut caller = IsAnswered book (next_call cut caller)
+    × IsUnreadWrite reading book cut (next_call cut caller)
 
--- The next call of a caller is answered and puts in a kept value, all values of the list are kept, and no answered call outside the cut
--- finds nothing.
-pub record PutsKept (reading : Reading) (book : List Page) (cut list : List ℕ) (caller : ℕ) : Type 0 where
+-- The next call of a caller is answered and puts in a kept value, all values of the list are kept,
+-- and no answered call outside the cut finds nothing.
+pub record PutsKept (reading : Reading) (book : List Page) (cut list : List ℕ)
+    (caller : ℕ) : Type 0 where
   pub put : IsKeptPut reading book cut caller
   pub below : AllByRecursion (IsKept reading book cut) list
   pub never_empty : IsNeverEmpty reading book cut
 
--- The next call of a caller puts in a value that a take, which shows this, doesn't show, or that is the last item already.
+-- The next call of a caller puts in a value that a take, which shows this, doesn't show, or that is
+-- the last item already.
 abbrev pub PutsNeedless : Reading → List Page → List ℕ → List ℕ → Option ℕ → ℕ → Type 0
-PutsNeedless reading book cut list shown caller = (value : ℕ) × PutsIn reading book (next_call cut caller) value × ((shown ≢ Some value) ⊎ EndsWith list value)
+PutsNeedless reading book cut list shown caller = (value : ℕ)
+    × PutsIn reading book (next_call cut caller) value
+    × ((shown ≢ Some value) ⊎ EndsWith list value)
 
 -- An item of a list after a cut: it is below a bound, and a call inside the cut put it in.
 pub record IsItem (reading : Reading) (book : List Page) (cut : List ℕ) (bound v : ℕ) : Type 0 where
@@ -82,16 +99,22 @@ pub record IsItem (reading : Reading) (book : List Page) (cut : List ℕ) (bound
   pub puts : PutsIn reading book put v
   pub inside : Holds cut put
 
--- A list after a cut has this top: it ends with the last word, if there is one, calls inside the cut put in its items, and where they
--- are said to be kept, no answered call outside the cut takes any of them.
-pub record HasTop (reading : Reading) (book : List Page) (cut : List ℕ) (bound : ℕ) (top : Top) (list : List ℕ) : Type 0 where
+-- A list after a cut has this top: it ends with the last word, if there is one, calls inside the
+-- cut put in its items, and where they are said to be kept, no answered call outside the cut takes
+-- any of them.
+pub record HasTop (reading : Reading) (book : List Page) (cut : List ℕ) (bound : ℕ) (top : Top)
+    (list : List ℕ) : Type 0 where
   pub last : IfSome top.last (EndsWith list)
   pub items : AllByRecursion (IsItem reading book cut bound) list
   pub kept : IsTrue top.kept → AllByRecursion (IsKept reading book cut) list
 
--- Words stand for a list after a cut: it ends as some of them do; it lacks the value that the next call of a caller alone puts in, where
--- others lack it; and where those are looked at, it is kept if they are.
-pub record StandFor (reading : Reading) (book : List Page) (cut ends others : List ℕ) (look : Bool) (list : List ℕ) : Type 0 where
+-- Words stand for a list after a cut: it ends as some of them do; it lacks the value that the next
+-- call of a caller alone puts in, where others lack it; and where those are looked at, it is kept
+-- if they are.
+pub record StandFor (reading : Reading) (book : List Page) (cut ends others : List ℕ) (look : Bool)
+    (list : List ℕ) : Type 0 where
   pub last : (v : ℕ) → EndsWith ends v → EndsWith list v
-  pub lacks : (caller v : ℕ) → PutsInAlone reading book (next_call cut caller) v → Lacks others v → Lacks list v
-  pub kept : IsTrue look → AllByRecursion (IsKept reading book cut) others → AllByRecursion (IsKept reading book cut) list
+  pub lacks : (caller v : ℕ) → PutsInAlone reading book (next_call cut caller) v → Lacks others v
+      → Lacks list v
+  pub kept : IsTrue look → AllByRecursion (IsKept reading book cut) others
+      → AllByRecursion (IsKept reading book cut) list

@@ -10,7 +10,8 @@ use book_base::{Book, Call, Cut, Marks};
 use object_foresight::{Reader, Role};
 use value_pruning::value_put;
 
-/// What the forced call shows, where it takes. No clause says that it is found to: that costs time alone.
+/// What the forced call shows, where it takes. No clause says that it is found to: that costs time
+/// alone.
 pub fn forced_take<R: Reader>(
     reader: &R,
     book: &Book,
@@ -19,7 +20,8 @@ pub fn forced_take<R: Reader>(
 ) -> Option<Option<u64>>
     requires wide { length cut.now ≡ length book.now }
     requires forced { IsForced book.now cut.now forced }
-    ensures { IfSome result (TakesShowing (R.reading reader.now) book.now (next_call cut.now forced)) }
+    ensures { IfSome result
+        (TakesShowing (R.reading reader.now) book.now (next_call cut.now forced)) }
 {
     if forced >= book.callers() {
         return None;
@@ -34,8 +36,8 @@ pub fn forced_take<R: Reader>(
     }
 }
 
-/// The marks without those on callers whose next calls put in what a forced take doesn't show, or what is the
-/// last word already.
+/// The marks without those on callers whose next calls put in what a forced take doesn't show, or
+/// what is the last word already.
 pub fn without_needless<R: Reader>(
     reader: &R,
     book: &Book,
@@ -47,7 +49,8 @@ pub fn without_needless<R: Reader>(
     requires wide { length cut.now ≡ length book.now }
     requires marks { MarksAllNext book.now cut.now marks }
     ensures fewer { IsMarkedWithin result marks }
-    ensures needless { (i : ℕ) → IsMarked marks i → IsMarked result i ⊎ PutsNeedless (R.reading reader.now) book.now cut.now words.now shown i }
+    ensures needless { (i : ℕ) → IsMarked marks i → IsMarked result i
+        ⊎ PutsNeedless (R.reading reader.now) book.now cut.now words.now shown i }
 {
     let mut left = marks;
     for caller in 0..book.callers() {
@@ -58,7 +61,8 @@ pub fn without_needless<R: Reader>(
     left
 }
 
-// Whether a caller's next call puts in what a forced take doesn't show, or what is the last word already.
+// Whether a caller's next call puts in what a forced take doesn't show, or what is the last word
+// already.
 fn puts_needless<R: Reader>(
     reader: &R,
     book: &Book,
@@ -70,7 +74,8 @@ fn puts_needless<R: Reader>(
     requires wide { length cut.now ≡ length book.now }
     requires caller { caller < length book.now }
     requires call { IsCall book.now (next_call cut.now caller) }
-    ensures { IsTrue result → PutsNeedless (R.reading reader.now) book.now cut.now words.now shown caller }
+    ensures { IsTrue result
+        → PutsNeedless (R.reading reader.now) book.now cut.now words.now shown caller }
 {
     let call = Call {
         caller,

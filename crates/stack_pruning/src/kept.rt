@@ -11,9 +11,9 @@ use book_base::{Book, Call, Cut, Marks, Sight};
 use object_foresight::{Reader, Role};
 use value_pruning::{is_read, value_put};
 
-/// A marked caller whose next call is answered and puts in a value that no answered call outside the cut takes,
-/// where none takes one of the words, nor finds nothing. No clause says that one is found: that costs time
-/// alone.
+/// A marked caller whose next call is answered and puts in a value that no answered call outside
+/// the cut takes, where none takes one of the words, nor finds nothing. No clause says that one is
+/// found: that costs time alone.
 pub fn kept_put<R: Reader>(
     reader: &R,
     sight: &Sight,
@@ -93,7 +93,8 @@ fn puts_kept<R: Reader>(reader: &R, sight: &Sight, book: &Book, cut: &Cut, call:
 fn are_kept<R: Reader>(reader: &R, sight: &Sight, book: &Book, cut: &Cut, words: &[u64]) -> bool
     requires sight { ListsValues (R.reading reader.now) book.now sight.now }
     requires wide { length cut.now ≡ length book.now }
-    ensures { IsTrue result → AllByRecursion (IsKept (R.reading reader.now) book.now cut.now) words.now }
+    ensures { IsTrue result
+        → AllByRecursion (IsKept (R.reading reader.now) book.now cut.now) words.now }
 {
     for k in 0..words.len() {
         if is_read(reader, sight, book, cut, words[k]) {
@@ -121,7 +122,8 @@ fn caller_finds_nothing<R: Reader>(reader: &R, book: &Book, cut: &Cut, caller: u
     requires wide { length cut.now ≡ length book.now }
     requires caller { caller < length book.now }
     ensures { result ≡ false → (number : ℕ) → slice_index cut.now caller ≤ number
-        → FindsNothing (R.reading reader.now) book.now (record { caller = caller; number = number }) → ⊥ }
+        → FindsNothing (R.reading reader.now) book.now (record { caller = caller; number = number })
+        → ⊥ }
 {
     for number in cut.get(caller)..book.answers(caller) {
         if finds_nothing(reader, book, Call { caller, number }) {

@@ -12,11 +12,12 @@ use book_base::{Book, Call, Cut, Marks, Sight};
 use object_foresight::Reader;
 use value_pruning::{is_put_once, is_written, next_take, value_put};
 
-/// Which of the calls that may come next a search has to try, of a stack. A take that shows the last item
-/// alone, where it has the least view of all that show it and the value isn't put in again; and else a put of
-/// a value that is put in once, where its take may come next too; and else an answered put of a value that no
-/// call takes, where all that lies below is such. Otherwise, where the forced call takes, all but the puts of
-/// other values than it shows, and of the last item.
+/// Which of the calls that may come next a search has to try, of a stack. A take that shows the
+/// last item alone, where it has the least view of all that show it and the value isn't put in
+/// again; and else a put of a value that is put in once, where its take may come next too; and else
+/// an answered put of a value that no call takes, where all that lies below is such. Otherwise,
+/// where the forced call takes, all but the puts of other values than it shows, and of the last
+/// item.
 pub fn narrow_last_first<R: Reader>(
     reader: &R,
     sight: &Sight,
@@ -42,15 +43,17 @@ pub fn narrow_last_first<R: Reader>(
     // For each object that gives its last value first, from a list of small items on, where some
     // order reaches this cut and list: all that goes on from here goes on by the next call of a
     // caller that the answer marks as well, with no more places.
-    ensures suffice { (init : List ℕ) (next : List ℕ → ℕ → List ℕ × ℕ) (bound : ℕ) → GivesLastFirst (R.reading reader.now) next bound
-        → IsSmall bound init → IsReached init next book.now cut.now words.now → MarksSuffice book.now next cut.now words.now result }
+    ensures suffice { (init : List ℕ) (next : List ℕ → ℕ → List ℕ × ℕ) (bound : ℕ)
+        → GivesLastFirst (R.reading reader.now) next bound
+        → IsSmall bound init → IsReached init next book.now cut.now words.now
+        → MarksSuffice book.now next cut.now words.now result }
 {
     narrow_by(reader, sight, book, cut, words, words, true, forced, marks)
 }
 
-/// Which of the calls that may come next a search has to try, of a stack of which the top alone is known, as
-/// `narrow_last_first` says it of a whole list. A value that is put in once, by a call that may come next, is in
-/// no list.
+/// Which of the calls that may come next a search has to try, of a stack of which the top alone is
+/// known, as `narrow_last_first` says it of a whole list. A value that is put in once, by a call
+/// that may come next, is in no list.
 pub fn narrow_by_top<R: Reader>(
     reader: &R,
     sight: &Sight,
@@ -73,11 +76,13 @@ pub fn narrow_by_top<R: Reader>(
     requires marks { MarksAllNext book.now cut.now marks }
     // Each caller that the answer marks was marked.
     ensures fewer { IsMarkedWithin result marks }
-    // For each object that gives its last value first, and each list with this top whose items calls
-    // inside the cut put in: all that goes on from the cut and the list goes on by the next call of
-    // a caller that the answer marks as well, with no more places.
-    ensures suffice { (next : List ℕ → ℕ → List ℕ × ℕ) (bound : ℕ) (list : List ℕ) → GivesLastFirst (R.reading reader.now) next bound
-        → HasTop (R.reading reader.now) book.now cut.now bound top list → MarksSuffice book.now next cut.now list result }
+    // For each object that gives its last value first, and each list with this top whose items
+    // calls inside the cut put in: all that goes on from the cut and the list goes on by the next
+    // call of a caller that the answer marks as well, with no more places.
+    ensures suffice { (next : List ℕ → ℕ → List ℕ × ℕ) (bound : ℕ) (list : List ℕ)
+        → GivesLastFirst (R.reading reader.now) next bound
+        → HasTop (R.reading reader.now) book.now cut.now bound top list
+        → MarksSuffice book.now next cut.now list result }
 {
     match top.last {
         Some(value) => narrow_by(
@@ -95,9 +100,9 @@ pub fn narrow_by_top<R: Reader>(
     }
 }
 
-// Which of the calls that may come next a search has to try, where words stand for the list: it ends as some of
-// them do, and a value that others lack isn't in it. Whether the others are kept is looked at where this is asked
-// for.
+// Which of the calls that may come next a search has to try, where words stand for the list: it
+// ends as some of them do, and a value that others lack isn't in it. Whether the others are kept is
+// looked at where this is asked for.
 fn narrow_by<R: Reader>(
     reader: &R,
     sight: &Sight,
@@ -115,8 +120,11 @@ fn narrow_by<R: Reader>(
     requires forced { IsForced book.now cut.now forced }
     requires marks { MarksAllNext book.now cut.now marks }
     ensures fewer { IsMarkedWithin result marks }
-    ensures suffice { (next : List ℕ → ℕ → List ℕ × ℕ) (bound : ℕ) (list : List ℕ) → GivesLastFirst (R.reading reader.now) next bound
-        → IsSmall bound list → StandFor (R.reading reader.now) book.now cut.now ends.now others.now look list → MarksSuffice book.now next cut.now list result }
+    ensures suffice { (next : List ℕ → ℕ → List ℕ × ℕ) (bound : ℕ) (list : List ℕ)
+        → GivesLastFirst (R.reading reader.now) next bound
+        → IsSmall bound list
+        → StandFor (R.reading reader.now) book.now cut.now ends.now others.now look list
+        → MarksSuffice book.now next cut.now list result }
 {
     let _callers = book.callers();
     if let Some(caller) = last_take(reader, sight, book, cut, ends, marks) {
@@ -134,7 +142,8 @@ fn narrow_by<R: Reader>(
     }
 }
 
-// A marked caller whose next call is answered and puts in a kept value, where it is asked for and others are kept too.
+// A marked caller whose next call is answered and puts in a kept value, where it is asked for and
+// others are kept too.
 fn put_if_kept<R: Reader>(
     reader: &R,
     sight: &Sight,
@@ -159,8 +168,8 @@ fn put_if_kept<R: Reader>(
     }
 }
 
-// A marked caller whose next call takes the last item, with the least view, where no call outside the cut puts
-// its value in again.
+// A marked caller whose next call takes the last item, with the least view, where no call outside
+// the cut puts its value in again.
 fn last_take<R: Reader>(
     reader: &R,
     sight: &Sight,
@@ -182,8 +191,8 @@ fn last_take<R: Reader>(
     next_take(reader, sight, book, cut, marks, value)
 }
 
-// A marked caller whose next call alone puts in a value that isn't among the words, where the value's take may
-// come next.
+// A marked caller whose next call alone puts in a value that isn't among the words, where the
+// value's take may come next.
 fn paired_put<R: Reader>(
     reader: &R,
     sight: &Sight,
@@ -207,8 +216,8 @@ fn paired_put<R: Reader>(
     None
 }
 
-// Whether a marked caller's next call alone puts in a value that isn't among the words, and the value's take
-// may come next.
+// Whether a marked caller's next call alone puts in a value that isn't among the words, and the
+// value's take may come next.
 fn puts_paired<R: Reader>(
     reader: &R,
     sight: &Sight,

@@ -27,7 +27,8 @@ abbrev Above : List (List ℕ) → Type 0
 Above words = AllByRecursion (λ (word : List ℕ). is_solid word ≡ true) words
 
 above_word : (word : List ℕ) → IsSolid word → is_solid word ≡ true
-above_word word h = list_all-from_AllPass (λ b. ltb 32 b) word (λ k d lt. lt-ltb 32 _ (h.above k d lt))
+above_word word h =
+    list_all-from_AllPass (λ b. ltb 32 b) word (λ k d lt. lt-ltb 32 _ (h.above k d lt))
 
 above_words : (words : List (List ℕ)) → AllByRecursion IsSolid words → Above words
 above_words [] h = tt
@@ -41,76 +42,116 @@ lacks-solid byte (b ∷ word) le e =
     let other : eqb b byte ≡ false = ne_eqb b byte (λ same. omega arith) in
     and_from (not (eqb b byte)) (lacks byte word) (ap not other) (lacks-solid byte word le parts.1)
 
-lacks-append : (byte : ℕ) (xs ys : List ℕ) → lacks byte xs ≡ true → lacks byte ys ≡ true → lacks byte (xs ++ ys) ≡ true
-lacks-append byte xs ys a b = list_all-append (λ b. not (eqb b byte)) xs ys ∙ and_from (lacks byte xs) (lacks byte ys) a b
+lacks-append : (byte : ℕ) (xs ys : List ℕ) → lacks byte xs ≡ true → lacks byte ys ≡ true
+    → lacks byte (xs ++ ys) ≡ true
+lacks-append byte xs ys a b =
+    list_all-append (λ b. not (eqb b byte)) xs ys ∙ and_from (lacks byte xs) (lacks byte ys) a b
 
 -- a list is cut after a prefix that lacks the byte
-pub cut_prefix : (byte : ℕ) (prefix rest : List ℕ) → lacks byte prefix ≡ true → cut_at byte (prefix ++ byte ∷ rest) ≡ Some (prefix, rest)
+pub cut_prefix : (byte : ℕ) (prefix rest : List ℕ) → lacks byte prefix ≡ true
+    → cut_at byte (prefix ++ byte ∷ rest) ≡ Some (prefix, rest)
 cut_prefix byte prefix rest h =
     let whole = prefix ++ byte ∷ rest in
-    let at : prefix_len (λ b. not (eqb b byte)) whole ≡ length prefix = prefix_len-prefix (λ b. not (eqb b byte)) prefix byte rest h (ap not (eq-eqb byte byte refl)) in
-    let inside : ltb (length prefix) (length whole) ≡ true = lt-ltb _ _ (omega (arith, length-append prefix (byte ∷ rest))) in
-    let before : take (length prefix) whole ≡ prefix = take_at prefix (byte ∷ rest) (length prefix) refl in
-    let suffix : drop (length prefix + 1) whole ≡ rest = ap (drop (length prefix + 1)) (sym (append_assoc prefix (byte ∷ []) rest)) ∙ drop_at (prefix ++ byte ∷ []) rest (length prefix + 1) (length-append prefix (byte ∷ [])) in
+    let at : prefix_len (λ b. not (eqb b byte)) whole ≡ length prefix =
+    prefix_len-prefix (λ b. not (eqb b byte)) prefix byte rest h (ap not (eq-eqb byte byte refl)) in
+    let inside : ltb (length prefix) (length whole) ≡ true =
+    lt-ltb _ _ (omega (arith, length-append prefix (byte ∷ rest))) in
+    let before : take (length prefix) whole ≡ prefix =
+    take_at prefix (byte ∷ rest) (length prefix) refl in
+    let suffix : drop (length prefix + 1) whole ≡ rest =
+    ap (drop (length prefix + 1)) (sym (append_assoc prefix (byte ∷ []) rest))
+    ∙ drop_at (prefix ++ byte ∷ []) rest (length prefix + 1) (length-append prefix (byte ∷ [])) in
     rw (at, inside) cc
 
 -- what stands before the first such byte is cut off so before other bytes
-pub cut_again : (byte : ℕ) (bytes prefix rest other : List ℕ) → cut_at byte bytes ≡ Some (prefix, rest) → cut_at byte (prefix ++ byte ∷ other) ≡ Some (prefix, other)
+pub cut_again : (byte : ℕ) (bytes prefix rest other : List ℕ) → cut_at byte bytes
+    ≡ Some (prefix, rest) → cut_at byte (prefix ++ byte ∷ other) ≡ Some (prefix, other)
 cut_again byte bytes prefix rest other e =
     let p = λ (b : ℕ). eqb b byte in
-    let c = chosen_some (ltb (position_or_len p bytes) (length bytes)) (position_or_len p bytes) bytes (prefix, rest) e in
-    let is : take (position_or_len p bytes) bytes ≡ prefix = ap (λ (x : List ℕ × List ℕ). x.0) c.1 in
+    let c = chosen_some (ltb (position_or_len p bytes) (length bytes))
+    (position_or_len p bytes) bytes (prefix, rest) e in
+    let is : take (position_or_len p bytes) bytes ≡ prefix =
+    ap (λ (x : List ℕ × List ℕ). x.0) c.1 in
     let clean : list_all (λ b. not (eqb b byte)) (take (position_or_len p bytes) bytes) ≡ true
-    = list_all-from_AllPass (λ b. not (eqb b byte)) (take (position_or_len p bytes) bytes) (λ k d lt.
-    let before : k < position_or_len p bytes = omega (arith, length-take (position_or_len p bytes) bytes) in
-    ap not (ap p (get_or-take (position_or_len p bytes) bytes k d before) ∙ fails_before_first p bytes k d before)) in
-    cut_prefix byte prefix other (subst (λ (x : List ℕ). list_all (λ b. not (eqb b byte)) x ≡ true) is clean)
+    = list_all-from_AllPass (λ b. not (eqb b byte))
+    (take (position_or_len p bytes) bytes) (λ k d lt.
+    let before : k < position_or_len p bytes =
+    omega (arith, length-take (position_or_len p bytes) bytes) in
+    ap not (ap p (get_or-take (position_or_len p bytes) bytes k d before)
+    ∙ fails_before_first p bytes k d before)) in
+    cut_prefix byte prefix other
+    (subst (λ (x : List ℕ). list_all (λ b. not (eqb b byte)) x ≡ true) is clean)
 
 -- ---- lines
 
-ok_parts : (a b : List ℕ) (s t : Unread) → ◌≡◌ {A = Result (List ℕ × Unread) TextFault} (Ok (a, s)) (Ok (b, t)) → (a ≡ b) × (s.bytes ≡ t.bytes)
-ok_parts a b s t e = let same : ◌≡◌ {A = List ℕ × Unread} (a, s) (b, t) = cc in (ap (λ (x : List ℕ × Unread). x.0) same, ap (λ (x : List ℕ × Unread). x.1.bytes) same)
+ok_parts : (a b : List ℕ) (s t : Unread)
+    → ◌≡◌ {A = Result (List ℕ × Unread) TextFault} (Ok (a, s)) (Ok (b, t)) → (a ≡ b)
+    × (s.bytes ≡ t.bytes)
+ok_parts a b s t e = let same : ◌≡◌ {A = List ℕ × Unread} (a, s) (b, t) = cc in
+    (ap (λ (x : List ℕ × Unread). x.0) same, ap (λ (x : List ℕ × Unread). x.1.bytes) same)
 
 clean_join : (words : List (List ℕ)) → Above words → lacks 10 (join_with_byte 32 words) ≡ true
 clean_join [] h = refl
 clean_join (w ∷ []) h = lacks-solid 10 w (omega arith) h.0
-clean_join (w ∷ v ∷ words) h = lacks-append 10 w (32 ∷ join_with_byte 32 (v ∷ words)) (lacks-solid 10 w (omega arith) h.0) (clean_join (v ∷ words) h.1)
+clean_join (w ∷ v ∷ words) h = lacks-append 10 w (32 ∷ join_with_byte 32 (v ∷ words))
+    (lacks-solid 10 w (omega arith) h.0) (clean_join (v ∷ words) h.1)
 
-all_other : (byte : ℕ) (xs : List ℕ) → lacks byte xs ≡ true → AllByRecursion (λ b. eqb b byte ≡ false) xs
+all_other : (byte : ℕ) (xs : List ℕ) → lacks byte xs ≡ true
+    → AllByRecursion (λ b. eqb b byte ≡ false) xs
 all_other byte [] h = tt
-all_other byte (x ∷ xs) h = let parts = and_parts (not (eqb x byte)) (lacks byte xs) h in (not-true (eqb x byte) parts.0, all_other byte xs parts.1)
+all_other byte (x ∷ xs) h = let parts = and_parts (not (eqb x byte)) (lacks byte xs) h in
+    (not-true (eqb x byte) parts.0, all_other byte xs parts.1)
 
-words_of-join_above : (w : List ℕ) (words : List (List ℕ)) → Above (w ∷ words) → words_of (join_with_byte 32 (w ∷ words)) ≡ w ∷ words
+words_of-join_above : (w : List ℕ) (words : List (List ℕ)) → Above (w ∷ words)
+    → words_of (join_with_byte 32 (w ∷ words)) ≡ w ∷ words
 words_of-join_above w words h =
-    slice_split-join_with_byte 32 w words (All-weaker (λ word. is_solid word ≡ true) (Lacks 32) (λ word solid. All-from_recursion (λ b. eqb b 32 ≡ false) word (all_other 32 word (lacks-solid 32 word (omega arith) solid))) (w ∷ words) (All-from_recursion (λ word. is_solid word ≡ true) (w ∷ words) h))
+    slice_split-join_with_byte 32 w words
+    (All-weaker (λ word. is_solid word ≡ true) (Lacks 32) (λ word solid. All-from_recursion
+    (λ b. eqb b 32 ≡ false) word (all_other 32 word (lacks-solid 32 word (omega arith) solid)))
+    (w ∷ words) (All-from_recursion (λ word. is_solid word ≡ true) (w ∷ words) h))
 
 -- the words of a line are those that it was made of
-pub words_of-join : (words : List (List ℕ)) → AreSolid words → words_of (join_with_byte 32 words) ≡ words
+pub words_of-join : (words : List (List ℕ)) → AreSolid words
+    → words_of (join_with_byte 32 words) ≡ words
 words_of-join [] h = absurd (omega (arith, h.some))
 words_of-join (w ∷ words) h = words_of-join_above w words (above_words (w ∷ words) h.each)
 
-line_from_takes : (bytes : List ℕ) (number : ℕ) (cut : Option (List ℕ × List ℕ)) → cut_at 10 bytes ≡ cut → (line : List ℕ) (left : Unread) → line_from number cut ≡ Ok (line, left) → bytes ≡ line_text (words_of line) ++ left.bytes
+line_from_takes : (bytes : List ℕ) (number : ℕ) (cut : Option (List ℕ × List ℕ))
+    → cut_at 10 bytes ≡ cut → (line : List ℕ) (left : Unread)
+    → line_from number cut ≡ Ok (line, left) → bytes ≡ line_text (words_of line) ++ left.bytes
 line_from_takes bytes number None is line left e = absurd cc
 line_from_takes bytes number (Some parts) is line left e =
-    let same : (parts.0 ≡ line) × (parts.1 ≡ left.bytes) = ok_parts parts.0 line (record { bytes = parts.1; number = number + 1 }) left e in
+    let same : (parts.0 ≡ line) × (parts.1 ≡ left.bytes) =
+    ok_parts parts.0 line (record { bytes = parts.1; number = number + 1 }) left e in
     let joined : join_with_byte 32 (words_of line) ≡ line = join_with_byte-slice_split 32 line in
-    let whole : bytes ≡ line ++ 10 ∷ left.bytes = cut_joins 10 bytes parts.0 parts.1 is ∙ ap (λ (x : List ℕ). x ++ 10 ∷ parts.1) same.0 ∙ ap (λ (x : List ℕ). line ++ 10 ∷ x) same.1 in
-    whole ∙ sym (append_assoc line (10 ∷ []) left.bytes) ∙ ap (λ (x : List ℕ). (x ++ 10 ∷ []) ++ left.bytes) (sym joined)
+    let whole : bytes ≡ line ++ 10 ∷ left.bytes = cut_joins 10 bytes parts.0 parts.1 is
+    ∙ ap (λ (x : List ℕ). x ++ 10 ∷ parts.1) same.0 ∙ ap (λ (x : List ℕ). line ++ 10 ∷ x) same.1 in
+    whole ∙ sym (append_assoc line (10 ∷ []) left.bytes)
+    ∙ ap (λ (x : List ℕ). (x ++ 10 ∷ []) ++ left.bytes) (sym joined)
 
 -- what is read as a line stands in front, with its line feed
-pub line_takes : (text : Unread) (line : List ℕ) (left : Unread) → line_at text ≡ Ok (line, left) → text.bytes ≡ line_text (words_of line) ++ left.bytes
-line_takes text line left e = line_from_takes text.bytes text.number (cut_at 10 text.bytes) refl line left e
+pub line_takes : (text : Unread) (line : List ℕ) (left : Unread) → line_at text ≡ Ok (line, left)
+    → text.bytes ≡ line_text (words_of line) ++ left.bytes
+line_takes text line left e =
+    line_from_takes text.bytes text.number (cut_at 10 text.bytes) refl line left e
 
 -- the bytes of a line are cut at its line feed
-pub cut_line : (words : List (List ℕ)) (rest : List ℕ) → AreSolid words → cut_at 10 (line_text words ++ rest) ≡ Some (join_with_byte 32 words, rest)
+pub cut_line : (words : List (List ℕ)) (rest : List ℕ) → AreSolid words
+    → cut_at 10 (line_text words ++ rest) ≡ Some (join_with_byte 32 words, rest)
 cut_line words rest h =
-    let parts : line_text words ++ rest ≡ join_with_byte 32 words ++ 10 ∷ rest = append_assoc (join_with_byte 32 words) (10 ∷ []) rest in
-    ap (cut_at 10) parts ∙ cut_prefix 10 (join_with_byte 32 words) rest (clean_join words (above_words words h.each))
+    let parts : line_text words ++ rest ≡ join_with_byte 32 words ++ 10 ∷ rest =
+    append_assoc (join_with_byte 32 words) (10 ∷ []) rest in
+    ap (cut_at 10) parts
+    ∙ cut_prefix 10 (join_with_byte 32 words) rest (clean_join words (above_words words h.each))
 
 -- a text of one line more
-pub text_of-cons : (words : List (List ℕ)) (lines : List (List (List ℕ))) (rest : List ℕ) → text_of (words ∷ lines) ++ rest ≡ line_text words ++ (text_of lines ++ rest)
-text_of-cons words lines rest = ap (λ (x : List ℕ). x ++ rest) (flat_map-cons line_text words lines) ∙ append_assoc (line_text words) (text_of lines) rest
+pub text_of-cons : (words : List (List ℕ)) (lines : List (List (List ℕ))) (rest : List ℕ)
+    → text_of (words ∷ lines) ++ rest ≡ line_text words ++ (text_of lines ++ rest)
+text_of-cons words lines rest = ap (λ (x : List ℕ). x ++ rest) (flat_map-cons line_text words lines)
+    ∙ append_assoc (line_text words) (text_of lines) rest
 
 -- a text of the lines of two
-pub text_of-append : (a b : List (List (List ℕ))) (rest : List ℕ) → text_of (a ++ b) ++ rest ≡ text_of a ++ (text_of b ++ rest)
-text_of-append a b rest = ap (λ (x : List ℕ). x ++ rest) (flat_map-append line_text a b) ∙ append_assoc (text_of a) (text_of b) rest
+pub text_of-append : (a b : List (List (List ℕ))) (rest : List ℕ)
+    → text_of (a ++ b) ++ rest ≡ text_of a ++ (text_of b ++ rest)
+text_of-append a b rest = ap (λ (x : List ℕ). x ++ rest) (flat_map-append line_text a b)
+    ∙ append_assoc (text_of a) (text_of b) rest

@@ -6,5 +6,7 @@ use Rattle.text_fields.specs.declared.version.Version.{Version}
 use Rattle.text_fields.specs.Operations.{IsSpelled, kind_operations}
 
 -- in a text of whatever version
-pub spells_operation : (version : Version) (kind : Kind) (words : List (List ℕ)) (op used : ℕ) → IsSpelled (kind_operations version kind) words op used → Spells kind words op used
-spells_operation version kind words op used s = record { suffix = s.suffix; whole = s.whole; count = s.count }
+pub spells_operation : (version : Version) (kind : Kind) (words : List (List ℕ)) (op used : ℕ)
+    → IsSpelled (kind_operations version kind) words op used → Spells kind words op used
+spells_operation version kind words op used s =
+    record { suffix = s.suffix; whole = s.whole; count = s.count }

@@ -47,12 +47,13 @@ pub record IsPair (n : ℕ) (word : List ℕ) (j count : ℕ) : Type 0 where
 abbrev pub IsNoPair : ℕ → List ℕ → Type 0
 IsNoPair n word = (j count : ℕ) → IsPair n word j count → ⊥
 
--- Of the words with a colon that these words begin with, one is no pair, or its caller is below this one or not above that of
--- the pair before it.
+-- Of the words with a colon that these words begin with, one is no pair, or its caller is below
+-- this one or not above that of the pair before it.
 abbrev pub HasBadPair : ℕ → ℕ → List (List ℕ) → Type 0
 HasBadPair n least [] = ⊥
 HasBadPair n least (word ∷ words) = IsTrue (has_colon word)
-    × (IsNoPair n word ⊎ ((j : ℕ) × (count : ℕ) × IsPair n word j count × ((j < least) ⊎ HasBadPair n (j + 1) words)))
+    × (IsNoPair n word
+    ⊎ ((j : ℕ) × (count : ℕ) × IsPair n word j count × ((j < least) ⊎ HasBadPair n (j + 1) words)))
 
 -- a word without a colon is among these words
 abbrev pub HasWordAfterPairs : List (List ℕ) → Type 0

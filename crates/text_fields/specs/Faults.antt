@@ -1,4 +1,5 @@
--- The faults of a text that is read line by line: which line fails which test, and which fault is the first.
+-- The faults of a text that is read line by line: which line fails which test, and which fault is
+-- the first.
 use Rattle.std.specs.Prelude.{◌≡◌, ◌≢◌, ℕ, ◌+◌, ◌<◌, ◌⊎◌, List, [], ◌∷◌, ◌++◌, length, Some, None}
 use Rattle.book_base.specs.declared.fault.TextFault.{TextFault}
 use Rattle.book_base.specs.declared.fault.ReadFault.{ReadFault}
@@ -7,7 +8,8 @@ use Rattle.book_base.specs.declared.fault.What.{What}
 use Rattle.book_base.specs.declared.fault.What.TheVariants.{Long, Cut, Head, Object, Callers, Calls, Place, Op, Gap, Reply, View, ViewOutside, ViewLacksOwn, ViewHasLater, ViewsCross, Mark, Seen, Last, Stop, Turns, End, Rest}
 use Rattle.text_fields.specs.Lines.{Unread, AreSolid, text_of, cut_at, words_of}
 
--- what is wanted next: a line, the end of the bytes, or nothing, since what follows is read by others
+-- what is wanted next: a line, the end of the bytes, or nothing, since what follows is read by
+-- others
 pub data Wanted : Type 0 where
   ALine : Wanted
   TheEnd : Wanted
@@ -53,33 +55,41 @@ pub record IsFirstTest (Fails : What → Type 0) (what : What) : Type 0 where
   pub first : (other : What) → turn_of other < turn_of what → Fails other → ⊥
 
 -- The line that the bytes begin with is whole, and fails this test and no earlier one.
-pub record IsWrongLine {Due : Type 0} (rules : Rules Due) (due : Due) (bytes : List ℕ) (what : What) : Type 0 where
+pub record IsWrongLine {Due : Type 0} (rules : Rules Due) (due : Due) (bytes : List ℕ)
+    (what : What) : Type 0 where
   pub line : List ℕ
   pub rest : List ℕ
   pub whole : cut_at 10 bytes ≡ Some (line, rest)
   pub test : IsFirstTest (rules.Fails due (words_of line)) what
 
--- What is wrong with these bytes, by what is wanted: no line is whole, the line fails a test, or bytes follow the end.
+-- What is wrong with these bytes, by what is wanted: no line is whole, the line fails a test, or
+-- bytes follow the end.
 abbrev pub IsWrong : {Due : Type 0} → Rules Due → Due → Wanted → List ℕ → What → Type 0
-IsWrong rules due ALine bytes what = ((what ≡ Cut) × (cut_at 10 bytes ≡ None)) ⊎ IsWrongLine rules due bytes what
+IsWrong rules due ALine bytes what = ((what ≡ Cut) × (cut_at 10 bytes ≡ None))
+    ⊎ IsWrongLine rules due bytes what
 IsWrong rules due TheEnd bytes what = (what ≡ Rest) × (bytes ≢ [])
 IsWrong rules due Nothing bytes what = ⊥
 
 -- Each of these lines is right, from where this is due to where that is due.
-abbrev pub AllPass : {Due : Type 0} → (Due → List (List ℕ) → Due → Type 0) → Due → List (List (List ℕ)) → Due → Type 0
+abbrev pub AllPass : {Due : Type 0} → (Due → List (List ℕ) → Due → Type 0) → Due
+    → List (List (List ℕ)) → Due → Type 0
 AllPass Passes due [] after = due ≡ after
-AllPass {Due} Passes due (words ∷ lines) after = (next : Due) × Passes due words next × AllPass Passes next lines after
+AllPass {Due} Passes due (words ∷ lines) after = (next : Due) × Passes due words next
+    × AllPass Passes next lines after
 
--- A text goes on by right lines, from where this is due to where that is due, and leaves the rest unread.
-pub record GoesTo {Due : Type 0} (rules : Rules Due) (due : Due) (text : Unread) (after : Due) (left : Unread) : Type 0 where
+-- A text goes on by right lines, from where this is due to where that is due, and leaves the rest
+-- unread.
+pub record GoesTo {Due : Type 0} (rules : Rules Due) (due : Due) (text : Unread) (after : Due)
+    (left : Unread) : Type 0 where
   pub lines : List (List (List ℕ))
   pub right : AllPass rules.Passes due lines after
   pub bytes : text.bytes ≡ text_of lines ++ left.bytes
   pub number : left.number ≡ text.number + length lines
 
--- The first fault of a text from where this is due: all lines before the fault's line are right, and what is wrong there
--- is the first test that fails.
-pub record IsFirstFault {Due : Type 0} (rules : Rules Due) (due : Due) (text : Unread) (fault : TextFault) : Type 0 where
+-- The first fault of a text from where this is due: all lines before the fault's line are right,
+-- and what is wrong there is the first test that fails.
+pub record IsFirstFault {Due : Type 0} (rules : Rules Due) (due : Due) (text : Unread)
+    (fault : TextFault) : Type 0 where
   pub reached : Due
   pub left : Unread
   pub before : GoesTo rules due text reached left
@@ -96,24 +106,31 @@ abbrev pub StopsFor : {Due : Type 0} → Rules Due → Due → Unread → ReadFa
 StopsFor rules due text NoMemory = Unit {0}
 StopsFor rules due text (Text fault) = IsFirstFault rules due text fault
 
--- Nothing is left to be read by these rules, by what is wanted: the bytes have ended, or others read them.
+-- Nothing is left to be read by these rules, by what is wanted: the bytes have ended, or others
+-- read them.
 abbrev pub IsThrough : Wanted → List ℕ → Type 0
 IsThrough ALine bytes = ⊥
 IsThrough TheEnd bytes = bytes ≡ []
 IsThrough Nothing bytes = Unit {0}
 
 -- A text is read by right lines to its end, or to where others read on.
-pub record IsReadTo {Due : Type 0} (rules : Rules Due) (due : Due) (text : Unread) (after : Due) (left : Unread) : Type 0 where
+pub record IsReadTo {Due : Type 0} (rules : Rules Due) (due : Due) (text : Unread) (after : Due)
+    (left : Unread) : Type 0 where
   pub goes : GoesTo rules due text after left
   pub through : IsThrough (rules.wanted after) left.bytes
 
--- Rules are sharp where a line is right in one way, no right line fails a test, and a right line can be read back.
+-- Rules are sharp where a line is right in one way, no right line fails a test, and a right line
+-- can be read back.
 pub record AreSharp {Due : Type 0} (rules : Rules Due) : Type 0 where
   -- what is due after a right line is one thing
-  pub one_way : (due a b : Due) (words : List (List ℕ)) → rules.Passes due words a → rules.Passes due words b → a ≡ b
+  pub one_way : (due a b : Due) (words : List (List ℕ)) → rules.Passes due words a
+      → rules.Passes due words b → a ≡ b
   -- a right line fails no test
-  pub apart : (due after : Due) (words : List (List ℕ)) (what : What) → rules.Passes due words after → rules.Fails due words what → ⊥
+  pub apart : (due after : Due) (words : List (List ℕ)) (what : What) → rules.Passes due words after
+      → rules.Fails due words what → ⊥
   -- the words of a right line have no space and no line feed
-  pub solid : (due after : Due) (words : List (List ℕ)) → rules.Passes due words after → AreSolid words
+  pub solid : (due after : Due) (words : List (List ℕ)) → rules.Passes due words after
+      → AreSolid words
   -- a line is right only where a line is wanted
-  pub lines : (due after : Due) (words : List (List ℕ)) → rules.Passes due words after → rules.wanted due ≡ ALine
+  pub lines : (due after : Due) (words : List (List ℕ)) → rules.Passes due words after
+      → rules.wanted due ≡ ALine

@@ -29,7 +29,8 @@ calls_words calls = codes "calls" ∷ map decimal calls
 
 -- the four lines of a head
 abbrev pub head_lines : Version → List ℕ → Kind → List ℕ → List (List (List ℕ))
-head_lines version title kind calls = title_words version title ∷ object_words kind ∷ callers_words (length calls) ∷ calls_words calls ∷ []
+head_lines version title kind calls = title_words version title ∷ object_words kind
+    ∷ callers_words (length calls) ∷ calls_words calls ∷ []
 
 -- the number of callers is one that texts have
 pub record AreCallers (version : Version) (n : ℕ) : Type 0 where
@@ -51,10 +52,14 @@ pub data HeadDue : Type 0 where
 
 -- the right lines of a head
 abbrev pub HeadPasses : Version → List ℕ → HeadDue → List (List ℕ) → HeadDue → Type 0
-HeadPasses version title TitleDue words after = (words ≡ title_words version title) × (after ≡ ObjectDue)
-HeadPasses version title ObjectDue words after = (kind : Kind) × (has_kind version kind ≡ true) × (words ≡ object_words kind) × (after ≡ CallersDue kind)
-HeadPasses version title (CallersDue kind) words after = (n : ℕ) × AreCallers version n × (words ≡ callers_words n) × (after ≡ CountsDue kind n)
-HeadPasses version title (CountsDue kind n) words after = (calls : List ℕ) × AreCalls version n calls × (words ≡ calls_words calls) × (after ≡ HeadRead kind calls)
+HeadPasses version title TitleDue words after = (words ≡ title_words version title)
+    × (after ≡ ObjectDue)
+HeadPasses version title ObjectDue words after = (kind : Kind) × (has_kind version kind ≡ true)
+    × (words ≡ object_words kind) × (after ≡ CallersDue kind)
+HeadPasses version title (CallersDue kind) words after = (n : ℕ) × AreCallers version n
+    × (words ≡ callers_words n) × (after ≡ CountsDue kind n)
+HeadPasses version title (CountsDue kind n) words after = (calls : List ℕ)
+    × AreCalls version n calls × (words ≡ calls_words calls) × (after ≡ HeadRead kind calls)
 HeadPasses version title (HeadRead kind calls) words after = ⊥
 
 -- the tests of the lines of a head, of which each has one
@@ -62,11 +67,14 @@ abbrev pub HeadFails : Version → List ℕ → HeadDue → List (List ℕ) → 
 -- the line isn't the title that is wanted
 HeadFails version title TitleDue words what = (what ≡ Head) × (words ≢ title_words version title)
 -- the line isn't 'object' and the name of a kind that texts have
-HeadFails version title ObjectDue words what = (what ≡ Object) × ((kind : Kind) → has_kind version kind ≡ true → words ≢ object_words kind)
+HeadFails version title ObjectDue words what = (what ≡ Object)
+    × ((kind : Kind) → has_kind version kind ≡ true → words ≢ object_words kind)
 -- the line isn't 'callers' and a number in range
-HeadFails version title (CallersDue kind) words what = (what ≡ Callers) × ((n : ℕ) → AreCallers version n → words ≢ callers_words n)
+HeadFails version title (CallersDue kind) words what = (what ≡ Callers)
+    × ((n : ℕ) → AreCallers version n → words ≢ callers_words n)
 -- the line isn't 'calls' and as many numbers in range as there are callers
-HeadFails version title (CountsDue kind n) words what = (what ≡ Calls) × ((calls : List ℕ) → AreCalls version n calls → words ≢ calls_words calls)
+HeadFails version title (CountsDue kind n) words what = (what ≡ Calls)
+    × ((calls : List ℕ) → AreCalls version n calls → words ≢ calls_words calls)
 HeadFails version title (HeadRead kind calls) words what = ⊥
 
 -- what is wanted in a head
@@ -79,7 +87,11 @@ head_wanted (HeadRead kind calls) = Nothing
 
 -- the rules of a head
 abbrev pub head_rules : Version → List ℕ → Rules HeadDue
-head_rules version title = record { Passes = HeadPasses version title; Fails = HeadFails version title; wanted = head_wanted }
+head_rules version title = record {
+  Passes = HeadPasses version title;
+  Fails = HeadFails version title;
+  wanted = head_wanted;
+}
 
 -- the text goes on from one thing that is due in its head to another, and leaves the rest unread
 abbrev pub HeadGoes : Version → List ℕ → HeadDue → Unread → HeadDue → Unread → Type 0
@@ -91,4 +103,5 @@ IsHeadFault version title due text fault = IsFirstFault (head_rules version titl
 
 -- the text begins with the head of this kind and these calls, and leaves the rest unread
 abbrev pub IsHead : Version → List ℕ → Kind → List ℕ → Unread → Unread → Type 0
-IsHead version title kind calls text left = HeadGoes version title TitleDue text (HeadRead kind calls) left
+IsHead version title kind calls text left =
+    HeadGoes version title TitleDue text (HeadRead kind calls) left

@@ -22,14 +22,16 @@ pub record AreSolid (words : List (List ℕ)) : Type 0 where
   pub some : 0 < length words
   pub each : AllByRecursion IsSolid words
 
--- what is left of a text: its bytes, and the number of the line that they begin with, counted from 1
+-- what is left of a text: its bytes, and the number of the line that they begin with, counted from
+-- 1
 pub record Unread : Type 0 where
   pub bytes : List ℕ
   pub number : ℕ
 
 -- what stands before the first such byte, and what stands after it
 abbrev pub cut_at : ℕ → List ℕ → Option (List ℕ × List ℕ)
-cut_at byte bytes = option_map (λ i. (take i bytes, drop (i + 1) bytes)) (position (λ b. b == byte) bytes)
+cut_at byte bytes =
+    option_map (λ i. (take i bytes, drop (i + 1) bytes)) (position (λ b. b == byte) bytes)
 
 -- the line with this number, where a line feed was found, and what is left after it
 abbrev pub line_from : ℕ → Option (List ℕ × List ℕ) → Result (List ℕ × Unread) TextFault

@@ -17,7 +17,8 @@ use Rattle.text_fields.specs.Version.{word_limit}
 use Rattle.text_fields.specs.Lines.{IsSolid, AreSolid}
 
 -- the operations of both versions are operation words
-pub small_word : (version : Version) (op : ℕ) → IsTrue (nat_lt op (word_limit version)) → IsOperationWord op
+pub small_word : (version : Version) (op : ℕ) → IsTrue (nat_lt op (word_limit version))
+    → IsOperationWord op
 small_word First op h = let lt : op < 2 ^ 64 = ltb-true op (2 ^ 64) h in omega arith
 small_word Second op h = ltb-true op (2 ^ 128) h
 
@@ -34,25 +35,34 @@ pub record AreFew (n : ℕ) : Type 0 where
 -- an operation has one to three words
 pub few_operation_words : (kind : Kind) (op : ℕ) → AreFew (length (operation_words kind op))
 few_operation_words kind op = elim (cases_Option (entry_of kind op)) [
-  | inl none ↦ subst (λ (ws : List (List ℕ)). AreFew (length ws)) (sym (operation_words-unknown kind op none)) (record { some = omega arith; few = omega arith })
+  | inl none ↦ subst (λ (ws : List (List ℕ)). AreFew (length ws))
+      (sym (operation_words-unknown kind op none))
+      (record { some = omega arith; few = omega arith })
   | inr known ↦
       let few = few_arguments known.0.arity op in
-      subst (λ (ws : List (List ℕ)). AreFew (length ws)) (sym (operation_words-known kind op known.0 known.1)) (record { some = omega arith; few = omega arith })
+      subst (λ (ws : List (List ℕ)). AreFew (length ws))
+      (sym (operation_words-known kind op known.0 known.1))
+      (record { some = omega arith; few = omega arith })
 ]
 
-pub one_kind_operation : (version : Version) (kind : Kind) (a b : ℕ) (x y : List (List ℕ)) → IsTrue (nat_lt a (word_limit version)) → IsTrue (nat_lt b (word_limit version))
+pub one_kind_operation : (version : Version) (kind : Kind) (a b : ℕ) (x y : List (List ℕ))
+    → IsTrue (nat_lt a (word_limit version)) → IsTrue (nat_lt b (word_limit version))
     → operation_words kind a ++ x ≡ operation_words kind b ++ y → a ≡ b
 one_kind_operation version kind a b x y h k e =
     let some = few_operation_words kind a in
     let other = few_operation_words kind b in
-    (Spells-once kind (operation_words kind b ++ y) a b (length (operation_words kind a) - 1) (length (operation_words kind b) - 1) (small_word version a h) (small_word version b k)
+    (Spells-once kind (operation_words kind b ++ y) a b (length (operation_words kind a) - 1)
+    (length (operation_words kind b) - 1) (small_word version a h) (small_word version b k)
     (record { suffix = x; whole = sym e; count = omega (arith, some.some) })
     (record { suffix = y; whole = refl; count = omega (arith, other.some) })).0
 
-pub solid_kind_words : (version : Version) (kind : Kind) (op : ℕ) → IsTrue (nat_lt op (word_limit version)) → AreSolid (operation_words kind op)
+pub solid_kind_words : (version : Version) (kind : Kind) (op : ℕ)
+    → IsTrue (nat_lt op (word_limit version)) → AreSolid (operation_words kind op)
 solid_kind_words version kind op h = record {
   some = omega (arith, (few_operation_words kind op).some);
-  each = recursion_from_All IsSolid (operation_words kind op) (λ i d inside. let word = operation_words-IsWord kind op (small_word version op h) i d inside in record { some = word.some; above = λ j c within. (word.printed j c within).0 });
+  each = recursion_from_All IsSolid (operation_words kind op)
+      (λ i d inside. let word = operation_words-IsWord kind op (small_word version op h) i d
+      inside in record { some = word.some; above = λ j c within. (word.printed j c within).0 });
 }
 
 pub few_kind_words : (kind : Kind) (op : ℕ) → length (operation_words kind op) ≤ 3

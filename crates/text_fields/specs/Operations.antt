@@ -19,4 +19,5 @@ pub record IsSpelled (operations : Operations) (words : List (List ℕ)) (op use
 
 -- the operations of a sequential object, in a text of a version
 abbrev pub kind_operations : Version → Kind → Operations
-kind_operations version kind = record { has = λ op. nat_lt op (word_limit version); words = operation_words kind }
+kind_operations version kind =
+    record { has = λ op. nat_lt op (word_limit version); words = operation_words kind }

@@ -5,4 +5,5 @@ use Rattle.text_fields.specs.FaultName.{fault_name}
 
 -- the line and the name of the fault
 unfoldable pub refusal_text : TextFault → List ℕ
-refusal_text fault = codes "refused " ++ decimal fault.line ++ codes " " ++ fault_name fault.what ++ codes "\n"
+refusal_text fault =
+    codes "refused " ++ decimal fault.line ++ codes " " ++ fault_name fault.what ++ codes "\n"

@@ -13,7 +13,8 @@ pub fn next_number(words: &mut Words, most: u64) -> Option<u64>
     // A number that was found is at most this, and its digits were the next word, which is taken.
     ensures found { IfSome result (λ n. (n ≤ most) × (words.old ≡ decimal n ∷ words.new)) }
     // No number is found only where the next word is no number, or one above this.
-    ensures none { IfNone result ((n : ℕ) (suffix : List (List ℕ)) → n ≤ most → words.old ≢ decimal n ∷ suffix) }
+    ensures none { IfNone result
+        ((n : ℕ) (suffix : List (List ℕ)) → n ≤ most → words.old ≢ decimal n ∷ suffix) }
 {
     let n = number(words.next()?)?;
     if n <= most { Some(n) } else { None }
@@ -27,10 +28,12 @@ pub fn read_counts(words: &mut Words, n: u32, most: u64) -> Option<Cut>
     requires few { n ≤ MAX_CALLERS }
     // The counts that were found are one for each caller, each at most this, and the words were
     // theirs alone.
-    ensures found { IfSome result (λ counts. (length counts ≡ n) × AreAtMost most counts × (words.old ≡ map decimal counts)) }
+    ensures found { IfSome result
+        (λ counts. (length counts ≡ n) × AreAtMost most counts × (words.old ≡ map decimal counts)) }
     // No counts are found only where the words aren't one number for each caller, each at most
     // this.
-    ensures none { IfNone result ((counts : List ℕ) → length counts ≡ n → AreAtMost most counts → words.old ≢ map decimal counts) }
+    ensures none { IfNone result ((counts : List ℕ) → length counts ≡ n → AreAtMost most counts
+        → words.old ≢ map decimal counts) }
 {
     let mut counts = Cut::zero(n);
     for i in 0..n {

@@ -42,7 +42,8 @@ impl<'a> Lines<'a> {
         // An answered line is what the bytes had before the first line feed, and is taken with it.
         ensures line { IfOk result (λ line. line_at self.old ≡ Ok (line.now, self.new)) }
         // An error comes only where no whole line is left: the text is cut there, and stays.
-        ensures cut { IfErr result (λ fault. (line_at self.old ≡ Err fault) × (self.new ≡ self.old)) }
+        ensures cut { IfErr result
+            (λ fault. (line_at self.old ≡ Err fault) × (self.new ≡ self.old)) }
     {
         match cut_at(b'\n', self.rest) {
             None => Err(TextFault {

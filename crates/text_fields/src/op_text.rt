@@ -16,8 +16,8 @@ pub trait OpText {
     /// The operations that the text has, and the words of each.
     ghost operations: { Self → Operations };
 
-    /// The operation that the first word spells with none, one or both of the further words, and how
-    /// many of these are used. A third word is given only where there is a second.
+    /// The operation that the first word spells with none, one or both of the further words, and
+    /// how many of these are used. A third word is given only where there is a second.
     fn read_op(
         &self,
         first: &[u8],
@@ -35,14 +35,17 @@ pub trait OpText {
             ¬ (IsSpelled (operations self.now) (first.now ∷ others) op used)) };
 
     /// No operation's words begin another's.
-    ghost one_operation: { (text : Self) (a b : ℕ) (x y : List (List ℕ)) → IsTrue ((operations text).has a) → IsTrue ((operations text).has b)
+    ghost one_operation: { (text : Self) (a b : ℕ) (x y : List (List ℕ))
+        → IsTrue ((operations text).has a) → IsTrue ((operations text).has b)
         → (operations text).words a ++ x ≡ (operations text).words b ++ y → a ≡ b };
 
     /// An operation has at least one word, and no word of it has a space or a line feed.
-    ghost solid_words: { (text : Self) (op : ℕ) → IsTrue ((operations text).has op) → AreSolid ((operations text).words op) };
+    ghost solid_words: { (text : Self) (op : ℕ) → IsTrue ((operations text).has op)
+        → AreSolid ((operations text).words op) };
 
     /// An operation has at most three words.
-    ghost few_words: { (text : Self) (op : ℕ) → IsTrue ((operations text).has op) → length ((operations text).words op) ≤ 3 };
+    ghost few_words: { (text : Self) (op : ℕ) → IsTrue ((operations text).has op)
+        → length ((operations text).words op) ≤ 3 };
 }
 
 /// The words of a kind's operations in a text of version 2.

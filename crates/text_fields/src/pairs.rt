@@ -20,7 +20,8 @@ pub fn read_pairs(words: &mut Words, n: u32) -> Option<Cut>
     requires few { n ≤ MAX_CALLERS }
     // A cut that was found has a count for each caller that texts can write, and the words of its
     // pairs are taken.
-    ensures found { IfSome result (λ cut. (length cut ≡ n) × AreNumbers cut × (words.old ≡ pair_words 0 cut ++ words.new)) }
+    ensures found { IfSome result
+        (λ cut. (length cut ≡ n) × AreNumbers cut × (words.old ≡ pair_words 0 cut ++ words.new)) }
     // The words after the pairs of a cut don't begin with a word with a colon.
     ensures whole { IfSome result (λ cut. NoPairFirst words.new) }
     // No cut is found only where one of the first words with a colon is no pair, or not in the
@@ -45,7 +46,9 @@ pub fn read_pairs(words: &mut Words, n: u32) -> Option<Cut>
 /// Takes the next word, where it has a colon: what stands before its first colon, and what after
 /// it.
 fn next_parts<'a>(words: &mut Words<'a>) -> Option<(&'a [u8], &'a [u8])>
-    ensures found { IfSome result (λ (prefix, suffix). (words.old ≡ (prefix.now ++ 58 ∷ suffix.now) ∷ words.new) × AreParts prefix.now suffix.now) }
+    ensures found { IfSome result
+        (λ (prefix, suffix). (words.old ≡ (prefix.now ++ 58 ∷ suffix.now) ∷ words.new)
+        × AreParts prefix.now suffix.now) }
     ensures none { IfNone result (NoPairFirst words.old × (words.new ≡ words.old)) }
 {
     let mut suffix = words.copy();

@@ -33,10 +33,12 @@ read_cases i n c (inr h) = elim (cases_lt c.number n) [
 ]
 
 -- the calls of a caller are read
-read_caller : (book : List Page) (i : ℕ) (c : Call) → IsCall book c → IsReadTo (i + 1) 0 c → IsReadTo i (calls_of book i) c
+read_caller : (book : List Page) (i : ℕ) (c : Call) → IsCall book c → IsReadTo (i + 1) 0 c
+    → IsReadTo i (calls_of book i) c
 read_caller book i c is (inl lt) = elim (cases_lt c.caller i) [
   | inl less ↦ inl less
-  | inr le ↦ let same : c.caller ≡ i = omega arith in inr (same, subst (λ (j : ℕ). c.number < calls_of book j) same is)
+  | inr le ↦ let same : c.caller ≡ i = omega arith in
+      inr (same, subst (λ (j : ℕ). c.number < calls_of book j) same is)
 ]
 read_caller book i c is (inr h) = absurd (omega (arith, h.1))
 
@@ -45,69 +47,88 @@ read_none c (inl lt) = omega (arith, lt)
 read_none c (inr h) = omega (arith, h.1)
 
 -- who puts in or takes out is a call
-call_from_put : (reading : Reading) (book : List Page) (c : Call) (v : ℕ) → PutsIn reading book c v → IsCall book c
-call_from_put reading book c v puts = slice_get_within (page_of book c.caller).operations c.number puts.0 puts.1
+call_from_put : (reading : Reading) (book : List Page) (c : Call) (v : ℕ) → PutsIn reading book c v
+    → IsCall book c
+call_from_put reading book c v puts =
+    slice_get_within (page_of book c.caller).operations c.number puts.0 puts.1
 
-call_from_take : (reading : Reading) (book : List Page) (c : Call) (v : ℕ) → TakesOut reading book c v → IsCall book c
-call_from_take reading book c v takes = slice_get_within (page_of book c.caller).operations c.number takes.0 takes.2
+call_from_take : (reading : Reading) (book : List Page) (c : Call) (v : ℕ)
+    → TakesOut reading book c v → IsCall book c
+call_from_take reading book c v takes =
+    slice_get_within (page_of book c.caller).operations c.number takes.0 takes.2
 
 -- a call puts in one value,
-puts_one : (reading : Reading) (book : List Page) (c : Call) (v w : ℕ) → PutsIn reading book c v → PutsIn reading book c w → v ≡ w
+puts_one : (reading : Reading) (book : List Page) (c : Call) (v w : ℕ) → PutsIn reading book c v
+    → PutsIn reading book c w → v ≡ w
 puts_one reading book c v w one other =
     let same : one.0 ≡ other.0 = same_Some one.0 other.0 (sym one.1 ∙ other.1) in
     let both : Puts v ≡ Puts w = sym one.2 ∙ (ap reading.deed same ∙ other.2) in
     cc
 
 -- takes out one,
-takes_one : (reading : Reading) (book : List Page) (c : Call) (v w : ℕ) → TakesOut reading book c v → TakesOut reading book c w → v ≡ w
+takes_one : (reading : Reading) (book : List Page) (c : Call) (v w : ℕ) → TakesOut reading book c v
+    → TakesOut reading book c w → v ≡ w
 takes_one reading book c v w one other =
     let same : one.1 ≡ other.1 = same_Some one.1 other.1 (sym one.3 ∙ other.3) in
     same_Some v w (sym one.5 ∙ (ap (λ (r : Record). reading.shown r.reply) same ∙ other.5))
 
 -- and doesn't do both
-pub puts_or_takes : (reading : Reading) (book : List Page) (c : Call) (v w : ℕ) → PutsIn reading book c v → TakesOut reading book c w → ⊥
+pub puts_or_takes : (reading : Reading) (book : List Page) (c : Call) (v w : ℕ)
+    → PutsIn reading book c v → TakesOut reading book c w → ⊥
 puts_or_takes reading book c v w puts takes =
     let same : puts.0 ≡ takes.0 = same_Some puts.0 takes.0 (sym puts.1 ∙ takes.2) in
     let both : Puts v ≡ Takes = sym puts.2 ∙ (ap reading.deed same ∙ takes.4) in
     cc
 
 -- what one more call makes of what is listed: a put,
-pub lists_put : (reading : Reading) (book : List Page) (call : Call) (v : ℕ) (old new : Sight) → PutsIn reading book call v
-    → ListsRead reading book call.caller call.number old → HasPut old new v call → ListsRead reading book call.caller (call.number + 1) new
+pub lists_put : (reading : Reading) (book : List Page) (call : Call) (v : ℕ) (old new : Sight)
+    → PutsIn reading book call v
+    → ListsRead reading book call.caller call.number old → HasPut old new v call
+    → ListsRead reading book call.caller (call.number + 1) new
 lists_put reading book call v old new does is has = record {
   places = has.places;
   puts = λ (c : Call) (w : ℕ) read puts. elim (read_cases call.caller call.number c read) [
     | inl before ↦ has.more.puts w c (is.puts c w before puts)
     | inr this ↦
-        let same : v ≡ w = puts_one reading book call v w does (subst (λ (x : Call). PutsIn reading book x w) this puts) in
-        subst (λ (x : ℕ). IsListed (puts_of new x) c) same (subst (λ (x : Call). IsListed (puts_of new v) x) (sym this) has.listed)
+        let same : v ≡ w = puts_one reading book call v w does
+        (subst (λ (x : Call). PutsIn reading book x w) this puts) in
+        subst (λ (x : ℕ). IsListed (puts_of new x) c) same
+        (subst (λ (x : Call). IsListed (puts_of new v) x) (sym this) has.listed)
   ];
   shows = λ (c : Call) (w : ℕ) read takes. elim (read_cases call.caller call.number c read) [
     | inl before ↦ has.more.shows w c (is.shows c w before takes)
-    | inr this ↦ absurd (puts_or_takes reading book call v w does (subst (λ (x : Call). TakesOut reading book x w) this takes))
+    | inr this ↦ absurd (puts_or_takes reading book call v w does
+        (subst (λ (x : Call). TakesOut reading book x w) this takes))
   ];
 }
 
 -- a take,
-pub lists_take : (reading : Reading) (book : List Page) (call : Call) (v : ℕ) (old new : Sight) → TakesOut reading book call v
-    → ListsRead reading book call.caller call.number old → HasTake old new v call → ListsRead reading book call.caller (call.number + 1) new
+pub lists_take : (reading : Reading) (book : List Page) (call : Call) (v : ℕ) (old new : Sight)
+    → TakesOut reading book call v
+    → ListsRead reading book call.caller call.number old → HasTake old new v call
+    → ListsRead reading book call.caller (call.number + 1) new
 lists_take reading book call v old new does is has = record {
   places = has.places;
   puts = λ (c : Call) (w : ℕ) read puts. elim (read_cases call.caller call.number c read) [
     | inl before ↦ has.more.puts w c (is.puts c w before puts)
-    | inr this ↦ absurd (puts_or_takes reading book call w v (subst (λ (x : Call). PutsIn reading book x w) this puts) does)
+    | inr this ↦ absurd (puts_or_takes reading book call w v
+        (subst (λ (x : Call). PutsIn reading book x w) this puts) does)
   ];
   shows = λ (c : Call) (w : ℕ) read takes. elim (read_cases call.caller call.number c read) [
     | inl before ↦ has.more.shows w c (is.shows c w before takes)
     | inr this ↦
-        let same : v ≡ w = takes_one reading book call v w does (subst (λ (x : Call). TakesOut reading book x w) this takes) in
-        subst (λ (x : ℕ). IsListed (shows_of new x) c) same (subst (λ (x : Call). IsListed (shows_of new v) x) (sym this) has.listed)
+        let same : v ≡ w = takes_one reading book call v w does
+        (subst (λ (x : Call). TakesOut reading book x w) this takes) in
+        subst (λ (x : ℕ). IsListed (shows_of new x) c) same
+        (subst (λ (x : Call). IsListed (shows_of new v) x) (sym this) has.listed)
   ];
 }
 
 -- and neither
-pub lists_neither : (reading : Reading) (book : List Page) (call : Call) (sight : Sight) → ((v : ℕ) → PutsIn reading book call v → ⊥)
-    → ((v : ℕ) → TakesOut reading book call v → ⊥) → ListsRead reading book call.caller call.number sight
+pub lists_neither : (reading : Reading) (book : List Page) (call : Call) (sight : Sight)
+    → ((v : ℕ) → PutsIn reading book call v → ⊥)
+    → ((v : ℕ) → TakesOut reading book call v → ⊥)
+    → ListsRead reading book call.caller call.number sight
     → ListsRead reading book call.caller (call.number + 1) sight
 lists_neither reading book call sight no_put no_take is = record {
   places = is.places;
@@ -122,18 +143,23 @@ lists_neither reading book call sight no_put no_take is = record {
 }
 
 -- A caller's calls are read.
-pub lists_caller : (reading : Reading) (book : List Page) (caller number : ℕ) (sight : Sight) → number ≡ calls_of book caller → ListsRead reading book caller number sight
+pub lists_caller : (reading : Reading) (book : List Page) (caller number : ℕ) (sight : Sight)
+    → number ≡ calls_of book caller → ListsRead reading book caller number sight
     → ListsRead reading book (caller + 1) 0 sight
 lists_caller reading book caller number sight all is =
-    let before : ListsRead reading book caller (calls_of book caller) sight = subst (λ (n : ℕ). ListsRead reading book caller n sight) all is in
+    let before : ListsRead reading book caller (calls_of book caller) sight =
+    subst (λ (n : ℕ). ListsRead reading book caller n sight) all is in
     record {
       places = before.places;
-      puts = λ (c : Call) (w : ℕ) read puts. before.puts c w (read_caller book caller c (call_from_put reading book c w puts) read) puts;
-      shows = λ (c : Call) (w : ℕ) read takes. before.shows c w (read_caller book caller c (call_from_take reading book c w takes) read) takes;
+      puts = λ (c : Call) (w : ℕ) read puts. before.puts c w
+          (read_caller book caller c (call_from_put reading book c w puts) read) puts;
+      shows = λ (c : Call) (w : ℕ) read takes. before.shows c w
+          (read_caller book caller c (call_from_take reading book c w takes) read) takes;
     }
 
 -- Nothing is read.
-pub lists_none : (reading : Reading) (book : List Page) (sight : Sight) → HasItsPlaces sight → ListsRead reading book 0 0 sight
+pub lists_none : (reading : Reading) (book : List Page) (sight : Sight) → HasItsPlaces sight
+    → ListsRead reading book 0 0 sight
 lists_none reading book sight places = record {
   places = places;
   puts = λ (c : Call) (w : ℕ) read puts. absurd (read_none c read);
@@ -141,32 +167,39 @@ lists_none reading book sight places = record {
 }
 
 -- All is read.
-pub lists_all : (reading : Reading) (book : List Page) (callers : ℕ) (sight : Sight) → callers ≡ length book → ListsRead reading book callers 0 sight → ListsValues reading book sight
+pub lists_all : (reading : Reading) (book : List Page) (callers : ℕ) (sight : Sight) → callers
+    ≡ length book → ListsRead reading book callers 0 sight → ListsValues reading book sight
 lists_all reading book callers sight all is = record {
   puts = λ (c : Call) (v : ℕ) puts.
-      let inside : c.caller < length book = caller_from_call book c.caller c.number (call_from_put reading book c v puts) in
+      let inside : c.caller < length book =
+      caller_from_call book c.caller c.number (call_from_put reading book c v puts) in
       is.puts c v (inl (omega (arith, inside, all))) puts;
   takes = λ (c : Call) (v : ℕ) takes.
-      let inside : c.caller < length book = caller_from_call book c.caller c.number (call_from_take reading book c v takes) in
+      let inside : c.caller < length book =
+      caller_from_call book c.caller c.number (call_from_take reading book c v takes) in
       is.shows c v (inl (omega (arith, inside, all))) takes;
 }
 
 -- two calls of a list of one are one
-pub one_listed : (calls : List Call) (a b : Call) → length calls ≡ 1 → IsListed calls a → IsListed calls b → a ≡ b
+pub one_listed : (calls : List Call) (a b : Call) → length calls ≡ 1 → IsListed calls a
+    → IsListed calls b → a ≡ b
 one_listed calls a b one at_a at_b =
-    let same : at_a.0 ≡ at_b.0 = omega (arith, one, slice_get_within calls at_a.0 a at_a.1, slice_get_within calls at_b.0 b at_b.1) in
+    let same : at_a.0 ≡ at_b.0 = omega
+    (arith, one, slice_get_within calls at_a.0 a at_a.1, slice_get_within calls at_b.0 b at_b.1) in
     same_Some a b (sym at_a.1 ∙ (ap (slice_get calls) same ∙ at_b.1))
 
 -- ---- places
 
 -- the calls at a place, with one more place after
-at_pushed : (f : Labelled → List Call) (xs : List Labelled) (new : Labelled) (k : ℕ) → k < length xs → get_or (map f xs) k [] ≡ get_or (map f (xs ++ new ∷ [])) k []
+at_pushed : (f : Labelled → List Call) (xs : List Labelled) (new : Labelled) (k : ℕ) → k < length xs
+    → get_or (map f xs) k [] ≡ get_or (map f (xs ++ new ∷ [])) k []
 at_pushed f [] new k inside = absurd (omega (arith, inside))
 at_pushed f (x ∷ xs) new zero inside = refl
 at_pushed f (x ∷ xs) new (suc k) inside = at_pushed f xs new k (omega (arith, inside))
 
 -- and with another one at a place
-listed_set : (f : Labelled → List Call) (xs : List Labelled) (i : ℕ) (new : Labelled) (k : ℕ) (c : Call) → (IsListed (get_or (map f xs) i []) c → IsListed (f new) c)
+listed_set : (f : Labelled → List Call) (xs : List Labelled) (i : ℕ) (new : Labelled) (k : ℕ)
+    (c : Call) → (IsListed (get_or (map f xs) i []) c → IsListed (f new) c)
     → IsListed (get_or (map f xs) k []) c → IsListed (get_or (map f (set xs i new)) k []) c
 listed_set f [] i new k c more is = is
 listed_set f (x ∷ xs) zero new zero c more is = more is
@@ -174,12 +207,14 @@ listed_set f (x ∷ xs) zero new (suc k) c more is = is
 listed_set f (x ∷ xs) (suc i) new zero c more is = is
 listed_set f (x ∷ xs) (suc i) new (suc k) c more is = listed_set f xs i new k c more is
 
-at_set : (f : Labelled → List Call) (xs : List Labelled) (i : ℕ) (new : Labelled) → i < length xs → f new ≡ get_or (map f (set xs i new)) i []
+at_set : (f : Labelled → List Call) (xs : List Labelled) (i : ℕ) (new : Labelled) → i < length xs
+    → f new ≡ get_or (map f (set xs i new)) i []
 at_set f [] i new inside = absurd (omega (arith, inside))
 at_set f (x ∷ xs) zero new inside = refl
 at_set f (x ∷ xs) (suc i) new inside = at_set f xs i new (omega (arith, inside))
 
-at_is : (f : Labelled → List Call) (xs : List Labelled) (i : ℕ) (old : Labelled) → i < length xs → old ≡ get_or xs i old → get_or (map f xs) i [] ≡ f old
+at_is : (f : Labelled → List Call) (xs : List Labelled) (i : ℕ) (old : Labelled) → i < length xs
+    → old ≡ get_or xs i old → get_or (map f xs) i [] ≡ f old
 at_is f [] i old inside is = absurd (omega (arith, inside))
 at_is f (x ∷ xs) zero old inside is = ap f (sym is)
 at_is f (x ∷ xs) (suc i) old inside is = at_is f xs i old (omega (arith, inside)) is
@@ -194,12 +229,16 @@ none_listed : (c : Call) → IsListed [] c → ⊥
 none_listed c listed = omega (arith, slice_get_within {A = Call} [] listed.0 c listed.1)
 
 -- what is listed at a place stays so where a new one is set after
-listed_on : (f : Labelled → List Call) (at : Option ℕ → List Call) (xs : List Labelled) (new : Labelled) (at_new : Option ℕ → List Call) (o : Option ℕ) (c : Call)
-    → ((k : ℕ) → at (Some k) ≡ get_or (map f xs) k []) → ((k : ℕ) → at_new (Some k) ≡ get_or (map f (xs ++ new ∷ [])) k []) → at None ≡ []
+listed_on : (f : Labelled → List Call) (at : Option ℕ → List Call) (xs : List Labelled)
+    (new : Labelled) (at_new : Option ℕ → List Call) (o : Option ℕ) (c : Call)
+    → ((k : ℕ) → at (Some k) ≡ get_or (map f xs) k [])
+    → ((k : ℕ) → at_new (Some k) ≡ get_or (map f (xs ++ new ∷ [])) k []) → at None ≡ []
     → ((k : ℕ) → o ≡ Some k → k < length xs) → IsListed (at o) c → IsListed (at_new o) c
-listed_on f at xs new at_new None c old some none inside is = absurd (none_listed c (subst (λ (l : List Call). IsListed l c) none is))
+listed_on f at xs new at_new None c old some none inside is =
+    absurd (none_listed c (subst (λ (l : List Call). IsListed l c) none is))
 listed_on f at xs new at_new (Some k) c old some none inside is =
-    subst (λ (l : List Call). IsListed l c) (old k ∙ (at_pushed f xs new k (inside k refl) ∙ sym (some k))) is
+    subst (λ (l : List Call). IsListed l c)
+    (old k ∙ (at_pushed f xs new k (inside k refl) ∙ sym (some k))) is
 
 abbrev puts_in : Labelled → List Call
 puts_in l = l.puts.items
@@ -211,50 +250,75 @@ same_number : (v : ℕ) → (v == v) ≡ false → ⊥
 same_number v fails = let holds : (v == v) ≡ true = eq-eqb v v refl in cc
 
 -- A new place for a value that has none.
-pub has_place : (old new : Sight) (v place : ℕ) (l : Labelled) → HasItsPlaces old → place_of old v ≡ None → place ≡ length old.labelled.items
-    → new.labelled.items ≡ old.labelled.items ++ l ∷ [] → ((w : ℕ) → place_of new w ≡ (if w == v then Some place else place_of old w)) → HasPlace old new v place
+pub has_place : (old new : Sight) (v place : ℕ) (l : Labelled) → HasItsPlaces old
+    → place_of old v ≡ None → place ≡ length old.labelled.items
+    → new.labelled.items ≡ old.labelled.items ++ l ∷ []
+    → ((w : ℕ) → place_of new w ≡ (if w == v then Some place else place_of old w))
+    → HasPlace old new v place
 has_place old new v place l places none size items at =
-    let this : (w : ℕ) → (w == v) ≡ true → place_of new w ≡ Some place = λ (w : ℕ) (e : (w == v) ≡ true). at w ∙ cond-true (w == v) (Some place) (place_of old w) e in
-    let longer : length new.labelled.items ≡ length old.labelled.items + 1 = ap length items ∙ omega (arith, length-append old.labelled.items (l ∷ [])) in
-    let cases : (w : ℕ) → ((w ≡ v) × (place_of new w ≡ Some place)) ⊎ (place_of new w ≡ place_of old w) = λ (w : ℕ). elim (cases_Bool (w == v)) [
+    let this : (w : ℕ) → (w == v) ≡ true → place_of new w ≡ Some place =
+    λ (w : ℕ) (e : (w == v) ≡ true). at w ∙ cond-true (w == v) (Some place) (place_of old w) e in
+    let longer : length new.labelled.items ≡ length old.labelled.items + 1 =
+    ap length items ∙ omega (arith, length-append old.labelled.items (l ∷ [])) in
+    let cases : (w : ℕ) → ((w ≡ v) × (place_of new w ≡ Some place))
+    ⊎ (place_of new w ≡ place_of old w) = λ (w : ℕ). elim (cases_Bool (w == v)) [
       | inl same ↦ inl (eqb-true w v same, this w same)
       | inr apart ↦ inr (at w ∙ cond-false (w == v) (Some place) (place_of old w) apart)
     ] in
     record {
       places = λ (w k : ℕ) (e : place_of new w ≡ Some k). elim (cases w) [
         | inl same ↦ omega (arith, size, longer, same_Some place k (sym same.1 ∙ e))
-        | inr kept ↦ let below : k < length old.labelled.items = places w k (sym kept ∙ e) in omega (arith, below, longer)
+        | inr kept ↦ let below : k < length old.labelled.items = places w k (sym kept ∙ e) in
+            omega (arith, below, longer)
       ];
       more = record {
         puts = λ (w : ℕ) (c : Call) listed. elim (cases w) [
-          | inl same ↦ absurd (none_listed c (subst (λ (o : Option ℕ). IsListed (puts_at old o) c) (ap (place_of old) same.0 ∙ none) listed))
+          | inl same ↦ absurd (none_listed c (subst (λ (o : Option ℕ). IsListed (puts_at old o) c)
+              (ap (place_of old) same.0 ∙ none) listed))
           | inr kept ↦
               subst (λ (o : Option ℕ). IsListed (puts_at new o) c) (sym kept)
-              (listed_on puts_in (puts_at old) old.labelled.items l (puts_at new) (place_of old w) c (λ k. refl) (λ k. ap (λ xs. get_or (map puts_in xs) k []) items) refl
+              (listed_on puts_in (puts_at old) old.labelled.items l (puts_at new) (place_of old w) c
+              (λ k. refl) (λ k. ap (λ xs. get_or (map puts_in xs) k []) items) refl
               (λ k e. places w k e) listed)
         ];
         shows = λ (w : ℕ) (c : Call) listed. elim (cases w) [
-          | inl same ↦ absurd (none_listed c (subst (λ (o : Option ℕ). IsListed (shows_at old o) c) (ap (place_of old) same.0 ∙ none) listed))
+          | inl same ↦ absurd (none_listed c (subst (λ (o : Option ℕ). IsListed (shows_at old o) c)
+              (ap (place_of old) same.0 ∙ none) listed))
           | inr kept ↦
               subst (λ (o : Option ℕ). IsListed (shows_at new o) c) (sym kept)
-              (listed_on shows_in (shows_at old) old.labelled.items l (shows_at new) (place_of old w) c (λ k. refl) (λ k. ap (λ xs. get_or (map shows_in xs) k []) items) refl
+              (listed_on shows_in (shows_at old) old.labelled.items l (shows_at new)
+              (place_of old w) c (λ k. refl)
+              (λ k. ap (λ xs. get_or (map shows_in xs) k []) items) refl
               (λ k e. places w k e) listed)
         ];
       };
-      place = elim (cases v) [ inl same ↦ same.1 | inr kept ↦ elim (cases_Bool (v == v)) [ inl holds ↦ this v holds | inr fails ↦ absurd (same_number v fails) ] ];
+      place = elim (cases v) [
+        | inl same ↦ same.1
+        | inr kept ↦ elim (cases_Bool (v == v)) [
+          | inl holds ↦ this v holds
+          | inr fails ↦ absurd (same_number v fails)
+        ]
+      ];
     }
 
 -- what is listed at the places of a sight is so at those of another one with the same places
-listed_kept : (f : Labelled → List Call) (at at_new : Option ℕ → List Call) (xs : List Labelled) (place : ℕ) (new : Labelled) (o : Option ℕ) (c : Call)
-    → ((k : ℕ) → at (Some k) ≡ get_or (map f xs) k []) → ((k : ℕ) → at_new (Some k) ≡ get_or (map f (set xs place new)) k []) → at None ≡ []
-    → (IsListed (get_or (map f xs) place []) c → IsListed (f new) c) → IsListed (at o) c → IsListed (at_new o) c
-listed_kept f at at_new xs place new None c old some none more is = absurd (none_listed c (subst (λ (l : List Call). IsListed l c) none is))
+listed_kept : (f : Labelled → List Call) (at at_new : Option ℕ → List Call) (xs : List Labelled)
+    (place : ℕ) (new : Labelled) (o : Option ℕ) (c : Call)
+    → ((k : ℕ) → at (Some k) ≡ get_or (map f xs) k [])
+    → ((k : ℕ) → at_new (Some k) ≡ get_or (map f (set xs place new)) k []) → at None ≡ []
+    → (IsListed (get_or (map f xs) place []) c → IsListed (f new) c) → IsListed (at o) c
+    → IsListed (at_new o) c
+listed_kept f at at_new xs place new None c old some none more is =
+    absurd (none_listed c (subst (λ (l : List Call). IsListed l c) none is))
 listed_kept f at at_new xs place new (Some k) c old some none more is =
-    subst (λ (l : List Call). IsListed l c) (sym (some k)) (listed_set f xs place new k c more (subst (λ (l : List Call). IsListed l c) (old k) is))
+    subst (λ (l : List Call). IsListed l c) (sym (some k))
+    (listed_set f xs place new k c more (subst (λ (l : List Call). IsListed l c) (old k) is))
 
 -- One more put at a value's place.
-pub has_put : (old mid new : Sight) (v place : ℕ) (call : Call) (was now : Labelled) → HasPlace old mid v place → was ≡ get_or mid.labelled.items place was
-    → ((w : ℕ) → place_of new w ≡ place_of mid w) → new.labelled.items ≡ set mid.labelled.items place now → now.puts.items ≡ was.puts.items ++ call ∷ []
+pub has_put : (old mid new : Sight) (v place : ℕ) (call : Call) (was now : Labelled)
+    → HasPlace old mid v place → was ≡ get_or mid.labelled.items place was
+    → ((w : ℕ) → place_of new w ≡ place_of mid w) → new.labelled.items
+    ≡ set mid.labelled.items place now → now.puts.items ≡ was.puts.items ++ call ∷ []
     → now.shows.items ≡ was.shows.items → HasPut old new v call
 has_put old mid new v place call was now is there same items puts shows =
     let inside : place < length mid.labelled.items = is.places v place is.place in
@@ -265,23 +329,36 @@ has_put old mid new v place call was now is there same items puts shows =
       more = record {
         puts = λ (w : ℕ) (c : Call) listed.
             subst (λ (o : Option ℕ). IsListed (puts_at new o) c) (sym (same w))
-            (listed_kept puts_in (puts_at mid) (puts_at new) mid.labelled.items place now (place_of mid w) c (λ k. refl) (λ k. ap (λ xs. get_or (map puts_in xs) k []) items) refl
-            (λ at. let old_at : IsListed was.puts.items c = subst (λ (l : List Call). IsListed l c) (at_is puts_in mid.labelled.items place was inside there) at in
-            subst (λ (l : List Call). IsListed l c) (sym puts) (old_at.0, slice_get-push_old was.puts.items call old_at.0 c old_at.1)) (is.more.puts w c listed));
+            (listed_kept puts_in (puts_at mid) (puts_at new) mid.labelled.items place now
+            (place_of mid w) c (λ k. refl) (λ k. ap (λ xs. get_or (map puts_in xs) k []) items) refl
+            (λ at. let old_at : IsListed was.puts.items c = subst (λ (l : List Call). IsListed l c)
+            (at_is puts_in mid.labelled.items place was inside there) at in
+            subst (λ (l : List Call). IsListed l c) (sym puts)
+            (old_at.0, slice_get-push_old was.puts.items call old_at.0 c old_at.1))
+            (is.more.puts w c listed));
         shows = λ (w : ℕ) (c : Call) listed.
             subst (λ (o : Option ℕ). IsListed (shows_at new o) c) (sym (same w))
-            (listed_kept shows_in (shows_at mid) (shows_at new) mid.labelled.items place now (place_of mid w) c (λ k. refl) (λ k. ap (λ xs. get_or (map shows_in xs) k []) items) refl
-            (λ at. subst (λ (l : List Call). IsListed l c) (at_is shows_in mid.labelled.items place was inside there ∙ sym shows) at) (is.more.shows w c listed));
+            (listed_kept shows_in (shows_at mid) (shows_at new) mid.labelled.items place now
+            (place_of mid w) c (λ k. refl)
+            (λ k. ap (λ xs. get_or (map shows_in xs) k []) items) refl
+            (λ at. subst (λ (l : List Call). IsListed l c)
+            (at_is shows_in mid.labelled.items place was inside there ∙ sym shows) at)
+            (is.more.shows w c listed));
       };
       listed =
           let at : puts_of new v ≡ now.puts.items
-          = ap (puts_at new) (same v ∙ is.place) ∙ (ap (λ xs. get_or (map puts_in xs) place []) items ∙ sym (at_set puts_in mid.labelled.items place now inside)) in
-          subst (λ (l : List Call). IsListed l call) (sym (at ∙ puts)) (length was.puts.items, slice_get-push_last was.puts.items call);
+          = ap (puts_at new) (same v ∙ is.place)
+          ∙ (ap (λ xs. get_or (map puts_in xs) place []) items
+          ∙ sym (at_set puts_in mid.labelled.items place now inside)) in
+          subst (λ (l : List Call). IsListed l call) (sym (at ∙ puts))
+          (length was.puts.items, slice_get-push_last was.puts.items call);
     }
 
 -- One more take at a value's place.
-pub has_take : (old mid new : Sight) (v place : ℕ) (call : Call) (was now : Labelled) → HasPlace old mid v place → was ≡ get_or mid.labelled.items place was
-    → ((w : ℕ) → place_of new w ≡ place_of mid w) → new.labelled.items ≡ set mid.labelled.items place now → now.puts.items ≡ was.puts.items
+pub has_take : (old mid new : Sight) (v place : ℕ) (call : Call) (was now : Labelled)
+    → HasPlace old mid v place → was ≡ get_or mid.labelled.items place was
+    → ((w : ℕ) → place_of new w ≡ place_of mid w)
+    → new.labelled.items ≡ set mid.labelled.items place now → now.puts.items ≡ was.puts.items
     → now.shows.items ≡ was.shows.items ++ call ∷ [] → HasTake old new v call
 has_take old mid new v place call was now is there same items puts shows =
     let inside : place < length mid.labelled.items = is.places v place is.place in
@@ -292,30 +369,52 @@ has_take old mid new v place call was now is there same items puts shows =
       more = record {
         puts = λ (w : ℕ) (c : Call) listed.
             subst (λ (o : Option ℕ). IsListed (puts_at new o) c) (sym (same w))
-            (listed_kept puts_in (puts_at mid) (puts_at new) mid.labelled.items place now (place_of mid w) c (λ k. refl) (λ k. ap (λ xs. get_or (map puts_in xs) k []) items) refl
-            (λ at. subst (λ (l : List Call). IsListed l c) (at_is puts_in mid.labelled.items place was inside there ∙ sym puts) at) (is.more.puts w c listed));
+            (listed_kept puts_in (puts_at mid) (puts_at new) mid.labelled.items place now
+            (place_of mid w) c (λ k. refl) (λ k. ap (λ xs. get_or (map puts_in xs) k []) items) refl
+            (λ at. subst (λ (l : List Call). IsListed l c)
+            (at_is puts_in mid.labelled.items place was inside there ∙ sym puts) at)
+            (is.more.puts w c listed));
         shows = λ (w : ℕ) (c : Call) listed.
             subst (λ (o : Option ℕ). IsListed (shows_at new o) c) (sym (same w))
-            (listed_kept shows_in (shows_at mid) (shows_at new) mid.labelled.items place now (place_of mid w) c (λ k. refl) (λ k. ap (λ xs. get_or (map shows_in xs) k []) items) refl
-            (λ at. let old_at : IsListed was.shows.items c = subst (λ (l : List Call). IsListed l c) (at_is shows_in mid.labelled.items place was inside there) at in
-            subst (λ (l : List Call). IsListed l c) (sym shows) (old_at.0, slice_get-push_old was.shows.items call old_at.0 c old_at.1)) (is.more.shows w c listed));
+            (listed_kept shows_in (shows_at mid) (shows_at new) mid.labelled.items place now
+            (place_of mid w) c (λ k. refl)
+            (λ k. ap (λ xs. get_or (map shows_in xs) k []) items) refl
+            (λ at. let old_at : IsListed was.shows.items c = subst (λ (l : List Call). IsListed l c)
+            (at_is shows_in mid.labelled.items place was inside there) at in
+            subst (λ (l : List Call). IsListed l c) (sym shows)
+            (old_at.0, slice_get-push_old was.shows.items call old_at.0 c old_at.1))
+            (is.more.shows w c listed));
       };
       listed =
           let at : shows_of new v ≡ now.shows.items
-          = ap (shows_at new) (same v ∙ is.place) ∙ (ap (λ xs. get_or (map shows_in xs) place []) items ∙ sym (at_set shows_in mid.labelled.items place now inside)) in
-          subst (λ (l : List Call). IsListed l call) (sym (at ∙ shows)) (length was.shows.items, slice_get-push_last was.shows.items call);
+          = ap (shows_at new) (same v ∙ is.place)
+          ∙ (ap (λ xs. get_or (map shows_in xs) place []) items
+          ∙ sym (at_set shows_in mid.labelled.items place now inside)) in
+          subst (λ (l : List Call). IsListed l call) (sym (at ∙ shows))
+          (length was.shows.items, slice_get-push_last was.shows.items call);
     }
 
 -- A put alone, less than all items, whose take may come next.
-pub puts_least : (reading : Reading) (book : List Page) (cut list : List ℕ) (sight : Sight) (marks : Marks) (caller v : ℕ) (taker : Option ℕ) → ListsValues reading book sight
-    → MarksAllNext book cut marks → PutsIn reading book (next_call cut caller) v → IsBelowFirst v list → length (puts_of sight v) ≡ 1 → is_some taker ≡ true
-    → IfSome taker (IsMarked marks) → IfSome taker (λ i. IsLeastTake reading book cut v (next_call cut i)) → PutsLeast reading book cut list caller
-puts_least reading book cut list sight marks caller v None lists all puts below one some marked takes = absurd cc
-puts_least reading book cut list sight marks caller v (Some i) lists all puts below one some marked takes = record {
-  value = v;
-  taker = i;
-  alone = (puts, λ (other : Call) (also : PutsIn reading book other v). one_listed (puts_of sight v) other (next_call cut caller) one (lists.puts other v also) (lists.puts (next_call cut caller) v puts));
-  below = below;
-  may_come = (all i).0 marked;
-  takes = takes;
-}
+pub puts_least : (reading : Reading) (book : List Page) (cut list : List ℕ) (sight : Sight)
+    (marks : Marks) (caller v : ℕ) (taker : Option ℕ) → ListsValues reading book sight
+    → MarksAllNext book cut marks → PutsIn reading book (next_call cut caller) v
+    → IsBelowFirst v list → length (puts_of sight v) ≡ 1 → is_some taker ≡ true
+    → IfSome taker (IsMarked marks)
+    → IfSome taker (λ i. IsLeastTake reading book cut v (next_call cut i))
+    → PutsLeast reading book cut list caller
+puts_least reading book cut list sight marks caller v None lists all puts below one some marked
+    takes = absurd cc
+puts_least reading book cut list sight marks caller v
+    (Some i) lists all puts below one some marked takes = record {
+      value = v;
+      taker = i;
+      alone = (
+        puts,
+        λ (other : Call) (also : PutsIn reading book other v).
+            one_listed (puts_of sight v) other (next_call cut caller) one (lists.puts other v also)
+            (lists.puts (next_call cut caller) v puts),
+      );
+      below = below;
+      may_come = (all i).0 marked;
+      takes = takes;
+    }

@@ -24,24 +24,34 @@ abbrev pub word_at : List Page → Place → ℕ
 word_at book place = (step_at book place).0
 
 -- an operation word that a call has
-pub word_is : (book : List Page) (place : Place) (op : ℕ) → operation_of book (call_at place) ≡ Some op → word_at book place ≡ op
+pub word_is : (book : List Page) (place : Place) (op : ℕ)
+    → operation_of book (call_at place) ≡ Some op → word_at book place ≡ op
 word_is book place op known = ap (λ (o : Option ℕ). unwrap_or o 0) known
 
 -- a call of the book has one
-pub word_stands : (book : List Page) (place : Place) → IsCall book (call_at place) → operation_of book (call_at place) ≡ Some (word_at book place)
-word_stands book place is = elim (slice_get_cases (page_of book place.caller).operations place.number).1 [
-  | inl found ↦ found.2 ∙ ap Some (sym (word_is book place found.0 found.2))
-  | inr past ↦ absurd (omega (arith, is, past.0))
-]
+pub word_stands : (book : List Page) (place : Place) → IsCall book (call_at place)
+    → operation_of book (call_at place) ≡ Some (word_at book place)
+word_stands book place is =
+    elim (slice_get_cases (page_of book place.caller).operations place.number).1 [
+      | inl found ↦ found.2 ∙ ap Some (sym (word_is book place found.0 found.2))
+      | inr past ↦ absurd (omega (arith, is, past.0))
+    ]
 
--- What goes on once another caller's call has come, from a list: with this many places less than these.
-abbrev pub GoesOnAfter : ℕ → List Page → (List ℕ → ℕ → List ℕ × ℕ) → List ℕ → ℕ → List ℕ → List Place → Type 0
-GoesOnAfter less book next cut i list rest = (other : List Place) × Continues book next (raised cut i) list other × (length other + less < length rest)
+-- What goes on once another caller's call has come, from a list: with this many places less than
+-- these.
+abbrev pub GoesOnAfter : ℕ → List Page → (List ℕ → ℕ → List ℕ × ℕ) → List ℕ → ℕ → List ℕ
+    → List Place → Type 0
+GoesOnAfter less book next cut i list rest = (other : List Place)
+    × Continues book next (raised cut i) list other × (length other + less < length rest)
 
--- A place whose reply is the same at another list goes on there, before what goes on after another caller's call.
-pub goes_on_over : (less : ℕ) (book : List Page) (next : List ℕ → ℕ → List ℕ × ℕ) (cut one other : List ℕ) (i : ℕ) (place : Place) (rest : List Place) → i < length cut
-    → place.caller ≢ i → MayStandNext book next cut one place → (next one (word_at book place)).1 ≡ (next other (word_at book place)).1
-    → GoesOnAfter less book next (raised cut place.caller) i (list_after book next other place) rest → GoesOnAfter less book next cut i other (place ∷ rest)
+-- A place whose reply is the same at another list goes on there, before what goes on after another
+-- caller's call.
+pub goes_on_over : (less : ℕ) (book : List Page) (next : List ℕ → ℕ → List ℕ × ℕ)
+    (cut one other : List ℕ) (i : ℕ) (place : Place) (rest : List Place) → i < length cut
+    → place.caller ≢ i → MayStandNext book next cut one place
+    → (next one (word_at book place)).1 ≡ (next other (word_at book place)).1
+    → GoesOnAfter less book next (raised cut place.caller) i (list_after book next other place) rest
+    → GoesOnAfter less book next cut i other (place ∷ rest)
 goes_on_over less book next cut one other i place rest inside apart may same on =
     let there : MayStandNext book next (raised cut i) other place = record {
       may_come = comes_later book cut i (call_at place) inside apart may.may_come;
@@ -49,29 +59,40 @@ goes_on_over less book next cut one other i place rest inside apart may same on 
       reply = sym same ∙ may.reply;
     } in (
       place ∷ on.0,
-      (there, subst (λ (c : List ℕ). Continues book next c (list_after book next other place) on.0) (raised_twice cut place.caller i apart) on.1),
+      (
+        there,
+        subst (λ (c : List ℕ). Continues book next c (list_after book next other place) on.0)
+            (raised_twice cut place.caller i apart) on.1,
+      ),
       omega (arith, on.2),
     )
 
 -- A call that takes out a value least early does so after more calls.
-pub least_later : (reading : Reading) (book : List Page) (cut : List ℕ) (v i : ℕ) (take : Call) → i < length cut → IsLeastTake reading book cut v take
+pub least_later : (reading : Reading) (book : List Page) (cut : List ℕ) (v i : ℕ) (take : Call)
+    → i < length cut → IsLeastTake reading book cut v take
     → IsLeastTake reading book (raised cut i) v take
 least_later reading book cut v i take inside is = record {
   takes = is.takes;
-  least = λ (other : Call) (takes : TakesOut reading book other v) (out : get_or (raised cut i) other.caller 0 ≤ other.number).
+  least = λ (other : Call) (takes : TakesOut reading book other v)
+      (out : get_or (raised cut i) other.caller 0 ≤ other.number).
       is.least other takes (omega (arith, out, raised_more cut i other.caller inside));
 }
 
 -- Of a caller's next call the place is known.
-pub its_place : (book : List Page) (next : List ℕ → ℕ → List ℕ × ℕ) (cut list : List ℕ) (place : Place) (call : Call) → MayComeNext book cut call → MayStandNext book next cut list place
+pub its_place : (book : List Page) (next : List ℕ → ℕ → List ℕ × ℕ) (cut list : List ℕ)
+    (place : Place) (call : Call) → MayComeNext book cut call
+    → MayStandNext book next cut list place
     → place.caller ≡ call.caller → call_at place ≡ call
 its_place book next cut list place call may stands same =
-    same_call (call_at place) call same (stands.may_come.next ∙ (ap (λ (i : ℕ). get_or cut i 0) same ∙ sym may.next))
+    same_call (call_at place) call same
+    (stands.may_come.next ∙ (ap (λ (i : ℕ). get_or cut i 0) same ∙ sym may.next))
 
 -- not all is done while an answered call is outside
-pub not_done : (reading : Reading) (book : List Page) (cut : List ℕ) (v : ℕ) (take : Call) → MayComeNext book cut take → TakesOut reading book take v → HoldsAnswered book cut → ⊥
+pub not_done : (reading : Reading) (book : List Page) (cut : List ℕ) (v : ℕ) (take : Call)
+    → MayComeNext book cut take → TakesOut reading book take v → HoldsAnswered book cut → ⊥
 not_done reading book cut v take may takes held =
-    let out : take.number < get_or cut take.caller 0 = held take (slice_get_within _ take.number takes.1 takes.3) in
+    let out : take.number < get_or cut take.caller 0 =
+    held take (slice_get_within _ take.number takes.1 takes.3) in
     omega (arith, out, may.next)
 
 -- a list is empty, or it has a first item
@@ -85,7 +106,8 @@ pub record Parted (low : ℕ) (before after : List ℕ) : Type 0 where
   pub above : AllByRecursion (λ (y : ℕ). low ≤ y) after
 
 -- What an operation makes of a list with the value and of one without it, where it doesn't take it.
-record StepsAlike (reading : Reading) (next : List ℕ → ℕ → List ℕ × ℕ) (low op : ℕ) (before after : List ℕ) : Type 0 where
+record StepsAlike (reading : Reading) (next : List ℕ → ℕ → List ℕ × ℕ) (low op : ℕ)
+    (before after : List ℕ) : Type 0 where
   new_before : List ℕ
   new_after : List ℕ
   parted : Parted low new_before new_after
@@ -100,38 +122,53 @@ put_no_take v e = cc
 neither_no_take : Neither ≡ Takes → ⊥
 neither_no_take e = cc
 
-alike-put : (reading : Reading) (next : List ℕ → ℕ → List ℕ × ℕ) (bound : ℕ) → GivesLeastFirst reading next bound → (low op v : ℕ) (before after : List ℕ)
-    → reading.deed op ≡ Puts v → Parted low before after → StepsAlike reading next low op before after
+alike-put : (reading : Reading) (next : List ℕ → ℕ → List ℕ × ℕ) (bound : ℕ)
+    → GivesLeastFirst reading next bound → (low op v : ℕ) (before after : List ℕ)
+    → reading.deed op ≡ Puts v → Parted low before after
+    → StepsAlike reading next low op before after
 alike-put reading next bound is low op v before after put parted =
-    let no : reading.deed op ≢ Takes = λ (e : reading.deed op ≡ Takes). put_no_take v (sym put ∙ e) in
+    let no : reading.deed op ≢ Takes =
+    λ (e : reading.deed op ≡ Takes). put_no_take v (sym put ∙ e) in
     let blind = is.blind (before ++ low ∷ after) (before ++ after) op no in
     elim (cases_lt v low) [
       | inl less ↦ record {
         new_before = placed v before;
         new_after = after;
-        parted = record { below = all-placed (λ (x : ℕ). x < low) v before less parted.below; above = parted.above };
+        parted = record {
+          below = all-placed (λ (x : ℕ). x < low) v before less parted.below;
+          above = parted.above;
+        };
         having = is.put (before ++ low ∷ after) op v put ∙ placed-before v low before after less;
         lacking = is.put (before ++ after) op v put
-            ∙ placed-before_all v before after (all-weaker (λ (y : ℕ). low ≤ y) (λ (y : ℕ). v < y) after (λ (y : ℕ) (le : low ≤ y). omega (arith, le, less)) parted.above);
+            ∙ placed-before_all v before after (all-weaker (λ (y : ℕ). low ≤ y) (λ (y : ℕ). v < y)
+            after (λ (y : ℕ) (le : low ≤ y). omega (arith, le, less)) parted.above);
         reply = blind;
         other = λ e shown. no e;
       }
       | inr more ↦
-          let below : AllByRecursion (λ (x : ℕ). x ≤ v) before = all-weaker (λ (x : ℕ). x < low) (λ (x : ℕ). x ≤ v) before (λ (x : ℕ) (lt : x < low). omega (arith, lt, more)) parted.below in
+          let below : AllByRecursion (λ (x : ℕ). x ≤ v) before =
+          all-weaker (λ (x : ℕ). x < low) (λ (x : ℕ). x ≤ v) before
+          (λ (x : ℕ) (lt : x < low). omega (arith, lt, more)) parted.below in
           record {
             new_before = before;
             new_after = placed v after;
-            parted = record { below = parted.below; above = all-placed (λ (y : ℕ). low ≤ y) v after more parted.above };
+            parted = record {
+              below = parted.below;
+              above = all-placed (λ (y : ℕ). low ≤ y) v after more parted.above;
+            };
             having = is.put (before ++ low ∷ after) op v put
-                ∙ (placed-after v before (low ∷ after) below ∙ ap (λ (xs : List ℕ). before ++ xs) (placed-more v low after more));
+                ∙ (placed-after v before (low ∷ after) below
+                ∙ ap (λ (xs : List ℕ). before ++ xs) (placed-more v low after more));
             lacking = is.put (before ++ after) op v put ∙ placed-after v before after below;
             reply = blind;
             other = λ e shown. no e;
           }
     ]
 
-alike-take : (reading : Reading) (next : List ℕ → ℕ → List ℕ × ℕ) (bound : ℕ) → GivesLeastFirst reading next bound → (low op x : ℕ) (before after : List ℕ)
-    → reading.deed op ≡ Takes → low < bound → Parted low (x ∷ before) after → StepsAlike reading next low op (x ∷ before) after
+alike-take : (reading : Reading) (next : List ℕ → ℕ → List ℕ × ℕ) (bound : ℕ)
+    → GivesLeastFirst reading next bound → (low op x : ℕ) (before after : List ℕ)
+    → reading.deed op ≡ Takes → low < bound → Parted low (x ∷ before) after
+    → StepsAlike reading next low op (x ∷ before) after
 alike-take reading next bound is low op x before after takes small parted =
     let lesser : x < bound = omega (arith, small, parted.below.0) in
     record {
@@ -140,14 +177,22 @@ alike-take reading next bound is low op x before after takes small parted =
       parted = record { below = parted.below.1; above = parted.above };
       having = is.take x (before ++ low ∷ after) op takes;
       lacking = is.take x (before ++ after) op takes;
-      reply = is.one_reply _ _ x (is.shows x (before ++ low ∷ after) op lesser takes) (is.shows x (before ++ after) op lesser takes);
-      other = λ e shown. omega (arith, parted.below.0, same_Some x low (sym (is.shows x (before ++ low ∷ after) op lesser takes) ∙ shown));
+      reply = is.one_reply _ _ x (is.shows x (before ++ low ∷ after) op lesser takes)
+          (is.shows x (before ++ after) op lesser takes);
+      other = λ e shown. omega (
+        arith,
+        parted.below.0,
+        same_Some x low (sym (is.shows x (before ++ low ∷ after) op lesser takes) ∙ shown),
+      );
     }
 
-alike-neither : (reading : Reading) (next : List ℕ → ℕ → List ℕ × ℕ) (bound : ℕ) → GivesLeastFirst reading next bound → (low op : ℕ) (before after : List ℕ)
-    → reading.deed op ≡ Neither → Parted low before after → StepsAlike reading next low op before after
+alike-neither : (reading : Reading) (next : List ℕ → ℕ → List ℕ × ℕ) (bound : ℕ)
+    → GivesLeastFirst reading next bound → (low op : ℕ) (before after : List ℕ)
+    → reading.deed op ≡ Neither → Parted low before after
+    → StepsAlike reading next low op before after
 alike-neither reading next bound is low op before after neither parted =
-    let no : reading.deed op ≢ Takes = λ (e : reading.deed op ≡ Takes). neither_no_take (sym neither ∙ e) in
+    let no : reading.deed op ≢ Takes =
+    λ (e : reading.deed op ≡ Takes). neither_no_take (sym neither ∙ e) in
     record {
       new_before = before;
       new_after = after;
@@ -159,40 +204,62 @@ alike-neither reading next bound is low op before after neither parted =
     }
 
 -- An operation steps alike, or it takes the value.
-steps_alike : (reading : Reading) (next : List ℕ → ℕ → List ℕ × ℕ) (bound : ℕ) → GivesLeastFirst reading next bound → (low op : ℕ) (before after : List ℕ)
-    → low < bound → Parted low before after → StepsAlike reading next low op before after ⊎ ((reading.deed op ≡ Takes) × (before ≡ []))
-steps_alike reading next bound is low op before after small parted = elim (cases_deed (reading.deed op)) [
-  | inl put ↦ inl (alike-put reading next bound is low op put.0 before after put.1 parted)
-  | inr other ↦ elim other [
-    | inl takes ↦ elim (cases_prefix before) [
-      | inl none ↦ inr (takes, none)
-      | inr some ↦
-          inl (subst (λ (xs : List ℕ). StepsAlike reading next low op xs after) (sym some.2)
-          (alike-take reading next bound is low op some.0 some.1 after takes small (subst (λ (xs : List ℕ). Parted low xs after) some.2 parted)))
+steps_alike : (reading : Reading) (next : List ℕ → ℕ → List ℕ × ℕ) (bound : ℕ)
+    → GivesLeastFirst reading next bound → (low op : ℕ) (before after : List ℕ)
+    → low < bound → Parted low before after → StepsAlike reading next low op before after
+    ⊎ ((reading.deed op ≡ Takes) × (before ≡ []))
+steps_alike reading next bound is low op before after small parted =
+    elim (cases_deed (reading.deed op)) [
+      | inl put ↦ inl (alike-put reading next bound is low op put.0 before after put.1 parted)
+      | inr other ↦ elim other [
+        | inl takes ↦ elim (cases_prefix before) [
+          | inl none ↦ inr (takes, none)
+          | inr some ↦
+              inl (subst (λ (xs : List ℕ). StepsAlike reading next low op xs after) (sym some.2)
+              (alike-take reading next bound is low op some.0 some.1 after takes small
+              (subst (λ (xs : List ℕ). Parted low xs after) some.2 parted)))
+        ]
+        | inr neither ↦ inl (alike-neither reading next bound is low op before after neither parted)
+      ]
     ]
-    | inr neither ↦ inl (alike-neither reading next bound is low op before after neither parted)
-  ]
-]
 
 -- The take with the least view does what the take of the value does that stands.
-pub least_is_twin : (reading : Reading) (next : List ℕ → ℕ → List ℕ × ℕ) → ((a b : ℕ) → reading.deed a ≡ Takes → reading.deed b ≡ Takes → a ≡ b)
-    → ((a b v : ℕ) → reading.shown a ≡ Some v → reading.shown b ≡ Some v → a ≡ b) → (book : List Page) (cut list : List ℕ) (low : ℕ) (take : Call) (place : Place)
-    → take.caller ≢ place.caller → MayComeNext book cut take → IsLeastTake reading book cut low take → MayStandNext book next cut list place → reading.deed (word_at book place) ≡ Takes → reading.shown (next list (word_at book place)).1 ≡ Some low → IsTwin book next cut list take (call_at place)
-least_is_twin reading next one_take one_reply book cut list low take place apart may least stands takes shows =
+pub least_is_twin : (reading : Reading) (next : List ℕ → ℕ → List ℕ × ℕ)
+    → ((a b : ℕ) → reading.deed a ≡ Takes → reading.deed b ≡ Takes → a ≡ b)
+    → ((a b v : ℕ) → reading.shown a ≡ Some v → reading.shown b ≡ Some v → a ≡ b)
+    → (book : List Page) (cut list : List ℕ) (low : ℕ) (take : Call) (place : Place)
+    → take.caller ≢ place.caller → MayComeNext book cut take → IsLeastTake reading book cut low take
+    → MayStandNext book next cut list place → reading.deed (word_at book place) ≡ Takes
+    → reading.shown (next list (word_at book place)).1 ≡ Some low
+    → IsTwin book next cut list take (call_at place)
+least_is_twin reading next one_take one_reply book cut list low take place apart may least stands
+    takes shows =
     let r : Record = least.takes.1 in
-    let same : least.takes.0 ≡ word_at book place = one_take least.takes.0 (word_at book place) least.takes.4 takes in
-    let known : operation_of book (call_at place) ≡ Some (word_at book place) = word_stands book place stands.may_come.is_call in
-    let does : DoesTheSame book next list take r (call_at place) = elim (cases_lt place.number (answers_of book place.caller)) [
+    let same : least.takes.0 ≡ word_at book place =
+    one_take least.takes.0 (word_at book place) least.takes.4 takes in
+    let known : operation_of book (call_at place) ≡ Some (word_at book place) =
+    word_stands book place stands.may_come.is_call in
+    let does : DoesTheSame book next list take r (call_at place) =
+    elim (cases_lt place.number (answers_of book place.caller)) [
       | inl answered ↦
           let there = answer_stands book (call_at place) answered in
-          let shown : reading.shown there.0.reply ≡ Some low = ap reading.shown (stands.recorded there.0 there.1 ∙ sym stands.reply) ∙ shows in
-          let out : TakesOut reading book (call_at place) low = (word_at book place, there.0, known, there.1, takes, shown) in
-          inl (there.0, there.1, one_reply there.0.reply r.reply low shown least.takes.5, least.least (call_at place) out (omega (arith, stands.may_come.next)))
+          let shown : reading.shown there.0.reply ≡ Some low =
+          ap reading.shown (stands.recorded there.0 there.1 ∙ sym stands.reply) ∙ shows in
+          let out : TakesOut reading book (call_at place) low =
+          (word_at book place, there.0, known, there.1, takes, shown) in
+          inl (
+            there.0,
+            there.1,
+            one_reply there.0.reply r.reply low shown least.takes.5,
+            least.least (call_at place) out (omega (arith, stands.may_come.next)),
+          )
       | inr past ↦
-          let word : unwrap_or (operation_of book take) 0 ≡ word_at book place = ap (λ (o : Option ℕ). unwrap_or o 0) least.takes.2 ∙ same in
+          let word : unwrap_or (operation_of book take) 0 ≡ word_at book place =
+          ap (λ (o : Option ℕ). unwrap_or o 0) least.takes.2 ∙ same in
           inr (
             λ (h : IsAnswered book (call_at place)). omega (arith, h, past),
-            one_reply _ _ low (ap (λ (w : ℕ). reading.shown (next list w).1) word ∙ shows) least.takes.5,
+            one_reply _ _ low
+                (ap (λ (w : ℕ). reading.shown (next list w).1) word ∙ shows) least.takes.5,
           )
     ] in
     record {
@@ -203,91 +270,140 @@ least_is_twin reading next one_take one_reply book cut list low take place apart
       serves = inl (r, least.takes.3, does);
     }
 
--- What goes on from a list with the value goes on without it, once the take with the least view has come.
-pub taken_first : (reading : Reading) (next : List ℕ → ℕ → List ℕ × ℕ) (bound : ℕ) → GivesLeastFirst reading next bound → (book : List Page) (low : ℕ) (take : Call)
-    → low < bound → IsValid book → HasOneOpen book → (rest : List Place) (cut before after : List ℕ) → length book ≤ length cut → MayComeNext book cut take
-    → IsLeastTake reading book cut low take → Parted low before after → Continues book next cut (before ++ low ∷ after) rest
+-- What goes on from a list with the value goes on without it, once the take with the least view has
+-- come.
+pub taken_first : (reading : Reading) (next : List ℕ → ℕ → List ℕ × ℕ) (bound : ℕ)
+    → GivesLeastFirst reading next bound → (book : List Page) (low : ℕ) (take : Call)
+    → low < bound → IsValid book → HasOneOpen book → (rest : List Place) (cut before after : List ℕ)
+    → length book ≤ length cut → MayComeNext book cut take
+    → IsLeastTake reading book cut low take → Parted low before after
+    → Continues book next cut (before ++ low ∷ after) rest
     → GoesOnAfter 0 book next cut take.caller (before ++ after) rest
-taken_first reading next bound is book low take small valid one [] cut before after wide may least parted goes =
+taken_first reading next bound is book low take small valid one [] cut before after wide may least
+    parted goes =
     absurd (not_done reading book cut low take may least.takes goes)
-taken_first reading next bound is book low take small valid one (place ∷ rest) cut before after wide may least parted goes =
+taken_first reading next bound is book low take small valid one
+    (place ∷ rest) cut before after wide may least parted goes =
     let inside : take.caller < length cut = within_cut book cut take wide may.is_call in
-    let there : place.caller < length cut = within_cut book cut (call_at place) wide goes.0.may_come.is_call in
+    let there : place.caller < length cut =
+    within_cut book cut (call_at place) wide goes.0.may_come.is_call in
     let op : ℕ = word_at book place in
     elim (steps_alike reading next bound is low op before after small parted) [
       | inl alike ↦
           let apart : place.caller ≢ take.caller = λ (same : place.caller ≡ take.caller).
-          let call : call_at place ≡ take = its_place book next cut (before ++ low ∷ after) place take may goes.0 same in
-          let word : op ≡ least.takes.0 = word_is book place least.takes.0 (ap (operation_of book) call ∙ least.takes.2) in
+          let call : call_at place ≡ take =
+          its_place book next cut (before ++ low ∷ after) place take may goes.0 same in
+          let word : op ≡ least.takes.0 =
+          word_is book place least.takes.0 (ap (operation_of book) call ∙ least.takes.2) in
           alike.other (ap reading.deed word ∙ least.takes.4)
-          (ap reading.shown (goes.0.reply ∙ sym (goes.0.recorded least.takes.1 (ap (record_of book) call ∙ least.takes.3))) ∙ least.takes.5) in
-          let wider : length book ≤ length (raised cut place.caller) = omega (arith, wide, length-set cut place.caller (get_or cut place.caller 0 + 1)) in
-          let later : MayComeNext book (raised cut place.caller) take = comes_later book cut place.caller take there (λ (e : take.caller ≡ place.caller). apart (sym e)) may in
-          let on = taken_first reading next bound is book low take small valid one rest (raised cut place.caller) alike.new_before alike.new_after wider later
+          (ap reading.shown (goes.0.reply ∙ sym
+          (goes.0.recorded least.takes.1 (ap (record_of book) call ∙ least.takes.3)))
+          ∙ least.takes.5) in
+          let wider : length book ≤ length (raised cut place.caller) =
+          omega (arith, wide, length-set cut place.caller (get_or cut place.caller 0 + 1)) in
+          let later : MayComeNext book (raised cut place.caller) take = comes_later book cut
+          place.caller take there (λ (e : take.caller ≡ place.caller). apart (sym e)) may in
+          let on = taken_first reading next bound is book low take small valid one rest
+          (raised cut place.caller) alike.new_before alike.new_after wider later
           (least_later reading book cut low place.caller take there least) alike.parted
-          (subst (λ (xs : List ℕ). Continues book next (raised cut place.caller) xs rest) alike.having goes.1) in
-          goes_on_over 0 book next cut (before ++ low ∷ after) (before ++ after) take.caller place rest inside apart goes.0 alike.reply
-          (subst (λ (xs : List ℕ). GoesOnAfter 0 book next (raised cut place.caller) take.caller xs rest) (sym alike.lacking) on)
+          (subst (λ (xs : List ℕ). Continues book next (raised cut place.caller) xs rest)
+          alike.having goes.1) in
+          goes_on_over 0 book next cut (before ++ low ∷ after)
+          (before ++ after) take.caller place rest inside apart goes.0 alike.reply
+          (subst
+          (λ (xs : List ℕ). GoesOnAfter 0 book next (raised cut place.caller) take.caller xs rest)
+          (sym alike.lacking) on)
       | inr taken ↦
           let list : List ℕ = before ++ low ∷ after in
           let rests : (next list op).0 ≡ before ++ after
-          = ap (λ (xs : List ℕ). (next (xs ++ low ∷ after) op).0) taken.1 ∙ (is.take low after op taken.0 ∙ ap (λ (xs : List ℕ). xs ++ after) (sym taken.1)) in
+          = ap (λ (xs : List ℕ). (next (xs ++ low ∷ after) op).0) taken.1
+          ∙ (is.take low after op taken.0 ∙ ap (λ (xs : List ℕ). xs ++ after) (sym taken.1)) in
           elim (cases_eq place.caller take.caller) [
             | inl same ↦ (
               rest,
               subst (λ (i : ℕ). Continues book next (raised cut i) (before ++ after) rest) same
-                  (subst (λ (xs : List ℕ). Continues book next (raised cut place.caller) xs rest) rests goes.1),
+                  (subst (λ (xs : List ℕ). Continues book next (raised cut place.caller) xs rest)
+                  rests goes.1),
               omega arith,
             )
             | inr apart ↦
                 let shows : reading.shown (next list op).1 ≡ Some low
-                = ap (λ (xs : List ℕ). reading.shown (next (xs ++ low ∷ after) op).1) taken.1 ∙ is.shows low after op small taken.0 in
+                = ap (λ (xs : List ℕ). reading.shown (next (xs ++ low ∷ after) op).1) taken.1
+                ∙ is.shows low after op small taken.0 in
                 let twin : IsTwin book next cut list take (call_at place)
-                = least_is_twin reading next is.one_take is.one_reply book cut list low take place (λ (e : take.caller ≡ place.caller). apart (sym e)) may least goes.0 taken.0 shows in
+                = least_is_twin reading next is.one_take is.one_reply book cut list low take place
+                (λ (e : take.caller ≡ place.caller). apart (sym e)) may least goes.0
+                taken.0 shows in
                 let on = twin_serves book next cut list take place rest wide valid one twin goes in
                 let word : unwrap_or (operation_of book take) 0 ≡ op
-                = ap (λ (o : Option ℕ). unwrap_or o 0) least.takes.2 ∙ is.one_take least.takes.0 op least.takes.4 taken.0 in (
+                = ap (λ (o : Option ℕ). unwrap_or o 0) least.takes.2
+                ∙ is.one_take least.takes.0 op least.takes.4 taken.0 in (
                   on.0,
-                  subst (λ (xs : List ℕ). Continues book next (raised cut take.caller) xs on.0) (ap (λ (w : ℕ). (next list w).0) word ∙ rests) on.1.1,
+                  subst (λ (xs : List ℕ). Continues book next (raised cut take.caller) xs on.0)
+                      (ap (λ (w : ℕ). (next list w).0) word ∙ rests) on.1.1,
                   omega (arith, on.2),
                 )
           ]
     ]
 
 -- The take with the least view may stand next where the value is the first item, and takes it.
-pub take_stands : (reading : Reading) (next : List ℕ → ℕ → List ℕ × ℕ) (bound : ℕ) → GivesLeastFirst reading next bound → (book : List Page) (cut : List ℕ) (low : ℕ)
-    (after : List ℕ) (take : Call) (least : IsLeastTake reading book cut low take) → low < bound → (now : List ℕ) → MayComeNext book now take
-    → MayStandNext book next now (low ∷ after) (record { caller = take.caller; number = take.number; reply = least.takes.1.reply })
-    × (list_after book next (low ∷ after) (record { caller = take.caller; number = take.number; reply = least.takes.1.reply }) ≡ after)
+pub take_stands : (reading : Reading) (next : List ℕ → ℕ → List ℕ × ℕ) (bound : ℕ)
+    → GivesLeastFirst reading next bound → (book : List Page) (cut : List ℕ) (low : ℕ)
+    (after : List ℕ) (take : Call) (least : IsLeastTake reading book cut low take) → low < bound
+    → (now : List ℕ) → MayComeNext book now take
+    → MayStandNext book next now (low ∷ after)
+    (record { caller = take.caller; number = take.number; reply = least.takes.1.reply })
+    × (list_after book next (low ∷ after)
+    (record { caller = take.caller; number = take.number; reply = least.takes.1.reply }) ≡ after)
 take_stands reading next bound is book cut low after take least small now may =
     let op : ℕ = least.takes.0 in
-    let word : unwrap_or (operation_of book take) 0 ≡ op = ap (λ (o : Option ℕ). unwrap_or o 0) least.takes.2 in (
+    let word : unwrap_or (operation_of book take) 0 ≡ op =
+    ap (λ (o : Option ℕ). unwrap_or o 0) least.takes.2 in (
       record {
         may_come = may;
-        recorded = λ (s : Record) (known : record_of book take ≡ Some s). ap (λ (x : Record). x.reply) (same_Some s least.takes.1 (sym known ∙ least.takes.3));
-        reply = is.one_reply _ _ low (ap (λ (w : ℕ). reading.shown (next (low ∷ after) w).1) word ∙ is.shows low after op small least.takes.4) least.takes.5;
+        recorded = λ (s : Record) (known : record_of book take ≡ Some s).
+            ap (λ (x : Record). x.reply) (same_Some s least.takes.1 (sym known ∙ least.takes.3));
+        reply = is.one_reply _ _ low (ap (λ (w : ℕ). reading.shown (next (low ∷ after) w).1) word
+            ∙ is.shows low after op small least.takes.4) least.takes.5;
       },
       ap (λ (w : ℕ). (next (low ∷ after) w).0) word ∙ is.take low after op least.takes.4,
     )
 
 -- Where the next call of a caller takes the first item with the least view, it suffices.
-pub take_suffices : (reading : Reading) (next : List ℕ → ℕ → List ℕ × ℕ) (bound : ℕ) → GivesLeastFirst reading next bound → (book : List Page) (cut : List ℕ) (low : ℕ)
-    (after : List ℕ) (caller : ℕ) (marks : Marks) → low < bound → AllByRecursion (λ (y : ℕ). low ≤ y) after → IsValid book → HasOneOpen book → length book ≤ length cut
-    → MayComeNext book cut (next_call cut caller) → IsLeastTake reading book cut low (next_call cut caller) → IsMarked marks caller → MarksSuffice book next cut (low ∷ after) marks
-take_suffices reading next bound is book cut low after caller marks small above valid one wide may least marked rest goes =
+pub take_suffices : (reading : Reading) (next : List ℕ → ℕ → List ℕ × ℕ) (bound : ℕ)
+    → GivesLeastFirst reading next bound → (book : List Page) (cut : List ℕ) (low : ℕ)
+    (after : List ℕ) (caller : ℕ) (marks : Marks) → low < bound
+    → AllByRecursion (λ (y : ℕ). low ≤ y) after → IsValid book → HasOneOpen book
+    → length book ≤ length cut
+    → MayComeNext book cut (next_call cut caller)
+    → IsLeastTake reading book cut low (next_call cut caller) → IsMarked marks caller
+    → MarksSuffice book next cut (low ∷ after) marks
+take_suffices reading next bound is book cut low after caller marks small above valid one wide may
+    least marked rest goes =
     let take : Call = next_call cut caller in
-    let on = taken_first reading next bound is book low take small valid one rest cut [] after wide may least (record { below = tt; above = above }) goes in
+    let on = taken_first reading next bound is book low take small valid one rest cut [] after wide
+    may least (record { below = tt; above = above }) goes in
     let stands = take_stands reading next bound is book cut low after take least small cut may in (
       record { caller = caller; number = get_or cut caller 0; reply = least.takes.1.reply },
       on.0,
       marked,
-      (stands.0, subst (λ (xs : List ℕ). Continues book next (raised cut caller) xs on.0) (sym stands.1) on.1),
+      (
+        stands.0,
+        subst (λ (xs : List ℕ). Continues book next (raised cut caller) xs on.0)
+            (sym stands.1) on.1,
+      ),
       omega (arith, on.2),
     )
 
-pub first_take_suffices : (reading : Reading) (next : List ℕ → ℕ → List ℕ × ℕ) (bound : ℕ) → GivesLeastFirst reading next bound → (book : List Page) (cut list : List ℕ)
-    (caller : ℕ) (marks : Marks) → IsRising bound list → IsValid book → HasOneOpen book → length book ≤ length cut → MayComeNext book cut (next_call cut caller)
-    → TakesFirst reading book cut list caller → IsMarked marks caller → MarksSuffice book next cut list marks
-first_take_suffices reading next bound is book cut [] caller marks rising valid one wide may takes marked = absurd takes
-first_take_suffices reading next bound is book cut (low ∷ after) caller marks rising valid one wide may takes marked =
-    take_suffices reading next bound is book cut low after caller marks rising.0 rising.1 valid one wide may takes marked
+pub first_take_suffices : (reading : Reading) (next : List ℕ → ℕ → List ℕ × ℕ) (bound : ℕ)
+    → GivesLeastFirst reading next bound → (book : List Page) (cut list : List ℕ)
+    (caller : ℕ) (marks : Marks) → IsRising bound list → IsValid book → HasOneOpen book
+    → length book ≤ length cut → MayComeNext book cut (next_call cut caller)
+    → TakesFirst reading book cut list caller → IsMarked marks caller
+    → MarksSuffice book next cut list marks
+first_take_suffices reading next bound is book cut [] caller marks rising valid one wide may takes
+    marked = absurd takes
+first_take_suffices reading next bound is book cut
+    (low ∷ after) caller marks rising valid one wide may takes marked =
+    take_suffices reading next bound is book cut low after caller marks rising.0 rising.1 valid one
+    wide may takes marked

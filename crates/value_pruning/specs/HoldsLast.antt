@@ -1,4 +1,5 @@
--- Registers, by the value that they hold: a put writes its value, and a take reads it and leaves it.
+-- Registers, by the value that they hold: a put writes its value, and a take reads it and leaves
+-- it.
 use Rattle.std.specs.Prelude.{◌≡◌, ◌≢◌, ℕ, ◌≤◌, ◌⊎◌, List, Some, slice_index}
 use Rattle.book_base.specs.declared.call.Call.{Call}
 use Rattle.book_base.specs.Book.{Page, IsAnswered}
@@ -6,20 +7,27 @@ use Rattle.book_base.specs.Next.{next_call}
 use Rattle.history_rules.specs.Container.{Puts, Takes, Reading}
 use Rattle.history_rules.specs.Calls.{PutsIn, TakesOut}
 
--- An object that holds the value written last. A read shows this value; what is no read has the same reply at each list.
-pub record HoldsLast (reading : Reading) (held : List ℕ → ℕ) (next : List ℕ → ℕ → List ℕ × ℕ) : Type 0 where
+-- An object that holds the value written last. A read shows this value; what is no read has the
+-- same reply at each list.
+pub record HoldsLast (reading : Reading) (held : List ℕ → ℕ)
+    (next : List ℕ → ℕ → List ℕ × ℕ) : Type 0 where
   pub write : (list : List ℕ) (op v : ℕ) → reading.deed op ≡ Puts v → held (next list op).0 ≡ v
-  pub keep : (list : List ℕ) (op : ℕ) → ((v : ℕ) → reading.deed op ≢ Puts v) → held (next list op).0 ≡ held list
-  pub shows : (list : List ℕ) (op : ℕ) → reading.deed op ≡ Takes → reading.shown (next list op).1 ≡ Some (held list)
-  pub alike : (one other : List ℕ) (op : ℕ) → (reading.deed op ≡ Takes → held one ≡ held other) → (next one op).1 ≡ (next other op).1
+  pub keep : (list : List ℕ) (op : ℕ) → ((v : ℕ) → reading.deed op ≢ Puts v)
+      → held (next list op).0 ≡ held list
+  pub shows : (list : List ℕ) (op : ℕ) → reading.deed op ≡ Takes
+      → reading.shown (next list op).1 ≡ Some (held list)
+  pub alike : (one other : List ℕ) (op : ℕ) → (reading.deed op ≡ Takes → held one ≡ held other)
+      → (next one op).1 ≡ (next other op).1
 
 -- a call outside a cut is answered and reads a value
 abbrev pub ReadsOutside : Reading → List Page → List ℕ → ℕ → Call → Type 0
-ReadsOutside reading book cut v call = TakesOut reading book call v × (slice_index cut call.caller ≤ call.number)
+ReadsOutside reading book cut v call = TakesOut reading book call v
+    × (slice_index cut call.caller ≤ call.number)
 
 -- a call outside a cut writes a value
 abbrev pub WritesOutside : Reading → List Page → List ℕ → ℕ → Call → Type 0
-WritesOutside reading book cut v call = PutsIn reading book call v × (slice_index cut call.caller ≤ call.number)
+WritesOutside reading book cut v call = PutsIn reading book call v
+    × (slice_index cut call.caller ≤ call.number)
 
 -- some answered call outside a cut reads a value
 abbrev pub IsRead : Reading → List Page → List ℕ → ℕ → Type 0
@@ -31,25 +39,30 @@ IsWritten reading book cut v = (call : Call) × WritesOutside reading book cut v
 
 -- The value held is read by a call outside a cut, and written by none: it may not be lost yet.
 abbrev pub IsIrreplaceable : Reading → List Page → List ℕ → ℕ → Type 0
-IsIrreplaceable reading book cut held = IsRead reading book cut held × (IsWritten reading book cut held → ⊥)
+IsIrreplaceable reading book cut held = IsRead reading book cut held
+    × (IsWritten reading book cut held → ⊥)
 
 -- a call writes what no answered call outside a cut reads
 abbrev pub IsUnreadWrite : Reading → List Page → List ℕ → Call → Type 0
-IsUnreadWrite reading book cut call = (value : ℕ) × PutsIn reading book call value × (IsRead reading book cut value → ⊥)
+IsUnreadWrite reading book cut call = (value : ℕ) × PutsIn reading book call value
+    × (IsRead reading book cut value → ⊥)
 
 -- a call writes another value than this one
 abbrev pub WritesAnother : Reading → List Page → Call → ℕ → Type 0
 WritesAnother reading book call held = (value : ℕ) × PutsIn reading book call value × (value ≢ held)
 
--- The next call of a caller is answered and writes what no call outside reads, and no call outside reads the value held either.
-pub record WritesUnread (reading : Reading) (book : List Page) (cut : List ℕ) (held caller : ℕ) : Type 0 where
+-- The next call of a caller is answered and writes what no call outside reads, and no call outside
+-- reads the value held either.
+pub record WritesUnread (reading : Reading) (book : List Page) (cut : List ℕ)
+    (held caller : ℕ) : Type 0 where
   pub answered : IsAnswered book (next_call cut caller)
   pub write : IsUnreadWrite reading book cut (next_call cut caller)
   pub lost : IsRead reading book cut held → ⊥
 
--- The next call of a caller needn't be tried: it writes over a value that may not be lost yet, or it is unanswered and writes what no
--- call outside reads.
+-- The next call of a caller needn't be tried: it writes over a value that may not be lost yet, or
+-- it is unanswered and writes what no call outside reads.
 abbrev pub IsNeedless : Reading → List Page → List ℕ → ℕ → ℕ → Type 0
 IsNeedless reading book cut held caller =
     (IsIrreplaceable reading book cut held × WritesAnother reading book (next_call cut caller) held)
-    ⊎ ((IsAnswered book (next_call cut caller) → ⊥) × IsUnreadWrite reading book cut (next_call cut caller))
+    ⊎ ((IsAnswered book (next_call cut caller) → ⊥)
+    × IsUnreadWrite reading book cut (next_call cut caller))

@@ -18,37 +18,49 @@ abbrev pub IsRising : ℕ → List ℕ → Type 0
 IsRising bound [] = Unit {0}
 IsRising bound (x ∷ rest) = (x < bound) × AllByRecursion (λ y. x ≤ y) rest × IsRising bound rest
 
--- An object that gives its least value first: a put places its value, below a bound, and a take gives out the first item. What is
--- no take has the same reply at each list, all takes are one operation, and a value is shown by one reply.
-pub record GivesLeastFirst (reading : Reading) (next : List ℕ → ℕ → List ℕ × ℕ) (bound : ℕ) : Type 0 where
+-- An object that gives its least value first: a put places its value, below a bound, and a take
+-- gives out the first item. What is no take has the same reply at each list, all takes are one
+-- operation, and a value is shown by one reply.
+pub record GivesLeastFirst (reading : Reading) (next : List ℕ → ℕ → List ℕ × ℕ)
+    (bound : ℕ) : Type 0 where
   pub small : (op v : ℕ) → reading.deed op ≡ Puts v → v < bound
   pub put : (list : List ℕ) (op v : ℕ) → reading.deed op ≡ Puts v → (next list op).0 ≡ placed v list
-  pub take : (x : ℕ) (rest : List ℕ) (op : ℕ) → reading.deed op ≡ Takes → (next (x ∷ rest) op).0 ≡ rest
-  pub shows : (x : ℕ) (rest : List ℕ) (op : ℕ) → x < bound → reading.deed op ≡ Takes → reading.shown (next (x ∷ rest) op).1 ≡ Some x
-  pub empty : (op : ℕ) → reading.deed op ≡ Takes → ((next [] op).0 ≡ []) × (reading.shown (next [] op).1 ≡ None)
+  pub take : (x : ℕ) (rest : List ℕ) (op : ℕ) → reading.deed op ≡ Takes
+      → (next (x ∷ rest) op).0 ≡ rest
+  pub shows : (x : ℕ) (rest : List ℕ) (op : ℕ) → x < bound → reading.deed op ≡ Takes
+      → reading.shown (next (x ∷ rest) op).1 ≡ Some x
+  pub empty : (op : ℕ) → reading.deed op ≡ Takes → ((next [] op).0 ≡ [])
+      × (reading.shown (next [] op).1 ≡ None)
   pub neither : (list : List ℕ) (op : ℕ) → reading.deed op ≡ Neither → (next list op).0 ≡ list
-  pub blind : (one other : List ℕ) (op : ℕ) → reading.deed op ≢ Takes → (next one op).1 ≡ (next other op).1
+  pub blind : (one other : List ℕ) (op : ℕ) → reading.deed op ≢ Takes
+      → (next one op).1 ≡ (next other op).1
   pub one_take : (a b : ℕ) → reading.deed a ≡ Takes → reading.deed b ≡ Takes → a ≡ b
   pub one_reply : (a b v : ℕ) → reading.shown a ≡ Some v → reading.shown b ≡ Some v → a ≡ b
 
--- A call takes out a value, and its view is within those of all calls outside a cut that take it out: also of those that may not come
--- next yet, since one of them with a lesser view may have to take this item.
-pub record IsLeastTake (reading : Reading) (book : List Page) (cut : List ℕ) (v : ℕ) (take : Call) : Type 0 where
+-- A call takes out a value, and its view is within those of all calls outside a cut that take it
+-- out: also of those that may not come next yet, since one of them with a lesser view may have to
+-- take this item.
+pub record IsLeastTake (reading : Reading) (book : List Page) (cut : List ℕ) (v : ℕ)
+    (take : Call) : Type 0 where
   pub takes : TakesOut reading book take v
-  pub least : (other : Call) → TakesOut reading book other v → slice_index cut other.caller ≤ other.number → ViewsAreWithin book take other
+  pub least : (other : Call) → TakesOut reading book other v
+      → slice_index cut other.caller ≤ other.number → ViewsAreWithin book take other
 
 -- The next call of a caller takes the first item, with the least view.
 abbrev pub TakesFirst : Reading → List Page → List ℕ → List ℕ → ℕ → Type 0
 TakesFirst reading book cut [] caller = ⊥
-TakesFirst reading book cut (low ∷ rest) caller = IsLeastTake reading book cut low (next_call cut caller)
+TakesFirst reading book cut (low ∷ rest) caller =
+    IsLeastTake reading book cut low (next_call cut caller)
 
 -- a value is less than all items of a rising list
 abbrev pub IsBelowFirst : ℕ → List ℕ → Type 0
 IsBelowFirst v [] = Unit {0}
 IsBelowFirst v (x ∷ rest) = v < x
 
--- The next call of a caller alone puts in a value that is less than all items, and the next call of another one takes it.
-pub record PutsLeast (reading : Reading) (book : List Page) (cut list : List ℕ) (caller : ℕ) : Type 0 where
+-- The next call of a caller alone puts in a value that is less than all items, and the next call of
+-- another one takes it.
+pub record PutsLeast (reading : Reading) (book : List Page) (cut list : List ℕ)
+    (caller : ℕ) : Type 0 where
   pub value : ℕ
   pub taker : ℕ
   pub alone : PutsInAlone reading book (next_call cut caller) value

@@ -18,12 +18,14 @@ place_of sight v = lookup (is_at (nat_cmp v)) sight.places.entries
 -- the calls that a place of a sight lists as puts
 abbrev pub puts_at : Sight → Option ℕ → List Call
 puts_at sight None = []
-puts_at sight (Some place) = slice_index_or (map (λ labelled. labelled.puts.items) sight.labelled.items) place []
+puts_at sight (Some place) =
+    slice_index_or (map (λ labelled. labelled.puts.items) sight.labelled.items) place []
 
 -- the calls that a place of a sight lists as those whose replies show the value
 abbrev pub shows_at : Sight → Option ℕ → List Call
 shows_at sight None = []
-shows_at sight (Some place) = slice_index_or (map (λ labelled. labelled.shows.items) sight.labelled.items) place []
+shows_at sight (Some place) =
+    slice_index_or (map (λ labelled. labelled.shows.items) sight.labelled.items) place []
 
 -- the calls that a sight lists as puts of a value
 abbrev pub puts_of : Sight → ℕ → List Call
@@ -39,12 +41,14 @@ IsListed calls call = (k : ℕ) × (slice_get calls k ≡ Some call)
 
 -- The place of each value is one of the sight's.
 abbrev pub HasItsPlaces : Sight → Type 0
-HasItsPlaces sight = (v place : ℕ) → place_of sight v ≡ Some place → place < length sight.labelled.items
+HasItsPlaces sight = (v place : ℕ) → place_of sight v ≡ Some place
+    → place < length sight.labelled.items
 
 -- A sight lists all that another one lists.
 pub record ListsMore (old new : Sight) : Type 0 where
   pub puts : (v : ℕ) (call : Call) → IsListed (puts_of old v) call → IsListed (puts_of new v) call
-  pub shows : (v : ℕ) (call : Call) → IsListed (shows_of old v) call → IsListed (shows_of new v) call
+  pub shows : (v : ℕ) (call : Call) → IsListed (shows_of old v) call
+      → IsListed (shows_of new v) call
 
 -- A sight has a place for a value, and lists all that another one lists.
 pub record HasPlace (old new : Sight) (v found : ℕ) : Type 0 where
@@ -64,17 +68,23 @@ pub record HasTake (old new : Sight) (v : ℕ) (call : Call) : Type 0 where
   pub more : ListsMore old new
   pub listed : IsListed (shows_of new v) call
 
--- A sight lists the calls that were read: the puts of each value, and the answered takes that show it.
-pub record ListsRead (reading : Reading) (book : List Page) (caller number : ℕ) (sight : Sight) : Type 0 where
+-- A sight lists the calls that were read: the puts of each value, and the answered takes that show
+-- it.
+pub record ListsRead (reading : Reading) (book : List Page) (caller number : ℕ)
+    (sight : Sight) : Type 0 where
   pub places : HasItsPlaces sight
-  pub puts : (call : Call) (v : ℕ) → IsReadTo caller number call → PutsIn reading book call v → IsListed (puts_of sight v) call
-  pub shows : (call : Call) (v : ℕ) → IsReadTo caller number call → TakesOut reading book call v → IsListed (shows_of sight v) call
+  pub puts : (call : Call) (v : ℕ) → IsReadTo caller number call → PutsIn reading book call v
+      → IsListed (puts_of sight v) call
+  pub shows : (call : Call) (v : ℕ) → IsReadTo caller number call → TakesOut reading book call v
+      → IsListed (shows_of sight v) call
 
 -- A sight lists each call of a book that puts in a value, and each answered one that takes it out.
 pub record ListsValues (reading : Reading) (book : List Page) (sight : Sight) : Type 0 where
   pub puts : (call : Call) (v : ℕ) → PutsIn reading book call v → IsListed (puts_of sight v) call
-  pub takes : (call : Call) (v : ℕ) → TakesOut reading book call v → IsListed (shows_of sight v) call
+  pub takes : (call : Call) (v : ℕ) → TakesOut reading book call v
+      → IsListed (shows_of sight v) call
 
 -- A call's view is within those of all listed calls outside a cut.
 abbrev pub IsLeastListed : List Page → List ℕ → List Call → Call → Type 0
-IsLeastListed book cut calls call = (other : Call) → IsListed calls other → slice_index cut other.caller ≤ other.number → ViewsAreWithin book call other
+IsLeastListed book cut calls call = (other : Call) → IsListed calls other
+    → slice_index cut other.caller ≤ other.number → ViewsAreWithin book call other

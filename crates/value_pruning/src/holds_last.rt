@@ -39,7 +39,8 @@ pub fn narrow_holds_last<R: Reader>(
     ensures fewer { IsMarkedWithin result marks }
     // For each object that holds the value written last, and holds this one: all that goes on from
     // here goes on by the next call of a caller that the answer marks as well, with no more places.
-    ensures suffice { (held_in : List ℕ → ℕ) (next : List ℕ → ℕ → List ℕ × ℕ) (list : List ℕ) → HoldsLast (R.reading reader.now) held_in next
+    ensures suffice { (held_in : List ℕ → ℕ) (next : List ℕ → ℕ → List ℕ × ℕ) (list : List ℕ)
+        → HoldsLast (R.reading reader.now) held_in next
         → held_in list ≡ held → MarksSuffice book.now next cut.now list result }
 {
     let _callers = book.callers();
@@ -83,7 +84,9 @@ fn writes_unread<R: Reader>(reader: &R, sight: &Sight, book: &Book, cut: &Cut, c
     requires wide { length cut.now ≡ length book.now }
     requires caller { caller < length book.now }
     requires call { IsCall book.now (next_call cut.now caller) }
-    ensures { IsTrue result → IsUnreadWrite (R.reading reader.now) book.now cut.now (next_call cut.now caller) × IsAnswered book.now (next_call cut.now caller) }
+    ensures { IsTrue result
+        → IsUnreadWrite (R.reading reader.now) book.now cut.now (next_call cut.now caller)
+        × IsAnswered book.now (next_call cut.now caller) }
 {
     let number = cut.get(caller);
     if number >= book.answers(caller) {
@@ -105,7 +108,8 @@ fn without_needless<R: Reader>(
     requires wide { length cut.now ≡ length book.now }
     requires marks { MarksAllNext book.now cut.now marks }
     ensures fewer { IsMarkedWithin result marks }
-    ensures needless { (i : ℕ) → IsMarked marks i → IsMarked result i ⊎ IsNeedless (R.reading reader.now) book.now cut.now held i }
+    ensures needless { (i : ℕ) → IsMarked marks i → IsMarked result i
+        ⊎ IsNeedless (R.reading reader.now) book.now cut.now held i }
 {
     let irreplaceable = is_irreplaceable(reader, sight, book, cut, held);
     let mut left = marks;
@@ -130,7 +134,8 @@ fn is_needless<R: Reader>(
 ) -> bool
     requires sight { ListsValues (R.reading reader.now) book.now sight.now }
     requires wide { length cut.now ≡ length book.now }
-    requires irreplaceable { IsTrue irreplaceable → IsIrreplaceable (R.reading reader.now) book.now cut.now held }
+    requires irreplaceable { IsTrue irreplaceable
+        → IsIrreplaceable (R.reading reader.now) book.now cut.now held }
     requires caller { caller < length book.now }
     requires call { IsCall book.now (next_call cut.now caller) }
     ensures { IsTrue result → IsNeedless (R.reading reader.now) book.now cut.now held caller }

@@ -39,8 +39,10 @@ pub fn narrow_least_first<R: Reader>(
     // For each object that gives its least value first, from a rising list on that some order
     // reaches with this cut: all that goes on from here goes on by the next call of a caller that
     // the answer marks as well, with no more places.
-    ensures suffice { (init : List ℕ) (next : List ℕ → ℕ → List ℕ × ℕ) (bound : ℕ) → GivesLeastFirst (R.reading reader.now) next bound
-        → IsRising bound init → IsReached init next book.now cut.now words.now → MarksSuffice book.now next cut.now words.now result }
+    ensures suffice { (init : List ℕ) (next : List ℕ → ℕ → List ℕ × ℕ) (bound : ℕ)
+        → GivesLeastFirst (R.reading reader.now) next bound
+        → IsRising bound init → IsReached init next book.now cut.now words.now
+        → MarksSuffice book.now next cut.now words.now result }
 {
     let _callers = book.callers();
     if let Some(caller) = first_take(reader, sight, book, cut, words, marks) {
@@ -94,7 +96,8 @@ pub fn next_take<R: Reader>(
     ensures marked { IfSome result (IsMarked marks) }
     // The next call of the answered caller takes out the value, and has the least view of all
     // answered calls outside the cut that do.
-    ensures take { IfSome result (λ i. IsLeastTake (R.reading reader.now) book.now cut.now value (next_call cut.now i)) }
+    ensures take { IfSome result
+        (λ i. IsLeastTake (R.reading reader.now) book.now cut.now value (next_call cut.now i)) }
 {
     let take = least_take(sight, book, cut, value)?;
     if !marks.has(take.caller) || cut.get(take.caller) != take.number {

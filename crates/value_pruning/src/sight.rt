@@ -10,8 +10,8 @@ use object_foresight::Reader;
 use std::alloc::Global;
 use std::collections::BTreeMap;
 
-/// The sight of a book's values: for each value the calls that put it in, and the answered ones that take
-/// it out.
+/// The sight of a book's values: for each value the calls that put it in, and the answered ones
+/// that take it out.
 pub fn sight_of_values<R: Reader>(alloc: Global, reader: &R, book: &Book) -> Result<Sight, NoMemory>
     // The sight lists each call of the book that puts in a value, and each answered one that takes
     // it out.
@@ -38,7 +38,8 @@ fn list_caller<R: Reader>(
 ) -> Result<(), NoMemory>
     requires caller { caller < length book.now }
     requires read { ListsRead (R.reading reader.now) book.now caller 0 sight.old }
-    ensures read { OnOk result (ListsRead (R.reading reader.now) book.now (caller + 1) 0 sight.new) }
+    ensures read { OnOk result
+        (ListsRead (R.reading reader.now) book.now (caller + 1) 0 sight.new) }
 {
     for number in 0..book.calls(caller) {
         list_call(alloc, reader, book, sight, Call { caller, number })?;
@@ -109,7 +110,8 @@ fn place_for(alloc: Global, sight: &mut Sight, value: u64) -> Result<usize, NoMe
 
 // Sets the place of a label.
 fn set_place(sight: &mut Sight, label: u128, place: u64) -> Result<(), NoMemory>
-    ensures places { OnOk result ((v : ℕ) → place_of sight.new v ≡ (if v == label then Some place else place_of sight.old v)) }
+    ensures places { OnOk result ((v : ℕ)
+        → place_of sight.new v ≡ (if v == label then Some place else place_of sight.old v)) }
     ensures labelled { OnOk result (sight.new.labelled ≡ sight.old.labelled) }
 {
     sight.places.insert(label, place)?;
@@ -118,9 +120,12 @@ fn set_place(sight: &mut Sight, label: u128, place: u64) -> Result<(), NoMemory>
 
 /// The calls of a value, where any are listed.
 pub fn labelled_of(sight: &Sight, value: u64) -> Option<&Labelled>
-    ensures puts { IfSome result (λ labelled. labelled.now.puts.items ≡ sights.puts_of sight.now value) }
-    ensures shows { IfSome result (λ labelled. labelled.now.shows.items ≡ sights.shows_of sight.now value) }
-    ensures none { IfNone result ((sights.puts_of sight.now value ≡ []) × (sights.shows_of sight.now value ≡ [])) }
+    ensures puts { IfSome result
+        (λ labelled. labelled.now.puts.items ≡ sights.puts_of sight.now value) }
+    ensures shows { IfSome result
+        (λ labelled. labelled.now.shows.items ≡ sights.shows_of sight.now value) }
+    ensures none { IfNone result
+        ((sights.puts_of sight.now value ≡ []) × (sights.shows_of sight.now value ≡ [])) }
 {
     let place = sight.places.get(&u128::from(value))?;
     sight.labelled.get(*place as usize)
@@ -137,12 +142,13 @@ pub fn is_put_once(sight: &Sight, value: u64) -> bool
     }
 }
 
-/// Of the answered calls outside a cut that take out a value one with the least view. No clause says that
-/// one is found: that costs time alone.
+/// Of the answered calls outside a cut that take out a value one with the least view. No clause
+/// says that one is found: that costs time alone.
 pub fn least_take(sight: &Sight, book: &Book, cut: &Cut, value: u64) -> Option<Call>
     requires { length cut.now ≡ length book.now }
     ensures answered { IfSome result (IsAnswered book.now) }
-    ensures least { IfSome result (IsLeastListed book.now cut.now (sights.shows_of sight.now value)) }
+    ensures least { IfSome result
+        (IsLeastListed book.now cut.now (sights.shows_of sight.now value)) }
 {
     least_outside(book, cut, &labelled_of(sight, value)?.shows)
 }
@@ -167,7 +173,8 @@ fn least_outside(book: &Book, cut: &Cut, calls: &[Call]) -> Option<Call>
 /// Whether a call is answered, and outside a cut.
 pub fn is_outside(book: &Book, cut: &Cut, call: Call) -> bool
     requires { length cut.now ≡ length book.now }
-    ensures { IsTrue result ↔ (IsAnswered book.now call × (slice_index cut.now call.caller ≤ call.number)) }
+    ensures { IsTrue result
+        ↔ (IsAnswered book.now call × (slice_index cut.now call.caller ≤ call.number)) }
 {
     call.caller < book.callers()
         && call.number < book.answers(call.caller)

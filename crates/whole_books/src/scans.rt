@@ -6,7 +6,8 @@ use book_base::Cut;
 use std::test::Fail;
 use world_core::{Region, ScanCore, Want};
 
-// How many looks and peeks a scan by the last of n callers makes that ends exactly at the last of these words, and its cut.
+// How many looks and peeks a scan by the last of n callers makes that ends exactly at the last of
+// these words, and its cut.
 fn scan_of(n: u32, words: &[u64]) -> Option<(u32, u32, Cut)>
     requires some { 0 < n }
     requires few { n ≤ MAX_CALLERS }

@@ -33,7 +33,9 @@ module _ {P : Type 0} where
   IsNewAt meaning r i (Some c) = IsAt meaning r i c × IsNew c
 
 -- The pass is that of caller i of a box.
-pub record IsFor {M : Type 0} (reply_to : M → List Entry → ℕ) (has_seen : M → List Entry → Scratch → Type 0) (b : LogBox M) (i : ℕ) (p : LogPass) : Type 0 where
+pub record IsFor {M : Type 0} (reply_to : M → List Entry → ℕ)
+    (has_seen : M → List Entry → Scratch → Type 0) (b : LogBox M) (i : ℕ)
+    (p : LogPass) : Type 0 where
   pub own : IsPassOf reply_to has_seen b p
   pub caller : caller_of_pass p ≡ i
 

@@ -11,7 +11,8 @@ use std::test::Fail;
 use std::thread::Threads;
 use world_core::{Program, Scrap};
 
-// What two callers found who enqueue and dequeue at the log object of a kind. Each call checks itself against a queue.
+// What two callers found who enqueue and dequeue at the log object of a kind. Each call checks
+// itself against a queue.
 fn found_on<R: Threads>(
     rt: &R,
     alloc: Global,
@@ -52,7 +53,8 @@ fn a_call_after_what_stands_is_judged_as_any_other(rt: HostRuntime) -> Result<()
     Ok(())
 }
 
-// The object word of the largest table that has one, when it is closed. The largest table without one is opened by each run.
+// The object word of the largest table that has one, when it is closed. The largest table without
+// one is opened by each run.
 fn object_word(alloc: Global) -> Result<u64, NoMemory> {
     let (rows, bench) = Rows::open(alloc, Scrap, 16, 256)?;
     let world = rows.close(alloc, bench)?;

@@ -175,7 +175,8 @@ impl<L: Ledger> Seat<L> {
     }
 }
 
-// A caller makes its first call, which checks itself against a queue. It leaves its seat for it, and comes back.
+// A caller makes its first call, which checks itself against a queue. It leaves its seat for it,
+// and comes back.
 fn call<M: Machine, L: Ledger>(
     alloc: Global,
     rows: &Rows,
@@ -183,11 +184,15 @@ fn call<M: Machine, L: Ledger>(
     seat: &mut Seat<L>,
     op: OpWord,
 ) -> Found
-    requires caller { IsNewAt ⟦<Outside as Program>⟧.meaning rows.now (caller_of_pass seat.old.pass) seat.old.caller }
-    requires pass { IsPassOf M.reply_to M.has_seen object.now seat.old.pass × IsUnused seat.old.pass }
+    requires caller { IsNewAt ⟦<Outside as Program>⟧.meaning rows.now
+        (caller_of_pass seat.old.pass) seat.old.caller }
+    requires pass { IsPassOf M.reply_to M.has_seen object.now seat.old.pass
+        × IsUnused seat.old.pass }
     requires gathered { seat.old.gathered ≡ None }
-    ensures caller { IsThere ⟦<Outside as Program>⟧.meaning rows.now (caller_of_pass seat.old.pass) seat.new.caller }
-    ensures pass { IsFor M.reply_to M.has_seen object.now (caller_of_pass seat.old.pass) seat.new.pass }
+    ensures caller { IsThere ⟦<Outside as Program>⟧.meaning rows.now
+        (caller_of_pass seat.old.pass) seat.new.caller }
+    ensures pass { IsFor M.reply_to M.has_seen object.now
+        (caller_of_pass seat.old.pass) seat.new.pass }
 {
     let Some(caller) = seat.caller.take() else {
         unreachable!()
@@ -234,11 +239,15 @@ fn call_after<M: Machine, L: Ledger>(
     seat: &mut Seat<L>,
     op: OpWord,
 ) -> Found
-    requires caller { IsNewAt ⟦<Outside as Program>⟧.meaning rows.now (caller_of_pass seat.old.pass) seat.old.caller }
-    requires pass { IsPassOf M.reply_to M.has_seen object.now seat.old.pass × IsUnused seat.old.pass }
+    requires caller { IsNewAt ⟦<Outside as Program>⟧.meaning rows.now
+        (caller_of_pass seat.old.pass) seat.old.caller }
+    requires pass { IsPassOf M.reply_to M.has_seen object.now seat.old.pass
+        × IsUnused seat.old.pass }
     requires gathered { seat.old.gathered ≡ None }
-    ensures caller { IsThere ⟦<Outside as Program>⟧.meaning rows.now (caller_of_pass seat.old.pass) seat.new.caller }
-    ensures pass { IsFor M.reply_to M.has_seen object.now (caller_of_pass seat.old.pass) seat.new.pass }
+    ensures caller { IsThere ⟦<Outside as Program>⟧.meaning rows.now
+        (caller_of_pass seat.old.pass) seat.new.caller }
+    ensures pass { IsFor M.reply_to M.has_seen object.now
+        (caller_of_pass seat.old.pass) seat.new.pass }
 {
     let Some(caller) = seat.caller.take() else {
         unreachable!()
@@ -288,12 +297,16 @@ fn call_both<M: Machine + Sync, K: Ledger + Send, L: Ledger + Send, R: Threads>(
     b: &mut Seat<L>,
     turns: Turns,
 ) -> (Found, Found)
-    requires callers { IsNewAt ⟦<Outside as Program>⟧.meaning rows.now 0 a.old.caller × IsNewAt ⟦<Outside as Program>⟧.meaning rows.now 1 b.old.caller }
-    requires passes { IsFor M.reply_to M.has_seen object.now 0 a.old.pass × IsFor M.reply_to M.has_seen object.now 1 b.old.pass }
+    requires callers { IsNewAt ⟦<Outside as Program>⟧.meaning rows.now 0 a.old.caller
+        × IsNewAt ⟦<Outside as Program>⟧.meaning rows.now 1 b.old.caller }
+    requires passes { IsFor M.reply_to M.has_seen object.now 0 a.old.pass
+        × IsFor M.reply_to M.has_seen object.now 1 b.old.pass }
     requires unused { IsUnused a.old.pass × IsUnused b.old.pass }
     requires gathered { (a.old.gathered ≡ None) × (b.old.gathered ≡ None) }
-    ensures callers { IsThere ⟦<Outside as Program>⟧.meaning rows.now 0 a.new.caller × IsThere ⟦<Outside as Program>⟧.meaning rows.now 1 b.new.caller }
-    ensures passes { IsFor M.reply_to M.has_seen object.now 0 a.new.pass × IsFor M.reply_to M.has_seen object.now 1 b.new.pass }
+    ensures callers { IsThere ⟦<Outside as Program>⟧.meaning rows.now 0 a.new.caller
+        × IsThere ⟦<Outside as Program>⟧.meaning rows.now 1 b.new.caller }
+    ensures passes { IsFor M.reply_to M.has_seen object.now 0 a.new.pass
+        × IsFor M.reply_to M.has_seen object.now 1 b.new.pass }
 {
     match turns {
         Turns::EnqueueFirst => {
@@ -321,7 +334,8 @@ fn call_both<M: Machine + Sync, K: Ledger + Send, L: Ledger + Send, R: Threads>(
 
 // A table for two callers with four calls each, the bench that they left, and both.
 fn open_rows(alloc: Global) -> Result<(Rows, Bench, Caller, Caller), NoMemory>
-    ensures bench { IfOk result (λ r. IsBenchOf ⟦<Outside as Program>⟧.meaning r.0 r.1 × (r.0.callers ≡ 2)) }
+    ensures bench { IfOk result
+        (λ r. IsBenchOf ⟦<Outside as Program>⟧.meaning r.0 r.1 × (r.0.callers ≡ 2)) }
     ensures gone { IfOk result (λ r. (on_bench r.1 0 ≡ None) × (on_bench r.1 1 ≡ None)) }
     ensures a { IfOk result (λ r. IsAt ⟦<Outside as Program>⟧.meaning r.0 0 r.2 × IsNew r.2) }
     ensures b { IfOk result (λ r. IsAt ⟦<Outside as Program>⟧.meaning r.0 1 r.3 × IsNew r.3) }
@@ -392,7 +406,8 @@ fn close_box<M: Machine + Drop>(
 /// What both callers of a queue found, how many calls each pass made, and the log.
 pub type Calls = ((Found, Found), (u64, u64), Vec<Entry>);
 
-/// Two callers of a queue on one log call it once each: the first enqueues 5, and the second dequeues. Each call checks itself.
+/// Two callers of a queue on one log call it once each: the first enqueues 5, and the second
+/// dequeues. Each call checks itself.
 pub fn queue_calls<K: Ledger + Send, L: Ledger + Send, R: Threads>(
     rt: &R,
     alloc: Global,

@@ -72,9 +72,11 @@ pub fn call<L: Ledger>(
     pass: &mut LossyPass,
     steps: &mut Steps<L>,
 ) -> Caller
-    requires caller { IsResting ⟦<Outside as Program>⟧.meaning rows.now caller × (who_of caller ≡ 0) }
+    requires caller { IsResting ⟦<Outside as Program>⟧.meaning rows.now caller
+        × (who_of caller ≡ 0) }
     requires pass { pass.old.caller ≡ 0 }
-    ensures caller { IsResting ⟦<Outside as Program>⟧.meaning rows.now result × (who_of result ≡ 0) }
+    ensures caller { IsResting ⟦<Outside as Program>⟧.meaning rows.now result
+        × (who_of result ≡ 0) }
     ensures pass { pass.new.caller ≡ 0 }
 {
     if caller.left() == 0 || pass.made >= pass.cap {
@@ -85,16 +87,19 @@ pub fn call<L: Ledger>(
     seen(published, rows, steps).defer()
 }
 
-/// Caller 0 enqueues 1 and 2, and dequeues twice, as far as its pass goes: the second time it finds nothing.
+/// Caller 0 enqueues 1 and 2, and dequeues twice, as far as its pass goes: the second time it finds
+/// nothing.
 pub fn lose_an_item<L: Ledger>(
     rows: &Rows,
     caller: Caller,
     pass: &mut LossyPass,
     steps: &mut Steps<L>,
 ) -> Caller
-    requires caller { IsResting ⟦<Outside as Program>⟧.meaning rows.now caller × (who_of caller ≡ 0) }
+    requires caller { IsResting ⟦<Outside as Program>⟧.meaning rows.now caller
+        × (who_of caller ≡ 0) }
     requires pass { pass.old.caller ≡ 0 }
-    ensures caller { IsResting ⟦<Outside as Program>⟧.meaning rows.now result × (who_of result ≡ 0) }
+    ensures caller { IsResting ⟦<Outside as Program>⟧.meaning rows.now result
+        × (who_of result ≡ 0) }
     ensures pass { pass.new.caller ≡ 0 }
 {
     let caller = call(rows, caller, ENQUEUE_1, pass, steps);

@@ -80,11 +80,13 @@ fn make_rounds<K: Ledger + Send, L: Ledger + Send, R: Threads>(
     more_steps: &mut Steps<L>,
     turns: Turns,
 ) -> (Caller, Option<bool>, Option<bool>)
-    requires caller { IsResting ⟦<Outside as Program>⟧.meaning rows.now caller × (who_of caller ≡ 0) }
+    requires caller { IsResting ⟦<Outside as Program>⟧.meaning rows.now caller
+        × (who_of caller ≡ 0) }
     requires pass { pass.old.caller ≡ 0 }
     requires one { IsFresh ⟦<Outside as Program>⟧.meaning rows.now board.now one.old }
     requires other { IsFresh ⟦<Outside as Program>⟧.meaning rows.now board.now other.old }
-    ensures caller { IsResting ⟦<Outside as Program>⟧.meaning rows.now result.0 × (who_of result.0 ≡ 0) }
+    ensures caller { IsResting ⟦<Outside as Program>⟧.meaning rows.now result.0
+        × (who_of result.0 ≡ 0) }
     ensures one { IsLater ⟦<Outside as Program>⟧.meaning rows.now board.now one.old one.new }
     ensures other { IsLater ⟦<Outside as Program>⟧.meaning rows.now board.now other.old other.new }
 {
@@ -104,7 +106,8 @@ fn make_rounds<K: Ledger + Send, L: Ledger + Send, R: Threads>(
     }
 }
 
-/// What is shown of a witness: the counts of its cut, and how many calls and records of caller 0 its book has.
+/// What is shown of a witness: the counts of its cut, and how many calls and records of caller 0
+/// its book has.
 pub type Shown = Option<(u64, u64, u64, u64, u64)>;
 
 /// What is shown of a witness, where there is one.
@@ -142,7 +145,8 @@ fn knowledge(
     illegal: (Option<bool>, Option<bool>),
 ) -> Found
     requires on { IsOn board.now one.old × IsOn board.now other.old }
-    ensures callers { (caller_of one.new ≡ caller_of one.old) × (caller_of other.new ≡ caller_of other.old) }
+    ensures callers { (caller_of one.new ≡ caller_of one.old)
+        × (caller_of other.new ≡ caller_of other.old) }
 {
     let placed = (one.placed(), other.placed());
     let own = (shown(one.own()), shown(other.own()));

@@ -30,7 +30,8 @@ impl Work<bool> for Door {
     }
 }
 
-// Callers 1 and 2 watch beside a door, at most three rounds each, after caller 0 of a lossy queue has made this many calls.
+// Callers 1 and 2 watch beside a door, at most three rounds each, after caller 0 of a lossy queue
+// has made this many calls.
 fn watch_beside_a_door<L: Ledger, R: Threads + Sync>(
     rt: &R,
     alloc: Global,

@@ -1,4 +1,5 @@
-//! Runs over the objects inside the world at their real sizes: the log of each kind, the tally and the cell.
+//! Runs over the objects inside the world at their real sizes: the log of each kind, the tally and
+//! the cell.
 
 ghost use Rattle.std.specs.Prelude.{◌≤◌};
 ghost use Rattle.book_base.specs.declared.TheConstants.{MAX_CALLERS, MAX_CALLS};
@@ -28,7 +29,8 @@ struct Size {
     ghost few_calls: { cap ≤ MAX_CALLS },
 }
 
-// One, two and sixteen callers: with one call, for which alone there is a place, and with three of 256.
+// One, two and sixteen callers: with one call, for which alone there is a place, and with three of
+// 256.
 const SIZES: [Size; 6] = [
     Size {
         callers: 1,
@@ -62,7 +64,8 @@ const SIZES: [Size; 6] = [
     },
 ];
 
-// Sixteen callers with all the calls that a table may have: a log of them is full after the last one.
+// Sixteen callers with all the calls that a table may have: a log of them is full after the last
+// one.
 const WHOLE: Size = Size {
     callers: 16,
     calls: 256,
@@ -76,7 +79,8 @@ const ALONE: Size = Size {
     cap: 6,
 };
 
-// The replies of a report, caller by caller, where it has no error and each call of this size was delivered.
+// The replies of a report, caller by caller, where it has no error and each call of this size was
+// delivered.
 fn delivered(alloc: Global, report: &Report, size: Size) -> Result<Option<Vec<u64>>, NoMemory> {
     let mut replies = Vec::new(alloc);
     if report.has_error() || report.callers() != size.callers {
@@ -164,7 +168,8 @@ fn counted(replies: Option<Vec<u64>>) -> Option<u64> {
     Some(count)
 }
 
-// What one caller gets for its six calls from the log of each kind. Its values are the numbers of its calls.
+// What one caller gets for its six calls from the log of each kind. Its values are the numbers of
+// its calls.
 const ALONE_IN_LOGS: [(Kind, [u64; 6]); 8] = [
     // enq 0, deq, enq 2, deq, enq 4, deq
     (Kind::Queue, [DONE, ZERO, DONE, ZERO + 2, DONE, ZERO + 4]),

@@ -19,7 +19,8 @@ use world_core::Outside;
 const TWO_CALLS: &[u8] =
     b"script 2\nobject queue\ncallers 2\ncalls 1 1\n0 0 enq 1\n1 0 enq 1\nturns 0 0 0 0 0 1 1 1 1 1\nend\n";
 
-// The reports of their calls where these overlapped. The schedule decides which of them was published first.
+// The reports of their calls where these overlapped. The schedule decides which of them was
+// published first.
 const MET: [&[u8]; 3] = [
     b"report 2\nobject queue\ncallers 2\ncalls 1 1\n0 0 enq 1 done view 0:1 1:1 ok seen 0:1 1:1\n1 0 enq 1 done view 0:1 1:1 ok seen 0:1 1:1\nend\n",
     b"report 2\nobject queue\ncallers 2\ncalls 1 1\n0 0 enq 1 done view 0:1 1:1 ok seen 0:1\n1 0 enq 1 done view 0:1 1:1 ok seen 0:1 1:1\nend\n",
@@ -56,7 +57,8 @@ fn replay_meeting(alloc: Global, script: &Script, sink: &mut MemorySink) -> Resu
 // The count words of a table of two callers: both of N, and both of M.
 type CountWords = (u64, u64, u64, u64);
 
-// Runs a script of two callers over an object in a table of its own: the table's count words afterwards.
+// Runs a script of two callers over an object in a table of its own: the table's count words
+// afterwards.
 fn run_in_rows<R: Threads + Sync, B: BlackBox + Sync>(
     rt: &R,
     alloc: Global,

@@ -6,8 +6,8 @@ use report_text::read_report;
 use std::alloc::Global;
 use std::test::Fail;
 
-// The second caller's line saw most of those that are delivered. The third caller's error saw still more, and the
-// fourth one stopped.
+// The second caller's line saw most of those that are delivered. The third caller's error saw still
+// more, and the fourth one stopped.
 const FOUR_CALLERS: &[u8] =
     b"report 2\nobject queue\ncallers 4\ncalls 2 1 1 1\n0 0 enq 5 done view 0:1 ok seen 0:1\n0 1 deq pending\n1 0 deq =5 view 0:1 1:1 ok seen 0:1 1:1\n2 0 deq =5 view 0:1 1:1 2:1 error seen 0:1 1:1 2:1\n3 0 enq 6 done view 0:1 1:1 2:1 3:1 unchecked\nend\n";
 

@@ -1,4 +1,5 @@
-//! Texts that are read and written, reports, pictures and byte streams: tests across the crates below.
+//! Texts that are read and written, reports, pictures and byte streams: tests across the crates
+//! below.
 #![tactic(auto)]
 
 #[cfg(test)]

@@ -34,7 +34,8 @@ fn a_certificate_is_written_as_it_was_read(rt: HostRuntime) -> Result<(), Fail> 
     Ok(())
 }
 
-// A put's two values, an operation that the kind doesn't know, a caller without calls, and stops of some callers.
+// A put's two values, an operation that the kind doesn't know, a caller without calls, and stops of
+// some callers.
 #[test]
 fn scripts_are_written_as_they_were_read(rt: HostRuntime) -> Result<(), Fail> {
     let texts: [&[u8]; 2] = [

@@ -5,8 +5,8 @@ use report_text::{read_report, report_text};
 use reports::cases::worked_report;
 use std::test::Fail;
 
-// One call is delivered, one is an error, one wasn't judged, and one is under way. The witness has neither the
-// call that is under way nor what the third caller did.
+// One call is delivered, one is an error, one wasn't judged, and one is under way. The witness has
+// neither the call that is under way nor what the third caller did.
 #[test]
 fn a_report_has_its_text_its_book_and_its_witness(rt: HostRuntime) -> Result<(), Fail> {
     let report = worked_report(rt.alloc())?;
@@ -39,8 +39,8 @@ fn a_report_has_its_text_its_book_and_its_witness(rt: HostRuntime) -> Result<(),
     Ok(())
 }
 
-// Texts of reports with their first fault. Of a line that fails two tests the first is answered, so a wrong view
-// comes before a wrong mark and before a wrong seen cut.
+// Texts of reports with their first fault. Of a line that fails two tests the first is answered, so
+// a wrong view comes before a wrong mark and before a wrong seen cut.
 #[test]
 fn a_text_is_refused_for_its_first_fault(rt: HostRuntime) {
     let cases: [(&[u8], u64, What); 30] = [

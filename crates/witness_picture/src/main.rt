@@ -1,4 +1,5 @@
-//! The program: it reads a book, or the whole output of a run, and writes the picture of the book or of the witness.
+//! The program: it reads a book, or the whole output of a run, and writes the picture of the book
+//! or of the witness.
 #![tactic(auto)]
 
 ghost use Rattle.given_book.specs.Given.{IsFirstGivenFault};
@@ -10,7 +11,8 @@ use std::alloc::Global;
 use std::process::ExitCode;
 use witness_texts::picture_text;
 
-/// Answers the picture of the book that it reads, with the status `Fine` whatever the book's verdict.
+/// Answers the picture of the book that it reads, with the status `Fine` whatever the book's
+/// verdict.
 #[derive(Clone, Copy)]
 struct Painter;
 

@@ -14,16 +14,20 @@ use Rattle.witness_texts.specs.Texts.{IsJudged, IsErrorTold}
 use Rattle.std.proofs.lemmas.List.{length-map}
 use Rattle.std.proofs.lemmas.List.Sums.{sum_by_more}
 
-pub judged_by : (kind : Kind) (book : List Page) (verdict : Verdict) → IsRight (kind_init kind) (kind_next kind) book verdict → IsJudged kind book (is_legal verdict)
+pub judged_by : (kind : Kind) (book : List Page) (verdict : Verdict)
+    → IsRight (kind_init kind) (kind_next kind) book verdict → IsJudged kind book (is_legal verdict)
 judged_by kind book (Legal order) right = (order.items, right)
 judged_by kind book Illegal right = right
 
-pub told_by : (bytes : List ℕ) (error : Option Call) → IfSome error (IsFirstErrorGiven bytes) → IfNone error ((call : Call) → ¬ (IsFirstErrorGiven bytes call)) → IsErrorTold bytes error
+pub told_by : (bytes : List ℕ) (error : Option Call) → IfSome error (IsFirstErrorGiven bytes)
+    → IfNone error ((call : Call) → ¬ (IsFirstErrorGiven bytes call)) → IsErrorTold bytes error
 told_by bytes (Some call) found none = found
 told_by bytes None found none = none
 
 -- the calls of one caller more
-pub calls_more : (book : List Page) (i total : ℕ) → i < length book → total ≡ sum (take i (announced book)) → total + calls_of book i ≡ sum (take (i + 1) (announced book))
+pub calls_more : (book : List Page) (i total : ℕ) → i < length book → total
+    ≡ sum (take i (announced book)) → total + calls_of book i ≡ sum (take (i + 1) (announced book))
 calls_more book i total inside was =
-    let wide : i < length (announced book) = omega (arith, inside, length-map book (λ (page : Page). length page.operations)) in
+    let wide : i < length (announced book) =
+    omega (arith, inside, length-map book (λ (page : Page). length page.operations)) in
     omega (arith, was, announced_at book i, sum_by_more (λ (n : ℕ). n) (announced book) i 0 wide)

@@ -12,8 +12,8 @@ use Rattle.smaller_book.specs.Keys.{IsEvidence}
 use Rattle.smaller_book.specs.Minimal.{IsMinimal, size_of}
 use Rattle.witness_texts.specs.declared.marking.TheConstants.{MOST_CALLS}
 
--- These are the numbers of the calls of a smaller book: a part of the book without a legal order, which shows that the book has none
--- either, and which no rule makes smaller.
+-- These are the numbers of the calls of a smaller book: a part of the book without a legal order,
+-- which shows that the book has none either, and which no rule makes smaller.
 pub record AreOfASmallerBook (kind : Kind) (book : List Page) (names : List (List ℕ)) : Type 0 where
   pub part : List Page
   pub is_part : IsPart book names part
@@ -21,8 +21,8 @@ pub record AreOfASmallerBook (kind : Kind) (book : List Page) (names : List (Lis
   pub illegal : ¬ HasLegalOrder (kind_init kind) (kind_next kind) part
   pub minimal : IsMinimal kind part
 
--- The marks of a book without a legal order: the calls of a smaller book; none where the book has too many calls, or for want of
--- memory.
+-- The marks of a book without a legal order: the calls of a smaller book; none where the book has
+-- too many calls, or for want of memory.
 abbrev pub AreMarksOf : Kind → List Page → Marks → Type 0
 AreMarksOf kind book (Smaller numbers) = AreOfASmallerBook kind book (numbers_in numbers.items)
 AreMarksOf kind book TooLarge = MOST_CALLS < size_of book

@@ -31,8 +31,8 @@ pub record IsIllegalGiven (bytes : List ℕ) : Type 0 where
   pub told : IsGiven bytes kind book
   pub illegal : ¬ (HasLegalOrder (kind_init kind) (kind_next kind) book)
 
--- The bytes give a book, and the text is that of a part of it without a legal order, which shows that the book has none either
--- and which no rule makes smaller.
+-- The bytes give a book, and the text is that of a part of it without a legal order, which shows
+-- that the book has none either and which no rule makes smaller.
 pub record IsSmallerWitness (bytes text : List ℕ) : Type 0 where
   pub kind : Kind
   pub book : List Page
@@ -50,13 +50,15 @@ abbrev pub IsJudged : Kind → List Page → Bool → Type 0
 IsJudged kind book true = HasLegalOrder (kind_init kind) (kind_next kind) book
 IsJudged kind book false = ¬ (HasLegalOrder (kind_init kind) (kind_next kind) book)
 
--- The call is that of the first error line of the report that the bytes begin with, if they begin with one that has an error.
+-- The call is that of the first error line of the report that the bytes begin with, if they begin
+-- with one that has an error.
 abbrev pub IsErrorTold : List ℕ → Option Call → Type 0
 IsErrorTold bytes (Some call) = IsFirstErrorGiven bytes call
 IsErrorTold bytes None = (call : Call) → ¬ (IsFirstErrorGiven bytes call)
 
--- The bytes give a book, and the text is a picture of it: its first lines say whether the book is legal, whether calls are marked, and
--- which error line of a run was the first. In a book without a legal order the calls of a smaller one are marked.
+-- The bytes give a book, and the text is a picture of it: its first lines say whether the book is
+-- legal, whether calls are marked, and which error line of a run was the first. In a book without a
+-- legal order the calls of a smaller one are marked.
 pub record IsPictureOf (bytes text : List ℕ) : Type 0 where
   pub kind : Kind
   pub book : List Page

@@ -1,4 +1,5 @@
-//! What is written of the book that an input gives: a smaller book, where it has no legal order, and its picture.
+//! What is written of the book that an input gives: a smaller book, where it has no legal order,
+//! and its picture.
 #![tactic(auto)]
 
 mod marking;

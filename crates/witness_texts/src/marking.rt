@@ -1,4 +1,5 @@
-//! Which calls of a book are marked in its picture: those of a smaller book that no order explains either.
+//! Which calls of a book are marked in its picture: those of a smaller book that no order explains
+//! either.
 
 ghost use Rattle.std.specs.Prelude.{◌≡◌, IfOk};
 ghost use Rattle.book_base.specs.Order.{HasLegalOrder};
@@ -19,8 +20,8 @@ use std::alloc::Global;
 /// A smaller book is sought of a book of at most this many calls, since each try is a whole check.
 const MOST_CALLS: u64 = 1024;
 
-/// The calls that are marked in the picture of a book, of which this is the verdict: none where it has a
-/// legal order.
+/// The calls that are marked in the picture of a book, of which this is the verdict: none where it
+/// has a legal order.
 pub(crate) fn marks_for(alloc: Global, kind: Kind, book: &Book, verdict: &Verdict) -> Marks
     requires { IsRight (kind_init kind) (kind_next kind) book.now verdict.now }
     ensures { AreMarksFor kind book.now (is_legal verdict.now) result }
@@ -31,7 +32,8 @@ pub(crate) fn marks_for(alloc: Global, kind: Kind, book: &Book, verdict: &Verdic
     }
 }
 
-// The calls that are marked in the picture of a book without a legal order: those of a smaller book.
+// The calls that are marked in the picture of a book without a legal order: those of a smaller
+// book.
 fn marks_of(alloc: Global, kind: Kind, book: &Book) -> Marks
     requires { ¬ HasLegalOrder (kind_init kind) (kind_next kind) book.now }
     ensures { AreMarksOf kind book.now result }

@@ -14,8 +14,8 @@ use std::alloc::Global;
 
 /// The picture, as SVG, of the book that the bytes give.
 ///
-/// A text fault names the first line that is wrong, counted from the title of the book, and of its tests the first that
-/// it fails.
+/// A text fault names the first line that is wrong, counted from the title of the book, and of its
+/// tests the first that it fails.
 pub fn picture_text(alloc: Global, bytes: &[u8]) -> Result<String, ReadFault>
     // The text is a picture of the book that the bytes give.
     ensures shown { IfOk result (λ text. IsPictureOf bytes.now (string_bytes text)) }

@@ -11,13 +11,14 @@ use std::alloc::Global;
 
 /// The text of the smaller book of the book that the bytes give, where that has no legal order.
 ///
-/// A text fault names the first line that is wrong, counted from the title of the book, and of its tests the first that
-/// it fails.
+/// A text fault names the first line that is wrong, counted from the title of the book, and of its
+/// tests the first that it fails.
 pub fn smaller_text(alloc: Global, bytes: &[u8]) -> Result<Option<Vec<u8>>, ReadFault>
     // Without a text the bytes give a book that has a legal order; a text is that of a part of the
     // book that has no legal order and that no rule makes smaller.
     ensures smaller { IfOk result (λ found.
-        MatchOption found (IsLegalGiven bytes.now) (λ text. IsSmallerWitness bytes.now text.items)) }
+        MatchOption found (IsLegalGiven bytes.now)
+        (λ text. IsSmallerWitness bytes.now text.items)) }
     // With a fault the bytes give no book, and this is their first fault; or memory ran out.
     ensures refused { IfErr result (IsNotGiven bytes.now) }
     // A given book with a legal order has no smaller text, unless memory runs out.
@@ -37,7 +38,8 @@ pub fn smaller_text(alloc: Global, bytes: &[u8]) -> Result<Option<Vec<u8>>, Read
 // What the reader, the rules and the writer make of the bytes.
 fn written(alloc: Global, bytes: &[u8]) -> Result<Option<Vec<u8>>, ReadFault>
     ensures smaller { IfOk result (λ found.
-        MatchOption found (IsLegalGiven bytes.now) (λ text. IsSmallerWitness bytes.now text.items)) }
+        MatchOption found (IsLegalGiven bytes.now)
+        (λ text. IsSmallerWitness bytes.now text.items)) }
     ensures refused { IfErr result (IsNotGiven bytes.now) }
 {
     let (kind, book) = read_given(alloc, bytes)?;

@@ -58,17 +58,22 @@ fn work_beside<R: Threads + Sync, C: Sync, W: Work<C>>(
     ensures suffix { AllZip (λ before after. W.done before shared.now after) suffix.old suffix.new }
 {
     let mut in_prefix = ||
-        requires { IsSync R.row × IsSync C.row × IsSend W.row × All (λ w. W.ready w shared.now) prefix.now }
-        ensures { AllZip (λ before after. W.done before shared.entry.now after) prefix.entry.now prefix.exit.now }
+        requires { IsSync R.row × IsSync C.row × IsSend W.row
+            × All (λ w. W.ready w shared.now) prefix.now }
+        ensures { AllZip (λ before after. W.done before shared.entry.now after) prefix.entry.now
+            prefix.exit.now }
     { work_all(rt, shared, prefix) };
     let mut from_suffix = ||
-        requires { IsSync R.row × IsSync C.row × IsSend W.row × All (λ w. W.ready w shared.now) suffix.now }
-        ensures { AllZip (λ before after. W.done before shared.entry.now after) suffix.entry.now suffix.exit.now }
+        requires { IsSync R.row × IsSync C.row × IsSend W.row
+            × All (λ w. W.ready w shared.now) suffix.now }
+        ensures { AllZip (λ before after. W.done before shared.entry.now after) suffix.entry.now
+            suffix.exit.now }
     { work_all(rt, shared, suffix) };
     join_mut(rt, &mut in_prefix, &mut from_suffix);
 }
 
-/// The workers of a list work, and beside them two workers of another kind, each kind over what its own share.
+/// The workers of a list work, and beside them two workers of another kind, each kind over what its
+/// own share.
 ///
 /// All have worked when it returns.
 pub fn work_with_two<R: Threads + Sync, C: Sync, W: Work<C>, D: Sync, V: Work<D>>(
@@ -93,12 +98,16 @@ pub fn work_with_two<R: Threads + Sync, C: Sync, W: Work<C>, D: Sync, V: Work<D>
     ensures other { V.done other.old aside.now other.new }
 {
     let mut list = ||
-        requires { IsSync R.row × IsSync C.row × IsSend W.row × All (λ w. W.ready w shared.now) all.now }
-        ensures { AllZip (λ before after. W.done before shared.entry.now after) all.entry.now all.exit.now }
+        requires { IsSync R.row × IsSync C.row × IsSend W.row
+            × All (λ w. W.ready w shared.now) all.now }
+        ensures { AllZip (λ before after. W.done before shared.entry.now after) all.entry.now
+            all.exit.now }
     { work_all(rt, shared, all) };
     let mut two = ||
-        requires { IsSync R.row × IsSync D.row × IsSend V.row × V.ready one.now aside.now × V.ready other.now aside.now }
-        ensures { V.done one.entry.now aside.entry.now one.exit.now × V.done other.entry.now aside.entry.now other.exit.now }
+        requires { IsSync R.row × IsSync D.row × IsSend V.row × V.ready one.now aside.now
+            × V.ready other.now aside.now }
+        ensures { V.done one.entry.now aside.entry.now one.exit.now
+            × V.done other.entry.now aside.entry.now other.exit.now }
     { work_two(rt, aside, one, other) };
     join_mut(rt, &mut list, &mut two);
 }

@@ -19,11 +19,14 @@ pub contained : {X : Type 0} (xs : List X) (k : ℕ) (x : X) → slice_get xs k 
 contained xs k x e = (k, slice_get_within xs k x e, get_or_from_slice_get xs k x x e)
 
 -- what holds of all elements holds of the one at a place
-all_at : {X : Type 0} (P : X → Type 0) (xs : List X) (k : ℕ) (x : X) → All P xs → slice_get xs k ≡ Some x → P x
-all_at P xs k x all e = subst P (get_or_from_slice_get xs k x x e) (all k x (slice_get_within xs k x e))
+all_at : {X : Type 0} (P : X → Type 0) (xs : List X) (k : ℕ) (x : X) → All P xs
+    → slice_get xs k ≡ Some x → P x
+all_at P xs k x all e =
+    subst P (get_or_from_slice_get xs k x x e) (all k x (slice_get_within xs k x e))
 
 -- functions that are equal on the elements of a list make one list
-map-same : {X Y : Type 0} (f g : X → Y) (xs : List X) → ((k : ℕ) (x : X) → slice_get xs k ≡ Some x → f x ≡ g x) → map f xs ≡ map g xs
+map-same : {X Y : Type 0} (f g : X → Y) (xs : List X)
+    → ((k : ℕ) (x : X) → slice_get xs k ≡ Some x → f x ≡ g x) → map f xs ≡ map g xs
 map-same f g [] h = refl
 map-same f g (x ∷ xs) h =
     let first = h 0 x refl in
@@ -32,22 +35,29 @@ map-same f g (x ∷ xs) h =
 
 module _ (order : List Done) where
   -- what stands in the order of places
-  done_at : (k : ℕ) (call : Call) → StandsAt (map place_of order) k call → (d : Done) × (slice_get order k ≡ Some d) × (d.call ≡ call)
+  done_at : (k : ℕ) (call : Call) → StandsAt (map place_of order) k call → (d : Done)
+      × (slice_get order k ≡ Some d) × (d.call ≡ call)
   done_at k call (place, at, is) =
       elim (slice_get_cases order k).1 [
         | inl here ↦
-            let there : slice_get (map place_of order) k ≡ Some (place_of here.0) = slice_get-map place_of order k ∙ ap (option_map place_of) here.2 in
+            let there : slice_get (map place_of order) k ≡ Some (place_of here.0) =
+            slice_get-map place_of order k ∙ ap (option_map place_of) here.2 in
             (here.0, here.2, ap call_at (same_Some (place_of here.0) place (sym there ∙ at)) ∙ is)
-        | inr past ↦ absurd (none-some place (sym (slice_get-map place_of order k ∙ ap (option_map place_of) past.1) ∙ at))
+        | inr past ↦ absurd (none-some place
+            (sym (slice_get-map place_of order k ∙ ap (option_map place_of) past.1) ∙ at))
       ]
 
-  stands_at : (k : ℕ) (d : Done) → slice_get order k ≡ Some d → slice_get (map place_of order) k ≡ Some (place_of d)
+  stands_at : (k : ℕ) (d : Done) → slice_get order k ≡ Some d
+      → slice_get (map place_of order) k ≡ Some (place_of d)
   stands_at k d e = slice_get-map place_of order k ∙ ap (option_map place_of) e
 
-module _ (init : List ℕ) (next : List ℕ → ℕ → List ℕ × ℕ) (history : List Happening) (book : List Page) (order : List Done)
+module _ (init : List ℕ) (next : List ℕ → ℕ → List ℕ × ℕ) (history : List Happening)
+    (book : List Page) (order : List Done)
     (h : IsHistoryOf history book) (lin : IsLinearization init next history order) where
-  known : (k : ℕ) (d : Done) → slice_get order k ≡ Some d → operation_of book d.call ≡ Some d.operation
-  known k d e = (h.invoked d.call d.operation).0 (all_at (λ (c : Done). Contains history (Invoked c.call c.operation)) order k d lin.invoked e)
+  known : (k : ℕ) (d : Done) → slice_get order k ≡ Some d
+      → operation_of book d.call ≡ Some d.operation
+  known k d e = (h.invoked d.call d.operation).0
+      (all_at (λ (c : Done). Contains history (Invoked c.call c.operation)) order k d lin.invoked e)
 
   is_call : (k : ℕ) (call : Call) → StandsAt (map place_of order) k call → IsCall book call
   is_call k call at =
@@ -55,12 +65,16 @@ module _ (init : List ℕ) (next : List ℕ → ℕ → List ℕ × ℕ) (histor
       subst (IsCall book) d.2 (slice_get_within _ d.0.call.number d.0.operation (known k d.0 d.1))
 
   -- no call stands twice
-  apart : (j k : ℕ) (d e : Done) → slice_get order j ≡ Some d → slice_get order k ≡ Some e → d.call ≡ e.call → j < k → ⊥
+  apart : (j k : ℕ) (d e : Done) → slice_get order j ≡ Some d → slice_get order k ≡ Some e
+      → d.call ≡ e.call → j < k → ⊥
   apart j k d e at bt same less =
-      let twice : (get_or order j d).call ≢ (get_or order k d).call = lin.once j k d less (slice_get_within order k e bt) in
-      twice (ap (λ (x : Done). x.call) (get_or_from_slice_get order j d d at) ∙ same ∙ sym (ap (λ (x : Done). x.call) (get_or_from_slice_get order k e d bt)))
+      let twice : (get_or order j d).call ≢ (get_or order k d).call =
+      lin.once j k d less (slice_get_within order k e bt) in
+      twice (ap (λ (x : Done). x.call) (get_or_from_slice_get order j d d at) ∙ same
+      ∙ sym (ap (λ (x : Done). x.call) (get_or_from_slice_get order k e d bt)))
 
-  once : (j k : ℕ) (call : Call) → StandsAt (map place_of order) j call → StandsAt (map place_of order) k call → j ≡ k
+  once : (j k : ℕ) (call : Call) → StandsAt (map place_of order) j call
+      → StandsAt (map place_of order) k call → j ≡ k
   once j k call at bt =
       let d = done_at order j call at in
       let e = done_at order k call bt in
@@ -73,22 +87,30 @@ module _ (init : List ℕ) (next : List ℕ → ℕ → List ℕ × ℕ) (histor
       ]
 
   -- what returned before a call that stands, stands before it
-  first_stands : (k : ℕ) (a b : Call) → StandsAt (map place_of order) k b → ReturnsBefore history a b → (j : ℕ) × (j < k) × StandsAt (map place_of order) j a
+  first_stands : (k : ℕ) (a b : Call) → StandsAt (map place_of order) k b
+      → ReturnsBefore history a b → (j : ℕ) × (j < k) × StandsAt (map place_of order) j a
   first_stands k a b bt before =
       let e = done_at order k b bt in
-      let found = lin.returned a before.2 (contained history before.0 (Returned a before.2) before.5) in
+      let found =
+      lin.returned a before.2 (contained history before.0 (Returned a before.2) before.5) in
       let d : Done = record { call = a; operation = found.0; reply = before.2 } in
-      let there = stands order d found.1 in
-      (found.1.0, lin.ordered found.1.0 k d e.0 there e.1 (subst (ReturnsBefore history a) (sym e.2) before), (place_of d, stands_at order found.1.0 d there, refl))
+      let there = stands order d found.1 in (
+        found.1.0,
+        lin.ordered found.1.0 k d e.0 there e.1 (subst (ReturnsBefore history a) (sym e.2) before),
+        (place_of d, stands_at order found.1.0 d there, refl),
+      )
 
-  precedence : (j k : ℕ) (a b : Call) → StandsAt (map place_of order) j a → StandsAt (map place_of order) k b → Precedes book a b → j < k
+  precedence : (j k : ℕ) (a b : Call) → StandsAt (map place_of order) j a
+      → StandsAt (map place_of order) k b → Precedes book a b → j < k
   precedence j k a b at bt p =
       let first = first_stands k a b bt (h.before a b (is_call k b bt) p) in
       let same = once j first.0 a at first.2 in
       omega (arith, same, first.1)
 
-  same_step : (k : ℕ) (d : Done) → slice_get order k ≡ Some d → step_at book (place_of d) ≡ step_of d
-  same_step k d e = let made : Option ℕ → ℕ × ℕ = λ o. (unwrap_or o 0, d.reply) in ap made (known k d e)
+  same_step : (k : ℕ) (d : Done) → slice_get order k ≡ Some d
+      → step_at book (place_of d) ≡ step_of d
+  same_step k d e = let made : Option ℕ → ℕ × ℕ =
+      λ o. (unwrap_or o 0, d.reply) in ap made (known k d e)
 
   legal : IsLegalOrder init next book (map place_of order)
   legal =
@@ -97,14 +119,21 @@ module _ (init : List ℕ) (next : List ℕ → ℕ → List ℕ × ℕ) (histor
         once = once;
         earlier = λ k call at number less.
             first_stands k (record { caller = call.caller; number = number }) call at
-            (h.before (record { caller = call.caller; number = number }) call (is_call k call at) (inr (refl, less)));
+            (h.before (record { caller = call.caller; number = number }) call (is_call k call at)
+            (inr (refl, less)));
         answered = λ call r e.
             let found = lin.returned call r.reply (h.returned call r e) in
-            let there = stands order (record { call = call; operation = found.0; reply = r.reply }) found.1 in
-            (found.1.0, stands_at order found.1.0 (record { call = call; operation = found.0; reply = r.reply }) there);
-        run = subst (IsLegalRun init next) (sym (map-map (step_at book) place_of order ∙ map-same (λ d. step_at book (place_of d)) step_of order same_step)) lin.legal;
+            let there =
+            stands order (record { call = call; operation = found.0; reply = r.reply }) found.1 in (
+              found.1.0,
+              stands_at order found.1.0
+                  (record { call = call; operation = found.0; reply = r.reply }) there,
+            );
+        run = subst (IsLegalRun init next) (sym (map-map (step_at book) place_of order
+            ∙ map-same (λ d. step_at book (place_of d)) step_of order same_step)) lin.legal;
         precedence = precedence;
       }
 
 pub linearizations_are_legal_orders : LinearizationsAreLegalOrders
-linearizations_are_legal_orders init next history book order h lin = legal init next history book order h lin
+linearizations_are_legal_orders init next history book order h lin =
+    legal init next history book order h lin

@@ -25,34 +25,51 @@ book_long locals =
     length-map (map calls_in locals) page_with ∙ length-map locals calls_in
 
 fresh_lengths : HasLengths fresh
-fresh_lengths = record { operations = refl; calls = omega arith; replies = omega arith; seen = omega arith; published = omega arith; one = omega arith }
+fresh_lengths = record {
+  operations = refl;
+  calls = omega arith;
+  replies = omega arith;
+  seen = omega arith;
+  published = omega arith;
+  one = omega arith;
+}
 
 -- Each local of a reachable world has its lengths, and so has one that isn't there.
-pub all_lengths : (s : Shape) (locals : List Local) → AreTogether s locals → (i : ℕ) → HasLengths (local_at locals i)
+pub all_lengths : (s : Shape) (locals : List Local) → AreTogether s locals → (i : ℕ)
+    → HasLengths (local_at locals i)
 all_lengths s locals t i =
     let phases = locals_have_phases s locals t in
     elim (cases_lt i s.callers) [
       | inl low ↦ lengths (local_at locals i) (phases.1 i low)
-      | inr past ↦ subst HasLengths (sym (get_or_past locals i fresh (omega (arith, phases.0)))) fresh_lengths
+      | inr past ↦ subst HasLengths
+          (sym (get_or_past locals i fresh (omega (arith, phases.0)))) fresh_lengths
     ]
 
 -- who has a view is one of the callers
-pub viewer : (s : Shape) (locals : List Local) → AreTogether s locals → (i k : ℕ) → k < length (local_at locals i).views → i < s.callers
+pub viewer : (s : Shape) (locals : List Local) → AreTogether s locals → (i k : ℕ)
+    → k < length (local_at locals i).views → i < s.callers
 viewer s locals t i k below =
     let phases = locals_have_phases s locals t in
     elim (cases_lt i s.callers) [
       | inl low ↦ low
-      | inr past ↦ absurd (omega (arith, below, ap (λ (l : Local). length l.views) (get_or_past locals i fresh (omega (arith, phases.0)))))
+      | inr past ↦ absurd (omega (
+        arith,
+        below,
+        ap (λ (l : Local). length l.views) (get_or_past locals i fresh (omega (arith, phases.0))),
+      ))
     ]
 
 module _ (s : Shape) (locals : List Local) (t : AreTogether s locals) where
-  view_of : (call : Call) (r : Record) → record_of (book_in locals) call ≡ Some r → IsCutOf locals N call.caller (call.number + 1) r.view
+  view_of : (call : Call) (r : Record) → record_of (book_in locals) call ≡ Some r
+      → IsCutOf locals N call.caller (call.number + 1) r.view
   view_of call r e =
       let known = from_record locals (all_lengths s locals t) call r e in
       subst (λ (x : Record). IsCutOf locals N call.caller (call.number + 1) x.view) (sym known.1)
-      (views_count_their_call s locals call.caller call.number t (viewer s locals t call.caller call.number known.0) known.0)
+      (views_count_their_call s locals call.caller call.number t
+      (viewer s locals t call.caller call.number known.0) known.0)
 
-  view_low : (call : Call) (r : Record) → record_of (book_in locals) call ≡ Some r → (i : ℕ) → slice_index r.view i ≤ length (local_at locals i).operations
+  view_low : (call : Call) (r : Record) → record_of (book_in locals) call ≡ Some r → (i : ℕ)
+      → slice_index r.view i ≤ length (local_at locals i).operations
   view_low call r e i =
       let v = view_of call r e in
       elim (cases_lt i (length locals)) [
@@ -60,20 +77,29 @@ module _ (s : Shape) (locals : List Local) (t : AreTogether s locals) where
         | inr past ↦ omega (arith, get_or_past r.view i 0 (omega (arith, v.wide)))
       ]
 
-  compared : (a b : Call) (r q : Record) → record_of (book_in locals) a ≡ Some r → record_of (book_in locals) b ≡ Some q → AreComparable r.view q.view
+  compared : (a b : Call) (r q : Record) → record_of (book_in locals) a ≡ Some r
+      → record_of (book_in locals) b ≡ Some q → AreComparable r.view q.view
   compared a b r q e f =
       let x = from_record locals (all_lengths s locals t) a r e in
       let y = from_record locals (all_lengths s locals t) b q f in
       subst (λ (v : Record). AreComparable v.view q.view) (sym x.1)
-      (subst (λ (v : Record). AreComparable (slice_index_or (local_at locals a.caller).views a.number []) v.view) (sym y.1)
-      (views_are_comparable s locals a.caller b.caller a.number b.number t (viewer s locals t a.caller a.number x.0) (viewer s locals t b.caller b.number y.0) x.0 y.0))
+      (subst (λ (v : Record).
+      AreComparable (slice_index_or (local_at locals a.caller).views a.number []) v.view) (sym y.1)
+      (views_are_comparable s locals a.caller b.caller a.number b.number t
+      (viewer s locals t a.caller a.number x.0) (viewer s locals t b.caller b.number y.0) x.0 y.0))
 
   valid : IsValid (book_in locals)
   valid =
       record {
-        answers = λ i. omega (arith, answers_in_book locals (all_lengths s locals t) i, calls_in_book locals (all_lengths s locals t) i, (all_lengths s locals t i).calls);
+        answers = λ i. omega (
+          arith,
+          answers_in_book locals (all_lengths s locals t) i,
+          calls_in_book locals (all_lengths s locals t) i,
+          (all_lengths s locals t i).calls,
+        );
         wide = λ call r e. (view_of call r e).wide ∙ sym (book_long locals);
-        within = λ call r e. within_announced (book_in locals) r.view (λ i. omega (arith, view_low call r e i, calls_in_book locals (all_lengths s locals t) i));
+        within = λ call r e. within_announced (book_in locals) r.view (λ i.
+            omega (arith, view_low call r e i, calls_in_book locals (all_lengths s locals t) i));
         own = λ call r e. (view_of call r e).own;
         comparable = compared;
       }
@@ -84,7 +110,13 @@ books_are_valid s locals t = valid s locals t
 pub published_cuts_are_within : PublishedCutsAreWithin
 published_cuts_are_within s locals cut t p i =
     elim (cases_lt i (length locals)) [
-      | inl low ↦ omega (arith, p.within i low, (all_lengths s locals t i).published, answers_in_book locals (all_lengths s locals t) i, answered_at (book_in locals) i)
+      | inl low ↦ omega (
+        arith,
+        p.within i low,
+        (all_lengths s locals t i).published,
+        answers_in_book locals (all_lengths s locals t) i,
+        answered_at (book_in locals) i,
+      )
       | inr past ↦ omega (arith, get_or_past cut i 0 (omega (arith, p.wide)))
     ]
 
@@ -94,5 +126,6 @@ books_at_published_cuts s locals cut t p =
     record {
       valid = stays_valid (book_in locals) cut good;
       at = is_the_book_at (book_in locals) cut good;
-      counts = record_counts_are_the_cut (book_in locals) cut (p.wide ∙ sym (book_long locals)) (published_cuts_are_within s locals cut t p);
+      counts = record_counts_are_the_cut (book_in locals) cut (p.wide ∙ sym (book_long locals))
+          (published_cuts_are_within s locals cut t p);
     }

@@ -21,7 +21,8 @@ abbrev all : List ℕ
 all = 1 ∷ 1 ∷ []
 
 -- the records and the operations of the book, one by one
-each_record : (P : Call → Record → Type 0) → P (call_of 0 0) (answer 50 all) → P (call_of 1 0) (answer 60 all)
+each_record : (P : Call → Record → Type 0) → P (call_of 0 0) (answer 50 all)
+    → P (call_of 1 0) (answer 60 all)
     → (i k : ℕ) (r : Record) → record_of both_answered (call_of i k) ≡ Some r → P (call_of i k) r
 each_record P x y zero zero r e = subst (P (call_of 0 0)) (same_Some (answer 50 all) r e) x
 each_record P x y zero (suc k) r e = absurd (none-some r e)
@@ -58,7 +59,8 @@ is_call (suc (suc i)) k low = low
 viewed : (i k : ℕ) (r : Record) → record_of both_answered (call_of i k) ≡ Some r → r.view ≡ all
 viewed i k r e = each_record (λ c q. q.view ≡ all) refl refl i k r e
 
-entries : (x : Call) (reply : ℕ) → HasPeeked gatherer M x 1 1 → HasPeeked gatherer M x 2 1 → (j : ℕ) → j < 2 → HasPeeked gatherer M x (1 + j) (slice_index all j)
+entries : (x : Call) (reply : ℕ) → HasPeeked gatherer M x 1 1 → HasPeeked gatherer M x 2 1 → (j : ℕ)
+    → j < 2 → HasPeeked gatherer M x (1 + j) (slice_index all j)
 entries x reply first second zero low = first
 entries x reply first second (suc zero) low = second
 entries x reply first second (suc (suc j)) low = absurd (omega (arith, low))
@@ -69,17 +71,25 @@ gathered =
       callers = refl;
       records = answers;
       calls = λ call. (
-        λ (h : IsCall both_answered call). held call.caller call.number (called call.caller call.number h),
+        λ (h : IsCall both_answered call).
+            held call.caller call.number (called call.caller call.number h),
         λ (h : IsHeldBySomeView both_answered all call).
-            is_call call.caller call.number (subst (λ (v : List ℕ). call.number < slice_index v call.caller) (viewed h.0.caller h.0.number h.1 h.3) h.4),
+            is_call call.caller call.number
+            (subst (λ (v : List ℕ). call.number < slice_index v call.caller)
+            (viewed h.0.caller h.0.number h.1 h.3) h.4),
       );
       operations = λ call op e.
-          each_operation (λ c o. HasPeeked gatherer N c 0 (low_of o) × HasPeeked gatherer N c 1 (high_of o))
-          ((9, omega arith, refl), (8, omega arith, refl)) ((7, omega arith, refl), (6, omega arith, refl)) call.caller call.number op e;
-      replies = λ call r e. each_record (λ c q. HasPeeked gatherer M c 0 q.reply) (5, omega arith, refl) (2, omega arith, refl) call.caller call.number r e;
+          each_operation
+          (λ c o. HasPeeked gatherer N c 0 (low_of o) × HasPeeked gatherer N c 1 (high_of o))
+          ((9, omega arith, refl), (8, omega arith, refl))
+          ((7, omega arith, refl), (6, omega arith, refl)) call.caller call.number op e;
+      replies = λ call r e. each_record (λ c q. HasPeeked gatherer M c 0 q.reply)
+          (5, omega arith, refl) (2, omega arith, refl) call.caller call.number r e;
       views = λ call r e.
-          each_record (λ c q. (length q.view ≡ 2) × ((j : ℕ) → j < 2 → HasPeeked gatherer M c (1 + j) (slice_index q.view j)))
-          (refl, entries (call_of 0 0) 50 (4, omega arith, refl) (3, omega arith, refl)) (refl, entries (call_of 1 0) 60 (1, omega arith, refl) (0, omega arith, refl))
+          each_record (λ c q. (length q.view ≡ 2)
+          × ((j : ℕ) → j < 2 → HasPeeked gatherer M c (1 + j) (slice_index q.view j)))
+          (refl, entries (call_of 0 0) 50 (4, omega arith, refl) (3, omega arith, refl))
+          (refl, entries (call_of 1 0) 60 (1, omega arith, refl) (0, omega arith, refl))
           call.caller call.number r e;
     }
 

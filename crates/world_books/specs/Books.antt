@@ -1,4 +1,5 @@
--- The book that the locals of one reachable world are, and the books at the cuts of what they published.
+-- The book that the locals of one reachable world are, and the books at the cuts of what they
+-- published.
 use Rattle.std.specs.Prelude.{◌≡◌, ℕ, List}
 use Rattle.book_base.specs.Cut.{IsWithin}
 use Rattle.book_base.specs.Book.{Page, answered, IsValid}
@@ -14,7 +15,8 @@ BooksAreValid = (s : Shape) (locals : List Local) → AreTogether s locals → I
 -- A cut of what was published is within the record counts of the book.
 abbrev pub PublishedCutsAreWithin : Type 0
 PublishedCutsAreWithin =
-    (s : Shape) (locals : List Local) (cut : List ℕ) → AreTogether s locals → IsPublished locals cut → IsWithin cut (answered (book_in locals))
+    (s : Shape) (locals : List Local) (cut : List ℕ) → AreTogether s locals → IsPublished locals cut
+    → IsWithin cut (answered (book_in locals))
 
 -- A book is a valid one with these record counts, and is the book at that cut of another book.
 pub record IsValidPart (book : List Page) (cut : List ℕ) (part : List Page) : Type 0 where
@@ -22,7 +24,8 @@ pub record IsValidPart (book : List Page) (cut : List ℕ) (part : List Page) : 
   pub at : IsBookAt book cut part
   pub counts : answered part ≡ cut
 
--- At each cut of what was published the book of the locals is such a book: no cut has to be comparable with the views.
+-- At each cut of what was published the book of the locals is such a book: no cut has to be
+-- comparable with the views.
 abbrev pub BooksAtPublishedCuts : Type 0
 BooksAtPublishedCuts =
     (s : Shape) (locals : List Local) (cut : List ℕ) → AreTogether s locals → IsPublished locals cut

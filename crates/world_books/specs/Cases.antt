@@ -24,9 +24,11 @@ page operations records = record { operations = operations; records = records }
 abbrev pub answer : ℕ → List ℕ → Record
 answer reply view = record { reply = reply; view = view }
 
--- The book of two whole calls; and the book at the cut of the first one's record, whose view holds both calls.
+-- The book of two whole calls; and the book at the cut of the first one's record, whose view holds
+-- both calls.
 abbrev pub both_answered : List Page
-both_answered = page (5 ∷ []) (answer 50 (1 ∷ 1 ∷ []) ∷ []) ∷ page (6 ∷ []) (answer 60 (1 ∷ 1 ∷ []) ∷ []) ∷ []
+both_answered =
+    page (5 ∷ []) (answer 50 (1 ∷ 1 ∷ []) ∷ []) ∷ page (6 ∷ []) (answer 60 (1 ∷ 1 ∷ []) ∷ []) ∷ []
 
 abbrev pub one_answered : List Page
 one_answered = page (5 ∷ []) (answer 50 (1 ∷ 1 ∷ []) ∷ []) ∷ page (6 ∷ []) [] ∷ []
@@ -47,16 +49,20 @@ gathering =
     ∷ by 1 (Peek M 1 0 2 1)
     ∷ []
 
--- What happens to calls at a step where a call returns as its view is there, at the last look of the view's scan.
+-- What happens to calls at a step where a call returns as its view is there, at the last look of
+-- the view's scan.
 abbrev pub late_happenings : ℕ → Local → Local → Event → List Happening
-late_happenings who l m Announce = Invoked (call_of who l.announced) (staged_operation l.staged) ∷ []
+late_happenings who l m Announce =
+    Invoked (call_of who l.announced) (staged_operation l.staged) ∷ []
 late_happenings who l m _ =
-    if nat_lt (length l.views) (length m.views) then Returned (call_of who (length l.views)) (slice_index l.replies (length l.views)) ∷ [] else []
+    if nat_lt (length l.views) (length m.views) then Returned (call_of who (length l.views))
+    (slice_index l.replies (length l.views)) ∷ [] else []
 
 abbrev pub late_history_from : Shape → World → List Step → List Happening
 late_history_from s w [] = []
 late_history_from s w (step ∷ steps) =
-    late_happenings step.who (local_of w step.who) (local_of (after s w step) step.who) step.event ++ late_history_from s (after s w step) steps
+    late_happenings step.who (local_of w step.who) (local_of (after s w step) step.who) step.event
+    ++ late_history_from s (after s w step) steps
 
 abbrev pub late_history_of : Shape → List Step → List Happening
 late_history_of s steps = late_history_from s (start s) steps
@@ -64,11 +70,13 @@ late_history_of s steps = late_history_from s (start s) steps
 -- No error would be false where calls returned so late.
 abbrev pub ReturnsMayBeLate : Type 0
 ReturnsMayBeLate =
-    (init : List ℕ) (next : List ℕ → ℕ → List ℕ × ℕ) (s : Shape) (steps : List Step) (cut : List ℕ) → IsRun s steps
+    (init : List ℕ) (next : List ℕ → ℕ → List ℕ × ℕ) (s : Shape) (steps : List Step) (cut : List ℕ)
+    → IsRun s steps
     → IsLinearizable init next (late_history_of s steps) → IsPublished (end_of s steps).locals cut
     → HasLegalOrder init next (book_at cut (book_in (end_of s steps).locals))
 
--- Caller 1 announces 6, and its object replies 1. Right before the last look of its view caller 0 announces 5, which the view misses.
+-- Caller 1 announces 6, and its object replies 1. Right before the last look of its view caller 0
+-- announces 5, which the view misses.
 abbrev pub missed : List Step
 missed =
     announcement 1 6 (0 ∷ 0 ∷ [])

@@ -13,37 +13,46 @@ use Rattle.world_core.specs.Calls.{IsPublished, book_in}
 
 -- What a book of views says is so in a history.
 pub record IsHistoryOf (history : List Happening) (book : List Page) : Type 0 where
-  -- the calls that were invoked are the book's, each with its operation; so what a view holds was invoked
-  pub invoked : (call : Call) (operation : ℕ) → Contains history (Invoked call operation) ↔ (operation_of book call ≡ Some operation)
+  -- the calls that were invoked are the book's, each with its operation; so what a view holds was
+  -- invoked
+  pub invoked : (call : Call) (operation : ℕ) → Contains history (Invoked call operation)
+      ↔ (operation_of book call ≡ Some operation)
   -- an answered call returned with its reply
-  pub returned : (call : Call) (r : Record) → record_of book call ≡ Some r → Contains history (Returned call r.reply)
-  -- a call that precedes another by its view, or as an earlier call of its caller, returned before that one was invoked
+  pub returned : (call : Call) (r : Record) → record_of book call ≡ Some r
+      → Contains history (Returned call r.reply)
+  -- a call that precedes another by its view, or as an earlier call of its caller, returned before
+  -- that one was invoked
   pub before : (a b : Call) → IsCall book b → Precedes book a b → ReturnsBefore history a b
 
 -- The object history of a run is one of the book of its locals.
 abbrev pub RunsHaveTheirHistories : Type 0
-RunsHaveTheirHistories = (s : Shape) (steps : List Step) → IsRun s steps → IsHistoryOf (history_of s steps) (book_in (end_of s steps).locals)
+RunsHaveTheirHistories = (s : Shape) (steps : List Step) → IsRun s steps
+    → IsHistoryOf (history_of s steps) (book_in (end_of s steps).locals)
 
 -- The place of a call of an order.
 abbrev pub place_of : Done → Place
 place_of d = record { caller = d.call.caller; number = d.call.number; reply = d.reply }
 
--- A linearization of a history of a book is a legal order of the book: answered calls stand in it, each with its reply, and of the
--- unanswered ones those that the linearization has.
+-- A linearization of a history of a book is a legal order of the book: answered calls stand in it,
+-- each with its reply, and of the unanswered ones those that the linearization has.
 abbrev pub LinearizationsAreLegalOrders : Type 0
 LinearizationsAreLegalOrders =
-    (init : List ℕ) (next : List ℕ → ℕ → List ℕ × ℕ) (history : List Happening) (book : List Page) (order : List Done)
-    → IsHistoryOf history book → IsLinearization init next history order → IsLegalOrder init next book (map place_of order)
+    (init : List ℕ) (next : List ℕ → ℕ → List ℕ × ℕ) (history : List Happening) (book : List Page)
+    (order : List Done)
+    → IsHistoryOf history book → IsLinearization init next history order
+    → IsLegalOrder init next book (map place_of order)
 
 -- Where the object history of a run is linearizable, the book of its locals has a legal order.
 abbrev pub LinearizableRunsHaveLegalBooks : Type 0
 LinearizableRunsHaveLegalBooks =
     (init : List ℕ) (next : List ℕ → ℕ → List ℕ × ℕ) (s : Shape) (steps : List Step) → IsRun s steps
-    → IsLinearizable init next (history_of s steps) → HasLegalOrder init next (book_in (end_of s steps).locals)
+    → IsLinearizable init next (history_of s steps)
+    → HasLegalOrder init next (book_in (end_of s steps).locals)
 
 -- And so has the book at each cut of what was published: no error is false.
 abbrev pub NoFalseError : Type 0
 NoFalseError =
-    (init : List ℕ) (next : List ℕ → ℕ → List ℕ × ℕ) (s : Shape) (steps : List Step) (cut : List ℕ) → IsRun s steps
+    (init : List ℕ) (next : List ℕ → ℕ → List ℕ × ℕ) (s : Shape) (steps : List Step) (cut : List ℕ)
+    → IsRun s steps
     → IsLinearizable init next (history_of s steps) → IsPublished (end_of s steps).locals cut
     → HasLegalOrder init next (book_at cut (book_in (end_of s steps).locals))

@@ -18,7 +18,10 @@ abbrev pub operation_in_row : Shape → World → ℕ → ℕ → ℕ
 operation_in_row s w i k = joined (row_word s w N i k 0) (row_word s w N i k 1)
 
 abbrev pub record_in_row : Shape → World → ℕ → ℕ → Record
-record_in_row s w i k = record { reply = row_word s w M i k 0; view = map (λ j. row_word s w M i k (1 + j)) (range_with_len 0 s.callers) }
+record_in_row s w i k = record {
+  reply = row_word s w M i k 0;
+  view = map (λ j. row_word s w M i k (1 + j)) (range_with_len 0 s.callers);
+}
 
 -- The page of a caller's counted rows, and the book of all callers' counted rows.
 abbrev pub page_in_rows : Shape → World → ℕ → Page
@@ -31,27 +34,34 @@ page_in_rows s w i =
 abbrev pub book_in_rows : Shape → World → List Page
 book_in_rows s w = map (λ i. page_in_rows s w i) (range_with_len 0 s.callers)
 
--- How the book of the rows is that of the locals: it is valid, has all their calls, and of their records those that were published.
+-- How the book of the rows is that of the locals: it is valid, has all their calls, and of their
+-- records those that were published.
 pub record AreRowsOf (rows book : List Page) (locals : ℕ → Local) : Type 0 where
   pub valid : IsValid rows
   pub operations : (call : Call) → operation_of rows call ≡ operation_of book call
-  pub records : (i : ℕ) → (page_of rows i).records ≡ take (locals i).published (page_of book i).records
+  pub records : (i : ℕ)
+      → (page_of rows i).records ≡ take (locals i).published (page_of book i).records
 
 abbrev pub RowsAreAValidBook : Type 0
 RowsAreAValidBook =
-    (s : Shape) (steps : List Step) → IsRun s steps → AreRowsOf (book_in_rows s (end_of s steps)) (book_in (end_of s steps).locals) (local_of (end_of s steps))
+    (s : Shape) (steps : List Step) → IsRun s steps → AreRowsOf (book_in_rows s (end_of s steps))
+    (book_in (end_of s steps).locals) (local_of (end_of s steps))
 
--- At a cut of what was published the book of the rows is the book of all callers' calls, and is valid.
+-- At a cut of what was published the book of the rows is the book of all callers' calls, and is
+-- valid.
 abbrev pub IsInTheRows : Shape → World → List ℕ → Type 0
 IsInTheRows s w cut =
-    IsValidPart (book_in_rows s w) cut (book_at cut (book_in_rows s w)) × (book_at cut (book_in_rows s w) ≡ book_at cut (book_in w.locals))
+    IsValidPart (book_in_rows s w) cut (book_at cut (book_in_rows s w))
+    × (book_at cut (book_in_rows s w) ≡ book_at cut (book_in w.locals))
 
 abbrev pub BooksAtCutsAreInTheRows : Type 0
 BooksAtCutsAreInTheRows =
-    (s : Shape) (steps : List Step) (cut : List ℕ) → IsRun s steps → IsPublished (end_of s steps).locals cut → IsInTheRows s (end_of s steps) cut
+    (s : Shape) (steps : List Step) (cut : List ℕ) → IsRun s steps
+    → IsPublished (end_of s steps).locals cut → IsInTheRows s (end_of s steps) cut
 
 -- So it is at each cut that a scan of M gave.
 abbrev pub BooksAtGivenCutsAreInTheRows : Type 0
 BooksAtGivenCutsAreInTheRows =
     (s : Shape) (steps : List Step) (i p : ℕ) (given : Given) → IsRun s steps → i < s.callers
-    → slice_get (local_of (end_of s steps) i).cuts p ≡ Some given → given.region ≡ M → IsInTheRows s (end_of s steps) given.cut
+    → slice_get (local_of (end_of s steps) i).cuts p ≡ Some given → given.region ≡ M
+    → IsInTheRows s (end_of s steps) given.cut

@@ -13,55 +13,74 @@ use Rattle.world_core.specs.World.{Step, IsRun, end_of}
 use Rattle.world_core.specs.History.{IsLinearizable, history_of}
 use Rattle.world_core.specs.Calls.{Made, Has_seen, AreTogether, IsPublished, calls_in, book_of, book_in}
 
--- This call of some callers' calls has its record, and its caller has seen this cut after it published it.
+-- This call of some callers' calls has its record, and its caller has seen this cut after it
+-- published it.
 pub record HasSeenCut (calls : List (List Made)) (call : Call) (cut : List ℕ) : Type 0 where
   pub operation : ℕ
   pub answer : Record
-  pub made : slice_get (slice_index_or calls call.caller []) call.number ≡ Some (record { operation = operation; reached = Has_seen answer cut })
+  pub made : slice_get (slice_index_or calls call.caller []) call.number
+      ≡ Some (record { operation = operation; reached = Has_seen answer cut })
 
--- How the seen cuts of the calls of these locals fit: each is one of what was published, and holds its own call as the last of its
--- caller; and any two are comparable.
+-- How the seen cuts of the calls of these locals fit: each is one of what was published, and holds
+-- its own call as the last of its caller; and any two are comparable.
 pub record AreSeenCuts (locals : List Local) : Type 0 where
-  pub published : (call : Call) (cut : List ℕ) → HasSeenCut (map calls_in locals) call cut → IsPublished locals cut
-  pub own : (call : Call) (cut : List ℕ) → HasSeenCut (map calls_in locals) call cut → slice_index cut call.caller ≡ call.number + 1
-  pub comparable : (a b : Call) (s t : List ℕ) → HasSeenCut (map calls_in locals) a s → HasSeenCut (map calls_in locals) b t → AreComparable s t
+  pub published : (call : Call) (cut : List ℕ) → HasSeenCut (map calls_in locals) call cut
+      → IsPublished locals cut
+  pub own : (call : Call) (cut : List ℕ) → HasSeenCut (map calls_in locals) call cut
+      → slice_index cut call.caller ≡ call.number + 1
+  pub comparable : (a b : Call) (s t : List ℕ) → HasSeenCut (map calls_in locals) a s
+      → HasSeenCut (map calls_in locals) b t → AreComparable s t
 
 -- So it is in every reachable world.
 abbrev pub SeenCutsFit : Type 0
 SeenCutsFit = (s : Shape) (locals : List Local) → AreTogether s locals → AreSeenCuts locals
 
--- Where the book at a cut of what a run published has no legal order, the object history of the run isn't linearizable.
+-- Where the book at a cut of what a run published has no legal order, the object history of the run
+-- isn't linearizable.
 abbrev pub NoRunHasThisError : Type 0
 NoRunHasThisError =
-    (init : List ℕ) (next : List ℕ → ℕ → List ℕ × ℕ) (s : Shape) (steps : List Step) (cut : List ℕ) → IsRun s steps
-    → IsPublished (end_of s steps).locals cut → ¬ HasLegalOrder init next (book_at cut (book_in (end_of s steps).locals))
+    (init : List ℕ) (next : List ℕ → ℕ → List ℕ × ℕ) (s : Shape) (steps : List Step) (cut : List ℕ)
+    → IsRun s steps
+    → IsPublished (end_of s steps).locals cut
+    → ¬ HasLegalOrder init next (book_at cut (book_in (end_of s steps).locals))
     → ¬ IsLinearizable init next (history_of s steps)
 
--- Where the book of some calls has no legal order at a cut that one of them has seen, this is so of every run that ends with these
--- calls, whatever its program and its cap.
+-- Where the book of some calls has no legal order at a cut that one of them has seen, this is so of
+-- every run that ends with these calls, whatever its program and its cap.
 abbrev pub NoRunHasThisErrorSeen : Type 0
 NoRunHasThisErrorSeen =
-    (init : List ℕ) (next : List ℕ → ℕ → List ℕ × ℕ) (calls : List (List Made)) (call : Call) (cut : List ℕ) → HasSeenCut calls call cut
+    (init : List ℕ) (next : List ℕ → ℕ → List ℕ × ℕ) (calls : List (List Made)) (call : Call)
+    (cut : List ℕ) → HasSeenCut calls call cut
     → ¬ HasLegalOrder init next (book_at cut (book_of calls))
-    → (s : Shape) (steps : List Step) → IsRun s steps → map calls_in (end_of s steps).locals ≡ calls → ¬ IsLinearizable init next (history_of s steps)
+    → (s : Shape) (steps : List Step) → IsRun s steps → map calls_in (end_of s steps).locals ≡ calls
+    → ¬ IsLinearizable init next (history_of s steps)
 
--- Each of these cuts was seen by one of the calls of these locals, and their book at it has a legal order.
-abbrev pub AreDelivered : (init : List ℕ) → (next : List ℕ → ℕ → List ℕ × ℕ) → List Local → List (List ℕ) → Type 0
+-- Each of these cuts was seen by one of the calls of these locals, and their book at it has a legal
+-- order.
+abbrev pub AreDelivered : (init : List ℕ) → (next : List ℕ → ℕ → List ℕ × ℕ) → List Local
+    → List (List ℕ) → Type 0
 AreDelivered init next locals cuts =
     (k : ℕ) (cut : List ℕ) → slice_get cuts k ≡ Some cut
-    → (call : Call) × HasSeenCut (map calls_in locals) call cut × HasLegalOrder init next (book_at cut (book_in locals))
+    → (call : Call) × HasSeenCut (map calls_in locals) call cut
+    × HasLegalOrder init next (book_at cut (book_in locals))
 
--- One cut has all delivered calls: it is one of what was published, contains each of their cuts, holds each of them, and the book at it
--- has a legal order and the record of each.
-pub record HasAllDelivered (init : List ℕ) (next : List ℕ → ℕ → List ℕ × ℕ) (locals : List Local) (cuts : List (List ℕ)) (all : List ℕ) : Type 0 where
+-- One cut has all delivered calls: it is one of what was published, contains each of their cuts,
+-- holds each of them, and the book at it has a legal order and the record of each.
+pub record HasAllDelivered (init : List ℕ) (next : List ℕ → ℕ → List ℕ × ℕ) (locals : List Local)
+    (cuts : List (List ℕ)) (all : List ℕ) : Type 0 where
   pub published : IsPublished locals all
   pub contains : (k : ℕ) (cut : List ℕ) → slice_get cuts k ≡ Some cut → IsWithin cut all
-  pub holds : (k : ℕ) (cut : List ℕ) (call : Call) → slice_get cuts k ≡ Some cut → HasSeenCut (map calls_in locals) call cut → Holds all call
-  pub records : (call : Call) → Holds all call → record_of (book_at all (book_in locals)) call ≡ record_of (book_in locals) call
+  pub holds : (k : ℕ) (cut : List ℕ) (call : Call) → slice_get cuts k ≡ Some cut
+      → HasSeenCut (map calls_in locals) call cut → Holds all call
+  pub records : (call : Call) → Holds all call
+      → record_of (book_at all (book_in locals)) call ≡ record_of (book_in locals) call
   pub one_order : HasLegalOrder init next (book_at all (book_in locals))
 
--- The greatest counts of the cuts of delivered calls are such a cut; of no calls, all counts are 0, and the order is empty.
+-- The greatest counts of the cuts of delivered calls are such a cut; of no calls, all counts are 0,
+-- and the order is empty.
 abbrev pub DeliveredCallsStandInOne : Type 0
 DeliveredCallsStandInOne =
-    (init : List ℕ) (next : List ℕ → ℕ → List ℕ × ℕ) (s : Shape) (locals : List Local) (cuts : List (List ℕ)) → AreTogether s locals
-    → AreDelivered init next locals cuts → HasAllDelivered init next locals cuts (greatest_counts s.callers cuts)
+    (init : List ℕ) (next : List ℕ → ℕ → List ℕ × ℕ) (s : Shape) (locals : List Local)
+    (cuts : List (List ℕ)) → AreTogether s locals
+    → AreDelivered init next locals cuts
+    → HasAllDelivered init next locals cuts (greatest_counts s.callers cuts)

@@ -1,4 +1,5 @@
-//! Worked runs: each law's premises are met by runs that are written out, and what a wrong history would say of one.
+//! Worked runs: each law's premises are met by runs that are written out, and what a wrong history
+//! would say of one.
 
 ghost use Rattle.std.specs.Prelude.{◌≡◌, [], ◌∷◌, take, map};
 ghost use Rattle.book_base.specs.BookAt.{book_at};
@@ -12,8 +13,8 @@ ghost use Rattle.world_books.specs.Rows.{book_in_rows};
 ghost use Rattle.world_books.specs.Verdicts.{HasSeenCut, AreDelivered};
 ghost use Rattle.world_books.specs.Cases.{locals_after, page, both_answered, one_answered, gathering, late_history_of, missed, missed_part, ReturnsMayBeLate};
 
-/// A run whose history is linearizable for one object and not for another: both its calls have seen a cut
-/// of what was published, and the books there have legal orders for the first object alone.
+/// A run whose history is linearizable for one object and not for another: both its calls have seen
+/// a cut of what was published, and the books there have legal orders for the first object alone.
 pub fn a_run_is_judged()
     // The steps of the two whole calls are a run.
     ensures run { IsRun pair two_calls }
@@ -26,18 +27,22 @@ pub fn a_run_is_judged()
     // The cut of the first record is one of what was published.
     ensures published { IsPublished (locals_after two_calls) (1 ∷ 0 ∷ []) }
     // The first call has seen the cut of its own record alone.
-    ensures first_sees { HasSeenCut (map calls_in (locals_after two_calls)) (call_of 0 0) (1 ∷ 0 ∷ []) }
+    ensures first_sees { HasSeenCut (map calls_in (locals_after two_calls)) (call_of 0 0)
+        (1 ∷ 0 ∷ []) }
     // The second call has seen the cut of both records.
-    ensures second_sees { HasSeenCut (map calls_in (locals_after two_calls)) (call_of 1 0) (1 ∷ 1 ∷ []) }
+    ensures second_sees { HasSeenCut (map calls_in (locals_after two_calls)) (call_of 1 0)
+        (1 ∷ 1 ∷ []) }
     // The history of the run is linearizable for the object that gives ten times the operation.
     ensures lawful { IsLinearizable [] tenfold (history_of pair two_calls) }
     // Both cuts were seen, and the books there have legal orders for that object.
-    ensures delivered { AreDelivered [] tenfold (locals_after two_calls) ((1 ∷ 0 ∷ []) ∷ (1 ∷ 1 ∷ []) ∷ []) }
+    ensures delivered { AreDelivered [] tenfold (locals_after two_calls)
+        ((1 ∷ 0 ∷ []) ∷ (1 ∷ 1 ∷ []) ∷ []) }
     // The history of the run isn't linearizable for the object that always gives 0.
     ensures unlawful { ¬ IsLinearizable [] silent (history_of pair two_calls) }
     // The book at the cut of the first record has no legal order for the object that always gives
     // 0.
-    ensures error { ¬ HasLegalOrder [] silent (book_at (1 ∷ 0 ∷ []) (book_in (locals_after two_calls))) }
+    ensures error { ¬ HasLegalOrder [] silent
+        (book_at (1 ∷ 0 ∷ []) (book_in (locals_after two_calls))) }
 {}
 
 /// A call that has its reply, and no view yet, has no record in the book.
@@ -45,7 +50,9 @@ pub fn a_reply_is_no_record()
     // After ten steps the first caller has its reply.
     ensures replied { (local_after (take 10 two_calls) 0).replies ≡ 50 ∷ [] }
     // After ten steps the book has the first call, without a record.
-    ensures book { book_in (locals_after (take 10 two_calls)) ≡ record { operations = 5 ∷ []; records = [] } ∷ record { operations = []; records = [] } ∷ [] }
+    ensures book { book_in (locals_after (take 10 two_calls))
+        ≡ record { operations = 5 ∷ []; records = [] }
+        ∷ record { operations = []; records = [] } ∷ [] }
 {}
 
 /// A record that its caller hasn't published is in the book of the locals, and in no counted row.
@@ -53,7 +60,8 @@ pub fn an_unpublished_record_is_in_no_row()
     // After 24 steps the book of the locals has the first call's record.
     ensures book { book_in (locals_after (take 24 two_calls)) ≡ one_answered }
     // After 24 steps the book of the rows has both calls and no record.
-    ensures rows { book_in_rows pair (end_of pair (take 24 two_calls)) ≡ page (5 ∷ []) [] ∷ page (6 ∷ []) [] ∷ [] }
+    ensures rows { book_in_rows pair (end_of pair (take 24 two_calls))
+        ≡ page (5 ∷ []) [] ∷ page (6 ∷ []) [] ∷ [] }
     // After all steps the book of the rows has both records.
     ensures later { book_in_rows pair (end_of pair two_calls) ≡ both_answered }
 {}
@@ -70,13 +78,14 @@ pub fn a_book_is_gathered()
     ensures book { book_at (1 ∷ 1 ∷ []) (book_in (locals_after gathering)) ≡ both_answered }
 {}
 
-/// Where a call returned only at the last look of its view's scan, a run could have a linearizable history
-/// and an error: that look may come after an announcement that the view misses.
+/// Where a call returned only at the last look of its view's scan, a run could have a linearizable
+/// history and an error: that look may come after an announcement that the view misses.
 pub fn calls_return_at_the_first_look()
     // The steps with the missed announcement are a run.
     ensures run { IsRun pair missed }
     // The history with late returns has the second invocation before the return.
-    ensures late { late_history_of pair missed ≡ Invoked (call_of 1 0) 6 ∷ Invoked (call_of 0 0) 5 ∷ Returned (call_of 1 0) 1 ∷ [] }
+    ensures late { late_history_of pair missed
+        ≡ Invoked (call_of 1 0) 6 ∷ Invoked (call_of 0 0) 5 ∷ Returned (call_of 1 0) 1 ∷ [] }
     // The history with late returns is linearizable for the object that counts the operations
     // before.
     ensures late_lawful { IsLinearizable [] numbering (late_history_of pair missed) }
@@ -85,11 +94,13 @@ pub fn calls_return_at_the_first_look()
     // The book at this cut has the call of caller 1 alone, with its record.
     ensures book { book_at (0 ∷ 1 ∷ []) (book_in (locals_after missed)) ≡ missed_part }
     // The book at this cut has no legal order for that object.
-    ensures error { ¬ HasLegalOrder [] numbering (book_at (0 ∷ 1 ∷ []) (book_in (locals_after missed))) }
+    ensures error { ¬ HasLegalOrder [] numbering
+        (book_at (0 ∷ 1 ∷ []) (book_in (locals_after missed))) }
     // Calls don't return so late: else an error would be false.
     ensures so { ¬ ReturnsMayBeLate }
     // The history has the return before the second invocation.
-    ensures history { history_of pair missed ≡ Invoked (call_of 1 0) 6 ∷ Returned (call_of 1 0) 1 ∷ Invoked (call_of 0 0) 5 ∷ [] }
+    ensures history { history_of pair missed
+        ≡ Invoked (call_of 1 0) 6 ∷ Returned (call_of 1 0) 1 ∷ Invoked (call_of 0 0) 5 ∷ [] }
     // The history isn't linearizable for that object.
     ensures unlawful { ¬ IsLinearizable [] numbering (history_of pair missed) }
 {}

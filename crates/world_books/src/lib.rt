@@ -1,4 +1,5 @@
-//! The books of reachable worlds, and what a linearizable run makes of them: every program, in whatever order its callers go.
+//! The books of reachable worlds, and what a linearizable run makes of them: every program, in
+//! whatever order its callers go.
 #![tactic(auto)]
 
 pub mod books;

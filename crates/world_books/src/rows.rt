@@ -2,8 +2,8 @@
 
 ghost use Rattle.world_books.specs.Rows.{RowsAreAValidBook, BooksAtCutsAreInTheRows, BooksAtGivenCutsAreInTheRows};
 
-/// The counted rows of every reachable world are a valid book: the callers' calls, and of their records
-/// those that were published.
+/// The counted rows of every reachable world are a valid book: the callers' calls, and of their
+/// records those that were published.
 pub fn rows_are_a_valid_book()
     ensures { RowsAreAValidBook }
 {}

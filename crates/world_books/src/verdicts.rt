@@ -7,9 +7,9 @@ pub fn seen_cuts_fit()
     ensures { SeenCutsFit }
 {}
 
-/// Where the book of some calls has no legal order at a cut that one of them has seen, no run of any
-/// program that ends with these calls has a linearizable object history; and the same of every cut of what
-/// a run published (Castañeda and Rodríguez 2023).
+/// Where the book of some calls has no legal order at a cut that one of them has seen, no run of
+/// any program that ends with these calls has a linearizable object history; and the same of every
+/// cut of what a run published (Castañeda and Rodríguez 2023).
 pub fn no_run_has_this_error()
     // Where the book at a cut of what a run published has no legal order, the object history of the
     // run isn't linearizable.
@@ -19,8 +19,8 @@ pub fn no_run_has_this_error()
     ensures seen { NoRunHasThisErrorSeen }
 {}
 
-/// All delivered calls of a world stand in one legal order: that of the book at the greatest of their seen
-/// cuts, which holds each of them.
+/// All delivered calls of a world stand in one legal order: that of the book at the greatest of
+/// their seen cuts, which holds each of them.
 pub fn delivered_calls_stand_in_one()
     ensures { DeliveredCallsStandInOne }
 {}

@@ -70,7 +70,8 @@ counts N = refl
 counts M = refl
 
 rows : (region : Region) (k place : ℕ) → k < own_count alone region → place < places 1 region
-    → slice_index words (place_index 1 1 region 0 k place) ≡ word_of alone k (content 1 region place)
+    → slice_index words (place_index 1 1 region 0 k place)
+    ≡ word_of alone k (content 1 region place)
 rows N zero zero low fits = refl
 rows N zero (suc zero) low fits = refl
 rows N zero (suc (suc zero)) low fits = refl
@@ -78,11 +79,14 @@ rows N zero (suc (suc (suc place))) low fits = absurd (omega (arith, fits))
 rows N (suc k) place low fits = absurd (omega (arith, low))
 rows M k place low fits = absurd (omega (arith, low))
 
-staged : (region : Region) (place : ℕ) → IsTrue (is_staging alone.phase region) → IsTrue (is_staged alone.staged place) → IsInRow single words 0 alone region place
+staged : (region : Region) (place : ℕ) → IsTrue (is_staging alone.phase region)
+    → IsTrue (is_staged alone.staged place) → IsInRow single words 0 alone region place
 staged N place stages is = absurd (fails stages)
-staged M zero stages is = record { row = omega arith; place_fits = omega arith; stands = refl; due = refl }
+staged M zero stages is =
+    record { row = omega arith; place_fits = omega arith; stands = refl; due = refl }
 staged M (suc place) stages is =
-    let apart : (0 == suc place) ≡ false = ne_eqb 0 (suc place) (λ (e : 0 ≡ suc place). omega (arith, e)) in
+    let apart : (0 == suc place) ≡ false =
+    ne_eqb 0 (suc place) (λ (e : 0 ≡ suc place). omega (arith, e)) in
     absurd (fails (sym (ap (λ (b : Bool). b || false) apart) ∙ is))
 
 pub agrees : Agrees single words 0 alone
@@ -94,7 +98,16 @@ agrees =
       staged = staged;
       staged_in = tt;
       kept_in = tt;
-      phase = record { announced = refl; operations = refl; replies = refl; views = refl; seen = refl; embedded_in_N = refl; embedded_in_M = refl; object_steps = refl };
+      phase = record {
+        announced = refl;
+        operations = refl;
+        replies = refl;
+        views = refl;
+        seen = refl;
+        embedded_in_N = refl;
+        embedded_in_M = refl;
+        object_steps = refl;
+      };
       scan = tt;
     }
 
@@ -110,8 +123,10 @@ too_many a = let few : 2 ≤ 1 = a.few in omega (arith, few)
 pub other_row_of_N : Agrees single (1 ∷ 0 ∷ 5 ∷ 1 ∷ 0 ∷ 0 ∷ 0 ∷ 0 ∷ []) 0 asking_alone → ⊥
 other_row_of_N a = one_or_none (a.rows N 0 1 (omega arith) (omega arith))
 
-pub other_row_of_M : Agrees single (1 ∷ 1 ∷ 5 ∷ 0 ∷ 0 ∷ 50 ∷ 0 ∷ 0 ∷ []) 0 (local_after_all single published_alone 0) → ⊥
-other_row_of_M a = let entries : 0 ≡ 1 = a.rows M 0 1 (omega arith) (omega arith) in omega (arith, entries)
+pub other_row_of_M : Agrees single (1 ∷ 1 ∷ 5 ∷ 0 ∷ 0 ∷ 50 ∷ 0 ∷ 0 ∷ []) 0
+    (local_after_all single published_alone 0) → ⊥
+other_row_of_M a = let entries : 0 ≡ 1 = a.rows M 0 1 (omega arith) (omega arith) in
+    omega (arith, entries)
 
 pub not_standing : Agrees single no_words 0 staged_low → ⊥
 not_standing a = let words : 0 ≡ 5 = (a.staged N 0 refl refl).stands in omega (arith, words)

@@ -12,7 +12,8 @@ use Rattle.world_core.specs.Scan.{round, last_of, open_round, course, course_aft
 module _ (n : ℕ) (xs ys : List ℕ) where
   round_prefix : (k : ℕ) → k * n + n ≤ length xs → round n (xs ++ ys) k ≡ round n xs k
   round_prefix k fits =
-      ap (take n) (drop-append-le (k * n) xs ys (omega arith)) ∙ take-append-le n (drop (k * n) xs) ys (omega (arith, length-drop (k * n) xs))
+      ap (take n) (drop-append-le (k * n) xs ys (omega arith))
+      ∙ take-append-le n (drop (k * n) xs) ys (omega (arith, length-drop (k * n) xs))
 
   last_prefix : (k : ℕ) → k * n ≤ length xs → last_of n (xs ++ ys) k ≡ last_of n xs k
   last_prefix zero fits = refl
@@ -21,7 +22,8 @@ module _ (n : ℕ) (xs ys : List ℕ) where
   course_prefix : (k : ℕ) → k * n ≤ length xs → course_after n (xs ++ ys) k ≡ course_after n xs k
   course_prefix zero fits = refl
   course_prefix (suc k) fits =
-      let before : course_after n (xs ++ ys) k ≡ course_after n xs k = course_prefix k (omega arith) in
+      let before : course_after n (xs ++ ys) k ≡ course_after n xs k =
+      course_prefix k (omega arith) in
       let f : round n (xs ++ ys) 0 ≡ round n xs 0 = round_prefix 0 (omega (arith, fits)) in
       let l : last_of n (xs ++ ys) k ≡ last_of n xs k = last_prefix k (omega arith) in
       let r : round n (xs ++ ys) k ≡ round n xs k = round_prefix k (omega arith) in
@@ -52,12 +54,14 @@ collecting_is (Borrows j row) h = absurd cc
 collecting_is (Ends cut) h = absurd cc
 
 -- what went on from a round began before it
-collects_before : (f : List ℕ) (l : Option (List ℕ)) (r : List ℕ) (c : Course) → course_on f l r c ≡ Collects → c ≡ Collects
+collects_before : (f : List ℕ) (l : Option (List ℕ)) (r : List ℕ) (c : Course)
+    → course_on f l r c ≡ Collects → c ≡ Collects
 collects_before f l r Collects h = refl
 collects_before f l r (Borrows j row) h = absurd cc
 collects_before f l r (Ends cut) h = absurd cc
 
-borrows_before : (f : List ℕ) (l : Option (List ℕ)) (r : List ℕ) (c : Course) → is_borrowing (course_on f l r c) ≡ true → c ≡ Collects
+borrows_before : (f : List ℕ) (l : Option (List ℕ)) (r : List ℕ) (c : Course)
+    → is_borrowing (course_on f l r c) ≡ true → c ≡ Collects
 borrows_before f l r Collects h = refl
 borrows_before f l r (Borrows j row) h = absurd cc
 borrows_before f l r (Ends cut) h = absurd cc
@@ -72,21 +76,29 @@ record GoesOn (first before latest : List ℕ) : Type 0 where
   nobody : mover first latest ≡ None
 
 going_on : (b : Bool) (first before latest : List ℕ) → is_same_cut before latest ≡ b
-    → (if b then Ends latest else lent_by latest (mover first latest)) ≡ Collects → GoesOn first before latest
+    → (if b then Ends latest else lent_by latest (mover first latest)) ≡ Collects
+    → GoesOn first before latest
 going_on true first before latest e h = absurd cc
-going_on false first before latest e h = record { apart = e; nobody = lent_none latest (mover first latest) h }
+going_on false first before latest e h =
+    record { apart = e; nobody = lent_none latest (mover first latest) h }
 
 -- where nobody has moved twice, each count is at most one more
-mover_none : (j : ℕ) (a b : List ℕ) → mover_from j a b ≡ None → (t : ℕ) → t < length a → t < length b → slice_index b t ≤ slice_index a t + 1
+mover_none : (j : ℕ) (a b : List ℕ) → mover_from j a b ≡ None → (t : ℕ) → t < length a
+    → t < length b → slice_index b t ≤ slice_index a t + 1
 mover_none j [] b h t below low = absurd (omega arith)
 mover_none j (x ∷ xs) [] h t below low = absurd (omega arith)
 mover_none j (x ∷ xs) (y ∷ ys) h zero below low = elim (cases_lt (x + 1) y) [
-  | inl moved ↦ let never : Some j ≡ None = sym (ap (λ (b : Bool). if b then Some j else mover_from (suc j) xs ys) (lt-ltb (x + 1) y moved)) ∙ h in absurd cc
+  | inl moved ↦ let never : Some j ≡ None = sym
+      (ap (λ (b : Bool). if b then Some j else mover_from (suc j) xs ys) (lt-ltb (x + 1) y moved))
+      ∙ h in absurd cc
   | inr stays ↦ omega arith
 ]
 mover_none j (x ∷ xs) (y ∷ ys) h (suc t) below low = elim (cases_Bool (nat_lt (x + 1) y)) [
-  | inl moved ↦ let never : Some j ≡ None = sym (ap (λ (b : Bool). if b then Some j else mover_from (suc j) xs ys) moved) ∙ h in absurd cc
-  | inr stays ↦ mover_none (suc j) xs ys (sym (ap (λ (b : Bool). if b then Some j else mover_from (suc j) xs ys) stays) ∙ h) t (omega arith) (omega arith)
+  | inl moved ↦ let never : Some j ≡ None =
+      sym (ap (λ (b : Bool). if b then Some j else mover_from (suc j) xs ys) moved) ∙ h in absurd cc
+  | inr stays ↦ mover_none (suc j) xs ys
+      (sym (ap (λ (b : Bool). if b then Some j else mover_from (suc j) xs ys) stays) ∙ h) t
+      (omega arith) (omega arith)
 ]
 
 -- The words of a scan.
@@ -108,11 +120,15 @@ module _ (n me : ℕ) (xs : List ℕ) (low : me < n) where
       ∙ sym (course_prefix n (take p xs) (drop p xs) (p / n) (omega (arith, prefix, row_starts p)))
       ∙ ap (λ (ws : List ℕ). course_after n ws (p / n)) (take-append-drop p xs)
 
-  look_at : (p : ℕ) → p ≤ length xs → is_look (wanted n (take p xs)) ≡ is_collecting (course_after n xs (p / n))
-  look_at p le = look_by (course n (take p xs)) (open_round n (take p xs)) ∙ ap is_collecting (course_at p le)
+  look_at : (p : ℕ) → p ≤ length xs
+      → is_look (wanted n (take p xs)) ≡ is_collecting (course_after n xs (p / n))
+  look_at p le =
+      look_by (course n (take p xs)) (open_round n (take p xs)) ∙ ap is_collecting (course_at p le)
 
-  peek_at : (p : ℕ) → p ≤ length xs → is_peek (wanted n (take p xs)) ≡ is_borrowing (course_after n xs (p / n))
-  peek_at p le = peek_by (course n (take p xs)) (open_round n (take p xs)) ∙ ap is_borrowing (course_at p le)
+  peek_at : (p : ℕ) → p ≤ length xs
+      → is_peek (wanted n (take p xs)) ≡ is_borrowing (course_after n xs (p / n))
+  peek_at p le =
+      peek_by (course n (take p xs)) (open_round n (take p xs)) ∙ ap is_borrowing (course_at p le)
 
   -- a word of a round
   word_at : (k t : ℕ) → t < n → slice_index (round n xs k) t ≡ slice_index xs (k * n + t)
@@ -123,11 +139,13 @@ module _ (n me : ℕ) (xs : List ℕ) (low : me < n) where
 
   module _ (steady : IsSteady n me xs) where
     -- a look of a collect after the first
-    look_in : (k t : ℕ) → t < n → k * n + t + n < length xs → course_after n xs (suc k) ≡ Collects → is_look (wanted n (take (k * n + t + n) xs)) ≡ true
+    look_in : (k t : ℕ) → t < n → k * n + t + n < length xs → course_after n xs (suc k) ≡ Collects
+        → is_look (wanted n (take (k * n + t + n) xs)) ≡ true
     look_in k t below fits going =
         look_at (k * n + t + n) (omega arith)
         ∙ ap (λ (m : ℕ). is_collecting (course_after n xs m))
-        (ap (λ (m : ℕ). m / n) (let e : k * n + t + n ≡ suc k * n + t = omega arith in e) ∙ div-mul-add (suc k) n t below)
+        (ap (λ (m : ℕ). m / n) (let e : k * n + t + n ≡ suc k * n + t = omega arith in e)
+        ∙ div-mul-add (suc k) n t below)
         ∙ ap is_collecting going
 
     round_rises : (k : ℕ) → suc (suc k) * n ≤ length xs → course_after n xs (suc k) ≡ Collects
@@ -138,31 +156,41 @@ module _ (n me : ℕ) (xs : List ℕ) (low : me < n) where
         let there : k * n + t + n ≡ suc k * n + t = omega arith in
         omega (arith, rises, word_at k t below, word_at (suc k) t below, ap (slice_index xs) there)
 
-    own_stays : (k : ℕ) → suc k * n ≤ length xs → course_after n xs k ≡ Collects → slice_index (round n xs k) me ≡ slice_index (round n xs 0) me
+    own_stays : (k : ℕ) → suc k * n ≤ length xs → course_after n xs k ≡ Collects
+        → slice_index (round n xs k) me ≡ slice_index (round n xs 0) me
     own_stays zero fits going = refl
     own_stays (suc k) fits going =
-        let before : course_after n xs k ≡ Collects = collects_before (round n xs 0) (last_of n xs k) (round n xs k) (course_after n xs k) going in
+        let before : course_after n xs k ≡ Collects = collects_before (round n xs 0)
+        (last_of n xs k) (round n xs k) (course_after n xs k) going in
         let same : slice_index xs (k * n + me + n) ≡ slice_index xs (k * n + me) =
         steady.own (k * n + me) k refl (omega arith) (look_in k me low (omega arith) going) in
         let there : suc k * n + me ≡ k * n + me + n = omega arith in
-        word_at (suc k) me low ∙ ap (slice_index xs) there ∙ same ∙ sym (word_at k me low) ∙ own_stays k (omega arith) before
+        word_at (suc k) me low ∙ ap (slice_index xs) there ∙ same ∙ sym (word_at k me low)
+        ∙ own_stays k (omega arith) before
 
     -- after each collect after the first, after which the scan makes another
-    went_on : (k : ℕ) → course_after n xs (suc (suc k)) ≡ Collects → GoesOn (round n xs 0) (round n xs k) (round n xs (suc k))
+    went_on : (k : ℕ) → course_after n xs (suc (suc k)) ≡ Collects
+        → GoesOn (round n xs 0) (round n xs k) (round n xs (suc k))
     went_on k going =
-        let before : course_after n xs (suc k) ≡ Collects = collects_before (round n xs 0) (Some (round n xs k)) (round n xs (suc k)) (course_after n xs (suc k)) going in
-        going_on (is_same_cut (round n xs k) (round n xs (suc k))) (round n xs 0) (round n xs k) (round n xs (suc k)) refl
-        (sym (ap (course_on (round n xs 0) (Some (round n xs k)) (round n xs (suc k))) before) ∙ going)
+        let before : course_after n xs (suc k) ≡ Collects = collects_before (round n xs 0)
+        (Some (round n xs k)) (round n xs (suc k)) (course_after n xs (suc k)) going in
+        going_on (is_same_cut (round n xs k) (round n xs (suc k))) (round n xs 0) (round n xs k)
+        (round n xs (suc k)) refl
+        (sym (ap (course_on (round n xs 0) (Some (round n xs k)) (round n xs (suc k))) before)
+        ∙ going)
 
-    sum_grows : (k : ℕ) → suc k * n ≤ length xs → course_after n xs (suc k) ≡ Collects → sum (round n xs 0) + k ≤ sum (round n xs k)
+    sum_grows : (k : ℕ) → suc k * n ≤ length xs → course_after n xs (suc k) ≡ Collects
+        → sum (round n xs 0) + k ≤ sum (round n xs k)
     sum_grows zero fits going = omega arith
     sum_grows (suc k) fits going =
-        let before : course_after n xs (suc k) ≡ Collects = collects_before (round n xs 0) (Some (round n xs k)) (round n xs (suc k)) (course_after n xs (suc k)) going in
+        let before : course_after n xs (suc k) ≡ Collects = collects_before (round n xs 0)
+        (Some (round n xs k)) (round n xs (suc k)) (course_after n xs (suc k)) going in
         let rest : sum (round n xs 0) + k ≤ sum (round n xs k) = sum_grows k (omega arith) before in
         let long : length (round n xs k) ≡ n = round_long k (omega arith) in
         let long' : length (round n xs (suc k)) ≡ n = round_long (suc k) (omega arith) in
         let more : sum (round n xs k) + 1 ≤ sum (round n xs (suc k)) =
-        sum-rises_apart (round n xs k) (round n xs (suc k)) (long ∙ sym long') (λ t below. round_rises k fits before t (omega (arith, long))) (went_on k going).apart in
+        sum-rises_apart (round n xs k) (round n xs (suc k)) (long ∙ sym long')
+        (λ t below. round_rises k fits before t (omega (arith, long))) (went_on k going).apart in
         omega (arith, rest, more)
 
     -- the scan makes a collect after at most n of them
@@ -170,56 +198,72 @@ module _ (n me : ℕ) (xs : List ℕ) (low : me < n) where
     collects_few zero fits going = omega arith
     collects_few (suc zero) fits going = omega (arith, low)
     collects_few (suc (suc k)) fits going =
-        let before : course_after n xs (suc k) ≡ Collects = collects_before (round n xs 0) (Some (round n xs k)) (round n xs (suc k)) (course_after n xs (suc k)) going in
-        let grown : sum (round n xs 0) + suc k ≤ sum (round n xs (suc k)) = sum_grows (suc k) (omega arith) going in
+        let before : course_after n xs (suc k) ≡ Collects = collects_before (round n xs 0)
+        (Some (round n xs k)) (round n xs (suc k)) (course_after n xs (suc k)) going in
+        let grown : sum (round n xs 0) + suc k ≤ sum (round n xs (suc k)) =
+        sum_grows (suc k) (omega arith) going in
         let long : length (round n xs 0) ≡ n = round_long 0 (omega arith) in
         let long' : length (round n xs (suc k)) ≡ n = round_long (suc k) (omega arith) in
         let bound : sum (round n xs (suc k)) + 1 ≤ sum (round n xs 0) + length (round n xs 0) =
         sum-within_but (round n xs 0) (round n xs (suc k)) me (long ∙ sym long')
-        (λ t below. mover_none 0 (round n xs 0) (round n xs (suc k)) (went_on k going).nobody t below (omega (arith, long, long')))
+        (λ t below. mover_none 0 (round n xs 0) (round n xs (suc k))
+        (went_on k going).nobody t below (omega (arith, long, long')))
         (omega (arith, long, low)) (own_stays (suc k) (omega arith) before) in
         omega (arith, grown, bound, long)
 
     looks_few : (p : ℕ) → p < length xs → is_look (wanted n (take p xs)) ≡ true → p < n * (n + 1)
     looks_few p below look =
-        let going : course_after n xs (p / n) ≡ Collects = collecting_is (course_after n xs (p / n)) (sym (look_at p (omega arith)) ∙ look) in
+        let going : course_after n xs (p / n) ≡ Collects =
+        collecting_is (course_after n xs (p / n)) (sym (look_at p (omega arith)) ∙ look) in
         let few : p / n ≤ n = collects_few (p / n) (omega (arith, row_starts p)) going in
         omega (arith, row_ends p, mul-le (p / n) n n n few (omega arith))
 
     -- before a collect the scan made collects alone
-    collects_down : (m k : ℕ) → k ≤ m → course_after n xs m ≡ Collects → course_after n xs k ≡ Collects
-    collects_down zero k le going = ap (course_after n xs) (let e : k ≡ zero = omega arith in e) ∙ going
+    collects_down : (m k : ℕ) → k ≤ m → course_after n xs m ≡ Collects
+        → course_after n xs k ≡ Collects
+    collects_down zero k le going =
+        ap (course_after n xs) (let e : k ≡ zero = omega arith in e) ∙ going
     collects_down (suc m) k le going = elim (cases_eq k (suc m)) [
       | inl here ↦ ap (course_after n xs) here ∙ going
       | inr away ↦
-          collects_down m k (omega arith) (collects_before (round n xs 0) (last_of n xs m) (round n xs m) (course_after n xs m) going)
+          collects_down m k (omega arith) (collects_before (round n xs 0) (last_of n xs m)
+          (round n xs m) (course_after n xs m) going)
     ]
 
     -- and so before it borrows, which it does once
-    borrows_once : (k m : ℕ) → k < m → is_borrowing (course_after n xs k) ≡ true → is_borrowing (course_after n xs m) ≡ true → ⊥
+    borrows_once : (k m : ℕ) → k < m → is_borrowing (course_after n xs k) ≡ true
+        → is_borrowing (course_after n xs m) ≡ true → ⊥
     borrows_once k zero less first second = omega arith
     borrows_once k (suc m) less first second =
-        let going : course_after n xs m ≡ Collects = borrows_before (round n xs 0) (last_of n xs m) (round n xs m) (course_after n xs m) second in
+        let going : course_after n xs m ≡ Collects = borrows_before (round n xs 0) (last_of n xs m)
+        (round n xs m) (course_after n xs m) second in
         let early : course_after n xs k ≡ Collects = collects_down m k (omega arith) going in
         let never : false ≡ true = sym (ap is_borrowing early) ∙ first in cc
 
-    peeks_close : (p q : ℕ) → p < length xs → q < length xs → is_peek (wanted n (take p xs)) ≡ true → is_peek (wanted n (take q xs)) ≡ true → q < p + n
+    peeks_close : (p q : ℕ) → p < length xs → q < length xs → is_peek (wanted n (take p xs)) ≡ true
+        → is_peek (wanted n (take q xs)) ≡ true → q < p + n
     peeks_close p q a b first second =
-        let at_p : is_borrowing (course_after n xs (p / n)) ≡ true = sym (peek_at p (omega arith)) ∙ first in
-        let at_q : is_borrowing (course_after n xs (q / n)) ≡ true = sym (peek_at q (omega arith)) ∙ second in
+        let at_p : is_borrowing (course_after n xs (p / n)) ≡ true =
+        sym (peek_at p (omega arith)) ∙ first in
+        let at_q : is_borrowing (course_after n xs (q / n)) ≡ true =
+        sym (peek_at q (omega arith)) ∙ second in
         elim (cases_lt (p / n) (q / n)) [
           | inl less ↦ absurd (borrows_once (p / n) (q / n) less at_p at_q)
-          | inr not_less ↦ omega (arith, row_starts p, row_ends q, mul-le (q / n) n (p / n) n not_less (omega arith))
+          | inr not_less ↦ omega
+              (arith, row_starts p, row_ends q, mul-le (q / n) n (p / n) n not_less (omega arith))
         ]
 
     -- a scan that borrows made few collects before
-    borrows_few : (k : ℕ) → k * n ≤ length xs → is_borrowing (course_after n xs k) ≡ true → k ≤ n + 1
+    borrows_few : (k : ℕ) → k * n ≤ length xs
+        → is_borrowing (course_after n xs k) ≡ true → k ≤ n + 1
     borrows_few zero fits borrows = omega arith
     borrows_few (suc k) fits borrows =
-        let going : course_after n xs k ≡ Collects = borrows_before (round n xs 0) (last_of n xs k) (round n xs k) (course_after n xs k) borrows in
+        let going : course_after n xs k ≡ Collects = borrows_before (round n xs 0) (last_of n xs k)
+        (round n xs k) (course_after n xs k) borrows in
         omega (arith, collects_few k (omega arith) going)
 
-    word_few : (k : ℕ) (c : Course) → course_after n xs k ≡ c → has_ended c ≡ false → k * n ≤ length xs → k ≤ n + 1
+    word_few : (k : ℕ) (c : Course) → course_after n xs k ≡ c → has_ended c ≡ false
+        → k * n ≤ length xs → k ≤ n + 1
     word_few k Collects is going fits = omega (arith, collects_few k fits is)
     word_few k (Borrows j row) is going fits = borrows_few k fits (ap is_borrowing is)
     word_few k (Ends cut) is going fits = absurd cc
@@ -227,16 +271,21 @@ module _ (n me : ℕ) (xs : List ℕ) (low : me < n) where
     words_few : (m : ℕ) → length xs ≡ m → AreWanted n xs → length xs ≤ n * (n + 1) + n
     words_few zero none wants = omega (arith, none)
     words_few (suc p) long wants =
-        let going : has_ended (course_after n xs (p / n)) ≡ false = sym (ap has_ended (course_at p (omega (arith, long)))) ∙ wants p (omega (arith, long)) in
-        let few : p / n ≤ n + 1 = word_few (p / n) (course_after n xs (p / n)) refl going (omega (arith, row_starts p, long)) in
+        let going : has_ended (course_after n xs (p / n)) ≡ false =
+        sym (ap has_ended (course_at p (omega (arith, long)))) ∙ wants p (omega (arith, long)) in
+        let few : p / n ≤ n + 1 = word_few (p / n) (course_after n xs (p / n)) refl going
+        (omega (arith, row_starts p, long)) in
         omega (arith, long, row_ends p, mul-le (p / n) n (n + 1) n few (omega arith))
 
     pub scan_is_short : IsShort n xs
     scan_is_short =
         record {
           looks =
-              let few : looks n xs ≤ n * (n + 1) - 0 = count-below (λ k. is_look (wanted n (take k xs))) (n * (n + 1)) 0 (length xs) (λ p a b look. looks_few p (omega arith) look) in
+              let few : looks n xs ≤ n * (n + 1) - 0 =
+              count-below (λ k. is_look (wanted n (take k xs))) (n * (n + 1)) 0 (length xs)
+              (λ p a b look. looks_few p (omega arith) look) in
               omega (arith, few);
-          peeks = count-close (λ k. is_peek (wanted n (take k xs))) n 0 (length xs) (λ p q a b first second. peeks_close p q (omega arith) (omega arith) first second);
+          peeks = count-close (λ k. is_peek (wanted n (take k xs))) n 0 (length xs)
+              (λ p q a b first second. peeks_close p q (omega arith) (omega arith) first second);
           words = λ wants. words_few (length xs) refl wants;
         }

@@ -58,16 +58,22 @@ gathered =
       callers = refl;
       records = answers;
       calls = λ call. (
-        λ (h : IsCall book_alone call). (call_of 0 0, answer (1 ∷ []), omega arith, refl, called call.caller call.number h),
+        λ (h : IsCall book_alone call).
+            (call_of 0 0, answer (1 ∷ []), omega arith, refl, called call.caller call.number h),
         λ (h : IsHeldBySomeView book_alone (1 ∷ []) call).
-            is_call call.caller call.number (subst (λ (v : List ℕ). call.number < slice_index v call.caller) (viewed h.0.caller h.0.number h.1 h.3) h.4),
+            is_call call.caller call.number
+            (subst (λ (v : List ℕ). call.number < slice_index v call.caller)
+            (viewed h.0.caller h.0.number h.1 h.3) h.4),
       );
       operations = λ call op e.
-          each_operation (λ c o. HasPeeked gatherer N c 0 (low_of o) × HasPeeked gatherer N c 1 (high_of o))
+          each_operation
+          (λ c o. HasPeeked gatherer N c 0 (low_of o) × HasPeeked gatherer N c 1 (high_of o))
           ((0, omega arith, refl), (1, omega arith, refl)) call.caller call.number op e;
-      replies = λ call r e. each_record (λ c q. HasPeeked gatherer M c 0 q.reply) (2, omega arith, refl) call.caller call.number r e;
+      replies = λ call r e. each_record (λ c q. HasPeeked gatherer M c 0 q.reply)
+          (2, omega arith, refl) call.caller call.number r e;
       views = λ call r e.
-          each_record (λ c q. (length q.view ≡ 1) × ((j : ℕ) → j < 1 → HasPeeked gatherer M c (1 + j) (slice_index q.view j)))
+          each_record (λ c q. (length q.view ≡ 1)
+          × ((j : ℕ) → j < 1 → HasPeeked gatherer M c (1 + j) (slice_index q.view j)))
           (refl, entries) call.caller call.number r e;
     }
 
@@ -77,26 +83,46 @@ other p q apart e = apart (ap (λ (r : Peeked). r.word) e)
 
 pub lacks_low : IsGathered 1 lacking_low (1 ∷ []) book_alone → ⊥
 lacks_low g =
-    absent lacking_low.peeked low_peek
-    (other high_peek low_peek (λ (e : 7 ≡ 5). omega (arith, e)), (other reply_peek low_peek (λ (e : 50 ≡ 5). omega (arith, e)), (other (entry_peek 1) low_peek (λ (e : 1 ≡ 5). omega (arith, e)), tt)))
+    absent lacking_low.peeked low_peek (
+      other high_peek low_peek (λ (e : 7 ≡ 5). omega (arith, e)),
+      (
+        other reply_peek low_peek (λ (e : 50 ≡ 5). omega (arith, e)),
+        (other (entry_peek 1) low_peek (λ (e : 1 ≡ 5). omega (arith, e)), tt),
+      ),
+    )
     (g.operations (call_of 0 0) operation_alone refl).0
 
 pub lacks_high : IsGathered 1 lacking_high (1 ∷ []) book_alone → ⊥
 lacks_high g =
-    absent lacking_high.peeked high_peek
-    (other low_peek high_peek (λ (e : 5 ≡ 7). omega (arith, e)), (other reply_peek high_peek (λ (e : 50 ≡ 7). omega (arith, e)), (other (entry_peek 1) high_peek (λ (e : 1 ≡ 7). omega (arith, e)), tt)))
+    absent lacking_high.peeked high_peek (
+      other low_peek high_peek (λ (e : 5 ≡ 7). omega (arith, e)),
+      (
+        other reply_peek high_peek (λ (e : 50 ≡ 7). omega (arith, e)),
+        (other (entry_peek 1) high_peek (λ (e : 1 ≡ 7). omega (arith, e)), tt),
+      ),
+    )
     (g.operations (call_of 0 0) operation_alone refl).1
 
 pub lacks_reply : IsGathered 1 lacking_reply (1 ∷ []) book_alone → ⊥
 lacks_reply g =
-    absent lacking_reply.peeked reply_peek
-    (other low_peek reply_peek (λ (e : 5 ≡ 50). omega (arith, e)), (other high_peek reply_peek (λ (e : 7 ≡ 50). omega (arith, e)), (other (entry_peek 1) reply_peek (λ (e : 1 ≡ 50). omega (arith, e)), tt)))
+    absent lacking_reply.peeked reply_peek (
+      other low_peek reply_peek (λ (e : 5 ≡ 50). omega (arith, e)),
+      (
+        other high_peek reply_peek (λ (e : 7 ≡ 50). omega (arith, e)),
+        (other (entry_peek 1) reply_peek (λ (e : 1 ≡ 50). omega (arith, e)), tt),
+      ),
+    )
     (g.replies (call_of 0 0) (answer (1 ∷ [])) refl)
 
 pub lacks_entry : IsGathered 1 lacking_entry (1 ∷ []) book_alone → ⊥
 lacks_entry g =
-    absent lacking_entry.peeked (entry_peek 1)
-    (other low_peek (entry_peek 1) (λ (e : 5 ≡ 1). omega (arith, e)), (other high_peek (entry_peek 1) (λ (e : 7 ≡ 1). omega (arith, e)), (other reply_peek (entry_peek 1) (λ (e : 50 ≡ 1). omega (arith, e)), tt)))
+    absent lacking_entry.peeked (entry_peek 1) (
+      other low_peek (entry_peek 1) (λ (e : 5 ≡ 1). omega (arith, e)),
+      (
+        other high_peek (entry_peek 1) (λ (e : 7 ≡ 1). omega (arith, e)),
+        (other reply_peek (entry_peek 1) (λ (e : 50 ≡ 1). omega (arith, e)), tt),
+      ),
+    )
     ((g.views (call_of 0 0) (answer (1 ∷ [])) refl).1 0 (omega arith))
 
 pub of_another : IsGathered 1 gatherer (1 ∷ []) book_of_another → ⊥
@@ -106,21 +132,26 @@ pub other_cut : IsGathered 1 gatherer (2 ∷ []) book_alone → ⊥
 other_cut g = let counts : 1 ≡ 2 = g.records 0 (omega arith) in omega (arith, counts)
 
 -- no view of the book holds the second call
-view_of_one : (i k : ℕ) (r : Record) → record_of book_unheld (call_of i k) ≡ Some r → r.view ≡ 1 ∷ []
-view_of_one zero zero r e = subst (λ (q : Record). q.view ≡ 1 ∷ []) (same_Some (answer (1 ∷ [])) r e) refl
+view_of_one : (i k : ℕ) (r : Record) → record_of book_unheld (call_of i k) ≡ Some r
+    → r.view ≡ 1 ∷ []
+view_of_one zero zero r e =
+    subst (λ (q : Record). q.view ≡ 1 ∷ []) (same_Some (answer (1 ∷ [])) r e) refl
 view_of_one zero (suc k) r e = absurd (none-some r e)
 view_of_one (suc i) k r e = absurd (none-some r e)
 
 pub unheld : IsGathered 1 gatherer (1 ∷ []) book_unheld → ⊥
 unheld g =
     let (call, r, holds, is, held) = (g.calls (call_of 0 1)).0 (omega arith) in
-    let low : 1 < 1 = subst (λ (v : List ℕ). 1 < slice_index v 0) (view_of_one call.caller call.number r is) held in
+    let low : 1 < 1 =
+    subst (λ (v : List ℕ). 1 < slice_index v 0) (view_of_one call.caller call.number r is) held in
     omega (arith, low)
 
 pub lacking : IsGathered 1 (lacking_none 2) (1 ∷ []) book_lacking → ⊥
 lacking g =
-    let low : 1 < 1 = (g.calls (call_of 0 1)).1 (call_of 0 0, answer (2 ∷ []), omega arith, refl, omega arith) in
+    let low : 1 < 1 =
+    (g.calls (call_of 0 1)).1 (call_of 0 0, answer (2 ∷ []), omega arith, refl, omega arith) in
     omega (arith, low)
 
 pub too_wide : IsGathered 1 gatherer (1 ∷ []) book_too_wide → ⊥
-too_wide g = let wide : 2 ≡ 1 = (g.views (call_of 0 0) (answer (1 ∷ 0 ∷ [])) refl).0 in omega (arith, wide)
+too_wide g = let wide : 2 ≡ 1 = (g.views (call_of 0 0) (answer (1 ∷ 0 ∷ [])) refl).0 in
+    omega (arith, wide)

@@ -14,18 +14,23 @@ callers_differ : first ≡ second → ⊥
 callers_differ e = let n : 0 ≡ 1 = ap (λ (c : Call). c.caller) e in omega (arith, n)
 
 -- what stands at a place
-pub at_place : (ds : List Done) (k : ℕ) (d : Done) → k < length ds → slice_index_or ds k d ≡ d → slice_get ds k ≡ Some d
+pub at_place : (ds : List Done) (k : ℕ) (d : Done) → k < length ds → slice_index_or ds k d ≡ d
+    → slice_get ds k ≡ Some d
 at_place [] k d below is = absurd (omega arith)
 at_place (x ∷ xs) zero d below is = ap Some is
 at_place (x ∷ xs) (suc k) d below is = at_place xs k d (omega arith) is
 
 -- each reply is the number of operations before
-pub numbered : (ds : List Done) (list : List ℕ) → IsRunFrom numbering list (map step_of ds) → (k : ℕ) (d : Done) → k < length ds → (slice_index_or ds k d).reply ≡ length list + k
+pub numbered : (ds : List Done) (list : List ℕ) → IsRunFrom numbering list (map step_of ds)
+    → (k : ℕ) (d : Done) → k < length ds → (slice_index_or ds k d).reply ≡ length list + k
 numbered [] list run k d below = absurd (omega arith)
 numbered (x ∷ xs) list run zero d below = omega (arith, sym run.0)
-numbered (x ∷ xs) list run (suc k) d below = omega (arith, numbered xs (x.operation ∷ list) run.1 k d (omega arith))
+numbered (x ∷ xs) list run (suc k) d below =
+    omega (arith, numbered xs (x.operation ∷ list) run.1 k d (omega arith))
 
-all_tenfold : (ds : List Done) (list : List ℕ) → IsRunFrom tenfold list (map step_of ds) → (k : ℕ) (d : Done) → k < length ds → (slice_index_or ds k d).reply ≡ (slice_index_or ds k d).operation * 10
+all_tenfold : (ds : List Done) (list : List ℕ) → IsRunFrom tenfold list (map step_of ds)
+    → (k : ℕ) (d : Done) → k < length ds
+    → (slice_index_or ds k d).reply ≡ (slice_index_or ds k d).operation * 10
 all_tenfold [] list run k d below = absurd (omega arith)
 all_tenfold (x ∷ xs) list run zero d below = sym run.0
 all_tenfold (x ∷ xs) list run (suc k) d below = all_tenfold xs list run.1 k d (omega arith)
@@ -37,10 +42,19 @@ order_forbids (ds, l) =
     let (x, (k, below, is)) = l.returned first 1 (1, omega arith, refl) in
     let (y, (m, under, are)) = l.returned second 0 (3, omega arith, refl) in
     let at_one : (slice_index_or ds k (done first x 1)).reply ≡ 1 = ap (λ (d : Done). d.reply) is in
-    let at_zero : (slice_index_or ds m (done second y 0)).reply ≡ 0 = ap (λ (d : Done). d.reply) are in
+    let at_zero : (slice_index_or ds m (done second y 0)).reply ≡ 0 =
+    ap (λ (d : Done). d.reply) are in
     let before : k < m =
-    l.ordered k m (done first x 1) (done second y 0) (at_place ds k (done first x 1) below is) (at_place ds m (done second y 0) under are) (1, 2, 1, 6, omega arith, refl, refl) in
-    omega (arith, before, at_one, at_zero, numbered ds [] l.legal k (done first x 1) below, numbered ds [] l.legal m (done second y 0) under)
+    l.ordered k m (done first x 1) (done second y 0) (at_place ds k (done first x 1) below is)
+    (at_place ds m (done second y 0) under are) (1, 2, 1, 6, omega arith, refl, refl) in
+    omega (
+      arith,
+      before,
+      at_one,
+      at_zero,
+      numbered ds [] l.legal k (done first x 1) below,
+      numbered ds [] l.legal m (done second y 0) under,
+    )
 
 -- its operation is the one that it was invoked with
 invoked_with : (x : ℕ) → Contains reply_of_another (Invoked first x) → x ≡ 5
@@ -53,7 +67,9 @@ unfolding done
 operation_forbids (ds, l) =
     let (x, (k, below, is)) = l.returned first 60 (1, omega arith, refl) in
     let d : Done = done first x 60 in
-    let five : x ≡ 5 = invoked_with x (subst (λ (e : Done). Contains reply_of_another (Invoked e.call e.operation)) is (l.invoked k d below)) in
+    let five : x ≡ 5 =
+    invoked_with x (subst (λ (e : Done). Contains reply_of_another (Invoked e.call e.operation)) is
+    (l.invoked k d below)) in
     let reply : (slice_index_or ds k d).reply ≡ 60 = ap (λ (e : Done). e.reply) is in
     let operation : (slice_index_or ds k d).operation ≡ x = ap (λ (e : Done). e.operation) is in
     omega (arith, reply, operation, five, all_tenfold ds [] l.legal k d below)
@@ -82,13 +98,15 @@ side_returned call reply (suc (suc (suc zero)), below, is) =
     let c : second ≡ call = cc in let r : 0 ≡ reply = cc in (6, (0, omega arith, cc (c, r)))
 side_returned call reply (suc (suc (suc (suc k))), below, is) = absurd (omega arith)
 
-side_invoked : All (λ (d : Done). Contains side_by_side (Invoked d.call d.operation)) (done second 6 0 ∷ done first 5 1 ∷ [])
+side_invoked : All (λ (d : Done). Contains side_by_side (Invoked d.call d.operation))
+    (done second 6 0 ∷ done first 5 1 ∷ [])
 unfolding done
 side_invoked zero d below = (1, omega arith, refl)
 side_invoked (suc zero) d below = (0, omega arith, refl)
 side_invoked (suc (suc k)) d below = absurd (omega arith)
 
-pub two_once : (a b : Done) → (a.call ≡ b.call → ⊥) → AllPairs (λ (d e : Done). d.call ≢ e.call) (a ∷ b ∷ [])
+pub two_once : (a b : Done) → (a.call ≡ b.call → ⊥)
+    → AllPairs (λ (d e : Done). d.call ≢ e.call) (a ∷ b ∷ [])
 two_once a b apart zero (suc zero) d lt below = apart
 two_once a b apart zero zero d lt below = absurd (omega arith)
 two_once a b apart zero (suc (suc j)) d lt below = absurd (omega arith)
@@ -105,7 +123,8 @@ side_by_side_linearizable = (
     once = two_once (done second 6 0) (done first 5 1) (λ e. callers_differ (sym e));
     returned = side_returned;
     legal = (refl, (refl, tt));
-    ordered = λ p q d e hd he (i, j, reply, operation, lt, r, v). absurd (omega (arith, lt, side_early j operation e.call v, side_late i reply d.call r));
+    ordered = λ p q d e hd he (i, j, reply, operation, lt, r, v).
+        absurd (omega (arith, lt, side_early j operation e.call v, side_late i reply d.call r));
   },
 )
 
@@ -130,7 +149,8 @@ after_returned call reply (suc (suc zero), below, is) =
     let c : second ≡ call = cc in let r : 1 ≡ reply = cc in (6, (1, omega arith, cc (c, r)))
 after_returned call reply (suc (suc (suc k)), below, is) = absurd (omega arith)
 
-after_invoked : All (λ (d : Done). Contains after_unanswered (Invoked d.call d.operation)) (done first 5 0 ∷ done second 6 1 ∷ [])
+after_invoked : All (λ (d : Done). Contains after_unanswered (Invoked d.call d.operation))
+    (done first 5 0 ∷ done second 6 1 ∷ [])
 unfolding done
 after_invoked zero d below = (0, omega arith, refl)
 after_invoked (suc zero) d below = (1, omega arith, refl)
@@ -145,18 +165,21 @@ unanswered_stands = (
     once = two_once (done first 5 0) (done second 6 1) callers_differ;
     returned = after_returned;
     legal = (refl, (refl, tt));
-    ordered = λ p q d e hd he (i, j, reply, operation, lt, r, v). absurd (omega (arith, lt, after_early j operation e.call v, after_late i reply d.call r));
+    ordered = λ p q d e hd he (i, j, reply, operation, lt, r, v).
+        absurd (omega (arith, lt, after_early j operation e.call v, after_late i reply d.call r));
   },
 )
 
 -- and may be left out
-without_early : (j x : ℕ) (call : Call) → slice_get without_unanswered j ≡ Some (Invoked call x) → j < 2
+without_early : (j x : ℕ) (call : Call)
+    → slice_get without_unanswered j ≡ Some (Invoked call x) → j < 2
 without_early zero x call h = omega arith
 without_early (suc zero) x call h = omega arith
 without_early (suc (suc zero)) x call h = absurd cc
 without_early (suc (suc (suc j))) x call h = absurd cc
 
-without_late : (i x : ℕ) (call : Call) → slice_get without_unanswered i ≡ Some (Returned call x) → 2 ≤ i
+without_late : (i x : ℕ) (call : Call)
+    → slice_get without_unanswered i ≡ Some (Returned call x) → 2 ≤ i
 without_late zero x call h = absurd cc
 without_late (suc zero) x call h = absurd cc
 without_late (suc (suc i)) x call h = omega arith
@@ -170,7 +193,8 @@ without_returned call reply (suc (suc zero), below, is) =
     let c : second ≡ call = cc in let r : 0 ≡ reply = cc in (6, (0, omega arith, cc (c, r)))
 without_returned call reply (suc (suc (suc k)), below, is) = absurd (omega arith)
 
-without_invoked : All (λ (d : Done). Contains without_unanswered (Invoked d.call d.operation)) (done second 6 0 ∷ [])
+without_invoked : All (λ (d : Done). Contains without_unanswered (Invoked d.call d.operation))
+    (done second 6 0 ∷ [])
 unfolding done
 without_invoked zero d below = (1, omega arith, refl)
 without_invoked (suc k) d below = absurd (omega arith)
@@ -183,7 +207,8 @@ leaves_it_out =
       once = λ i j d lt below. absurd (omega (arith, lt, below));
       returned = without_returned;
       legal = (refl, tt);
-      ordered = λ p q d e hd he (i, j, reply, operation, lt, r, v). absurd (omega (arith, lt, without_early j operation e.call v, without_late i reply d.call r));
+      ordered = λ p q d e hd he (i, j, reply, operation, lt, r, v). absurd
+          (omega (arith, lt, without_early j operation e.call v, without_late i reply d.call r));
     }
 
 pub unanswered_left_out : IsLinearizable [] numbering without_unanswered

@@ -11,7 +11,8 @@ place_fits n N p h = omega arith
 place_fits n M p h = omega arith
 
 -- and is the place of no other region
-place_apart : (n : ℕ) (r q : Region) (p t : ℕ) → p < places n r → t < places n q → first_place n r + p ≡ first_place n q + t → (r ≡ q) × (p ≡ t)
+place_apart : (n : ℕ) (r q : Region) (p t : ℕ) → p < places n r → t < places n q
+    → first_place n r + p ≡ first_place n q + t → (r ≡ q) × (p ≡ t)
 place_apart n N N p t a b e = (refl, omega arith)
 place_apart n M M p t a b e = (refl, omega arith)
 place_apart n N M p t a b e = absurd (omega arith)
@@ -22,7 +23,8 @@ module _ (n : ℕ) where
   count_low N i h = omega arith
   count_low M i h = omega arith
 
-  pub count_apart : (r q : Region) (i j : ℕ) → i < n → j < n → count_index n r i ≡ count_index n q j → (r ≡ q) × (i ≡ j)
+  pub count_apart : (r q : Region) (i j : ℕ) → i < n → j < n → count_index n r i ≡ count_index n q j
+      → (r ≡ q) × (i ≡ j)
   count_apart N N i j a b e = (refl, e)
   count_apart M M i j a b e = (refl, omega arith)
   count_apart N M i j a b e = absurd (omega arith)
@@ -40,13 +42,16 @@ module _ (n cap : ℕ) where
   row_high r i k p = omega arith
 
   -- a count is no row word
-  pub count_or_row : (r q : Region) (i j k p : ℕ) → i < n → count_index n r i ≢ place_index n cap q j k p
+  pub count_or_row : (r q : Region) (i j k p : ℕ) → i < n
+      → count_index n r i ≢ place_index n cap q j k p
   count_or_row r q i j k p h e = omega (arith, count_low n r i h, row_high q j k p, e)
 
-  pub row_apart : (r q : Region) (i j k m p t : ℕ) → k < cap → m < cap → p < places n r → t < places n q
+  pub row_apart : (r q : Region) (i j k m p t : ℕ) → k < cap → m < cap → p < places n r
+      → t < places n q
       → place_index n cap r i k p ≡ place_index n cap q j m t → IsSamePlace r q i j k m p t
   row_apart r q i j k m p t a b c d e =
-      let rows = same_from_place (i * cap + k) (first_place n r + p) (j * cap + m) (first_place n q + t) (row_width n)
+      let rows = same_from_place (i * cap + k) (first_place n r + p) (j * cap + m)
+      (first_place n q + t) (row_width n)
       (place_fits n r p c) (place_fits n q t d) (omega arith) in
       let callers = same_from_place i k j m cap a b rows.0 in
       let place = place_apart n r q p t c d rows.1 in
@@ -56,16 +61,22 @@ module _ (n cap : ℕ) where
   pub count_within : (r : Region) (i : ℕ) → i < n → count_index n r i < row_words n cap
   count_within r i h = omega (arith, count_low n r i h)
 
-  pub row_within : (r : Region) (i k p : ℕ) → i < n → k < cap → p < places n r → place_index n cap r i k p < row_words n cap
+  pub row_within : (r : Region) (i k p : ℕ) → i < n → k < cap → p < places n r
+      → place_index n cap r i k p < row_words n cap
   row_within r i k p a b c =
       let row : i * cap + k < n * cap = omega (arith, mul-add-lt i cap k n a b) in
       let word : (i * cap + k) * row_width n + (first_place n r + p) < (n * cap) * row_width n =
-      omega (arith, mul-add-lt (i * cap + k) (row_width n) (first_place n r + p) (n * cap) row (place_fits n r p c)) in
+      omega (
+        arith,
+        mul-add-lt (i * cap + k) (row_width n) (first_place n r + p) (n * cap) row
+            (place_fits n r p c),
+      ) in
       omega (arith, word)
 
   -- so neither is an object word
   pub count_or_object : (r : Region) (i t : ℕ) → i < n → count_index n r i ≢ object_index n cap t
   count_or_object r i t h e = omega (arith, count_within r i h, e)
 
-  pub row_or_object : (r : Region) (i k p t : ℕ) → i < n → k < cap → p < places n r → place_index n cap r i k p ≢ object_index n cap t
+  pub row_or_object : (r : Region) (i k p t : ℕ) → i < n → k < cap → p < places n r
+      → place_index n cap r i k p ≢ object_index n cap t
   row_or_object r i k p t a b c e = omega (arith, row_within r i k p a b c, e)

@@ -10,13 +10,19 @@ instantaneous_alone = ([], [], refl, refl)
 
 -- between its two looks there is no step
 before_by : (early late : List Step) → [] ≡ early ++ late
-    → counts_in single N (end_of single (span_after_announcement.before ++ span_after_announcement.first ∷ early)) ≡ 0 ∷ [] → ⊥
-before_by [] late parts is = let never : 1 ≡ 0 = ap (λ (c : List ℕ). slice_index c 0) is in absurd cc
+    → counts_in single N
+    (end_of single (span_after_announcement.before ++ span_after_announcement.first ∷ early))
+    ≡ 0 ∷ [] → ⊥
+before_by [] late parts is = let never : 1 ≡ 0 = ap (λ (c : List ℕ). slice_index c 0) is in
+    absurd cc
 before_by (x ∷ early) late parts is = absurd cc
 
 answers_by : (early late : List Step) → [] ≡ early ++ late
-    → counts_in single M (end_of single (span_after_announcement.before ++ span_after_announcement.first ∷ early)) ≡ 1 ∷ [] → ⊥
-answers_by [] late parts is = let never : 0 ≡ 1 = ap (λ (c : List ℕ). slice_index c 0) is in absurd cc
+    → counts_in single M
+    (end_of single (span_after_announcement.before ++ span_after_announcement.first ∷ early))
+    ≡ 1 ∷ [] → ⊥
+answers_by [] late parts is = let never : 0 ≡ 1 = ap (λ (c : List ℕ). slice_index c 0) is in
+    absurd cc
 answers_by (x ∷ early) late parts is = absurd cc
 
 pub not_before : IsInstantaneous single (given_alone N 0) span_after_announcement → ⊥
@@ -26,8 +32,10 @@ pub not_of_answers : IsInstantaneous single (given_alone M 1) span_after_announc
 not_of_answers (early, late, parts, is) = answers_by early late parts is
 
 -- the borrowed cut was the counts from the third collect on, until caller 0 announced again
-pub instantaneous_borrowed : IsInstantaneous trio (record { region = N; cut = 1 ∷ 1 ∷ 0 ∷ []; since = 0 }) borrowing_span
+pub instantaneous_borrowed : IsInstantaneous trio
+    (record { region = N; cut = 1 ∷ 1 ∷ 0 ∷ []; since = 0 }) borrowing_span
 instantaneous_borrowed = (drop 1 three_collects, moved_again ++ take 7 borrowed, refl, refl)
 
-pub instantaneous_beside : IsInstantaneous pair (record { region = N; cut = 0 ∷ 1 ∷ []; since = 0 }) span_beside_stages
+pub instantaneous_beside : IsInstantaneous pair
+    (record { region = N; cut = 0 ∷ 1 ∷ []; since = 0 }) span_beside_stages
 instantaneous_beside = ([], span_beside_stages.between, refl, refl)

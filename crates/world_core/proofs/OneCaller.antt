@@ -15,14 +15,17 @@ calls_differ e = let n : 0 ≡ 1 = ap (λ (c : Call). c.number) e in omega (arit
 
 -- two calls in turn
 abbrev turns : List Done
-turns = record { call = first; operation = 5; reply = 0 } ∷ record { call = again; operation = 5; reply = 1 } ∷ []
+turns = record { call = first; operation = 5; reply = 0 }
+    ∷ record { call = again; operation = 5; reply = 1 } ∷ []
 
 turns_invoked : All (λ (d : Done). Contains in_turn (Invoked d.call d.operation)) turns
 turns_invoked zero d below = (0, omega arith, refl)
 turns_invoked (suc zero) d below = (2, omega arith, refl)
 turns_invoked (suc (suc k)) d below = absurd (omega arith)
 
-turns_returned : (call : Call) (reply : ℕ) → Contains in_turn (Returned call reply) → (operation : ℕ) × Contains turns (record { call = call; operation = operation; reply = reply })
+turns_returned : (call : Call) (reply : ℕ) → Contains in_turn (Returned call reply)
+    → (operation : ℕ)
+    × Contains turns (record { call = call; operation = operation; reply = reply })
 turns_returned call reply (zero, below, is) = absurd cc
 turns_returned call reply (suc zero, below, is) =
     let c : first ≡ call = cc in let r : 0 ≡ reply = cc in (5, (0, omega arith, cc (c, r)))
@@ -34,7 +37,8 @@ turns_returned call reply (suc (suc (suc (suc k))), below, is) = absurd (omega a
 first_invoked : (j operation : ℕ) → slice_get in_turn j ≡ Some (Invoked first operation) → j ≡ 0
 first_invoked zero operation h = refl
 first_invoked (suc zero) operation h = absurd cc
-first_invoked (suc (suc zero)) operation h = let c : again ≡ first = cc in absurd (calls_differ (sym c))
+first_invoked (suc (suc zero)) operation h = let c : again ≡ first = cc in
+    absurd (calls_differ (sym c))
 first_invoked (suc (suc (suc zero))) operation h = absurd cc
 first_invoked (suc (suc (suc (suc j)))) operation h = absurd cc
 
@@ -52,16 +56,27 @@ nothing_after (suc (suc zero)) operation lt h = omega arith
 nothing_after (suc (suc (suc zero))) operation lt h = omega arith
 nothing_after (suc (suc (suc (suc j)))) operation lt h = cc
 
-turns_ordered : (p q : ℕ) (d e : Done) → slice_get turns p ≡ Some d → slice_get turns q ≡ Some e → ReturnsBefore in_turn d.call e.call → p < q
+turns_ordered : (p q : ℕ) (d e : Done) → slice_get turns p ≡ Some d → slice_get turns q ≡ Some e
+    → ReturnsBefore in_turn d.call e.call → p < q
 turns_ordered zero (suc zero) d e hd he before = omega arith
 turns_ordered p zero d e hd he (i, j, reply, operation, lt, r, v) =
-    let is : first ≡ e.call = (let same : done first 5 0 ≡ e = cc in ap (λ (k : Done). k.call) same) in
-    absurd (omega (arith, lt, first_invoked j operation (subst (λ (c : Call). slice_get in_turn j ≡ Some (Invoked c operation)) (sym is) v)))
+    let is : first ≡ e.call =
+    (let same : done first 5 0 ≡ e = cc in ap (λ (k : Done). k.call) same) in
+    absurd (omega (
+      arith,
+      lt,
+      first_invoked j operation
+          (subst (λ (c : Call). slice_get in_turn j ≡ Some (Invoked c operation)) (sym is) v),
+    ))
 turns_ordered (suc zero) (suc zero) d e hd he (i, j, reply, operation, lt, r, v) =
-    let d_is : again ≡ d.call = (let same : done again 5 1 ≡ d = cc in ap (λ (k : Done). k.call) same) in
-    let e_is : again ≡ e.call = (let same : done again 5 1 ≡ e = cc in ap (λ (k : Done). k.call) same) in
-    let third : i ≡ 3 = again_returned i reply (subst (λ (c : Call). slice_get in_turn i ≡ Some (Returned c reply)) (sym d_is) r) in
-    absurd (nothing_after j operation (omega (arith, lt, third)) (subst (λ (c : Call). slice_get in_turn j ≡ Some (Invoked c operation)) (sym e_is) v))
+    let d_is : again ≡ d.call =
+    (let same : done again 5 1 ≡ d = cc in ap (λ (k : Done). k.call) same) in
+    let e_is : again ≡ e.call =
+    (let same : done again 5 1 ≡ e = cc in ap (λ (k : Done). k.call) same) in
+    let third : i ≡ 3 = again_returned i reply
+    (subst (λ (c : Call). slice_get in_turn i ≡ Some (Returned c reply)) (sym d_is) r) in
+    absurd (nothing_after j operation (omega (arith, lt, third))
+    (subst (λ (c : Call). slice_get in_turn j ≡ Some (Invoked c operation)) (sym e_is) v))
 turns_ordered (suc (suc p)) (suc zero) d e hd he before = absurd cc
 turns_ordered p (suc (suc q)) d e hd he before = absurd cc
 
@@ -83,10 +98,19 @@ caller_forbids (ds, l) =
     let (x, (k, below, is)) = l.returned first 1 (1, omega arith, refl) in
     let (y, (m, under, are)) = l.returned again 0 (3, omega arith, refl) in
     let at_one : (slice_index_or ds k (done first x 1)).reply ≡ 1 = ap (λ (d : Done). d.reply) is in
-    let at_zero : (slice_index_or ds m (done again y 0)).reply ≡ 0 = ap (λ (d : Done). d.reply) are in
+    let at_zero : (slice_index_or ds m (done again y 0)).reply ≡ 0 =
+    ap (λ (d : Done). d.reply) are in
     let before : k < m =
-    l.ordered k m (done first x 1) (done again y 0) (at_place ds k (done first x 1) below is) (at_place ds m (done again y 0) under are) (1, 2, 1, 5, omega arith, refl, refl) in
-    omega (arith, before, at_one, at_zero, numbered ds [] l.legal k (done first x 1) below, numbered ds [] l.legal m (done again y 0) under)
+    l.ordered k m (done first x 1) (done again y 0) (at_place ds k (done first x 1) below is)
+    (at_place ds m (done again y 0) under are) (1, 2, 1, 5, omega arith, refl, refl) in
+    omega (
+      arith,
+      before,
+      at_one,
+      at_zero,
+      numbered ds [] l.legal k (done first x 1) below,
+      numbered ds [] l.legal m (done again y 0) under,
+    )
 
 -- a call that stands once, and alone, replies 0
 invoked_alone : (call : Call) (x : ℕ) → Contains returns_one (Invoked call x) → call ≡ first
@@ -100,7 +124,8 @@ one_forbids (ds, l) =
     let d : Done = done first x 1 in
     let reply : (slice_index_or ds k d).reply ≡ 1 = ap (λ (e : Done). e.reply) is in
     let early : 0 < k = omega (arith, reply, numbered ds [] l.legal k d below) in
-    let before : (slice_index_or ds 0 d).call ≡ first = invoked_alone (slice_index_or ds 0 d).call (slice_index_or ds 0 d).operation (l.invoked 0 d (omega (arith, early, below))) in
+    let before : (slice_index_or ds 0 d).call ≡ first = invoked_alone (slice_index_or ds 0 d).call
+    (slice_index_or ds 0 d).operation (l.invoked 0 d (omega (arith, early, below))) in
     let this : (slice_index_or ds k d).call ≡ first = ap (λ (e : Done). e.call) is in
     l.once 0 k d early below (before ∙ sym this)
 
@@ -110,13 +135,15 @@ one_early zero x call h = refl
 one_early (suc zero) x call h = absurd cc
 one_early (suc (suc j)) x call h = absurd cc
 
-one_returned : (call : Call) (reply : ℕ) → Contains returns_one (Returned call reply) → (operation : ℕ) × Contains (done first 5 1 ∷ []) (done call operation reply)
+one_returned : (call : Call) (reply : ℕ) → Contains returns_one (Returned call reply)
+    → (operation : ℕ) × Contains (done first 5 1 ∷ []) (done call operation reply)
 one_returned call reply (zero, below, is) = absurd cc
 one_returned call reply (suc zero, below, is) =
     let c : first ≡ call = cc in let r : 1 ≡ reply = cc in (5, (0, omega arith, cc (c, r)))
 one_returned call reply (suc (suc k), below, is) = absurd (omega arith)
 
-one_invoked : All (λ (d : Done). Contains returns_one (Invoked d.call d.operation)) (done first 5 1 ∷ [])
+one_invoked : All (λ (d : Done). Contains returns_one (Invoked d.call d.operation))
+    (done first 5 1 ∷ [])
 one_invoked zero d below = (0, omega arith, refl)
 one_invoked (suc k) d below = absurd (omega arith)
 
@@ -128,7 +155,8 @@ list_allows = (
     once = λ i j d lt below. absurd (omega (arith, lt, below));
     returned = one_returned;
     legal = (refl, tt);
-    ordered = λ p q d e hd he (i, j, reply, operation, lt, r, v). absurd (omega (arith, lt, one_early j operation e.call v));
+    ordered = λ p q d e hd he (i, j, reply, operation, lt, r, v).
+        absurd (omega (arith, lt, one_early j operation e.call v));
   },
 )
 
@@ -144,5 +172,6 @@ pub before_forbids : IsLinearizable [] numbering returns_before → ⊥
 before_forbids (ds, l) =
     let (x, (k, below, is)) = l.returned first 0 (0, omega arith, refl) in
     let d : Done = done first x 0 in
-    let late : k < k = l.ordered k k d d (at_place ds k d below is) (at_place ds k d below is) (0, 1, 0, 5, omega arith, refl, refl) in
+    let late : k < k = l.ordered k k d d (at_place ds k d below is) (at_place ds k d below is)
+    (0, 1, 0, 5, omega arith, refl, refl) in
     omega (arith, late)

@@ -27,16 +27,21 @@ abbrev one : Peeked
 one = peek_of M 1 2 3 4
 
 pub other_region : HasPeeked (with_peeks (one ∷ [])) N (call_of 1 2) 3 4 → ⊥
-other_region = absent (one ∷ []) (peek_of N 1 2 3 4) (λ e. let regions : M ≡ N = ap (λ (p : Peeked). p.region) e in absurd cc, tt)
+other_region = absent (one ∷ []) (peek_of N 1 2 3 4)
+    (λ e. let regions : M ≡ N = ap (λ (p : Peeked). p.region) e in absurd cc, tt)
 
 pub other_caller : HasPeeked (with_peeks (one ∷ [])) M (call_of 2 2) 3 4 → ⊥
-other_caller = absent (one ∷ []) (peek_of M 2 2 3 4) (λ e. let callers : 1 ≡ 2 = ap (λ (p : Peeked). p.caller) e in omega (arith, callers), tt)
+other_caller = absent (one ∷ []) (peek_of M 2 2 3 4)
+    (λ e. let callers : 1 ≡ 2 = ap (λ (p : Peeked). p.caller) e in omega (arith, callers), tt)
 
 pub other_row : HasPeeked (with_peeks (one ∷ [])) M (call_of 1 1) 3 4 → ⊥
-other_row = absent (one ∷ []) (peek_of M 1 1 3 4) (λ e. let rows : 2 ≡ 1 = ap (λ (p : Peeked). p.row) e in omega (arith, rows), tt)
+other_row = absent (one ∷ []) (peek_of M 1 1 3 4)
+    (λ e. let rows : 2 ≡ 1 = ap (λ (p : Peeked). p.row) e in omega (arith, rows), tt)
 
 pub other_place : HasPeeked (with_peeks (one ∷ [])) M (call_of 1 2) 4 4 → ⊥
-other_place = absent (one ∷ []) (peek_of M 1 2 4 4) (λ e. let places : 3 ≡ 4 = ap (λ (p : Peeked). p.place) e in omega (arith, places), tt)
+other_place = absent (one ∷ []) (peek_of M 1 2 4 4)
+    (λ e. let places : 3 ≡ 4 = ap (λ (p : Peeked). p.place) e in omega (arith, places), tt)
 
 pub other_word : HasPeeked (with_peeks (one ∷ [])) M (call_of 1 2) 3 3 → ⊥
-other_word = absent (one ∷ []) (peek_of M 1 2 3 3) (λ e. let words : 4 ≡ 3 = ap (λ (p : Peeked). p.word) e in omega (arith, words), tt)
+other_word = absent (one ∷ []) (peek_of M 1 2 3 3)
+    (λ e. let words : 4 ≡ 3 = ap (λ (p : Peeked). p.word) e in omega (arith, words), tt)

@@ -11,8 +11,17 @@ use Rattle.world_core.specs.declared.scan_core.ScanCore.TheInside.{Inside}
 use Rattle.world_core.specs.ScanLayout.{standing_of}
 
 -- two that are equal in what they keep
-same_standing : (n me : ℕ) (region : Region) {e f l m : Option (List ℕ)} {c d : List ℕ} {a b : Course} → e ≡ f → l ≡ m → c ≡ d → a ≡ b
-    → (let s : Standing = record { callers = n; me = me; region = region; first = e; last = l; current = c; course = a } in s)
+same_standing : (n me : ℕ) (region : Region) {e f l m : Option (List ℕ)} {c d : List ℕ}
+    {a b : Course} → e ≡ f → l ≡ m → c ≡ d → a ≡ b
+    → (let s : Standing = record {
+      callers = n;
+      me = me;
+      region = region;
+      first = e;
+      last = l;
+      current = c;
+      course = a;
+    } in s)
     ≡ record { callers = n; me = me; region = region; first = f; last = m; current = d; course = b }
 same_standing n me region p q r s = cc
 
@@ -25,33 +34,42 @@ module _ (n : ℕ) (taken : List ℕ) (w : ℕ) (some : 0 < n) where
   whole_words = omega arith
 
   pub open_length : length (open_round n taken) + rounds n taken * n ≡ length taken
-  open_length = let h : rounds n taken * n ≤ length taken = whole_words in omega (arith, length-drop (rounds n taken * n) taken)
+  open_length = let h : rounds n taken * n ≤ length taken = whole_words in
+      omega (arith, length-drop (rounds n taken * n) taken)
 
   -- a round under way lacks a word
   pub open_lacks : length (open_round n taken) < n
   open_lacks = omega (arith, open_length)
 
   -- the number of whole rounds, while the round under way lacks another word
-  pub rounds_more : length (open_round n taken) + 1 < n → rounds n (taken ++ w ∷ []) ≡ rounds n taken
+  pub rounds_more : length (open_round n taken) + 1 < n
+      → rounds n (taken ++ w ∷ []) ≡ rounds n taken
   rounds_more lacks =
-      ap (λ k. k / n) (let e : length (taken ++ w ∷ []) ≡ rounds n taken * n + (length (open_round n taken) + 1) = omega (arith, length-append taken (w ∷ []), open_length) in e)
+      ap (λ k. k / n)
+      (let e : length (taken ++ w ∷ []) ≡ rounds n taken * n + (length (open_round n taken) + 1) =
+      omega (arith, length-append taken (w ∷ []), open_length) in e)
       ∙ div-mul-add (rounds n taken) n (length (open_round n taken) + 1) lacks
 
   -- and where this word is its last
-  pub rounds_whole : length (open_round n taken) + 1 ≡ n → rounds n (taken ++ w ∷ []) ≡ suc (rounds n taken)
+  pub rounds_whole : length (open_round n taken) + 1 ≡ n
+      → rounds n (taken ++ w ∷ []) ≡ suc (rounds n taken)
   rounds_whole fills =
-      ap (λ k. k / n) (let e : length (taken ++ w ∷ []) ≡ suc (rounds n taken) * n + 0 = omega (arith, length-append taken (w ∷ []), open_length, fills) in e)
+      ap (λ k. k / n) (let e : length (taken ++ w ∷ []) ≡ suc (rounds n taken) * n + 0 =
+      omega (arith, length-append taken (w ∷ []), open_length, fills) in e)
       ∙ div-mul-add (suc (rounds n taken)) n 0 some
 
   -- a whole round stays as it is
   pub round_kept : (k : ℕ) → k < rounds n taken → round n (taken ++ w ∷ []) k ≡ round n taken k
   round_kept k below =
-      let here : k * n + n ≤ length taken = omega (arith, mul-le (suc k) n (rounds n taken) n below (omega arith), whole_words) in
+      let here : k * n + n ≤ length taken =
+      omega (arith, mul-le (suc k) n (rounds n taken) n below (omega arith), whole_words) in
       ap (take n) (drop-append-le (k * n) taken (w ∷ []) (omega arith))
       ∙ take-append-le n (drop (k * n) taken) (w ∷ []) (omega (arith, length-drop (k * n) taken))
 
-  pub open_more : (k : ℕ) → k ≡ rounds n taken → drop (k * n) (taken ++ w ∷ []) ≡ open_round n taken ++ w ∷ []
-  open_more k is = ap (λ m. drop (m * n) (taken ++ w ∷ [])) is ∙ drop-append-le (rounds n taken * n) taken (w ∷ []) whole_words
+  pub open_more : (k : ℕ) → k ≡ rounds n taken
+      → drop (k * n) (taken ++ w ∷ []) ≡ open_round n taken ++ w ∷ []
+  open_more k is = ap (λ m. drop (m * n) (taken ++ w ∷ [])) is
+      ∙ drop-append-le (rounds n taken * n) taken (w ∷ []) whole_words
 
   first_kept : (k : ℕ) → k ≤ rounds n taken → first_of n (taken ++ w ∷ []) k ≡ first_of n taken k
   first_kept zero le = refl
@@ -62,10 +80,12 @@ module _ (n : ℕ) (taken : List ℕ) (w : ℕ) (some : 0 < n) where
   last_kept (suc k) le = ap Some (round_kept k le)
 
   -- what the scan did after each whole round stays
-  pub course_kept : (k : ℕ) → k ≤ rounds n taken → course_after n (taken ++ w ∷ []) k ≡ course_after n taken k
+  pub course_kept : (k : ℕ) → k ≤ rounds n taken
+      → course_after n (taken ++ w ∷ []) k ≡ course_after n taken k
   course_kept zero le = refl
   course_kept (suc k) le =
-      let before : course_after n (taken ++ w ∷ []) k ≡ course_after n taken k = course_kept k (omega arith) in
+      let before : course_after n (taken ++ w ∷ []) k ≡ course_after n taken k =
+      course_kept k (omega arith) in
       let f : round n (taken ++ w ∷ []) 0 ≡ round n taken 0 = round_kept 0 (omega arith) in
       let l : last_of n (taken ++ w ∷ []) k ≡ last_of n taken k = last_kept k (omega arith) in
       let r : round n (taken ++ w ∷ []) k ≡ round n taken k = round_kept k le in
@@ -73,7 +93,8 @@ module _ (n : ℕ) (taken : List ℕ) (w : ℕ) (some : 0 < n) where
 
   -- while the round under way lacks another word, the word is added to it
   pub standing_more : (me : ℕ) (region : Region) → length (open_round n taken) + 1 < n
-      → standing n me region (taken ++ w ∷ []) ≡ record (standing n me region taken) { current = open_round n taken ++ w ∷ [] }
+      → standing n me region (taken ++ w ∷ [])
+      ≡ record (standing n me region taken) { current = open_round n taken ++ w ∷ [] }
   standing_more me region lacks =
       let k : rounds n (taken ++ w ∷ []) ≡ rounds n taken = rounds_more lacks in
       same_standing n me region
@@ -83,8 +104,10 @@ module _ (n : ℕ) (taken : List ℕ) (w : ℕ) (some : 0 < n) where
       (ap (course_after n (taken ++ w ∷ [])) k ∙ course_kept (rounds n taken) (omega arith))
 
   -- the round under way is whole with the word
-  pub round_filled : length (open_round n taken) + 1 ≡ n → (k : ℕ) → k ≡ rounds n taken → round n (taken ++ w ∷ []) k ≡ open_round n taken ++ w ∷ []
-  round_filled fills k is = ap (take n) (open_more k is) ∙ take_all n (open_round n taken ++ w ∷ []) (omega (arith, length-append (open_round n taken) (w ∷ [])))
+  pub round_filled : length (open_round n taken) + 1 ≡ n → (k : ℕ) → k ≡ rounds n taken
+      → round n (taken ++ w ∷ []) k ≡ open_round n taken ++ w ∷ []
+  round_filled fills k is = ap (take n) (open_more k is) ∙ take_all n (open_round n taken ++ w ∷ [])
+      (omega (arith, length-append (open_round n taken) (w ∷ [])))
 
   -- the first round after that: the one that was first before, else this one
   first_filled : length (open_round n taken) + 1 ≡ n → (k : ℕ) → k ≡ rounds n taken
@@ -95,17 +118,21 @@ module _ (n : ℕ) (taken : List ℕ) (w : ℕ) (some : 0 < n) where
   -- and what the scan does then
   pub course_filled : length (open_round n taken) + 1 ≡ n → (k : ℕ) → k ≡ rounds n taken
       → course_after n (taken ++ w ∷ []) (suc k)
-      ≡ course_on (unwrap_or (first_of n taken k) (open_round n taken ++ w ∷ [])) (last_of n taken k) (open_round n taken ++ w ∷ []) (course_after n taken k)
+      ≡ course_on (unwrap_or (first_of n taken k) (open_round n taken ++ w ∷ []))
+      (last_of n taken k) (open_round n taken ++ w ∷ []) (course_after n taken k)
   course_filled fills k is =
       let f = first_filled fills k is in
       let l : last_of n (taken ++ w ∷ []) k ≡ last_of n taken k = last_kept k (omega (arith, is)) in
-      let r : round n (taken ++ w ∷ []) k ≡ open_round n taken ++ w ∷ [] = round_filled fills k is in
-      let before : course_after n (taken ++ w ∷ []) k ≡ course_after n taken k = course_kept k (omega (arith, is)) in
+      let r : round n (taken ++ w ∷ []) k ≡ open_round n taken ++ w ∷ [] =
+      round_filled fills k is in
+      let before : course_after n (taken ++ w ∷ []) k ≡ course_after n taken k =
+      course_kept k (omega (arith, is)) in
       cc (f, l, r, before)
 
   pub open_whole : length (open_round n taken) + 1 ≡ n → open_round n (taken ++ w ∷ []) ≡ []
   open_whole fills =
-      drop_all (rounds n (taken ++ w ∷ []) * n) (taken ++ w ∷ []) (omega (arith, ap (λ j. j * n) (rounds_whole fills), length-append taken (w ∷ []), open_length))
+      drop_all (rounds n (taken ++ w ∷ []) * n) (taken ++ w ∷ []) (omega
+      (arith, ap (λ j. j * n) (rounds_whole fills), length-append taken (w ∷ []), open_length))
 
   pub standing_whole : (me : ℕ) (region : Region) → length (open_round n taken) + 1 ≡ n
       → standing n me region (taken ++ w ∷ [])
@@ -116,7 +143,8 @@ module _ (n : ℕ) (taken : List ℕ) (w : ℕ) (some : 0 < n) where
         first = Some (first_round n taken (open_round n taken ++ w ∷ []));
         last = Some (open_round n taken ++ w ∷ []);
         current = [];
-        course = course_on (first_round n taken (open_round n taken ++ w ∷ [])) (last_of n taken (rounds n taken)) (open_round n taken ++ w ∷ []) (course n taken);
+        course = course_on (first_round n taken (open_round n taken ++ w ∷ []))
+            (last_of n taken (rounds n taken)) (open_round n taken ++ w ∷ []) (course n taken);
       }
   unfolding first_round
   standing_whole me region fills =
@@ -128,29 +156,38 @@ module _ (n : ℕ) (taken : List ℕ) (w : ℕ) (some : 0 < n) where
       (ap (course_after n (taken ++ w ∷ [])) k ∙ course_filled fills (rounds n taken) refl)
 
 -- two that are equal in what they are of
-same_scanner : {n m i j : ℕ} {r q : Region} (e l : Option (List ℕ)) (c : List ℕ) (a : Course) → n ≡ m → i ≡ j → r ≡ q
-    → (let s : Standing = record { callers = n; me = i; region = r; first = e; last = l; current = c; course = a } in s)
+same_scanner : {n m i j : ℕ} {r q : Region} (e l : Option (List ℕ)) (c : List ℕ) (a : Course)
+    → n ≡ m → i ≡ j → r ≡ q
+    → (let s : Standing =
+    record { callers = n; me = i; region = r; first = e; last = l; current = c; course = a } in s)
     ≡ record { callers = m; me = j; region = q; first = e; last = l; current = c; course = a }
 same_scanner e l c a p u v = cc
 
 -- What the fields are after a word, where the scan stood as one that has taken these words.
-module _ (c : Inside) (w : ℕ) (n me : ℕ) (region : Region) (taken : List ℕ) (stood : standing_of c ≡ standing n me region taken) (lacks : c.taken < length c.current) where
+module _ (c : Inside) (w : ℕ) (n me : ℕ) (region : Region) (taken : List ℕ)
+    (stood : standing_of c ≡ standing n me region taken) (lacks : c.taken < length c.current) where
   callers : length c.current ≡ n
   callers = ap (λ (s : Standing). s.callers) stood
 
   counted : c.taken ≡ length (open_round n taken)
-  counted = sym (length-take-le c.taken c.current (omega arith)) ∙ ap (λ (s : Standing). length s.current) stood
+  counted = sym (length-take-le c.taken c.current (omega arith))
+      ∙ ap (λ (s : Standing). length s.current) stood
 
   filled : take (c.taken + 1) (slice_set c.current c.taken w) ≡ open_round n taken ++ w ∷ []
-  filled = take_more_set c.current c.taken w lacks ∙ ap (λ (s : Standing). s.current ++ w ∷ []) stood
+  filled =
+      take_more_set c.current c.taken w lacks ∙ ap (λ (s : Standing). s.current ++ w ∷ []) stood
 
   pub stands_more : c.taken + 1 ≢ length c.current
-      → standing_of (record c { current = slice_set c.current c.taken w; taken = c.taken + 1 }) ≡ standing n me region (taken ++ w ∷ [])
+      → standing_of (record c { current = slice_set c.current c.taken w; taken = c.taken + 1 })
+      ≡ standing n me region (taken ++ w ∷ [])
   stands_more more =
       same_scanner c.first c.last (take (c.taken + 1) (slice_set c.current c.taken w)) c.course
-      (length-set c.current c.taken w ∙ callers) (ap (λ (s : Standing). s.me) stood) (ap (λ (s : Standing). s.region) stood)
-      ∙ (same_standing n me region (ap (λ (s : Standing). s.first) stood) (ap (λ (s : Standing). s.last) stood) filled (ap (λ (s : Standing). s.course) stood)
-      ∙ sym (standing_more n taken w (omega (arith, callers)) me region (omega (arith, callers, counted))))
+      (length-set c.current c.taken w ∙ callers) (ap (λ (s : Standing). s.me) stood)
+      (ap (λ (s : Standing). s.region) stood)
+      ∙ (same_standing n me region (ap (λ (s : Standing). s.first) stood)
+      (ap (λ (s : Standing). s.last) stood) filled (ap (λ (s : Standing). s.course) stood)
+      ∙ sym (standing_more n taken w (omega (arith, callers)) me region
+      (omega (arith, callers, counted))))
 
   pub stands_whole : c.taken + 1 ≡ length c.current
       → standing_of (record c {
@@ -158,18 +195,26 @@ module _ (c : Inside) (w : ℕ) (n me : ℕ) (region : Region) (taken : List ℕ
         taken = 0;
         first = Some (unwrap_or c.first (slice_set c.current c.taken w));
         last = Some (slice_set c.current c.taken w);
-        course = course_on (unwrap_or c.first (slice_set c.current c.taken w)) c.last (slice_set c.current c.taken w) c.course;
+        course = course_on (unwrap_or c.first (slice_set c.current c.taken w)) c.last
+            (slice_set c.current c.taken w) c.course;
       }) ≡ standing n me region (taken ++ w ∷ [])
   unfolding first_round
   stands_whole whole =
       let new : slice_set c.current c.taken w ≡ open_round n taken ++ w ∷ [] =
-      sym (take_all (c.taken + 1) (slice_set c.current c.taken w) (omega (arith, length-set c.current c.taken w, whole))) ∙ filled in
-      let first : unwrap_or c.first (slice_set c.current c.taken w) ≡ first_round n taken (open_round n taken ++ w ∷ []) =
-      ap (λ (s : Standing). unwrap_or s.first (slice_set c.current c.taken w)) stood ∙ ap (unwrap_or (first_of n taken (rounds n taken))) new in
+      sym (take_all (c.taken + 1) (slice_set c.current c.taken w)
+      (omega (arith, length-set c.current c.taken w, whole))) ∙ filled in
+      let first : unwrap_or c.first (slice_set c.current c.taken w)
+      ≡ first_round n taken (open_round n taken ++ w ∷ []) =
+      ap (λ (s : Standing). unwrap_or s.first (slice_set c.current c.taken w)) stood
+      ∙ ap (unwrap_or (first_of n taken (rounds n taken))) new in
       let last : c.last ≡ last_of n taken (rounds n taken) = ap (λ (s : Standing). s.last) stood in
       let old : c.course ≡ course n taken = ap (λ (s : Standing). s.course) stood in
-      same_scanner (Some (unwrap_or c.first (slice_set c.current c.taken w))) (Some (slice_set c.current c.taken w)) []
-      (course_on (unwrap_or c.first (slice_set c.current c.taken w)) c.last (slice_set c.current c.taken w) c.course)
-      (length-set c.current c.taken w ∙ callers) (ap (λ (s : Standing). s.me) stood) (ap (λ (s : Standing). s.region) stood)
+      same_scanner (Some (unwrap_or c.first (slice_set c.current c.taken w)))
+      (Some (slice_set c.current c.taken w)) []
+      (course_on (unwrap_or c.first (slice_set c.current c.taken w)) c.last
+      (slice_set c.current c.taken w) c.course)
+      (length-set c.current c.taken w ∙ callers) (ap (λ (s : Standing). s.me) stood)
+      (ap (λ (s : Standing). s.region) stood)
       ∙ (same_standing n me region (ap Some first) (ap Some new) refl (cc (first, new, last, old))
-      ∙ sym (standing_whole n taken w (omega (arith, callers)) me region (omega (arith, callers, counted))))
+      ∙ sym (standing_whole n taken w (omega (arith, callers)) me region
+      (omega (arith, callers, counted))))

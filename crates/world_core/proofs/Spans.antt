@@ -20,7 +20,11 @@ pub not_kept : GivesCut single 0 (given_since 3) span_given_up → ⊥
 not_kept g = fails g.keeps
 
 pub other_cut : GivesCut single 0 (given_alone N 0) span_after_announcement → ⊥
-other_cut g = let counts : 1 ≡ 0 = ap (λ (cuts : List Given). slice_index (slice_index_or cuts 1 (given_since 0)).cut 0) g.ends in omega (arith, counts)
+other_cut g = let counts : 1 ≡ 0 =
+    ap (λ (cuts : List Given). slice_index (slice_index_or cuts 1 (given_since 0)).cut 0) g.ends in
+    omega (arith, counts)
 
 pub other_time : GivesCut single 0 (given_since 1) span_after_announcement → ⊥
-other_time g = let times : 2 ≡ 1 = ap (λ (cuts : List Given). (slice_index_or cuts 1 (given_since 0)).since) g.ends in omega (arith, times)
+other_time g = let times : 2 ≡ 1 =
+    ap (λ (cuts : List Given). (slice_index_or cuts 1 (given_since 0)).since) g.ends in
+    omega (arith, times)

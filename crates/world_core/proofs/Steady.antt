@@ -1,4 +1,5 @@
--- Which worked words are those of a scan whose counts never fall, which were wanted, and which are too many.
+-- Which worked words are those of a scan whose counts never fall, which were wanted, and which are
+-- too many.
 use Rattle.std.proofs.Common.{◌≡◌, ℕ, zero, suc, ◌+◌, ◌*◌, ◌<◌, ◌≤◌, true, false, [], ◌∷◌, take, slice_index, refl, arith}
 use Rattle.std.specs.Prelude.{IsTrue}
 use Rattle.world_core.specs.Scan.{is_look, wanted, IsSteady, AreWanted, IsShort}
@@ -10,7 +11,8 @@ fails e = absurd cc
 holds : true ≡ false → ⊥
 holds e = absurd cc
 
-lent_rises : (p : ℕ) → p + 2 < 8 → IsTrue (is_look (wanted 2 (take (p + 2) lent_words))) → slice_index lent_words p ≤ slice_index lent_words (p + 2)
+lent_rises : (p : ℕ) → p + 2 < 8 → IsTrue (is_look (wanted 2 (take (p + 2) lent_words)))
+    → slice_index lent_words p ≤ slice_index lent_words (p + 2)
 lent_rises zero low look = omega arith
 lent_rises (suc zero) low look = omega arith
 lent_rises (suc (suc zero)) low look = omega arith
@@ -19,7 +21,9 @@ lent_rises (suc (suc (suc (suc zero)))) low look = absurd (fails look)
 lent_rises (suc (suc (suc (suc (suc zero))))) low look = omega arith
 lent_rises (suc (suc (suc (suc (suc (suc p)))))) low look = absurd (omega (arith, low))
 
-lent_own : (p k : ℕ) → p ≡ k * 2 + 1 → p + 2 < 8 → IsTrue (is_look (wanted 2 (take (p + 2) lent_words))) → slice_index lent_words (p + 2) ≡ slice_index lent_words p
+lent_own : (p k : ℕ) → p ≡ k * 2 + 1 → p + 2 < 8
+    → IsTrue (is_look (wanted 2 (take (p + 2) lent_words)))
+    → slice_index lent_words (p + 2) ≡ slice_index lent_words p
 lent_own zero k is low look = absurd (omega (arith, is))
 lent_own (suc zero) k is low look = refl
 lent_own (suc (suc zero)) k is low look = absurd (omega (arith, is))
@@ -37,12 +41,15 @@ falls s = let rises : 1 ≤ 0 = s.rises 1 (omega arith) refl in omega (arith, ri
 pub moves : IsSteady 2 0 (0 ∷ 0 ∷ 1 ∷ 0 ∷ []) → ⊥
 moves s = let same : 1 ≡ 0 = s.own 0 0 refl (omega arith) refl in omega (arith, same)
 
-moved_rises : (p : ℕ) → p + 2 < 4 → IsTrue (is_look (wanted 2 (take (p + 2) (0 ∷ 0 ∷ 1 ∷ 0 ∷ [])))) → slice_index (0 ∷ 0 ∷ 1 ∷ 0 ∷ []) p ≤ slice_index (0 ∷ 0 ∷ 1 ∷ 0 ∷ []) (p + 2)
+moved_rises : (p : ℕ) → p + 2 < 4 → IsTrue (is_look (wanted 2 (take (p + 2) (0 ∷ 0 ∷ 1 ∷ 0 ∷ []))))
+    → slice_index (0 ∷ 0 ∷ 1 ∷ 0 ∷ []) p ≤ slice_index (0 ∷ 0 ∷ 1 ∷ 0 ∷ []) (p + 2)
 moved_rises zero low look = omega arith
 moved_rises (suc zero) low look = omega arith
 moved_rises (suc (suc p)) low look = absurd (omega (arith, low))
 
-moved_own : (p k : ℕ) → p ≡ k * 2 + 1 → p + 2 < 4 → IsTrue (is_look (wanted 2 (take (p + 2) (0 ∷ 0 ∷ 1 ∷ 0 ∷ [])))) → slice_index (0 ∷ 0 ∷ 1 ∷ 0 ∷ []) (p + 2) ≡ slice_index (0 ∷ 0 ∷ 1 ∷ 0 ∷ []) p
+moved_own : (p k : ℕ) → p ≡ k * 2 + 1 → p + 2 < 4
+    → IsTrue (is_look (wanted 2 (take (p + 2) (0 ∷ 0 ∷ 1 ∷ 0 ∷ []))))
+    → slice_index (0 ∷ 0 ∷ 1 ∷ 0 ∷ []) (p + 2) ≡ slice_index (0 ∷ 0 ∷ 1 ∷ 0 ∷ []) p
 moved_own zero k is low look = absurd (omega (arith, is))
 moved_own (suc zero) k is low look = refl
 moved_own (suc (suc p)) k is low look = absurd (omega (arith, low))

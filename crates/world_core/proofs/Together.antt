@@ -16,27 +16,34 @@ fails e = absurd cc
 pub first_impossible : IsRun pair (by 0 Announce ∷ []) → ⊥
 first_impossible run = fails run
 
-pub later_impossible : IsRun pair (by 0 (Look N 0 0 Begins_none) ∷ by 0 (Look N 0 1 Begins_none) ∷ []) → ⊥
+pub later_impossible : IsRun pair
+    (by 0 (Look N 0 0 Begins_none) ∷ by 0 (Look N 0 1 Begins_none) ∷ []) → ⊥
 later_impossible run = fails run
 
 -- nobody makes a step
 pub not_reachable : IsReachable nobody stepped → ⊥
-not_reachable ([], run, ends) = let words : 0 ≡ 7 = ap (λ (w : World). slice_index w.words 0) ends in omega (arith, words)
+not_reachable ([], run, ends) = let words : 0 ≡ 7 =
+    ap (λ (w : World). slice_index w.words 0) ends in omega (arith, words)
 not_reachable (step ∷ steps, run, ends) =
     let none : nat_lt step.who 0 ≡ false = grind arith in
     let w : World = start nobody in
-    fails (sym (ap (λ (b : Bool). ((b && is_enabled nobody step.who (local_of w step.who) step.event) && is_loaded nobody w.words step.event) && are_possible nobody (after nobody w step) steps) none) ∙ run)
+    fails (sym (ap
+    (λ (b : Bool). ((b && is_enabled nobody step.who (local_of w step.who) step.event) && is_loaded
+    nobody w.words step.event) && are_possible nobody (after nobody w step) steps) none) ∙ run)
 
 -- a step and a run leave as many locals as there were
-locals_kept : (s : Shape) (w : World) (steps : List Step) → length (after_all s w steps).locals ≡ length w.locals
+locals_kept : (s : Shape) (w : World) (steps : List Step)
+    → length (after_all s w steps).locals ≡ length w.locals
 locals_kept s w [] = refl
 locals_kept s w (step ∷ steps) =
-    locals_kept s (after s w step) steps ∙ length-set w.locals step.who (local_after s.callers (local_of w step.who) step.event)
+    locals_kept s (after s w step) steps
+    ∙ length-set w.locals step.who (local_after s.callers (local_of w step.who) step.event)
 
 pub one_local : AreTogether pair (fresh ∷ []) → ⊥
 one_local (w, (steps, run, ends), are) =
     let two : length (end_of pair steps).locals ≡ 2 = locals_kept pair (start pair) steps in
-    let one : length (end_of pair steps).locals ≡ 1 = ap (λ (v : World). length v.locals) ends ∙ ap (λ (ls : List Local). length ls) are in
+    let one : length (end_of pair steps).locals ≡ 1 =
+    ap (λ (v : World). length v.locals) ends ∙ ap (λ (ls : List Local). length ls) are in
     omega (arith, two, one)
 
 pub both_locals : AreTogether pair (end_of pair two_calls).locals

@@ -13,9 +13,12 @@ abbrev done : Call → ℕ → ℕ → Done
 done call operation reply = record { call = call; operation = operation; reply = reply }
 
 -- a call that returned stands at the place that its reply tells
-module _ (history : List Happening) (ds : List Done) (l : IsLinearization [] numbering history ds) where
+module _ (history : List Happening) (ds : List Done)
+    (l : IsLinearization [] numbering history ds) where
   stands : (call : Call) (reply : ℕ) → Contains history (Returned call reply)
-      → (x : ℕ) × (reply < length ds) × (slice_index_or ds reply (done call x reply) ≡ done call x reply) × (slice_get ds reply ≡ Some (done call x reply))
+      → (x : ℕ) × (reply < length ds)
+      × (slice_index_or ds reply (done call x reply) ≡ done call x reply)
+      × (slice_get ds reply ≡ Some (done call x reply))
   stands call reply there =
       let (x, (k, below, is)) = l.returned call reply there in
       let d : Done = done call x reply in
@@ -32,7 +35,8 @@ pub both_0_forbidden : IsLinearizable [] numbering both_return_0 → ⊥
 both_0_forbidden (ds, l) =
     let a = stands both_return_0 ds l first 0 (1, omega arith, refl) in
     let b = stands both_return_0 ds l again 0 (3, omega arith, refl) in
-    let same : done first a.0 0 ≡ done again b.0 0 = same_Some (done first a.0 0) (done again b.0 0) (sym a.3 ∙ b.3) in
+    let same : done first a.0 0 ≡ done again b.0 0 =
+    same_Some (done first a.0 0) (done again b.0 0) (sym a.3 ∙ b.3) in
     let n : 0 ≡ 1 = ap (λ (d : Done). d.call.number) same in
     omega (arith, n)
 
@@ -47,11 +51,13 @@ second_1_forbidden (ds, l) =
     let a = stands second_returns_1 ds l second 1 (1, omega arith, refl) in
     let d : Done = done second a.0 1 in
     let here = l.invoked 0 d (omega (arith, a.1)) in
-    let is : (slice_index_or ds 0 d).call ≡ second = alone_invoked (slice_index_or ds 0 d).call (slice_index_or ds 0 d).operation here in
+    let is : (slice_index_or ds 0 d).call ≡ second =
+    alone_invoked (slice_index_or ds 0 d).call (slice_index_or ds 0 d).operation here in
     l.once 0 1 d (omega arith) a.1 (is ∙ sym (ap (λ (e : Done). e.call) a.2))
 
 -- an unanswered call can't stand before a call that had returned
-before_invoked : (call : Call) (x : ℕ) → Contains before_unanswered (Invoked call x) → (call ≡ first) ⊎ (call ≡ second)
+before_invoked : (call : Call) (x : ℕ) → Contains before_unanswered (Invoked call x)
+    → (call ≡ first) ⊎ (call ≡ second)
 before_invoked call x (zero, below, is) = inl cc
 before_invoked call x (suc zero, below, is) = absurd cc
 before_invoked call x (suc (suc zero), below, is) = inr cc
@@ -66,8 +72,10 @@ unanswered_forbidden (ds, l) =
     elim (before_invoked e.call e.operation (l.invoked 0 d low)) [
       | inl is ↦ l.once 0 1 d (omega arith) a.1 (is ∙ sym (ap (λ (f : Done). f.call) a.2))
       | inr is ↦
-          let returned : ReturnsBefore before_unanswered first second = (1, 2, 1, 6, omega arith, refl, refl) in
-          let wrong : 1 < 0 = l.ordered 1 0 d e a.3 (slice_get-get_or ds 0 d low) (subst (λ (c : Call). ReturnsBefore before_unanswered first c) (sym is) returned) in
+          let returned : ReturnsBefore before_unanswered first second =
+          (1, 2, 1, 6, omega arith, refl, refl) in
+          let wrong : 1 < 0 = l.ordered 1 0 d e a.3 (slice_get-get_or ds 0 d low)
+          (subst (λ (c : Call). ReturnsBefore before_unanswered first c) (sym is) returned) in
           omega (arith, wrong)
     ]
 
@@ -76,11 +84,13 @@ pub beside_forbidden : IsLinearizable [] numbering beside_all → ⊥
 beside_forbidden (ds, l) =
     let a = stands beside_all ds l third 3 (3, omega arith, refl) in
     let b = stands beside_all ds l first 1 (6, omega arith, refl) in
-    let wrong : 3 < 1 = l.ordered 3 1 (done third a.0 3) (done first b.0 1) a.3 b.3 (3, 5, 3, 5, omega arith, refl, refl) in
+    let wrong : 3 < 1 = l.ordered 3 1 (done third a.0 3) (done first b.0 1) a.3 b.3
+    (3, 5, 3, 5, omega arith, refl, refl) in
     omega (arith, wrong)
 
 -- of three calls none can reply 3, since the unanswered one doesn't stand again after another
-three_invoked : (call : Call) (x : ℕ) → Contains returns_1_and_3 (Invoked call x) → (call ≡ first) ⊎ (call ≡ second) ⊎ (call ≡ third)
+three_invoked : (call : Call) (x : ℕ) → Contains returns_1_and_3 (Invoked call x) → (call ≡ first)
+    ⊎ (call ≡ second) ⊎ (call ≡ third)
 three_invoked call x (zero, below, is) = inl cc
 three_invoked call x (suc zero, below, is) = inr (inl cc)
 three_invoked call x (suc (suc zero), below, is) = absurd cc
@@ -97,7 +107,8 @@ again_forbidden (ds, l) =
     let other : Done = slice_index_or ds 2 d in
     let low : 0 < length ds = omega (arith, b.1) in
     let mid : 2 < length ds = omega (arith, b.1) in
-    let at_1 : (slice_index_or ds 1 d).call ≡ second = ap (λ (f : Done). f.call) (same_Some (slice_index_or ds 1 d) (done second a.0 1) (sym (slice_get-get_or ds 1 d a.1) ∙ a.3)) in
+    let at_1 : (slice_index_or ds 1 d).call ≡ second = ap (λ (f : Done). f.call) (same_Some
+    (slice_index_or ds 1 d) (done second a.0 1) (sym (slice_get-get_or ds 1 d a.1) ∙ a.3)) in
     let at_3 : (slice_index_or ds 3 d).call ≡ third = ap (λ (f : Done). f.call) b.2 in
     elim (three_invoked zeroth.call zeroth.operation (l.invoked 0 d low)) [
       | inl is ↦ elim (three_invoked other.call other.operation (l.invoked 2 d mid)) [

@@ -7,8 +7,8 @@ use Rattle.world_core.specs.Shape.{Shape}
 use Rattle.world_core.specs.Local.{Phase, Announcing, Asking, Viewing, Publishing, Judging, Staged, Scan, Local, own_count, word_of}
 use Rattle.world_core.specs.Event.{is_staging, is_staged, staged_at, is_due}
 
--- In each phase: how many announced calls, how many replies and how many views are of no published record yet, and how many
--- published records have no seen cut yet.
+-- In each phase: how many announced calls, how many replies and how many views are of no published
+-- record yet, and how many published records have no seen cut yet.
 abbrev pub unpublished_calls : Phase → ℕ
 unpublished_calls Announcing = 0
 unpublished_calls Asking = 1
@@ -68,20 +68,27 @@ IsKeptIn Publishing kept = Unit {0}
 IsKeptIn _ kept = kept ≡ None
 
 -- A staged word stands at its place of the row under way, which exists, and is what belongs there.
-pub record IsInRow (s : Shape) (words : List ℕ) (i : ℕ) (l : Local) (region : Region) (place : ℕ) : Type 0 where
+pub record IsInRow (s : Shape) (words : List ℕ) (i : ℕ) (l : Local) (region : Region)
+    (place : ℕ) : Type 0 where
   pub row : own_count l region < s.cap
   pub place_fits : place < places s.callers region
-  pub stands : slice_index words (place_index s.callers s.cap region i (own_count l region) place) ≡ staged_at l.staged place
+  pub stands : slice_index words (place_index s.callers s.cap region i (own_count l region) place)
+      ≡ staged_at l.staged place
   pub due : IsTrue (is_due l (content s.callers region place) (staged_at l.staged place))
 
--- The local of caller i agrees with the words: its own counts are its count words and are at most the cap; each row below them
--- has the words of its call; and what it staged stands in the row under way.
+-- The local of caller i agrees with the words: its own counts are its count words and are at most
+-- the cap; each row below them has the words of its call; and what it staged stands in the row
+-- under way.
 pub record Agrees (s : Shape) (words : List ℕ) (i : ℕ) (l : Local) : Type 0 where
-  pub counts : (region : Region) → slice_index words (count_index s.callers region i) ≡ own_count l region
+  pub counts : (region : Region)
+      → slice_index words (count_index s.callers region i) ≡ own_count l region
   pub few : l.announced ≤ s.cap
-  pub rows : (region : Region) (k place : ℕ) → k < own_count l region → place < places s.callers region
-      → slice_index words (place_index s.callers s.cap region i k place) ≡ word_of l k (content s.callers region place)
-  pub staged : (region : Region) (place : ℕ) → IsTrue (is_staging l.phase region) → IsTrue (is_staged l.staged place) → IsInRow s words i l region place
+  pub rows : (region : Region) (k place : ℕ) → k < own_count l region
+      → place < places s.callers region
+      → slice_index words (place_index s.callers s.cap region i k place)
+      ≡ word_of l k (content s.callers region place)
+  pub staged : (region : Region) (place : ℕ) → IsTrue (is_staging l.phase region)
+      → IsTrue (is_staged l.staged place) → IsInRow s words i l region place
   pub staged_in : IsStagedIn l.phase l.staged
   pub kept_in : IsKeptIn l.phase l.to_embed
   pub phase : HasPhase l

@@ -1,4 +1,5 @@
--- What a local tells of the call under way, whose number is its count of published records, and the object steps of all its calls.
+-- What a local tells of the call under way, whose number is its count of published records, and the
+-- object steps of all its calls.
 use Rattle.std.specs.Prelude.{ℕ, List, [], slice_index, slice_index_or}
 use Rattle.std.specs.List.{flat_map}
 use Rattle.world_core.specs.Local.{Local, Object_step}

@@ -12,7 +12,8 @@ use Rattle.world_core.specs.Shape.{Shape}
 use Rattle.world_core.specs.Local.{Local, fresh}
 use Rattle.world_core.specs.World.{World, IsReachable}
 
--- How far a call has come: it was announced; or it has its record too; or its caller has published that record and seen a cut.
+-- How far a call has come: it was announced; or it has its record too; or its caller has published
+-- that record and seen a cut.
 pub data Reached : Type 0 where
   Is_announced : Reached
   Has_record : (r : Record) → Reached
@@ -49,7 +50,10 @@ records_of (Has_seen r cut) = r ∷ []
 
 -- The page of one caller's calls, and the book of all callers' calls.
 abbrev pub page_with : List Made → Page
-page_with calls = record { operations = map (λ (c : Made). c.operation) calls; records = flat_map (λ (c : Made). records_of c.reached) calls }
+page_with calls = record {
+  operations = map (λ (c : Made). c.operation) calls;
+  records = flat_map (λ (c : Made). records_of c.reached) calls;
+}
 
 abbrev pub book_of : List (List Made) → List Page
 book_of calls = map page_with calls
@@ -68,7 +72,8 @@ AreTogether s locals = (w : World) × IsReachable s w × (w.locals ≡ locals)
 
 -- This is the local of caller i in some reachable world.
 abbrev pub IsLocalOf : Shape → ℕ → Local → Type 0
-IsLocalOf s i l = (locals : List Local) × AreTogether s locals × (i < s.callers) × (local_at locals i ≡ l)
+IsLocalOf s i l = (locals : List Local) × AreTogether s locals × (i < s.callers)
+    × (local_at locals i ≡ l)
 
 -- A cut of what these callers have published.
 pub record IsPublished (locals : List Local) (cut : List ℕ) : Type 0 where
@@ -78,14 +83,18 @@ pub record IsPublished (locals : List Local) (cut : List ℕ) : Type 0 where
 -- The caller peeked this word at a place of a region in the row of a call.
 abbrev pub HasPeeked : Local → Region → Call → ℕ → ℕ → Type 0
 HasPeeked l region call place x =
-    Contains l.peeked (record { region = region; caller = call.caller; row = call.number; place = place; word = x })
+    Contains l.peeked
+    (record { region = region; caller = call.caller; row = call.number; place = place; word = x })
 
--- A book at a cut each of whose words this caller of n has peeked: the operations, the replies and the views.
+-- A book at a cut each of whose words this caller of n has peeked: the operations, the replies and
+-- the views.
 pub record IsGathered (n : ℕ) (l : Local) (cut : List ℕ) (book : List Page) : Type 0 where
   pub callers : length book ≡ n
   pub records : (i : ℕ) → i < n → answers_of book i ≡ slice_index cut i
   pub calls : (call : Call) → IsCall book call ↔ IsHeldBySomeView book cut call
-  pub operations : (call : Call) (op : ℕ) → operation_of book call ≡ Some op → HasPeeked l N call 0 (low_of op) × HasPeeked l N call 1 (high_of op)
-  pub replies : (call : Call) (r : Record) → record_of book call ≡ Some r → HasPeeked l M call 0 r.reply
+  pub operations : (call : Call) (op : ℕ) → operation_of book call ≡ Some op
+      → HasPeeked l N call 0 (low_of op) × HasPeeked l N call 1 (high_of op)
+  pub replies : (call : Call) (r : Record) → record_of book call ≡ Some r
+      → HasPeeked l M call 0 r.reply
   pub views : (call : Call) (r : Record) → record_of book call ≡ Some r
       → (length r.view ≡ n) × ((j : ℕ) → j < n → HasPeeked l M call (1 + j) (slice_index r.view j))

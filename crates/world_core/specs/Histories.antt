@@ -13,7 +13,8 @@ first = call_of 0 0
 abbrev pub second : Call
 second = call_of 1 0
 
--- The first call returns 1 right before the second, which returns 0, is invoked; and the same with both invoked before.
+-- The first call returns 1 right before the second, which returns 0, is invoked; and the same with
+-- both invoked before.
 abbrev pub one_after_another : List Happening
 one_after_another = Invoked first 5 ∷ Returned first 1 ∷ Invoked second 6 ∷ Returned second 0 ∷ []
 

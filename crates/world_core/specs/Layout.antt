@@ -1,10 +1,11 @@
--- How the table lies in its words: the count words of N, those of M, then the rows, caller by caller, and then the object words.
+-- How the table lies in its words: the count words of N, those of M, then the rows, caller by
+-- caller, and then the object words.
 use Rattle.std.specs.Prelude.{ℕ, zero, suc, ◌+◌, ◌-◌, ◌*◌, nat_lt, if◌then◌else◌}
 use Rattle.world_core.specs.declared.region.Region.{Region}
 use Rattle.world_core.specs.declared.region.Region.TheVariants.{N, M}
 
--- What a place of a row is for: the low or the high word of the operation, the reply, the entry of a caller of the view, or
--- the entry of a caller of the cut that the row embeds in a region.
+-- What a place of a row is for: the low or the high word of the operation, the reply, the entry of
+-- a caller of the view, or the entry of a caller of the cut that the row embeds in a region.
 pub data Content : Type 0 where
   Low : Content
   High : Content
@@ -12,17 +13,20 @@ pub data Content : Type 0 where
   View_entry : (caller : ℕ) → Content
   Embedded_entry : (region : Region) (caller : ℕ) → Content
 
--- How many places a row has in a region, for n callers: in N the operation's two and one for each entry of the embedded cut;
--- in M the reply's one, and one for each entry of the view and of the embedded cut.
+-- How many places a row has in a region, for n callers: in N the operation's two and one for each
+-- entry of the embedded cut; in M the reply's one, and one for each entry of the view and of the
+-- embedded cut.
 abbrev pub places : ℕ → Region → ℕ
 places n N = 2 + n
 places n M = 1 + (n + n)
 
--- The entry that stands at number j after the reply: the view's entries stand before those of the embedded cut.
+-- The entry that stands at number j after the reply: the view's entries stand before those of the
+-- embedded cut.
 abbrev pub entry_after_reply : ℕ → ℕ → Content
 entry_after_reply n j = if nat_lt j n then View_entry j else Embedded_entry M (j - n)
 
--- What a place of a region is for. A region has the places below its number of places: no event names another.
+-- What a place of a region is for. A region has the places below its number of places: no event
+-- names another.
 abbrev pub content : ℕ → Region → ℕ → Content
 content n N zero = Low
 content n N (suc zero) = High

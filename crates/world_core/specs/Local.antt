@@ -5,7 +5,8 @@ use Rattle.world_core.specs.Layout.{Content, Low, High, Reply, View_entry, Embed
 use Rattle.world_core.specs.declared.region.Region.{Region}
 use Rattle.world_core.specs.declared.region.Region.TheVariants.{N, M}
 
--- The five phases of a call: announce the operation, ask the object, take the view, publish the record, and judge.
+-- The five phases of a call: announce the operation, ask the object, take the view, publish the
+-- record, and judge.
 pub data Phase : Type 0 where
   Announcing : Phase
   Asking : Phase
@@ -18,15 +19,16 @@ pub record Staged : Type 0 where
   pub place : ℕ
   pub word : ℕ
 
--- A scan under way: its region, whether it is the view's, how many counts its caller had looked at before it began, and the
--- words that it has taken, in order.
+-- A scan under way: its region, whether it is the view's, how many counts its caller had looked at
+-- before it began, and the words that it has taken, in order.
 pub record Scan : Type 0 where
   pub region : Region
   pub is_view : Bool
   pub since : ℕ
   pub taken : List ℕ
 
--- A cut that a scan of a region gave, and how many counts its caller had looked at before that scan began.
+-- A cut that a scan of a region gave, and how many counts its caller had looked at before that scan
+-- began.
 pub record Given : Type 0 where
   pub region : Region
   pub cut : List ℕ
@@ -46,16 +48,18 @@ pub record Peeked : Type 0 where
   pub place : ℕ
   pub word : ℕ
 
--- A step on an object word: which one, the word that it found there, and the word that it left there.
+-- A step on an object word: which one, the word that it found there, and the word that it left
+-- there.
 pub record Object_step : Type 0 where
   pub place : ℕ
   pub old : ℕ
   pub new : ℕ
 
--- The local of a caller: the operations that it announced, and its counts in N and M; its replies, its views and its seen
--- cuts; the cuts that its counted rows embed in N and in M; for each of its calls the steps that it made on object words;
--- its phase, the words staged in the row under way, the cut that this row may embed, and the scan under way; the cuts that
--- its scans gave; the counts that it has looked at, and the row words that it has peeked. What was staged, looked at and
+-- The local of a caller: the operations that it announced, and its counts in N and M; its replies,
+-- its views and its seen cuts; the cuts that its counted rows embed in N and in M; for each of its
+-- calls the steps that it made on object words; its phase, the words staged in the row under way,
+-- the cut that this row may embed, and the scan under way; the cuts that its scans gave; the counts
+-- that it has looked at, and the row words that it has peeked. What was staged, looked at and
 -- peeked stands newest first, all else oldest first.
 pub record Local : Type 0 where
   pub operations : List ℕ
@@ -97,7 +101,8 @@ fresh =
       peeked = [];
     }
 
--- The caller's own count in a region, which is also the number of the row that it stages there next.
+-- The caller's own count in a region, which is also the number of the row that it stages there
+-- next.
 abbrev pub own_count : Local → Region → ℕ
 own_count l N = l.announced
 own_count l M = l.published
@@ -112,8 +117,8 @@ pub record IsIdle (l : Local) : Type 0 where
   pub announcing : l.phase ≡ Announcing
   pub unstaged : l.staged ≡ []
 
--- The word of call k that belongs at a place of its row: a word of its operation, its reply, an entry of its view, or an entry
--- of a cut that its row embeds.
+-- The word of call k that belongs at a place of its row: a word of its operation, its reply, an
+-- entry of its view, or an entry of a cut that its row embeds.
 abbrev pub word_of : Local → ℕ → Content → ℕ
 word_of l k Low = low_of (slice_index l.operations k)
 word_of l k High = high_of (slice_index l.operations k)

@@ -8,7 +8,8 @@ use Rattle.world_core.specs.Histories.{first}
 abbrev pub again : Call
 again = call_of 0 1
 
--- It makes two calls with one operation. The first returns 0 and the second 1; and the other way round.
+-- It makes two calls with one operation. The first returns 0 and the second 1; and the other way
+-- round.
 abbrev pub in_turn : List Happening
 in_turn = Invoked first 5 ∷ Returned first 0 ∷ Invoked again 5 ∷ Returned again 1 ∷ []
 

@@ -102,7 +102,8 @@ abbrev pub viewing : List Step
 viewing = asked ++ by 0 (Look N 0 1 (Begins_view 50)) ∷ []
 
 abbrev pub allowed_as_viewing : List Step
-allowed_as_viewing = by 0 (Look N 1 0 Begins_none) ∷ by 0 (Look M 0 0 Begins_none) ∷ by 0 (Peek N 0 0 0 5) ∷ []
+allowed_as_viewing =
+    by 0 (Look N 1 0 Begins_none) ∷ by 0 (Look M 0 0 Begins_none) ∷ by 0 (Peek N 0 0 0 5) ∷ []
 
 abbrev pub refused_as_viewing : List Step
 refused_as_viewing =
@@ -128,7 +129,8 @@ refused_as_viewed =
     ∷ []
 
 abbrev pub allowed_as_ready : List Step
-allowed_as_ready = by 0 (Stage M 0 50) ∷ by 0 (Stage M 1 1) ∷ by 0 (Stage M 2 1) ∷ by 0 (Stage M 3 0) ∷ by 0 (Stage M 4 0) ∷ []
+allowed_as_ready = by 0 (Stage M 0 50) ∷ by 0 (Stage M 1 1) ∷ by 0 (Stage M 2 1)
+    ∷ by 0 (Stage M 3 0) ∷ by 0 (Stage M 4 0) ∷ []
 
 abbrev pub refused_as_ready : List Step
 refused_as_ready =
@@ -179,7 +181,8 @@ refused_as_looked =
     ∷ by 1 (Peek N 0 0 0 6)
     ∷ []
 
--- Caller 0 alone publishes the reply 50, the view 1 0 and the cut 0 0. Caller 1 looks at its count in M and peeks the reply.
+-- Caller 0 alone publishes the reply 50, the view 1 0 and the cut 0 0. Caller 1 looks at its count
+-- in M and peeks the reply.
 abbrev pub reply_peeked : List Step
 reply_peeked =
     viewing
@@ -204,8 +207,9 @@ refused_as_entry_peeked =
     ∷ by 1 (Peek N 1 0 0 0)
     ∷ []
 
--- Locals that know of the first row of caller 0 in one way alone: a count of N or of M; a cut of N or of M; a view that was peeked from a
--- row of M; and locals that don't know of it: a word of a row of N, and an entry of a cut that a row of M embeds.
+-- Locals that know of the first row of caller 0 in one way alone: a count of N or of M; a cut of N
+-- or of M; a view that was peeked from a row of M; and locals that don't know of it: a word of a
+-- row of N, and an entry of a cut that a row of M embeds.
 abbrev pub looked_in_N : Local
 looked_in_N = record fresh { looked = record { region = N; caller = 0; count = 1 } ∷ [] }
 
@@ -219,13 +223,16 @@ abbrev pub cut_of_M : Local
 cut_of_M = record fresh { cuts = record { region = M; cut = 1 ∷ 0 ∷ []; since = 0 } ∷ [] }
 
 abbrev pub view_peeked : Local
-view_peeked = record fresh { peeked = record { region = M; caller = 1; row = 0; place = 1; word = 1 } ∷ [] }
+view_peeked =
+    record fresh { peeked = record { region = M; caller = 1; row = 0; place = 1; word = 1 } ∷ [] }
 
 abbrev pub announcement_peeked : Local
-announcement_peeked = record fresh { peeked = record { region = N; caller = 1; row = 0; place = 1; word = 1 } ∷ [] }
+announcement_peeked =
+    record fresh { peeked = record { region = N; caller = 1; row = 0; place = 1; word = 1 } ∷ [] }
 
 abbrev pub embedded_peeked : Local
-embedded_peeked = record fresh { peeked = record { region = M; caller = 1; row = 0; place = 3; word = 1 } ∷ [] }
+embedded_peeked =
+    record fresh { peeked = record { region = M; caller = 1; row = 0; place = 3; word = 1 } ∷ [] }
 
 -- A local that looked at the count of a caller 2 that isn't there.
 abbrev pub looked_past : Local
@@ -244,13 +251,18 @@ staged_early =
           ∷ [];
     }
 
--- A program of one object word: caller 1 may leave 7 there and get the reply 7, and nobody anything else.
+-- A program of one object word: caller 1 may leave 7 there and get the reply 7, and nobody anything
+-- else.
 abbrev pub narrow : Shape
 narrow =
     record {
       callers = 2;
       cap = 1;
-      program = record { objects = 1; may_step = λ i l step. i == 1 && step.new == 7; may_reply = λ i l reply. i == 1 && reply == 7 };
+      program = record {
+        objects = 1;
+        may_step = λ i l step. i == 1 && step.new == 7;
+        may_reply = λ i l reply. i == 1 && reply == 7;
+      };
     }
 
 -- A local in the phase ask; and in the phase view.

@@ -1,4 +1,5 @@
--- How a scan lies in its fields: the words of the round under way stand first in a cut, after which the rest doesn't matter.
+-- How a scan lies in its fields: the words of the round under way stand first in a cut, after which
+-- the rest doesn't matter.
 use Rattle.std.specs.Prelude.{◌≡◌, ◌<◌, ℕ, List, length, take, Option, MatchOption}
 use Rattle.world_core.specs.declared.course.Course.{Course}
 use Rattle.world_core.specs.declared.course.Course.TheVariants.{Collects, Borrows, Ends}
@@ -27,8 +28,8 @@ FitsCourse n Collects = Unit {0}
 FitsCourse n (Borrows j row) = j < n
 FitsCourse n (Ends cut) = length cut ≡ n
 
--- The caller that scans is one of the callers; a round under way lacks a caller; and whole rounds have as many words as there
--- are callers.
+-- The caller that scans is one of the callers; a round under way lacks a caller; and whole rounds
+-- have as many words as there are callers.
 pub record IsWhole (c : Inside) : Type 0 where
   pub me : c.me < length c.current
   pub lacks : c.taken < length c.current

@@ -10,7 +10,8 @@ use Rattle.world_core.specs.Event.{Event, Stage, Announce, Object, Look, Peek, P
 use Rattle.world_core.specs.World.{Step, local_of, end_of, is_possible}
 use Rattle.world_core.specs.Snapshot.{Span}
 
--- Two callers, with one row each: the words are the four counts, the row of caller 0, and that of caller 1.
+-- Two callers, with one row each: the words are the four counts, the row of caller 0, and that of
+-- caller 1.
 abbrev pub pair : Shape
 pair = record { callers = 2; cap = 1; program = outside }
 
@@ -18,22 +19,25 @@ pair = record { callers = 2; cap = 1; program = outside }
 abbrev pub by : ℕ → Event → Step
 by who event = record { who = who; event = event }
 
--- Looks at the counts of a region, from caller j on, that find these words; a collect; and a collect whose first look begins a
--- scan.
+-- Looks at the counts of a region, from caller j on, that find these words; a collect; and a
+-- collect whose first look begins a scan.
 abbrev pub looks_from : ℕ → Region → ℕ → List ℕ → List Step
 looks_from who region j [] = []
-looks_from who region j (x ∷ xs) = by who (Look region j x Begins_none) ∷ looks_from who region (suc j) xs
+looks_from who region j (x ∷ xs) =
+    by who (Look region j x Begins_none) ∷ looks_from who region (suc j) xs
 
 abbrev pub collect : ℕ → Region → List ℕ → List Step
 collect who region counts = looks_from who region 0 counts
 
 abbrev pub first_collect : ℕ → Region → Opening → List ℕ → List Step
 first_collect who region opening [] = []
-first_collect who region opening (x ∷ xs) = by who (Look region 0 x opening) ∷ looks_from who region 1 xs
+first_collect who region opening (x ∷ xs) =
+    by who (Look region 0 x opening) ∷ looks_from who region 1 xs
 
 -- A scan of two equal collects.
 abbrev pub scan : ℕ → Region → Opening → List ℕ → List Step
-scan who region opening counts = first_collect who region opening counts ++ collect who region counts
+scan who region opening counts =
+    first_collect who region opening counts ++ collect who region counts
 
 -- Stages of these words at the places of a region from number p on.
 abbrev pub stages : ℕ → Region → ℕ → List ℕ → List Step
@@ -42,11 +46,13 @@ stages who region p (x ∷ xs) = by who (Stage region p x) ∷ stages who region
 
 -- A caller scans N, and announces an operation of this low word, embedding the cut.
 abbrev pub announcement : ℕ → ℕ → List ℕ → List Step
-announcement who low cut = scan who N Begins_scan cut ++ stages who N 0 (low ∷ 0 ∷ cut) ++ by who Announce ∷ []
+announcement who low cut =
+    scan who N Begins_scan cut ++ stages who N 0 (low ∷ 0 ∷ cut) ++ by who Announce ∷ []
 
 -- A caller scans M, and publishes this reply and view, embedding the cut.
 abbrev pub publication : ℕ → ℕ → List ℕ → List ℕ → List Step
-publication who reply view cut = scan who M Begins_scan cut ++ stages who M 0 (reply ∷ view ++ cut) ++ by who Publish ∷ []
+publication who reply view cut =
+    scan who M Begins_scan cut ++ stages who M 0 (reply ∷ view ++ cut) ++ by who Publish ∷ []
 
 -- The local of a caller after these steps.
 abbrev pub local_after_all : Shape → List Step → ℕ → Local
@@ -64,7 +70,8 @@ abbrev pub allows_in : Shape → List Step → List Step → Bool
 allows_in s steps further = list_all (λ (step : Step). is_possible s (end_of s steps) step) further
 
 abbrev pub refuses_in : Shape → List Step → List Step → Bool
-refuses_in s steps further = list_all (λ (step : Step). not (is_possible s (end_of s steps) step)) further
+refuses_in s steps further =
+    list_all (λ (step : Step). not (is_possible s (end_of s steps) step)) further
 
 abbrev pub allows : List Step → List Step → Bool
 allows steps further = allows_in pair steps further
@@ -72,8 +79,8 @@ allows steps further = allows_in pair steps further
 abbrev pub refuses : List Step → List Step → Bool
 refuses steps further = refuses_in pair steps further
 
--- Caller 0 announces the operation 5 and its object replies 50. Caller 1 announces 6 in the midst of the first collect of
--- the view of caller 0, so the view takes a third collect.
+-- Caller 0 announces the operation 5 and its object replies 50. Caller 1 announces 6 in the midst
+-- of the first collect of the view of caller 0, so the view takes a third collect.
 abbrev pub announced_both : List Step
 announced_both =
     announcement 0 5 (0 ∷ 0 ∷ [])
@@ -85,8 +92,8 @@ announced_both =
     ∷ by 0 (Look N 0 1 Begins_none)
     ∷ []
 
--- The last look of the view of caller 0, its scan of M, its record, and its publication; the object of caller 1 replies 60
--- meanwhile.
+-- The last look of the view of caller 0, its scan of M, its record, and its publication; the object
+-- of caller 1 replies 60 meanwhile.
 abbrev pub published_one : List Step
 published_one =
     by 0 (Look N 1 1 Begins_none)
@@ -132,8 +139,9 @@ view_span =
       last = by 0 (Look N 1 1 Begins_none);
     }
 
--- Caller 0 begins a scan of M and gives it up for a scan of N, which gives the cut to embed. It begins another scan of N, and
--- gives that up as it announces, with its row staged between the looks. A look after that is no scan's.
+-- Caller 0 begins a scan of M and gives it up for a scan of N, which gives the cut to embed. It
+-- begins another scan of N, and gives that up as it announces, with its row staged between the
+-- looks. A look after that is no scan's.
 abbrev pub scans_given_up : List Step
 scans_given_up =
     by 0 (Look M 0 0 Begins_scan)
@@ -174,20 +182,22 @@ published_in_a_scan =
     ∷ by 0 (Look M 0 1 Begins_none)
     ∷ []
 
--- Caller 0 scans N twice, with an announcement of caller 1 between, and then stages: the later cut is the one to embed. A third
--- scan, which ends after a word was staged, serves nothing.
+-- Caller 0 scans N twice, with an announcement of caller 1 between, and then stages: the later cut
+-- is the one to embed. A third scan, which ends after a word was staged, serves nothing.
 abbrev pub scanned_twice : List Step
-scanned_twice = scan 0 N Begins_scan (0 ∷ 0 ∷ []) ++ announcement 1 6 (0 ∷ 0 ∷ []) ++ scan 0 N Begins_scan (0 ∷ 1 ∷ [])
+scanned_twice = scan 0 N Begins_scan (0 ∷ 0 ∷ []) ++ announcement 1 6 (0 ∷ 0 ∷ [])
+    ++ scan 0 N Begins_scan (0 ∷ 1 ∷ [])
 
 abbrev pub scanned_late : List Step
-scanned_late = scan 0 N Begins_scan (0 ∷ 0 ∷ []) ++ announcement 1 6 (0 ∷ 0 ∷ []) ++ by 0 (Stage N 0 5) ∷ scan 0 N Begins_scan (0 ∷ 1 ∷ [])
+scanned_late = scan 0 N Begins_scan (0 ∷ 0 ∷ []) ++ announcement 1 6 (0 ∷ 0 ∷ [])
+    ++ by 0 (Stage N 0 5) ∷ scan 0 N Begins_scan (0 ∷ 1 ∷ [])
 
 -- Three callers, with two rows each. Caller 2 scans N while the others move.
 abbrev pub trio : Shape
 trio = record { callers = 3; cap = 2; program = outside }
 
--- Its first collect finds nobody; then caller 0 announces 5, and the second finds that; then caller 1 announces 7, and the third
--- finds that too.
+-- Its first collect finds nobody; then caller 0 announces 5, and the second finds that; then caller
+-- 1 announces 7, and the third finds that too.
 abbrev pub three_collects : List Step
 three_collects =
     first_collect 2 N Begins_scan (0 ∷ 0 ∷ 0 ∷ [])
@@ -204,8 +214,9 @@ moved_again =
     ++ scan 0 M Begins_scan (1 ∷ 0 ∷ 0 ∷ [])
     ++ announcement 0 6 (1 ∷ 1 ∷ 0 ∷ [])
 
--- The fourth collect of caller 2 finds that caller 0 has moved twice, and it peeks the cut that the second row of caller 0 embeds. A look
--- and a peek of its own that the scan doesn't want are none of its words.
+-- The fourth collect of caller 2 finds that caller 0 has moved twice, and it peeks the cut that the
+-- second row of caller 0 embeds. A look and a peek of its own that the scan doesn't want are none
+-- of its words.
 abbrev pub borrowed : List Step
 borrowed =
     collect 2 N (2 ∷ 1 ∷ 0 ∷ [])
@@ -235,10 +246,11 @@ borrowing_span =
 
 -- The words that the scan takes: four collects, and the peeks.
 abbrev pub borrowed_words : List ℕ
-borrowed_words = (0 ∷ 0 ∷ 0 ∷ []) ++ (1 ∷ 0 ∷ 0 ∷ []) ++ (1 ∷ 1 ∷ 0 ∷ []) ++ (2 ∷ 1 ∷ 0 ∷ []) ++ 1 ∷ 1 ∷ 0 ∷ []
+borrowed_words =
+    (0 ∷ 0 ∷ 0 ∷ []) ++ (1 ∷ 0 ∷ 0 ∷ []) ++ (1 ∷ 1 ∷ 0 ∷ []) ++ (2 ∷ 1 ∷ 0 ∷ []) ++ 1 ∷ 1 ∷ 0 ∷ []
 
--- Caller 1 has announced. Between the looks of its scan caller 0 stages words of its row and peeks a row that it knows; the scan
--- goes on, and gives its cut.
+-- Caller 1 has announced. Between the looks of its scan caller 0 stages words of its row and peeks
+-- a row that it knows; the scan goes on, and gives its cut.
 abbrev pub span_beside_stages : Span
 span_beside_stages =
     record {

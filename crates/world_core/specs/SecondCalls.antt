@@ -17,8 +17,8 @@ use Rattle.world_core.specs.Schedules.{by, scan, stages, announcement, publicati
 abbrev pub twice : Shape
 twice = record { callers = 2; cap = 2; program = outside }
 
--- A whole call of caller 0, by the low and the high word of its operation, its reply, the cut that its row embeds in N, its view,
--- the cut that its row embeds in M, and the cut that it sees.
+-- A whole call of caller 0, by the low and the high word of its operation, its reply, the cut that
+-- its row embeds in N, its view, the cut that its row embeds in M, and the cut that it sees.
 abbrev pub whole_call : ℕ → ℕ → ℕ → List ℕ → List ℕ → List ℕ → List ℕ → List Step
 whole_call low high reply in_N view in_M seen =
     scan 0 N Begins_scan in_N
@@ -28,7 +28,8 @@ whole_call low high reply in_N view in_M seen =
     ++ publication 0 reply view in_M
     ++ scan 0 M Begins_scan seen
 
--- Caller 1 announces 9 and goes no further, so no cut of N is one of M. Then caller 0 makes two whole calls.
+-- Caller 1 announces 9 and goes no further, so no cut of N is one of M. Then caller 0 makes two
+-- whole calls.
 abbrev pub two_by_one : List Step
 two_by_one =
     announcement 1 9 (0 ∷ 0 ∷ [])
@@ -42,7 +43,8 @@ first_operation = 5 + 7 * 2 ^ 64
 abbrev pub second_operation : ℕ
 second_operation = 6 + 8 * 2 ^ 64
 
--- The local of caller 0 after its second announcement, view, publication and seen cut; and with its second row ready to be staged.
+-- The local of caller 0 after its second announcement, view, publication and seen cut; and with its
+-- second row ready to be staged.
 abbrev pub as_announced : Local
 as_announced = local_after_all twice (take 45 two_by_one) 0
 
@@ -72,7 +74,10 @@ made operation reached = record { operation = operation; reached = reached }
 -- The book of both callers.
 abbrev pub book_of_two : List Page
 book_of_two =
-    record { operations = first_operation ∷ second_operation ∷ []; records = first_record ∷ second_record ∷ [] }
+    record {
+      operations = first_operation ∷ second_operation ∷ [];
+      records = first_record ∷ second_record ∷ [];
+    }
     ∷ record { operations = 9 ∷ []; records = [] }
     ∷ []
 
@@ -114,7 +119,11 @@ looked_beside = by 0 (Look N 0 0 Begins_scan) ∷ by 0 (Look M 1 0 Begins_none) 
 
 -- One caller with two rows, and two object words on which every step is allowed.
 abbrev pub two_words : Shape
-two_words = record { callers = 1; cap = 2; program = record { objects = 2; may_step = λ i l step. true; may_reply = λ i l reply. true } }
+two_words = record {
+  callers = 1;
+  cap = 2;
+  program = record { objects = 2; may_step = λ i l step. true; may_reply = λ i l reply. true };
+}
 
 -- Two steps in its first call, and one in its second.
 abbrev pub steps_by_call : List Step
@@ -135,5 +144,9 @@ by_operation =
     record {
       callers = 1;
       cap = 2;
-      program = record { objects = 1; may_step = λ i l step. step.new == operation_now l; may_reply = λ i l reply. reply == operation_now l };
+      program = record {
+        objects = 1;
+        may_step = λ i l step. step.new == operation_now l;
+        may_reply = λ i l reply. reply == operation_now l;
+      };
     }

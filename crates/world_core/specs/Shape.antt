@@ -3,8 +3,8 @@ use Rattle.std.specs.Prelude.{ℕ, ◌+◌, Bool}
 use Rattle.world_core.specs.Layout.{row_words}
 use Rattle.world_core.specs.Local.{Local, Object_step}
 
--- What a program means for n callers and a cap: how many object words it has, whether a caller with this local may make this
--- step on an object word, and whether it may get this reply.
+-- What a program means for n callers and a cap: how many object words it has, whether a caller with
+-- this local may make this step on an object word, and whether it may get this reply.
 pub record Meaning : Type 0 where
   pub objects : ℕ
   pub may_step : ℕ → Local → Object_step → Bool

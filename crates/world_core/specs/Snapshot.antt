@@ -1,5 +1,5 @@
--- What it means that a scan gave a cut in a run, and that the cut is the state of its region at one moment of the run (Afek and
--- others 1993).
+-- What it means that a scan gave a cut in a run, and that the cut is the state of its region at one
+-- moment of the run (Afek and others 1993).
 use Rattle.std.specs.Prelude.{◌≡◌, ℕ, Bool, true, false, not, ◌&&◌, ◌==◌, IsTrue, List, [], ◌∷◌, ◌++◌, map}
 use Rattle.std.specs.List.{list_all, range_with_len}
 use Rattle.world_core.specs.declared.region.Region.{Region}
@@ -27,7 +27,8 @@ is_first_look region _ = false
 abbrev pub begins_scan : ℕ → Region → Step → Bool
 begins_scan who region step = step.who == who && is_first_look region step.event
 
--- The event gives up a scan of its caller that was under way: it begins another, announces, or publishes.
+-- The event gives up a scan of its caller that was under way: it begins another, announces, or
+-- publishes.
 abbrev pub gives_up : Event → Bool
 gives_up Announce = true
 gives_up Publish = true
@@ -38,8 +39,8 @@ gives_up _ = false
 abbrev pub keeps_scan : ℕ → Step → Bool
 keeps_scan who step = not (step.who == who && gives_up step.event)
 
--- The part of a run up to the end of a scan: the steps before it, its first look, the steps between, and its last step, which is
--- a look, or the last peek of a borrowed cut.
+-- The part of a run up to the end of a scan: the steps before it, its first look, the steps
+-- between, and its last step, which is a look, or the last peek of a borrowed cut.
 pub record Span : Type 0 where
   pub before : List Step
   pub first : Step
@@ -53,16 +54,19 @@ up_to_last r = r.before ++ r.first ∷ r.between
 abbrev pub through_last : Span → List Step
 through_last r = up_to_last r ++ r.last ∷ []
 
--- A scan by a caller spans this part of a run, and gave this cut of its region: its first look begins it, none of the later
--- steps gives it up, and the last one adds the cut to those that the caller's scans gave.
+-- A scan by a caller spans this part of a run, and gave this cut of its region: its first look
+-- begins it, none of the later steps gives it up, and the last one adds the cut to those that the
+-- caller's scans gave.
 pub record GivesCut (s : Shape) (who : ℕ) (given : Given) (r : Span) : Type 0 where
   pub run : IsRun s (through_last r)
   pub begins : IsTrue (begins_scan who given.region r.first)
   pub keeps : IsTrue (list_all (keeps_scan who) (r.between ++ r.last ∷ []))
-  pub ends : (local_of (end_of s (through_last r)) who).cuts ≡ (local_of (end_of s (up_to_last r)) who).cuts ++ given ∷ []
+  pub ends : (local_of (end_of s (through_last r)) who).cuts
+      ≡ (local_of (end_of s (up_to_last r)) who).cuts ++ given ∷ []
 
--- The cut is instantaneous: at some moment after the scan's first look and before its last step, the counts of the region were
--- exactly this cut.
+-- The cut is instantaneous: at some moment after the scan's first look and before its last step,
+-- the counts of the region were exactly this cut.
 abbrev pub IsInstantaneous : Shape → Given → Span → Type 0
 IsInstantaneous s given r =
-    (early late : List Step) × (r.between ≡ early ++ late) × (counts_in s given.region (end_of s (r.before ++ r.first ∷ early)) ≡ given.cut)
+    (early late : List Step) × (r.between ≡ early ++ late)
+    × (counts_in s given.region (end_of s (r.before ++ r.first ∷ early)) ≡ given.cut)

@@ -9,8 +9,8 @@ abbrev pub first_of : ℕ → List ℕ → ℕ → Option (List ℕ)
 first_of n taken zero = None
 first_of n taken (suc k) = Some (round n taken 0)
 
--- How many callers there are, which of them scans, and which region; the first and the last round, if there is one; the words
--- of the round under way; and what the scan does now.
+-- How many callers there are, which of them scans, and which region; the first and the last round,
+-- if there is one; the words of the round under way; and what the scan does now.
 pub record Standing : Type 0 where
   pub callers : ℕ
   pub me : ℕ

@@ -1,4 +1,5 @@
--- The world: the words of the table, and one local for each caller. Its runs, and the worlds that they reach.
+-- The world: the words of the table, and one local for each caller. Its runs, and the worlds that
+-- they reach.
 use Rattle.std.specs.Prelude.{◌≡◌, ℕ, Bool, true, ◌&&◌, IsTrue, List, [], ◌∷◌, replicate, slice_index, slice_index_or, slice_set}
 use Rattle.world_core.specs.declared.region.Region.{Region}
 use Rattle.world_core.specs.Layout.{count_index, place_index, object_index}
@@ -44,9 +45,11 @@ after s w step =
       locals = slice_set w.locals step.who (local_after s.callers (local_of w step.who) step.event);
     }
 
--- A step is enabled in a world where its caller is allowed it and it loads the word that stands there.
+-- A step is enabled in a world where its caller is allowed it and it loads the word that stands
+-- there.
 abbrev pub is_possible : Shape → World → Step → Bool
-is_possible s w step = is_allowed s step.who (local_of w step.who) step.event && is_loaded s w.words step.event
+is_possible s w step =
+    is_allowed s step.who (local_of w step.who) step.event && is_loaded s w.words step.event
 
 -- The world after these steps.
 abbrev pub after_all : Shape → World → List Step → World

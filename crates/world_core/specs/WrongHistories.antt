@@ -1,4 +1,5 @@
--- Worked histories that aren't linearizable for an object whose reply is the number of operations before.
+-- Worked histories that aren't linearizable for an object whose reply is the number of operations
+-- before.
 use Rattle.std.specs.Prelude.{List, [], ◌∷◌}
 use Rattle.book_base.specs.declared.call.Call.{Call}
 use Rattle.world_core.specs.History.{Happening, Invoked, Returned, call_of}
@@ -24,8 +25,8 @@ second_returns_1 = Invoked second 6 ∷ Returned second 1 ∷ []
 abbrev pub before_unanswered : List Happening
 before_unanswered = Invoked first 5 ∷ Returned first 1 ∷ Invoked second 6 ∷ []
 
--- The third call returns 3, and later the first is invoked, which returns 1. Between them the fourth returns 0. The second overlaps all
--- of them, and returns 2.
+-- The third call returns 3, and later the first is invoked, which returns 1. Between them the
+-- fourth returns 0. The second overlaps all of them, and returns 2.
 abbrev pub beside_all : List Happening
 beside_all =
     Invoked second 6
@@ -40,4 +41,5 @@ beside_all =
 
 -- The first call never returns. The second returns 1, and the third 3.
 abbrev pub returns_1_and_3 : List Happening
-returns_1_and_3 = Invoked first 5 ∷ Invoked second 6 ∷ Returned second 1 ∷ Invoked third 7 ∷ Returned third 3 ∷ []
+returns_1_and_3 =
+    Invoked first 5 ∷ Invoked second 6 ∷ Returned second 1 ∷ Invoked third 7 ∷ Returned third 3 ∷ []

@@ -1,5 +1,5 @@
-//! The small definitions of the world, value by value; and for each part of the larger ones a value that lacks
-//! this part alone.
+//! The small definitions of the world, value by value; and for each part of the larger ones a value
+//! that lacks this part alone.
 
 ghost use Rattle.std.specs.Prelude.{◌≡◌, true, false, [], ◌∷◌, ◌++◌, IsTrue, Some, None, map, replicate};
 ghost use Rattle.world_core.specs.declared.region.Region.TheVariants.{N, M};
@@ -21,13 +21,15 @@ ghost use Rattle.world_core.specs.Refusals.{entry_peeked};
 ghost use Rattle.world_core.specs.SecondCalls.{as_announced, as_viewed, as_published, as_judged};
 ghost use Rattle.world_core.specs.Parts.{phases, scan_of, staged_word, purposes, with_looks, with_cuts, rowless, span_of_no_run, span_begun_before, span_given_up, given_since, nobody, stepped, peek_of, with_peeks, lacking_none, lacking_low, lacking_high, lacking_reply, lacking_entry, book_alone, book_of_another, book_unheld, book_lacking, book_too_wide, reply_staged, published_alone, uncounted, crowded, asking_alone, asking_staged, asking_embeds, asking_views, staged_past, staged_beside, staged_entry, staged_low, no_words, lent_words};
 
-/// What holds in each phase: which region it stages, whether it asks, and how many calls, replies, views and
-/// records are of no published record, or of no seen cut, yet.
+/// What holds in each phase: which region it stages, whether it asks, and how many calls, replies,
+/// views and records are of no published record, or of no seen cut, yet.
 pub fn phases_differ()
     // The phase announce alone stages the region N.
-    ensures staging_N { map (λ p. is_staging p N) phases ≡ true ∷ false ∷ false ∷ false ∷ false ∷ [] }
+    ensures staging_N { map (λ p. is_staging p N) phases
+        ≡ true ∷ false ∷ false ∷ false ∷ false ∷ [] }
     // The phase publish alone stages the region M.
-    ensures staging_M { map (λ p. is_staging p M) phases ≡ false ∷ false ∷ false ∷ true ∷ false ∷ [] }
+    ensures staging_M { map (λ p. is_staging p M) phases
+        ≡ false ∷ false ∷ false ∷ true ∷ false ∷ [] }
     // The phase ask alone asks the object.
     ensures asking { map is_asking phases ≡ false ∷ true ∷ false ∷ false ∷ false ∷ [] }
     // In the phases ask, view and publish one announced call is of no published record.
@@ -43,34 +45,47 @@ pub fn phases_differ()
 /// What the cut of a scan serves in each phase, by its region, and whether a word is staged.
 pub fn cuts_serve_by_phase()
     // A cut of N serves the row in the phase announce, and nothing in the others.
-    ensures of_N { purposes [] N false ≡ For_row ∷ For_nothing ∷ For_nothing ∷ For_nothing ∷ For_nothing ∷ [] }
+    ensures of_N { purposes [] N false
+        ≡ For_row ∷ For_nothing ∷ For_nothing ∷ For_nothing ∷ For_nothing ∷ [] }
     // A cut of M serves the row in the phase publish and as the seen cut in the phase judge, and
     // nothing in the others.
-    ensures of_M { purposes [] M false ≡ For_nothing ∷ For_nothing ∷ For_nothing ∷ For_row ∷ For_seen ∷ [] }
+    ensures of_M { purposes [] M false
+        ≡ For_nothing ∷ For_nothing ∷ For_nothing ∷ For_row ∷ For_seen ∷ [] }
     // A cut of N serves nothing once a word is staged.
-    ensures late_of_N { purposes (staged_word 0 5 ∷ []) N false ≡ For_nothing ∷ For_nothing ∷ For_nothing ∷ For_nothing ∷ For_nothing ∷ [] }
+    ensures late_of_N { purposes (staged_word 0 5 ∷ []) N false
+        ≡ For_nothing ∷ For_nothing ∷ For_nothing ∷ For_nothing ∷ For_nothing ∷ [] }
     // A cut of M serves as the seen cut alone once a word is staged.
-    ensures late_of_M { purposes (staged_word 0 5 ∷ []) M false ≡ For_nothing ∷ For_nothing ∷ For_nothing ∷ For_nothing ∷ For_seen ∷ [] }
+    ensures late_of_M { purposes (staged_word 0 5 ∷ []) M false
+        ≡ For_nothing ∷ For_nothing ∷ For_nothing ∷ For_nothing ∷ For_seen ∷ [] }
     // The cut of the view's scan of N is the view in the phase view.
-    ensures view { purposes [] N true ≡ For_row ∷ For_nothing ∷ For_view ∷ For_nothing ∷ For_nothing ∷ [] }
+    ensures view { purposes [] N true
+        ≡ For_row ∷ For_nothing ∷ For_view ∷ For_nothing ∷ For_nothing ∷ [] }
     // A cut of M is no view, whatever its scan is said to be.
-    ensures view_of_M { purposes [] M true ≡ For_nothing ∷ For_nothing ∷ For_nothing ∷ For_row ∷ For_seen ∷ [] }
+    ensures view_of_M { purposes [] M true
+        ≡ For_nothing ∷ For_nothing ∷ For_nothing ∷ For_row ∷ For_seen ∷ [] }
 {}
 
 /// The tests of the conditions, value by value.
 pub fn tests_tell_apart()
     // A region is the same as itself alone.
-    ensures regions { is_same_region N N ∷ is_same_region N M ∷ is_same_region M N ∷ is_same_region M M ∷ [] ≡ true ∷ false ∷ false ∷ true ∷ [] }
+    ensures regions { is_same_region N N ∷ is_same_region N M ∷ is_same_region M N
+        ∷ is_same_region M M ∷ [] ≡ true ∷ false ∷ false ∷ true ∷ [] }
     // The view's entry of one caller is no entry of another, no entry of an embedded cut and no
     // other place.
-    ensures entries { map (λ part. is_view_entry part 1) (View_entry 1 ∷ View_entry 0 ∷ Embedded_entry M 1 ∷ Low ∷ []) ≡ true ∷ false ∷ false ∷ false ∷ [] }
+    ensures entries { map (λ part. is_view_entry part 1)
+        (View_entry 1 ∷ View_entry 0 ∷ Embedded_entry M 1 ∷ Low ∷ [])
+        ≡ true ∷ false ∷ false ∷ false ∷ [] }
     // A scan that wants a look at one count wants no look at another, no peek, and isn't done.
-    ensures looks { map (is_look_wanted 1) (Wants_look 1 ∷ Wants_look 0 ∷ Wants_peek 1 0 0 ∷ Done [] ∷ []) ≡ true ∷ false ∷ false ∷ false ∷ [] }
+    ensures looks { map (is_look_wanted 1)
+        (Wants_look 1 ∷ Wants_look 0 ∷ Wants_peek 1 0 0 ∷ Done [] ∷ [])
+        ≡ true ∷ false ∷ false ∷ false ∷ [] }
     // A scan that wants a peek wants it of the caller, the row and the entry that it names, and in
     // N.
-    ensures peeks { map (is_peek_wanted 2 N 1 3 2) (Wants_peek 1 3 0 ∷ Wants_peek 0 3 0 ∷ Wants_peek 1 2 0 ∷ Wants_peek 1 3 1 ∷ Wants_look 1 ∷ []) ≡ true ∷ false ∷ false ∷ false ∷ false ∷ [] }
+    ensures peeks { map (is_peek_wanted 2 N 1 3 2) (Wants_peek 1 3 0 ∷ Wants_peek 0 3 0 ∷ Wants_peek
+        1 2 0 ∷ Wants_peek 1 3 1 ∷ Wants_look 1 ∷ []) ≡ true ∷ false ∷ false ∷ false ∷ false ∷ [] }
     // A peek in M is wanted at the place for the entry of the embedded cut.
-    ensures peeks_of_M { map (is_peek_wanted 2 M 1 3 4) (Wants_peek 1 3 1 ∷ Wants_peek 1 3 2 ∷ []) ≡ true ∷ false ∷ [] }
+    ensures peeks_of_M { map (is_peek_wanted 2 M 1 3 4) (Wants_peek 1 3 1 ∷ Wants_peek 1 3 2 ∷ [])
+        ≡ true ∷ false ∷ [] }
     // A caller may peek a row that an older look of it has counted.
     ensures older_look { is_enabled pair 1 with_looks (Peek N 0 1 0 0) ≡ true }
     // A caller may not peek a row beyond all counts that it has looked at.
@@ -89,21 +104,29 @@ pub fn tests_tell_apart()
 pub fn events_begin_and_give_up()
     // A look that begins a scan, or the view's scan, is an opening one, and one that begins nothing
     // isn't.
-    ensures openings { map is_opening (Begins_none ∷ Begins_scan ∷ Begins_view 7 ∷ []) ≡ false ∷ true ∷ true ∷ [] }
+    ensures openings { map is_opening (Begins_none ∷ Begins_scan ∷ Begins_view 7 ∷ [])
+        ≡ false ∷ true ∷ true ∷ [] }
     // The first look of a scan of N is a look in N that begins a scan, and no other look or event.
-    ensures first_looks { map (is_first_look N) (Look N 0 0 Begins_scan ∷ Look N 0 0 (Begins_view 7) ∷ Look M 0 0 Begins_scan ∷ Look N 0 0 Begins_none ∷ Peek N 0 0 0 0 ∷ Announce ∷ []) ≡ true ∷ true ∷ false ∷ false ∷ false ∷ false ∷ [] }
+    ensures first_looks { map (is_first_look N) (Look N 0 0 Begins_scan ∷ Look N 0 0 (Begins_view 7)
+        ∷ Look M 0 0 Begins_scan ∷ Look N 0 0 Begins_none ∷ Peek N 0 0 0 0 ∷ Announce ∷ [])
+        ≡ true ∷ true ∷ false ∷ false ∷ false ∷ false ∷ [] }
     // A scan of caller 1 is begun by a look of that caller which begins one.
-    ensures by_whom { map (begins_scan 1 N) (by 1 (Look N 0 0 Begins_scan) ∷ by 0 (Look N 0 0 Begins_scan) ∷ by 1 (Look N 0 0 Begins_none) ∷ []) ≡ true ∷ false ∷ false ∷ [] }
+    ensures by_whom { map (begins_scan 1 N) (by 1 (Look N 0 0 Begins_scan) ∷ by 0
+        (Look N 0 0 Begins_scan) ∷ by 1 (Look N 0 0 Begins_none) ∷ []) ≡ true ∷ false ∷ false ∷ [] }
     // An announcement, a publication and a look that begins a scan give up a scan, and no other
     // event does.
-    ensures gives_up { map gives_up (Announce ∷ Publish ∷ Look M 0 0 Begins_scan ∷ Look N 0 0 (Begins_view 7) ∷ Look N 0 0 Begins_none ∷ Stage N 0 0 ∷ Object (object_step 0 0 0) ∷ Peek N 0 0 0 0 ∷ []) ≡ true ∷ true ∷ true ∷ true ∷ false ∷ false ∷ false ∷ false ∷ [] }
+    ensures gives_up { map gives_up
+        (Announce ∷ Publish ∷ Look M 0 0 Begins_scan ∷ Look N 0 0 (Begins_view 7)
+        ∷ Look N 0 0 Begins_none ∷ Stage N 0 0 ∷ Object (object_step 0 0 0) ∷ Peek N 0 0 0 0 ∷ [])
+        ≡ true ∷ true ∷ true ∷ true ∷ false ∷ false ∷ false ∷ false ∷ [] }
     // A caller's scan is kept by others' events and by its own stage, and not by its own
     // announcement.
-    ensures keeps { map (keeps_scan 1) (by 1 Announce ∷ by 0 Announce ∷ by 1 (Stage N 0 0) ∷ []) ≡ false ∷ true ∷ true ∷ [] }
+    ensures keeps { map (keeps_scan 1) (by 1 Announce ∷ by 0 Announce ∷ by 1 (Stage N 0 0) ∷ [])
+        ≡ false ∷ true ∷ true ∷ [] }
 {}
 
-/// A scan gives a cut where all of its parts hold: not in steps that are no run, nor where another scan began
-/// before, nor where it is given up between, nor another cut than the one that it gave.
+/// A scan gives a cut where all of its parts hold: not in steps that are no run, nor where another
+/// scan began before, nor where it is given up between, nor another cut than the one that it gave.
 #[tactic(auto, using(crate::proofs::Spans::no_run, crate::proofs::Spans::not_begun, crate::proofs::Spans::not_kept, crate::proofs::Spans::other_cut, crate::proofs::Spans::other_time))]
 pub fn scans_give_cuts_in_spans()
     // A scan gives no cut in steps that are no run.
@@ -118,16 +141,18 @@ pub fn scans_give_cuts_in_spans()
     ensures other_time { ¬ GivesCut single 0 (given_since 1) span_after_announcement }
 {}
 
-/// Runs and the worlds that they reach: each step of a run is enabled where it stands; a world that no run ends in
-/// isn't reachable; and as many locals are together as there are callers.
+/// Runs and the worlds that they reach: each step of a run is enabled where it stands; a world that
+/// no run ends in isn't reachable; and as many locals are together as there are callers.
 #[tactic(auto, using(crate::proofs::Together::first_impossible, crate::proofs::Together::later_impossible, crate::proofs::Together::not_reachable, crate::proofs::Together::one_local, crate::proofs::Together::both_locals, crate::proofs::Together::second_local, crate::proofs::Together::third_local))]
 pub fn worlds_are_reached_by_runs()
     // At the start all words are 0, and each local is the fresh one.
-    ensures start { start (record { callers = 2; cap = 1; program = scrap }) ≡ record { words = replicate 23 0; locals = fresh ∷ fresh ∷ [] } }
+    ensures start { start (record { callers = 2; cap = 1; program = scrap })
+        ≡ record { words = replicate 23 0; locals = fresh ∷ fresh ∷ [] } }
     // Steps whose first one isn't possible are no run.
     ensures first_impossible { ¬ IsRun pair (by 0 Announce ∷ []) }
     // Steps of which a later one isn't possible are no run.
-    ensures later_impossible { ¬ IsRun pair (by 0 (Look N 0 0 Begins_none) ∷ by 0 (Look N 0 1 Begins_none) ∷ []) }
+    ensures later_impossible { ¬ IsRun pair
+        (by 0 (Look N 0 0 Begins_none) ∷ by 0 (Look N 0 1 Begins_none) ∷ []) }
     // A world that no run ends in isn't reachable.
     ensures not_reachable { ¬ IsReachable nobody stepped }
     // One local isn't the locals of a world of two callers.
@@ -140,8 +165,8 @@ pub fn worlds_are_reached_by_runs()
     ensures third_local { ¬ IsLocalOf pair 2 fresh }
 {}
 
-/// A cut of what was published: as wide as there are callers, and nowhere above the published counts, whatever was
-/// announced.
+/// A cut of what was published: as wide as there are callers, and nowhere above the published
+/// counts, whatever was announced.
 #[tactic(auto, using(crate::proofs::Published::none_published, crate::proofs::Published::one_published, crate::proofs::Published::announced_alone, crate::proofs::Published::too_many, crate::proofs::Published::too_narrow))]
 pub fn cuts_are_published()
     // The cut of zeros is one of what was published after two announcements.
@@ -173,8 +198,9 @@ pub fn words_are_peeked()
     ensures other_word { ¬ HasPeeked (with_peeks (peek_of M 1 2 3 4 ∷ [])) M (call_of 1 2) 3 3 }
 {}
 
-/// A book is gathered at a cut where each of its words was peeked, and it is the book at the cut: with one page for
-/// each caller, as many records as the cut holds, and just the calls that their views hold.
+/// A book is gathered at a cut where each of its words was peeked, and it is the book at the cut:
+/// with one page for each caller, as many records as the cut holds, and just the calls that their
+/// views hold.
 #[tactic(auto, using(crate::proofs::Gathering::gathered, crate::proofs::Gathering::lacks_low, crate::proofs::Gathering::lacks_high, crate::proofs::Gathering::lacks_reply, crate::proofs::Gathering::lacks_entry, crate::proofs::Gathering::of_another, crate::proofs::Gathering::other_cut, crate::proofs::Gathering::unheld, crate::proofs::Gathering::lacking, crate::proofs::Gathering::too_wide))]
 pub fn books_are_gathered()
     // The book alone is gathered at its cut by a caller that has peeked all of its words.
@@ -230,8 +256,8 @@ pub fn lists_have_lengths_by_phase()
     ensures object_steps { ¬ HasPhase (record fresh { object_steps = [] ∷ [] }) }
 {}
 
-/// The view's scan is under way in the phase view alone, and words are staged, and a cut to embed is kept, in the
-/// phases announce and publish alone.
+/// The view's scan is under way in the phase view alone, and words are staged, and a cut to embed
+/// is kept, in the phases announce and publish alone.
 #[tactic(auto, using(crate::proofs::Agreeing::not_view_of_M, crate::proofs::Agreeing::not_view, crate::proofs::Agreeing::not_in_asking, crate::proofs::Agreeing::not_staged))]
 pub fn parts_fit_phases()
     // The view's scan of N fits the phase view.
@@ -276,12 +302,14 @@ pub fn parts_fit_phases()
     ensures judging_is_busy { ¬ IsIdle (record fresh { phase = Judging }) }
 {}
 
-/// A local agrees with the words where its counts and its rows stand there, it has few calls, what it staged stands
-/// in a row that exists, at a place of it, and belongs there, and its parts fit its phase.
+/// A local agrees with the words where its counts and its rows stand there, it has few calls, what
+/// it staged stands in a row that exists, at a place of it, and belongs there, and its parts fit
+/// its phase.
 #[tactic(auto, using(crate::proofs::Agreeing::agrees, crate::proofs::Agreeing::other_count_of_N, crate::proofs::Agreeing::other_count_of_M, crate::proofs::Agreeing::too_many, crate::proofs::Agreeing::other_row_of_N, crate::proofs::Agreeing::other_row_of_M, crate::proofs::Agreeing::not_standing, crate::proofs::Agreeing::staged_as_asking, crate::proofs::Agreeing::kept_as_asking, crate::proofs::Agreeing::other_lists, crate::proofs::Agreeing::view_as_asking, crate::proofs::Agreeing::past_rows, crate::proofs::Agreeing::past_places, crate::proofs::Agreeing::stands_not, crate::proofs::Agreeing::not_due))]
 pub fn locals_agree_with_words()
     // The local of a caller that has staged its reply agrees with the words after its run.
-    ensures agrees { Agrees single (end_of single reply_staged).words 0 (local_after_all single reply_staged 0) }
+    ensures agrees { Agrees single (end_of single reply_staged).words 0
+        (local_after_all single reply_staged 0) }
     // A fresh local doesn't agree with words that count a row of N.
     ensures counts_of_N { ¬ Agrees single (1 ∷ 0 ∷ 0 ∷ 0 ∷ 0 ∷ 0 ∷ 0 ∷ 0 ∷ []) 0 fresh }
     // A fresh local doesn't agree with words that count a row of M.
@@ -291,7 +319,8 @@ pub fn locals_agree_with_words()
     // A local doesn't agree with words that have another word in a row of N.
     ensures rows_of_N { ¬ Agrees single (1 ∷ 0 ∷ 5 ∷ 1 ∷ 0 ∷ 0 ∷ 0 ∷ 0 ∷ []) 0 asking_alone }
     // A local doesn't agree with words that have another word in a row of M.
-    ensures rows_of_M { ¬ Agrees single (1 ∷ 1 ∷ 5 ∷ 0 ∷ 0 ∷ 50 ∷ 0 ∷ 0 ∷ []) 0 (local_after_all single published_alone 0) }
+    ensures rows_of_M { ¬ Agrees single (1 ∷ 1 ∷ 5 ∷ 0 ∷ 0 ∷ 50 ∷ 0 ∷ 0 ∷ []) 0
+        (local_after_all single published_alone 0) }
     // A local doesn't agree with words that lack what it staged.
     ensures staged { ¬ Agrees single no_words 0 staged_low }
     // A local with a word staged in the phase ask doesn't agree with words.
@@ -317,7 +346,15 @@ pub fn locals_agree_with_words()
 pub fn scans_stand_by_their_words()
     // After seven words a scan of two callers has its first, its last and its current collect, and
     // borrows.
-    ensures standing { standing 2 1 N (0 ∷ 0 ∷ 1 ∷ 0 ∷ 2 ∷ 0 ∷ 7 ∷ []) ≡ record { callers = 2; me = 1; region = N; first = Some (0 ∷ 0 ∷ []); last = Some (2 ∷ 0 ∷ []); current = 7 ∷ []; course = Borrows 0 1 } }
+    ensures standing { standing 2 1 N (0 ∷ 0 ∷ 1 ∷ 0 ∷ 2 ∷ 0 ∷ 7 ∷ []) ≡ record {
+      callers = 2;
+      me = 1;
+      region = N;
+      first = Some (0 ∷ 0 ∷ []);
+      last = Some (2 ∷ 0 ∷ []);
+      current = 7 ∷ [];
+      course = Borrows 0 1;
+    } }
     // A scan that has made no whole collect has no first one.
     ensures beginning { (standing 2 1 M (3 ∷ [])).first ≡ None }
     // A look at caller 1 fits two callers.
@@ -335,13 +372,17 @@ pub fn scans_stand_by_their_words()
     // A cut of one count doesn't fit two callers.
     ensures narrow { ¬ FitsCallers 2 (Done (4 ∷ [])) }
     // The course of the words with a borrowed cut has ended, and that of three looks hasn't.
-    ensures ends { map (λ taken. has_ended (course 2 taken)) (lent_words ∷ (0 ∷ 0 ∷ 0 ∷ []) ∷ []) ≡ true ∷ false ∷ [] }
+    ensures ends { map (λ taken. has_ended (course 2 taken)) (lent_words ∷ (0 ∷ 0 ∷ 0 ∷ []) ∷ [])
+        ≡ true ∷ false ∷ [] }
     // What a scan wants is its end for a cut, and not for a look or a peek.
-    ensures dones { map is_done (Wants_look 0 ∷ Wants_peek 0 0 0 ∷ Done [] ∷ []) ≡ false ∷ false ∷ true ∷ [] }
+    ensures dones { map is_done (Wants_look 0 ∷ Wants_peek 0 0 0 ∷ Done [] ∷ [])
+        ≡ false ∷ false ∷ true ∷ [] }
     // What a scan wants is a look for a look, and not for a peek or a cut.
-    ensures looks { map is_look (Wants_look 0 ∷ Wants_peek 0 0 0 ∷ Done [] ∷ []) ≡ true ∷ false ∷ false ∷ [] }
+    ensures looks { map is_look (Wants_look 0 ∷ Wants_peek 0 0 0 ∷ Done [] ∷ [])
+        ≡ true ∷ false ∷ false ∷ [] }
     // What a scan wants is a peek for a peek, and not for a look or a cut.
-    ensures peeks { map is_peek (Wants_look 0 ∷ Wants_peek 0 0 0 ∷ Done [] ∷ []) ≡ false ∷ true ∷ false ∷ [] }
+    ensures peeks { map is_peek (Wants_look 0 ∷ Wants_peek 0 0 0 ∷ Done [] ∷ [])
+        ≡ false ∷ true ∷ false ∷ [] }
     // Peeked entries may be less than the counts before them.
     ensures steady { IsSteady 2 1 lent_words }
     // Words of counts that fall aren't steady.

@@ -6,8 +6,8 @@ use book_base::{MAX_CALLERS, MAX_CALLS};
 
 /// What an object does inside the world. A program is a value that a world keeps and never changes.
 ///
-/// Its meaning, for `n` callers and a cap, says how many object words it has, which step a caller may
-/// make on one of them, and which reply a caller may get, each by the caller's local.
+/// Its meaning, for `n` callers and a cap, says how many object words it has, which step a caller
+/// may make on one of them, and which reply a caller may get, each by the caller's local.
 pub trait Program: Copy {
     ghost meaning: { Self → ℕ → ℕ → Meaning };
 
@@ -24,7 +24,8 @@ pub trait Program: Copy {
 /// A program whose object is inside the world: its callers make their steps on object words.
 pub trait InWorld: Program {}
 
-/// The object is outside the world: there are no object words, no steps on them, and every reply is allowed.
+/// The object is outside the world: there are no object words, no steps on them, and every reply is
+/// allowed.
 #[derive(Clone, Copy, Debug, PartialEq, Eq)]
 pub struct Outside;
 

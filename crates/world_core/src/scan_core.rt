@@ -13,10 +13,11 @@ use std::marker::Model;
 
 /// A scan of a region by one caller, as a machine that is handed each word that it wants.
 ///
-/// It makes collects, and compares each with the one before it: two equal ones end it. Where a caller has
-/// moved twice since the first collect, it ends with the cut that this caller's latest counted row embeds
-/// (Afek and others 1993). It keeps the first and the last whole round and the words of the round under
-/// way. Clauses see it as a standing: how a scan stands that has taken some list of words.
+/// It makes collects, and compares each with the one before it: two equal ones end it. Where a
+/// caller has moved twice since the first collect, it ends with the cut that this caller's latest
+/// counted row embeds (Afek and others 1993). It keeps the first and the last whole round and the
+/// words of the round under way. Clauses see it as a standing: how a scan stands that has taken
+/// some list of words.
 #[derive(Debug, Drop)]
 pub struct ScanCore {
     me: u32,
@@ -84,7 +85,8 @@ impl ScanCore {
         // them.
         ensures fits { FitsCallers self.now.callers result }
         // The answer is what a scan of these callers wants after the words that this one has taken.
-        ensures wanted { (n me : ℕ) (region : Region) (taken : List ℕ) → self.now ≡ standing n me region taken → result ≡ wanted n taken }
+        ensures wanted { (n me : ℕ) (region : Region) (taken : List ℕ)
+            → self.now ≡ standing n me region taken → result ≡ wanted n taken }
     {
         match self.course {
             Course::Collects => Want::Look(self.taken),
@@ -95,16 +97,19 @@ impl ScanCore {
 
     /// Takes the word that the scan wants. It has not ended.
     ///
-    /// Where counts never fall and the scanning caller's own count stands still, a scan of `n` callers makes
-    /// at most `n + 1` collects, which is `n * (n + 1)` looks, and at most `n` peeks.
+    /// Where counts never fall and the scanning caller's own count stands still, a scan of `n`
+    /// callers makes at most `n + 1` collects, which is `n * (n + 1)` looks, and at most `n` peeks.
     pub fn take(&mut self, word: u64)
         // The scan hasn't ended.
         requires { has_ended self.old.course ≡ false }
         // The scan has taken this word after those that it had taken.
-        ensures taken { (n me : ℕ) (region : Region) (taken : List ℕ) → self.old ≡ standing n me region taken → self.new ≡ standing n me region (taken ++ word ∷ []) }
+        ensures taken { (n me : ℕ) (region : Region) (taken : List ℕ) → self.old
+            ≡ standing n me region taken → self.new ≡ standing n me region (taken ++ word ∷ []) }
         // Where counts never fall and the caller's own stands still, the scan has made at most n *
         // (n + 1) looks and n peeks.
-        ensures short { (n me : ℕ) (region : Region) (taken : List ℕ) → self.old ≡ standing n me region taken → IsSteady n me (taken ++ word ∷ []) → IsShort n (taken ++ word ∷ []) }
+        ensures short { (n me : ℕ) (region : Region) (taken : List ℕ)
+            → self.old ≡ standing n me region taken → IsSteady n me (taken ++ word ∷ [])
+            → IsShort n (taken ++ word ∷ []) }
     {
         self.current.set(self.taken, word);
         self.taken += 1;

@@ -74,18 +74,30 @@ pub fn two_whole_calls()
     // The steps of the two whole calls are a run.
     ensures run { IsRun pair two_calls }
     // The first caller goes through the five phases, and is back in the first one.
-    ensures first_phases { phases_at two_calls 0 (0 ∷ 1 ∷ 8 ∷ 9 ∷ 10 ∷ 23 ∷ 24 ∷ 35 ∷ 36 ∷ 39 ∷ 40 ∷ []) ≡ Announcing ∷ Announcing ∷ Announcing ∷ Asking ∷ Viewing ∷ Viewing ∷ Publishing ∷ Publishing ∷ Judging ∷ Judging ∷ Announcing ∷ [] }
+    ensures first_phases { phases_at two_calls 0
+        (0 ∷ 1 ∷ 8 ∷ 9 ∷ 10 ∷ 23 ∷ 24 ∷ 35 ∷ 36 ∷ 39 ∷ 40 ∷ [])
+        ≡ Announcing ∷ Announcing ∷ Announcing ∷ Asking ∷ Viewing ∷ Viewing ∷ Publishing
+        ∷ Publishing ∷ Judging ∷ Judging ∷ Announcing ∷ [] }
     // The second caller goes through the five phases, and is back in the first one.
-    ensures second_phases { phases_at two_calls 1 (19 ∷ 20 ∷ 25 ∷ 42 ∷ 52 ∷ 56 ∷ []) ≡ Announcing ∷ Asking ∷ Viewing ∷ Publishing ∷ Judging ∷ Announcing ∷ [] }
+    ensures second_phases { phases_at two_calls 1 (19 ∷ 20 ∷ 25 ∷ 42 ∷ 52 ∷ 56 ∷ [])
+        ≡ Announcing ∷ Asking ∷ Viewing ∷ Publishing ∷ Judging ∷ Announcing ∷ [] }
     // The words at the end are the four counts and both rows.
-    ensures words { (end_of pair two_calls).words ≡ 1 ∷ 1 ∷ 1 ∷ 1 ∷ 5 ∷ 0 ∷ 0 ∷ 0 ∷ 50 ∷ 1 ∷ 1 ∷ 0 ∷ 0 ∷ 6 ∷ 0 ∷ 1 ∷ 0 ∷ 60 ∷ 1 ∷ 1 ∷ 1 ∷ 0 ∷ [] }
+    ensures words { (end_of pair two_calls).words ≡ 1 ∷ 1 ∷ 1 ∷ 1 ∷ 5 ∷ 0 ∷ 0 ∷ 0 ∷ 50 ∷ 1 ∷ 1 ∷ 0
+        ∷ 0 ∷ 6 ∷ 0 ∷ 1 ∷ 0 ∷ 60 ∷ 1 ∷ 1 ∷ 1 ∷ 0 ∷ [] }
 
     // The first caller's view took three collects, and it saw its own record alone.
-    ensures first_scan { GivesCut pair 0 (record { region = N; cut = 1 ∷ 1 ∷ []; since = 4 }) view_span }
+    ensures first_scan { GivesCut pair 0
+        (record { region = N; cut = 1 ∷ 1 ∷ []; since = 4 }) view_span }
     // The first caller has made one call, with its record and its seen cut.
-    ensures first_calls { calls_in (local_at two_calls 0) ≡ record { operation = 5; reached = Has_seen (record { reply = 50; view = 1 ∷ 1 ∷ [] }) (1 ∷ 0 ∷ []) } ∷ [] }
+    ensures first_calls { calls_in (local_at two_calls 0) ≡ record {
+      operation = 5;
+      reached = Has_seen (record { reply = 50; view = 1 ∷ 1 ∷ [] }) (1 ∷ 0 ∷ []);
+    } ∷ [] }
     // The second caller has made one call, with its record and its seen cut.
-    ensures second_calls { calls_in (local_at two_calls 1) ≡ record { operation = 6; reached = Has_seen (record { reply = 60; view = 1 ∷ 1 ∷ [] }) (1 ∷ 1 ∷ []) } ∷ [] }
+    ensures second_calls { calls_in (local_at two_calls 1) ≡ record {
+      operation = 6;
+      reached = Has_seen (record { reply = 60; view = 1 ∷ 1 ∷ [] }) (1 ∷ 1 ∷ []);
+    } ∷ [] }
     // The first caller is idle at the end.
     ensures first_idle { IsIdle (local_at two_calls 0) }
     // The second caller is idle at the end.
@@ -96,30 +108,39 @@ pub fn two_whole_calls()
     ensures asking_is_busy { ¬ IsIdle (local_at (take 9 two_calls) 0) }
 
     // The history has each invocation right before its return.
-    ensures history { history_of pair two_calls ≡ Invoked (call_of 0 0) 5 ∷ Returned (call_of 0 0) 50 ∷ Invoked (call_of 1 0) 6 ∷ Returned (call_of 1 0) 60 ∷ [] }
+    ensures history { history_of pair two_calls ≡ Invoked (call_of 0 0) 5
+        ∷ Returned (call_of 0 0) 50 ∷ Invoked (call_of 1 0) 6 ∷ Returned (call_of 1 0) 60 ∷ [] }
 {}
 
-/// A scan is given up by a new scan, by an announcement and by a publication, and a look that it doesn't
-/// want is none of its words. The look that begins a scan is a look at that count too.
+/// A scan is given up by a new scan, by an announcement and by a publication, and a look that it
+/// doesn't want is none of its words. The look that begins a scan is a look at that count too.
 pub fn scans_are_given_up()
     // The steps with scans that are given up are a run.
     ensures run { IsRun pair scans_given_up }
     // After two looks a scan of M has taken two words.
-    ensures begun { (local_at (take 2 scans_given_up) 0).scan ≡ Some (record { region = M; is_view = false; since = 0; taken = 0 ∷ 0 ∷ [] }) }
+    ensures begun { (local_at (take 2 scans_given_up) 0).scan
+        ≡ Some (record { region = M; is_view = false; since = 0; taken = 0 ∷ 0 ∷ [] }) }
     // A look that begins a scan of N gives up the scan of M.
-    ensures by_a_scan { (local_at (take 3 scans_given_up) 0).scan ≡ Some (record { region = N; is_view = false; since = 2; taken = 0 ∷ [] }) }
+    ensures by_a_scan { (local_at (take 3 scans_given_up) 0).scan
+        ≡ Some (record { region = N; is_view = false; since = 2; taken = 0 ∷ [] }) }
     // The look that begins a scan is among the counts that were looked at.
-    ensures looked { (local_at (take 3 scans_given_up) 0).looked ≡ record { region = N; caller = 0; count = 0 } ∷ record { region = M; caller = 1; count = 0 } ∷ record { region = M; caller = 0; count = 0 } ∷ [] }
+    ensures looked { (local_at (take 3 scans_given_up) 0).looked
+        ≡ record { region = N; caller = 0; count = 0 }
+        ∷ record { region = M; caller = 1; count = 0 }
+        ∷ record { region = M; caller = 0; count = 0 } ∷ [] }
     // A look that a scan doesn't want is none of its words.
-    ensures unwanted { (local_at (take 4 scans_given_up) 0).scan ≡ Some (record { region = N; is_view = false; since = 2; taken = 0 ∷ [] }) }
+    ensures unwanted { (local_at (take 4 scans_given_up) 0).scan
+        ≡ Some (record { region = N; is_view = false; since = 2; taken = 0 ∷ [] }) }
     // A scan that has ended isn't under way.
     ensures ended { (local_at (take 7 scans_given_up) 0).scan ≡ None }
     // A scan that has ended has given its cut, and the one that was given up gave none.
-    ensures cut { (local_at (take 7 scans_given_up) 0).cuts ≡ record { region = N; cut = 0 ∷ 0 ∷ []; since = 2 } ∷ [] }
+    ensures cut { (local_at (take 7 scans_given_up) 0).cuts
+        ≡ record { region = N; cut = 0 ∷ 0 ∷ []; since = 2 } ∷ [] }
     // The cut of a scan of N in the phase announce is the one to embed.
     ensures to_embed { (local_at (take 7 scans_given_up) 0).to_embed ≡ Some (0 ∷ 0 ∷ []) }
     // Its own stages between its looks leave a scan as it is.
-    ensures beside_stages { (local_at (take 13 scans_given_up) 0).scan ≡ Some (record { region = N; is_view = false; since = 7; taken = 0 ∷ 0 ∷ [] }) }
+    ensures beside_stages { (local_at (take 13 scans_given_up) 0).scan
+        ≡ Some (record { region = N; is_view = false; since = 7; taken = 0 ∷ 0 ∷ [] }) }
     // An announcement gives up the scan that was under way.
     ensures by_an_announcement { (local_at scans_given_up 0).scan ≡ None }
     // A scan that an announcement gave up gives no cut.
@@ -131,22 +152,29 @@ pub fn scans_are_given_up()
     // The steps with a publication beside a scan are a run.
     ensures publishing_run { IsRun pair (scans_given_up ++ reply_carried ++ published_in_a_scan) }
     // Before the publication a scan of M is under way.
-    ensures before_a_publication { (local_at (scans_given_up ++ reply_carried ++ take 14 published_in_a_scan) 0).scan ≡ Some (record { region = M; is_view = false; since = 18; taken = 0 ∷ 0 ∷ [] }) }
+    ensures before_a_publication { (local_at
+        (scans_given_up ++ reply_carried ++ take 14 published_in_a_scan) 0).scan
+        ≡ Some (record { region = M; is_view = false; since = 18; taken = 0 ∷ 0 ∷ [] }) }
     // A publication gives up the scan that was under way.
-    ensures by_a_publication { (local_at (scans_given_up ++ reply_carried ++ published_in_a_scan) 0).scan ≡ None }
+    ensures by_a_publication { (local_at (scans_given_up ++ reply_carried ++ published_in_a_scan)
+        0).scan ≡ None }
     // The published row embeds the cut that was to be embedded.
-    ensures embedded_in_M { (local_at (scans_given_up ++ reply_carried ++ published_in_a_scan) 0).embedded_in_M ≡ (0 ∷ 0 ∷ []) ∷ [] }
+    ensures embedded_in_M { (local_at (scans_given_up ++ reply_carried ++ published_in_a_scan)
+        0).embedded_in_M ≡ (0 ∷ 0 ∷ []) ∷ [] }
     // A published row leaves no cut to embed.
-    ensures embeds_no_more_in_M { (local_at (scans_given_up ++ reply_carried ++ published_in_a_scan) 0).to_embed ≡ None }
+    ensures embeds_no_more_in_M { (local_at (scans_given_up ++ reply_carried ++ published_in_a_scan)
+        0).to_embed ≡ None }
 {}
 
-/// A look that begins a scan after the object's answer carries the reply, and that scan is the view's.
-/// A scan that began without it gives a cut that serves nothing.
+/// A look that begins a scan after the object's answer carries the reply, and that scan is the
+/// view's. A scan that began without it gives a cut that serves nothing.
 pub fn a_look_carries_the_reply()
     // The steps with a scan for nothing and a reply that a look carries are a run.
     ensures run { IsRun pair (scans_given_up ++ scan_for_nothing ++ reply_carried) }
     // A scan in the phase ask gives its cut.
-    ensures cuts { (local_at (scans_given_up ++ scan_for_nothing) 0).cuts ≡ record { region = N; cut = 0 ∷ 0 ∷ []; since = 2 } ∷ record { region = N; cut = 1 ∷ 0 ∷ []; since = 10 } ∷ [] }
+    ensures cuts { (local_at (scans_given_up ++ scan_for_nothing) 0).cuts
+        ≡ record { region = N; cut = 0 ∷ 0 ∷ []; since = 2 }
+        ∷ record { region = N; cut = 1 ∷ 0 ∷ []; since = 10 } ∷ [] }
     // The cut of a scan without the reply is no view.
     ensures no_view { (local_at (scans_given_up ++ scan_for_nothing) 0).views ≡ [] }
     // The cut of a scan of N in the phase ask isn't to be embedded.
@@ -154,13 +182,17 @@ pub fn a_look_carries_the_reply()
     // A scan without the reply leaves the caller in the phase ask.
     ensures still_asking { (local_at (scans_given_up ++ scan_for_nothing) 0).phase ≡ Asking }
     // A look that carries a reply makes it the caller's.
-    ensures reply { (local_at (scans_given_up ++ scan_for_nothing ++ reply_carried) 0).replies ≡ 50 ∷ [] }
+    ensures reply { (local_at (scans_given_up ++ scan_for_nothing ++ reply_carried) 0).replies
+        ≡ 50 ∷ [] }
     // A look that carries a reply begins the phase view.
-    ensures viewing { (local_at (scans_given_up ++ scan_for_nothing ++ reply_carried) 0).phase ≡ Viewing }
+    ensures viewing { (local_at (scans_given_up ++ scan_for_nothing ++ reply_carried) 0).phase
+        ≡ Viewing }
     // A look that carries a reply begins the view's scan.
-    ensures scan { (local_at (scans_given_up ++ scan_for_nothing ++ reply_carried) 0).scan ≡ Some (record { region = N; is_view = true; since = 14; taken = 1 ∷ [] }) }
+    ensures scan { (local_at (scans_given_up ++ scan_for_nothing ++ reply_carried) 0).scan
+        ≡ Some (record { region = N; is_view = true; since = 14; taken = 1 ∷ [] }) }
     // The call returns as its reply is carried.
-    ensures history { history_of pair (scans_given_up ++ scan_for_nothing ++ reply_carried) ≡ Invoked (call_of 0 0) 5 ∷ Returned (call_of 0 0) 50 ∷ [] }
+    ensures history { history_of pair (scans_given_up ++ scan_for_nothing ++ reply_carried)
+        ≡ Invoked (call_of 0 0) 5 ∷ Returned (call_of 0 0) 50 ∷ [] }
 {}
 
 /// The row under way embeds the cut of the last scan that ended before a word of it was staged.
@@ -179,8 +211,8 @@ pub fn the_last_cut_before_a_stage_is_embedded()
     ensures other_region { (local_at scanned_other 0).to_embed ≡ None }
 {}
 
-/// Where a stage is allowed: by one of the callers, in a phase that stages the region, in a row that
-/// exists, at a place of the region, with the word that belongs there.
+/// Where a stage is allowed: by one of the callers, in a phase that stages the region, in a row
+/// that exists, at a place of the region, with the word that belongs there.
 pub fn stages_are_conditional()
     // At the start each caller may stage words of its operation, and look.
     ensures start { IsTrue (allows [] allowed_at_start) }
@@ -210,7 +242,8 @@ pub fn counts_rise_over_whole_rows()
     // A caller with three of the four places of N staged may not announce.
     ensures lacking_in_N { IsTrue (refuses staged_three_of_N (by 0 Announce ∷ [])) }
     // A caller with all places of N staged may announce.
-    ensures whole_in_N { IsTrue (allows (staged_three_of_N ++ by 0 (Stage N 3 0) ∷ []) (by 0 Announce ∷ [])) }
+    ensures whole_in_N { IsTrue
+        (allows (staged_three_of_N ++ by 0 (Stage N 3 0) ∷ []) (by 0 Announce ∷ [])) }
     // A caller with four of the five places of M staged may neither publish nor announce.
     ensures lacking_in_M { IsTrue (refuses staged_four refused_as_staged_four) }
     // A caller with all places of M staged may publish.
@@ -221,9 +254,9 @@ pub fn counts_rise_over_whole_rows()
     ensures in_time { is_enabled pair 0 staged_early Announce ≡ true }
 {}
 
-/// Where a look is allowed: at a caller's count, with the word that stands there, and where it begins a
-/// scan, at the first caller and while no view's scan is under way; the view's scan begins in the phase
-/// ask, in the region of announcements, with a reply that is a word.
+/// Where a look is allowed: at a caller's count, with the word that stands there, and where it
+/// begins a scan, at the first caller and while no view's scan is under way; the view's scan begins
+/// in the phase ask, in the region of announcements, with a reply that is a word.
 pub fn looks_are_conditional()
     // A caller in the phase ask may begin the view's scan with a reply that is a word, or another
     // scan.
@@ -237,8 +270,8 @@ pub fn looks_are_conditional()
     ensures refused_as_viewing { IsTrue (refuses viewing refused_as_viewing) }
 {}
 
-/// Where a peek is allowed: at a place of a row that the caller knows to be counted, with the word that
-/// stands there.
+/// Where a peek is allowed: at a place of a row that the caller knows to be counted, with the word
+/// that stands there.
 pub fn peeks_are_conditional()
     // A caller that looked at a count may peek the places of the row below it.
     ensures by_look { IsTrue (allows looked allowed_as_looked) }
@@ -254,8 +287,9 @@ pub fn peeks_are_conditional()
     ensures no_caller { is_enabled pair 0 looked_past (Peek N 2 0 0 0) ≡ false }
 {}
 
-/// How a caller knows that a row is counted: from a count that it looked at, from a cut that a scan gave
-/// it, each of the row's own region, and in the region of announcements from a view that it peeked.
+/// How a caller knows that a row is counted: from a count that it looked at, from a cut that a scan
+/// gave it, each of the row's own region, and in the region of announcements from a view that it
+/// peeked.
 pub fn rows_are_known()
     // A count of N that was looked at makes the row below it known in N.
     ensures count_of_N { is_enabled pair 1 looked_in_N (Peek N 0 0 0 5) ≡ true }
@@ -287,7 +321,8 @@ pub fn rows_are_known()
     ensures view_beyond { is_enabled pair 1 view_peeked (Peek N 0 1 0 5) ≡ false }
     // A peeked entry of a view makes no row of another caller known.
     ensures view_beside { is_enabled pair 1 view_peeked (Peek N 1 0 0 5) ≡ false }
-    // A row that a view alone names is known in the region of announcements and not in that of answers.
+    // A row that a view alone names is known in the region of announcements and not in that of
+    // answers.
     ensures view_of_announcements { is_enabled pair 1 view_peeked (Peek M 0 0 0 5) ≡ false }
     // A peeked word of an announcement makes no row known.
     ensures announcement { is_enabled pair 1 announcement_peeked (Peek N 0 0 0 5) ≡ false }
@@ -331,8 +366,8 @@ pub fn scans_want()
     ensures borrowed { wanted 2 (0 ∷ 0 ∷ 1 ∷ 0 ∷ 2 ∷ 0 ∷ 7 ∷ 8 ∷ []) ≡ Done (7 ∷ 8 ∷ []) }
 {}
 
-/// A scan of three callers finds that one has moved twice, and ends with the cut that its latest row
-/// embeds: 12 looks and 3 peeks. The cut was the counts of the region within the scan.
+/// A scan of three callers finds that one has moved twice, and ends with the cut that its latest
+/// row embeds: 12 looks and 3 peeks. The cut was the counts of the region within the scan.
 #[tactic(auto, using(crate::proofs::Moments::instantaneous_borrowed))]
 pub fn a_cut_is_borrowed()
     // The steps of the borrowing scan are a run.
@@ -350,27 +385,34 @@ pub fn a_cut_is_borrowed()
     // The scan has made three peeks.
     ensures three_peeks { peeks 3 borrowed_words ≡ 3 }
     // The scan gives that cut in its span.
-    ensures gives { GivesCut trio 2 (record { region = N; cut = 1 ∷ 1 ∷ 0 ∷ []; since = 0 }) borrowing_span }
+    ensures gives { GivesCut trio 2
+        (record { region = N; cut = 1 ∷ 1 ∷ 0 ∷ []; since = 0 }) borrowing_span }
     // The cut was the counts of N at one moment within the scan.
-    ensures instantaneous { IsInstantaneous trio (record { region = N; cut = 1 ∷ 1 ∷ 0 ∷ []; since = 0 }) borrowing_span }
+    ensures instantaneous { IsInstantaneous trio
+        (record { region = N; cut = 1 ∷ 1 ∷ 0 ∷ []; since = 0 }) borrowing_span }
     // The caller was given that cut.
-    ensures cuts { (local_after_all trio borrowing 2).cuts ≡ record { region = N; cut = 1 ∷ 1 ∷ 0 ∷ []; since = 0 } ∷ [] }
+    ensures cuts { (local_after_all trio borrowing 2).cuts
+        ≡ record { region = N; cut = 1 ∷ 1 ∷ 0 ∷ []; since = 0 } ∷ [] }
     // In the phase announce it is the cut to embed.
     ensures to_embed { (local_after_all trio borrowing 2).to_embed ≡ Some (1 ∷ 1 ∷ 0 ∷ []) }
 {}
 
-/// A scan goes on beside its caller's stages and peeks, and gives its cut. Since words of the row were staged
-/// before it ended, the row doesn't embed that cut.
+/// A scan goes on beside its caller's stages and peeks, and gives its cut. Since words of the row
+/// were staged before it ended, the row doesn't embed that cut.
 #[tactic(auto, using(crate::proofs::Moments::instantaneous_beside))]
 pub fn a_scan_goes_on_beside_stages()
     // The scan beside stages gives its cut in its span.
-    ensures gives { GivesCut pair 0 (record { region = N; cut = 0 ∷ 1 ∷ []; since = 0 }) span_beside_stages }
+    ensures gives { GivesCut pair 0
+        (record { region = N; cut = 0 ∷ 1 ∷ []; since = 0 }) span_beside_stages }
     // The cut was the counts of N at one moment within the scan.
-    ensures instantaneous { IsInstantaneous pair (record { region = N; cut = 0 ∷ 1 ∷ []; since = 0 }) span_beside_stages }
+    ensures instantaneous { IsInstantaneous pair
+        (record { region = N; cut = 0 ∷ 1 ∷ []; since = 0 }) span_beside_stages }
     // The caller was given that cut.
-    ensures cuts { (local_after_all pair (through_last span_beside_stages) 0).cuts ≡ record { region = N; cut = 0 ∷ 1 ∷ []; since = 0 } ∷ [] }
+    ensures cuts { (local_after_all pair (through_last span_beside_stages) 0).cuts
+        ≡ record { region = N; cut = 0 ∷ 1 ∷ []; since = 0 } ∷ [] }
     // The cut of a scan that ended after a stage isn't to be embedded.
-    ensures none_to_embed { (local_after_all pair (through_last span_beside_stages) 0).to_embed ≡ None }
+    ensures none_to_embed { (local_after_all pair (through_last span_beside_stages) 0).to_embed
+        ≡ None }
 {}
 
 /// A caller alone scans with two looks.
@@ -380,11 +422,12 @@ pub fn a_caller_alone_scans()
     // A caller alone scans with two looks.
     ensures looks { length scan_alone ≡ 2 }
     // The caller alone was given the cut of its count.
-    ensures cut { (local_after_all single scan_alone 0).cuts ≡ record { region = N; cut = 0 ∷ []; since = 0 } ∷ [] }
+    ensures cut { (local_after_all single scan_alone 0).cuts
+        ≡ record { region = N; cut = 0 ∷ []; since = 0 } ∷ [] }
 {}
 
-/// A cut is instantaneous where its counts stood within the scan: not where they had stood before it alone, nor
-/// where they stood in the other region.
+/// A cut is instantaneous where its counts stood within the scan: not where they had stood before
+/// it alone, nor where they stood in the other region.
 #[tactic(auto, using(crate::proofs::Moments::instantaneous_alone, crate::proofs::Moments::not_before, crate::proofs::Moments::not_of_answers))]
 pub fn moments_lie_within_scans()
     // The scan after the announcement gives the cut with count 1.
@@ -397,25 +440,33 @@ pub fn moments_lie_within_scans()
     ensures of_answers { ¬ IsInstantaneous single (given_alone M 1) span_after_announcement }
 {}
 
-/// A program's object steps: in the phase ask, on an object word, from the word that stands there, where
-/// the program allows the step; and the reply of a view's scan is one that the program allows.
+/// A program's object steps: in the phase ask, on an object word, from the word that stands there,
+/// where the program allows the step; and the reply of a view's scan is one that the program
+/// allows.
 pub fn object_steps_are_conditional()
     // The steps of two callers on an object word are a run.
     ensures run { IsRun scrap_pair object_steps_made }
     // The object word is 9 after these steps.
     ensures word { object_word scrap_pair (end_of scrap_pair object_steps_made) 0 ≡ 9 }
     // The first caller has made two object steps in its call.
-    ensures first_steps { (local_after_all scrap_pair object_steps_made 0).object_steps ≡ (object_step 0 0 3 ∷ object_step 0 3 6 ∷ []) ∷ [] }
+    ensures first_steps { (local_after_all scrap_pair object_steps_made 0).object_steps
+        ≡ (object_step 0 0 3 ∷ object_step 0 3 6 ∷ []) ∷ [] }
     // The second caller has made one object step in its call.
-    ensures second_steps { (local_after_all scrap_pair object_steps_made 1).object_steps ≡ (object_step 0 6 9 ∷ []) ∷ [] }
+    ensures second_steps { (local_after_all scrap_pair object_steps_made 1).object_steps
+        ≡ (object_step 0 6 9 ∷ []) ∷ [] }
     // An object step isn't allowed before the call is announced.
     ensures unasked { IsTrue (refuses_in scrap_pair [] (by 0 (Object (object_step 0 0 3)) ∷ [])) }
     // An object step from the word that stands there is allowed in the phase ask.
-    ensures asked { IsTrue (allows_in scrap_pair asked (by 0 (Object (object_step 0 0 3)) ∷ by 0 (Object (object_step 0 0 (2 ^ 64 - 1))) ∷ [])) }
-    // Another word stands there; there is no second object word; what is left is a word; the caller hasn't announced.
-    ensures refused { IsTrue (refuses_in scrap_pair asked (by 0 (Object (object_step 0 1 3)) ∷ by 0 (Object (object_step 1 0 3)) ∷ by 0 (Object (object_step 0 0 (2 ^ 64))) ∷ by 1 (Object (object_step 0 0 3)) ∷ [])) }
+    ensures asked { IsTrue (allows_in scrap_pair asked
+        (by 0 (Object (object_step 0 0 3)) ∷ by 0 (Object (object_step 0 0 (2 ^ 64 - 1))) ∷ [])) }
+    // Another word stands there; there is no second object word; what is left is a word; the caller
+    // hasn't announced.
+    ensures refused { IsTrue (refuses_in scrap_pair asked
+        (by 0 (Object (object_step 0 1 3)) ∷ by 0 (Object (object_step 1 0 3))
+        ∷ by 0 (Object (object_step 0 0 (2 ^ 64))) ∷ by 1 (Object (object_step 0 0 3)) ∷ [])) }
     // An object step isn't allowed in the phase view.
-    ensures viewed { IsTrue (refuses_in scrap_pair viewing (by 0 (Object (object_step 0 0 3)) ∷ [])) }
+    ensures viewed { IsTrue
+        (refuses_in scrap_pair viewing (by 0 (Object (object_step 0 0 3)) ∷ [])) }
     // The step that the program allows is allowed to the caller that it allows it to.
     ensures step { is_enabled narrow 1 asking (Object (object_step 0 0 7)) ≡ true }
     // Another step isn't allowed.
@@ -432,8 +483,8 @@ pub fn object_steps_are_conditional()
     ensures others_reply { is_enabled narrow 0 asking (Look N 0 0 (Begins_view 7)) ≡ false }
 {}
 
-/// The object history of the two whole calls is linearizable for an object that gives their replies, and
-/// not for one that gives others.
+/// The object history of the two whole calls is linearizable for an object that gives their
+/// replies, and not for one that gives others.
 #[tactic(auto, using(crate::proofs::Linear::linearizable, crate::proofs::Linear::not_linearizable))]
 pub fn two_calls_are_linearizable()
     // The history of the two calls is linearizable for the object that gives ten times the
@@ -443,9 +494,9 @@ pub fn two_calls_are_linearizable()
     ensures unlawful { ¬ IsLinearizable [] silent (history_of pair two_calls) }
 {}
 
-/// Which histories are linearizable: not one by its order alone, where a call returned before the other was
-/// invoked, nor one by its operation alone; and a call that never returned may stand in the order, or be
-/// left out of it (Herlihy and Wing 1990).
+/// Which histories are linearizable: not one by its order alone, where a call returned before the
+/// other was invoked, nor one by its operation alone; and a call that never returned may stand in
+/// the order, or be left out of it (Herlihy and Wing 1990).
 #[tactic(auto, using(crate::proofs::Histories::order_forbids, crate::proofs::Histories::side_by_side_linearizable, crate::proofs::Histories::operation_forbids, crate::proofs::Histories::unanswered_stands, crate::proofs::Histories::unanswered_left_out))]
 pub fn histories_are_linearizable()
     // A history of calls one after another isn't linearizable in the reverse of their order.

@@ -1,5 +1,5 @@
-//! Worked runs in which one caller makes two calls: what a local, the words, the book and the history keep of
-//! each call, and what the world remembers of each word.
+//! Worked runs in which one caller makes two calls: what a local, the words, the book and the
+//! history keep of each call, and what the world remembers of each word.
 
 ghost use Rattle.std.specs.Prelude.{◌≡◌, ◌+◌, ◌*◌, ◌^◌, true, false, [], ◌∷◌, ◌++◌, IsTrue, Some, None, take, map};
 ghost use Rattle.world_core.specs.declared.region.Region.TheVariants.{N, M};
@@ -15,7 +15,8 @@ ghost use Rattle.world_core.specs.Schedules.{pair, trio, by, local_at, local_aft
 ghost use Rattle.world_core.specs.Refusals.{entry_peeked};
 ghost use Rattle.world_core.specs.SecondCalls.{twice, two_by_one, first_operation, second_operation, as_announced, as_viewed, as_published, as_judged, second_ready, first_record, second_record, made, book_of_two, contents, staged_again, first_unstaged, peeking, looked_beside, two_words, steps_by_call, by_operation};
 
-/// One caller makes two calls, beside another that announces one: what its local keeps of them, in their order.
+/// One caller makes two calls, beside another that announces one: what its local keeps of them, in
+/// their order.
 pub fn a_caller_makes_two_calls()
     // The steps of a caller that makes two calls beside another one are a run.
     ensures run { IsRun twice two_by_one }
@@ -75,23 +76,30 @@ pub fn a_caller_makes_two_calls()
     ensures call { call_of 3 2 ≡ record { caller = 3; number = 2 } }
 {}
 
-/// How far the second call of a caller has come, by number: its operation, its record, and its seen cut; and what
-/// belongs at the places of its row and of the row before.
+/// How far the second call of a caller has come, by number: its operation, its record, and its seen
+/// cut; and what belongs at the places of its row and of the row before.
 pub fn second_calls_have_their_own()
     // After the second announcement the first call has its seen cut, and the second is announced.
-    ensures announced { calls_in as_announced ≡ made first_operation (Has_seen first_record (1 ∷ 0 ∷ [])) ∷ made second_operation Is_announced ∷ [] }
+    ensures announced { calls_in as_announced ≡ made first_operation
+        (Has_seen first_record (1 ∷ 0 ∷ [])) ∷ made second_operation Is_announced ∷ [] }
     // After the second view the second call has its record.
-    ensures viewed { calls_in as_viewed ≡ made first_operation (Has_seen first_record (1 ∷ 0 ∷ [])) ∷ made second_operation (Has_record second_record) ∷ [] }
+    ensures viewed { calls_in as_viewed ≡ made first_operation (Has_seen first_record (1 ∷ 0 ∷ []))
+        ∷ made second_operation (Has_record second_record) ∷ [] }
     // After the second publication the second call still has its record alone.
-    ensures published { calls_in as_published ≡ made first_operation (Has_seen first_record (1 ∷ 0 ∷ [])) ∷ made second_operation (Has_record second_record) ∷ [] }
+    ensures published { calls_in as_published
+        ≡ made first_operation (Has_seen first_record (1 ∷ 0 ∷ []))
+        ∷ made second_operation (Has_record second_record) ∷ [] }
     // After the second verdict the second call has its seen cut.
-    ensures judged { calls_in as_judged ≡ made first_operation (Has_seen first_record (1 ∷ 0 ∷ [])) ∷ made second_operation (Has_seen second_record (2 ∷ 0 ∷ [])) ∷ [] }
+    ensures judged { calls_in as_judged ≡ made first_operation (Has_seen first_record (1 ∷ 0 ∷ []))
+        ∷ made second_operation (Has_seen second_record (2 ∷ 0 ∷ [])) ∷ [] }
     // The book at the end has both calls of caller 0 with their records, and the call of caller 1.
     ensures book { book_in (end_of twice two_by_one).locals ≡ book_of_two }
     // The words that belong in the first row are those of the first call.
-    ensures first_words { map (word_of as_judged 0) contents ≡ 5 ∷ 7 ∷ 0 ∷ 1 ∷ 50 ∷ 1 ∷ 1 ∷ 0 ∷ 0 ∷ [] }
+    ensures first_words { map (word_of as_judged 0) contents
+        ≡ 5 ∷ 7 ∷ 0 ∷ 1 ∷ 50 ∷ 1 ∷ 1 ∷ 0 ∷ 0 ∷ [] }
     // The words that belong in the second row are those of the second call.
-    ensures second_words { map (word_of as_judged 1) contents ≡ 6 ∷ 8 ∷ 1 ∷ 1 ∷ 60 ∷ 2 ∷ 1 ∷ 1 ∷ 0 ∷ [] }
+    ensures second_words { map (word_of as_judged 1) contents
+        ≡ 6 ∷ 8 ∷ 1 ∷ 1 ∷ 60 ∷ 2 ∷ 1 ∷ 1 ∷ 0 ∷ [] }
     // The caller's own count in N is 2 after the second announcement.
     ensures count_in_N { own_count as_announced N ≡ 2 }
     // The caller's own count in M is 1 after the second announcement.
@@ -99,39 +107,47 @@ pub fn second_calls_have_their_own()
     // The operation of the call under way is the second one.
     ensures operation { operation_now as_viewed ≡ second_operation }
     // The row of the second call takes its own reply and view.
-    ensures own { IsTrue (allows_in twice second_ready (by 0 (Stage M 0 60) ∷ by 0 (Stage M 1 2) ∷ by 0 (Stage M 3 1) ∷ [])) }
+    ensures own { IsTrue (allows_in twice second_ready
+        (by 0 (Stage M 0 60) ∷ by 0 (Stage M 1 2) ∷ by 0 (Stage M 3 1) ∷ [])) }
     // The words of the first call may not be staged in the second row.
-    ensures of_the_first { IsTrue (refuses_in twice second_ready (by 0 (Stage M 0 50) ∷ by 0 (Stage M 1 1) ∷ by 0 (Stage M 3 0) ∷ [])) }
+    ensures of_the_first { IsTrue (refuses_in twice second_ready
+        (by 0 (Stage M 0 50) ∷ by 0 (Stage M 1 1) ∷ by 0 (Stage M 3 0) ∷ [])) }
 {}
 
-/// Each object step belongs to the call under way, and is made on the object word that it names; which steps and
-/// replies a program allows may depend on the caller's local.
+/// Each object step belongs to the call under way, and is made on the object word that it names;
+/// which steps and replies a program allows may depend on the caller's local.
 pub fn object_steps_belong_to_calls()
     // The steps on two object words are a run.
     ensures run { IsRun two_words steps_by_call }
     // The object steps of each call are those that the caller made in it.
-    ensures by_call { (local_after_all two_words steps_by_call 0).object_steps ≡ (object_step 1 0 3 ∷ object_step 0 0 4 ∷ []) ∷ (object_step 1 3 8 ∷ []) ∷ [] }
+    ensures by_call { (local_after_all two_words steps_by_call 0).object_steps
+        ≡ (object_step 1 0 3 ∷ object_step 0 0 4 ∷ []) ∷ (object_step 1 3 8 ∷ []) ∷ [] }
     // The object steps of the call under way are those of the second call.
     ensures now { steps_now (local_after_all two_words steps_by_call 0) ≡ object_step 1 3 8 ∷ [] }
     // The operation of the call under way is that of the second call.
     ensures operation { operation_now (local_after_all two_words steps_by_call 0) ≡ 6 }
     // The object steps of all calls are those of the first call and then the second's.
-    ensures all { all_steps_of (local_after_all two_words steps_by_call 0) ≡ object_step 1 0 3 ∷ object_step 0 0 4 ∷ object_step 1 3 8 ∷ [] }
+    ensures all { all_steps_of (local_after_all two_words steps_by_call 0)
+        ≡ object_step 1 0 3 ∷ object_step 0 0 4 ∷ object_step 1 3 8 ∷ [] }
     // The words at the end have both object words after the rows.
-    ensures words { (end_of two_words steps_by_call).words ≡ 2 ∷ 1 ∷ 5 ∷ 0 ∷ 0 ∷ 50 ∷ 1 ∷ 0 ∷ 6 ∷ 0 ∷ 1 ∷ 0 ∷ 0 ∷ 0 ∷ 4 ∷ 8 ∷ [] }
+    ensures words { (end_of two_words steps_by_call).words
+        ≡ 2 ∷ 1 ∷ 5 ∷ 0 ∷ 0 ∷ 50 ∷ 1 ∷ 0 ∷ 6 ∷ 0 ∷ 1 ∷ 0 ∷ 0 ∷ 0 ∷ 4 ∷ 8 ∷ [] }
     // The second object word is 8.
     ensures second_word { object_word two_words (end_of two_words steps_by_call) 1 ≡ 8 }
     // An object step isn't allowed from another word than that which stands there, nor on a word
     // that isn't there.
-    ensures its_word { IsTrue (refuses_in two_words steps_by_call (by 0 (Object (object_step 1 4 5)) ∷ by 0 (Object (object_step 2 0 5)) ∷ [])) }
+    ensures its_word { IsTrue (refuses_in two_words steps_by_call
+        (by 0 (Object (object_step 1 4 5)) ∷ by 0 (Object (object_step 2 0 5)) ∷ [])) }
     // A program that goes by the operation allows a step and a reply of the caller's own operation.
-    ensures own_operation { IsTrue (allows_in by_operation (announcement 0 5 (0 ∷ [])) (by 0 (Object (object_step 0 0 5)) ∷ by 0 (Look N 0 1 (Begins_view 5)) ∷ [])) }
+    ensures own_operation { IsTrue (allows_in by_operation (announcement 0 5 (0 ∷ []))
+        (by 0 (Object (object_step 0 0 5)) ∷ by 0 (Look N 0 1 (Begins_view 5)) ∷ [])) }
     // A program that goes by the operation refuses a step and a reply of another operation.
-    ensures other_operation { IsTrue (refuses_in by_operation (announcement 0 5 (0 ∷ [])) (by 0 (Object (object_step 0 0 6)) ∷ by 0 (Look N 0 1 (Begins_view 6)) ∷ [])) }
+    ensures other_operation { IsTrue (refuses_in by_operation (announcement 0 5 (0 ∷ []))
+        (by 0 (Object (object_step 0 0 6)) ∷ by 0 (Look N 0 1 (Begins_view 6)) ∷ [])) }
 {}
 
-/// A place may be staged again, and has the last word that was staged there; an operation is announced with its
-/// high word; and no place of a row may lack.
+/// A place may be staged again, and has the last word that was staged there; an operation is
+/// announced with its high word; and no place of a row may lack.
 pub fn places_are_staged_again()
     // The steps with places that are staged again are a run.
     ensures run { IsRun pair staged_again }
@@ -142,17 +158,20 @@ pub fn places_are_staged_again()
     // The row has the high word that was staged last.
     ensures high { row_word pair (end_of pair staged_again) N 0 0 1 ≡ 8 }
     // Each staged word is kept, newest first.
-    ensures staged { (local_at (take 7 staged_again) 0).staged ≡ record { place = 0; word = 6 } ∷ record { place = 1; word = 7 } ∷ record { place = 0; word = 5 } ∷ [] }
+    ensures staged { (local_at (take 7 staged_again) 0).staged ≡ record { place = 0; word = 6 }
+        ∷ record { place = 1; word = 7 } ∷ record { place = 0; word = 5 } ∷ [] }
     // The call is invoked with the operation of the words that were staged last.
     ensures invoked { history_of pair staged_again ≡ Invoked (call_of 0 0) second_operation ∷ [] }
     // A caller that lacks place 0 alone may not announce.
     ensures first_lacks { IsTrue (refuses first_unstaged (by 0 Announce ∷ [])) }
     // A caller that has staged place 0 too may announce.
-    ensures first_is_staged { IsTrue (allows (first_unstaged ++ by 0 (Stage N 0 5) ∷ []) (by 0 Announce ∷ [])) }
+    ensures first_is_staged { IsTrue
+        (allows (first_unstaged ++ by 0 (Stage N 0 5) ∷ []) (by 0 Announce ∷ [])) }
 {}
 
-/// What a caller keeps of a word that it peeked: the region, the caller, the row, the place, and the word, newest
-/// first. Looks and peeks of the region that a scan isn't of are none of its words.
+/// What a caller keeps of a word that it peeked: the region, the caller, the row, the place, and
+/// the word, newest first. Looks and peeks of the region that a scan isn't of are none of its
+/// words.
 pub fn peeks_are_kept()
     // The steps with peeks in both regions are a run.
     ensures run { IsRun trio peeking }
@@ -165,15 +184,20 @@ pub fn peeks_are_kept()
         ∷ record { region = N; caller = 0; row = 1; place = 2; word = 1 }
         ∷ [] }
     // The peeked words of M are kept with region, caller, row and place, newest first.
-    ensures of_M { (local_at entry_peeked 1).peeked ≡ record { region = M; caller = 0; row = 0; place = 1; word = 1 } ∷ record { region = M; caller = 0; row = 0; place = 0; word = 50 } ∷ [] }
+    ensures of_M { (local_at entry_peeked 1).peeked
+        ≡ record { region = M; caller = 0; row = 0; place = 1; word = 1 }
+        ∷ record { region = M; caller = 0; row = 0; place = 0; word = 50 } ∷ [] }
     // A look in the region that a scan isn't of is none of its words.
-    ensures looked_beside { (local_at looked_beside 0).scan ≡ Some (record { region = N; is_view = false; since = 0; taken = 0 ∷ [] }) }
+    ensures looked_beside { (local_at looked_beside 0).scan
+        ≡ Some (record { region = N; is_view = false; since = 0; taken = 0 ∷ [] }) }
     // A peek in the region that a scan isn't of is none of its words.
-    ensures peeked_beside { (peeked_at 3 (local_after_all trio (moved_twice ++ take 3 borrowed) 2) M 0 1 4 9).scan ≡ (local_after_all trio (moved_twice ++ take 3 borrowed) 2).scan }
+    ensures peeked_beside { (peeked_at 3 (local_after_all trio (moved_twice ++ take 3 borrowed) 2) M
+        0 1 4 9).scan ≡ (local_after_all trio (moved_twice ++ take 3 borrowed) 2).scan }
 {}
 
-/// Which histories of one caller are linearizable: its second call stands after its first, though both have one
-/// operation; no call stands twice, or before itself; and the replies are those from the first list on.
+/// Which histories of one caller are linearizable: its second call stands after its first, though
+/// both have one operation; no call stands twice, or before itself; and the replies are those from
+/// the first list on.
 #[tactic(auto, using(crate::proofs::OneCaller::in_turn_linearizable, crate::proofs::OneCaller::caller_forbids, crate::proofs::OneCaller::one_forbids, crate::proofs::OneCaller::list_allows, crate::proofs::OneCaller::list_forbids, crate::proofs::OneCaller::before_forbids))]
 pub fn histories_of_one_caller_are_linearizable()
     // A history of two calls of one caller in their order is linearizable.

@@ -1,14 +1,14 @@
-//! Histories that aren't linearizable, each by one reply or one place of one call; and an order that leaves a call
-//! out.
+//! Histories that aren't linearizable, each by one reply or one place of one call; and an order
+//! that leaves a call out.
 
 ghost use Rattle.std.specs.Prelude.{[]};
 ghost use Rattle.world_core.specs.History.{IsLinearization, IsLinearizable};
 ghost use Rattle.world_core.specs.Histories.{numbering, without_unanswered, second_alone};
 ghost use Rattle.world_core.specs.WrongHistories.{both_return_0, second_returns_1, before_unanswered, beside_all, returns_1_and_3};
 
-/// Which histories aren't linearizable for an object whose reply is the number of operations before. Each call's
-/// reply is asked for, whichever caller's and whichever call of it; and any two places of an order are, whether
-/// another stands between them or not.
+/// Which histories aren't linearizable for an object whose reply is the number of operations
+/// before. Each call's reply is asked for, whichever caller's and whichever call of it; and any two
+/// places of an order are, whether another stands between them or not.
 #[tactic(auto, using(crate::proofs::WrongHistories::both_0_forbidden, crate::proofs::WrongHistories::second_1_forbidden, crate::proofs::WrongHistories::unanswered_forbidden, crate::proofs::WrongHistories::beside_forbidden, crate::proofs::WrongHistories::again_forbidden))]
 pub fn wrong_histories_are_not_linearizable()
     // A history in which both calls of a caller have the reply of the first isn't linearizable.

@@ -1,4 +1,5 @@
--- An event that changes no row and no count keeps the agreement of its caller's local with the words; and so does each event.
+-- An event that changes no row and no count keeps the agreement of its caller's local with the
+-- words; and so does each event.
 use Rattle.std.proofs.Common.{◌≡◌, ℕ, ◌+◌, ◌<◌, ◌≤◌, ◌⊎◌, Bool, true, false, ◌&&◌, ◌==◌, nat_lt, List, [], ◌∷◌, ◌++◌, length, Option, Some, None, slice_index, slice_index_or, refl, sym, ap, ◌∙◌, subst, arith, IsTrue, if◌then◌else◌, inl, inr, length-append, length-set}
 use Rattle.std.proofs.lemmas.List.{get_or-set_other, get_or_append_left}
 use Rattle.std.proofs.lemmas.Bool.{and_parts, cond_both, not-true}
@@ -20,34 +21,47 @@ use Rattle.world_laws.proofs.Raising.{announce_agrees, publish_agrees}
 
 -- where nothing is staged, nothing stands in the row under way
 none_staged : (staged : List Staged) (p : ℕ) → staged ≡ [] → is_staged staged p ≡ true → ⊥
-none_staged staged p empty h = let e : false ≡ true = sym (ap (λ (ws : List Staged). is_staged ws p) empty) ∙ h in cc
+none_staged staged p empty h = let e : false ≡ true =
+    sym (ap (λ (ws : List Staged). is_staged ws p) empty) ∙ h in cc
 
--- What a local looked at, peeked and was given touches no word, nor do its object steps, nor a scan and a cut to embed that
--- its phase allows.
-module _ (s : Shape) (words : List ℕ) (i : ℕ) (l : Local) (scan : Option Scan) (kept : Option (List ℕ)) (cuts : List Given) (looked : List Looked)
+-- What a local looked at, peeked and was given touches no word, nor do its object steps, nor a scan
+-- and a cut to embed that its phase allows.
+module _ (s : Shape) (words : List ℕ) (i : ℕ) (l : Local) (scan : Option Scan)
+    (kept : Option (List ℕ)) (cuts : List Given) (looked : List Looked)
     (peeked : List Peeked) (steps : List (List Object_step)) (h : Agrees s words i l) where
   abbrev like : Local
-  like = record l { scan = scan; to_embed = kept; cuts = cuts; looked = looked; peeked = peeked; object_steps = steps }
+  like = record l {
+    scan = scan;
+    to_embed = kept;
+    cuts = cuts;
+    looked = looked;
+    peeked = peeked;
+    object_steps = steps;
+  }
 
   like_count : (r : Region) → slice_index words (count_index s.callers r i) ≡ own_count like r
   like_count N = h.counts N
   like_count M = h.counts M
 
   like_row : (r : Region) (k p : ℕ) → k < own_count like r → p < places s.callers r
-      → slice_index words (place_index s.callers s.cap r i k p) ≡ word_of like k (content s.callers r p)
+      → slice_index words (place_index s.callers s.cap r i k p)
+      ≡ word_of like k (content s.callers r p)
   like_row N k p below fits = h.rows N k p below fits
   like_row M k p below fits = h.rows M k p below fits
 
-  like_staged : (r : Region) (p : ℕ) → kept ≡ l.to_embed → IsInRow s words i l r p → IsInRow s words i like r p
+  like_staged : (r : Region) (p : ℕ) → kept ≡ l.to_embed → IsInRow s words i l r p
+      → IsInRow s words i like r p
   like_staged r p same here =
       record {
         row = here.row;
         place_fits = here.place_fits;
         stands = here.stands;
-        due = subst (λ (o : Option (List ℕ)). is_due (record like { to_embed = o }) (content s.callers r p) (staged_at l.staged p) ≡ true) (sym same) here.due;
+        due = subst (λ (o : Option (List ℕ)). is_due (record like { to_embed = o })
+            (content s.callers r p) (staged_at l.staged p) ≡ true) (sym same) here.due;
       }
 
-  like_agrees : FitsPhase l.phase scan → IsKeptIn l.phase kept → (kept ≡ l.to_embed) ⊎ (l.staged ≡ []) → length steps ≡ l.announced → Agrees s words i like
+  like_agrees : FitsPhase l.phase scan → IsKeptIn l.phase kept → (kept ≡ l.to_embed)
+      ⊎ (l.staged ≡ []) → length steps ≡ l.announced → Agrees s words i like
   like_agrees fits may_keep same long =
       record {
         counts = like_count;
@@ -74,17 +88,28 @@ module _ (s : Shape) (words : List ℕ) (i : ℕ) (l : Local) (scan : Option Sca
       }
 
 -- the same with the cut to embed and the object steps as they were
-with_scan : (s : Shape) (words : List ℕ) (i : ℕ) (l : Local) (scan : Option Scan) (cuts : List Given) (looked : List Looked) (peeked : List Peeked)
+with_scan : (s : Shape) (words : List ℕ) (i : ℕ) (l : Local) (scan : Option Scan)
+    (cuts : List Given) (looked : List Looked) (peeked : List Peeked)
     → Agrees s words i l → FitsPhase l.phase scan
     → Agrees s words i (record l { scan = scan; cuts = cuts; looked = looked; peeked = peeked })
 with_scan s words i l scan cuts looked peeked h fits =
-    like_agrees s words i l scan l.to_embed cuts looked peeked l.object_steps h fits h.kept_in (inl refl) h.phase.object_steps
+    like_agrees s words i l scan l.to_embed cuts looked peeked l.object_steps h fits h.kept_in
+    (inl refl) h.phase.object_steps
 
--- A local with other replies and views, that are the same at each published record, and another phase.
+-- A local with other replies and views, that are the same at each published record, and another
+-- phase.
 module _ (s : Shape) (words : List ℕ) (i : ℕ) (l : Local) (h : Agrees s words i l)
-    (replies : List ℕ) (views : List (List ℕ)) (seen : List (List ℕ)) (phase : Phase) (scan : Option Scan) (cuts : List Given) where
+    (replies : List ℕ) (views : List (List ℕ)) (seen : List (List ℕ)) (phase : Phase)
+    (scan : Option Scan) (cuts : List Given) where
   abbrev turned : Local
-  turned = record l { replies = replies; views = views; seen = seen; phase = phase; scan = scan; cuts = cuts }
+  turned = record l {
+    replies = replies;
+    views = views;
+    seen = seen;
+    phase = phase;
+    scan = scan;
+    cuts = cuts;
+  }
 
   turned_count : (r : Region) → slice_index words (count_index s.callers r i) ≡ own_count turned r
   turned_count N = h.counts N
@@ -93,31 +118,44 @@ module _ (s : Shape) (words : List ℕ) (i : ℕ) (l : Local) (h : Agrees s word
   turned_row : ((k : ℕ) → k < l.published → slice_index replies k ≡ slice_index l.replies k)
       → ((k : ℕ) → k < l.published → slice_index_or views k [] ≡ slice_index_or l.views k [])
       → (r : Region) (k p : ℕ) → k < own_count turned r → p < places s.callers r
-      → slice_index words (place_index s.callers s.cap r i k p) ≡ word_of turned k (content s.callers r p)
+      → slice_index words (place_index s.callers s.cap r i k p)
+      ≡ word_of turned k (content s.callers r p)
   turned_row a b N k p below fits =
-      h.rows N k p below fits ∙ same_row s.callers l turned N k p (record { operation = refl; embedded = refl })
+      h.rows N k p below fits
+      ∙ same_row s.callers l turned N k p (record { operation = refl; embedded = refl })
   turned_row a b M k p below fits =
-      h.rows M k p below fits ∙ same_row s.callers l turned M k p (record { reply = sym (a k below); view = sym (b k below); embedded = refl })
+      h.rows M k p below fits ∙ same_row s.callers l turned M k p
+      (record { reply = sym (a k below); view = sym (b k below); embedded = refl })
 
 -- Reply, view and seen cut, each added as its phase ends.
-module _ (s : Shape) (words : List ℕ) (i : ℕ) (l : Local) (cuts : List Given) (h : Agrees s words i l) where
+module _ (s : Shape) (words : List ℕ) (i : ℕ) (l : Local) (cuts : List Given)
+    (h : Agrees s words i l) where
   -- the object's reply, at the first look of the view's scan
   replied_agrees : (reply : ℕ) (since : ℕ) (taken : List ℕ) → l.phase ≡ Asking
-      → Agrees s words i (turned s words i l h (l.replies ++ reply ∷ []) l.views l.seen Viewing (Some (record { region = N; is_view = true; since = since; taken = taken })) cuts)
+      → Agrees s words i (turned s words i l h (l.replies ++ reply ∷ []) l.views l.seen Viewing
+      (Some (record { region = N; is_view = true; since = since; taken = taken })) cuts)
   replied_agrees reply since taken phase =
       let empty : l.staged ≡ [] = subst (λ (f : Phase). IsStagedIn f l.staged) phase h.staged_in in
-      let calls : l.announced ≡ l.published + 1 = h.phase.announced ∙ ap (λ (f : Phase). l.published + unpublished_calls f) phase in
-      let replies : length l.replies ≡ l.published + 0 = h.phase.replies ∙ ap (λ (f : Phase). l.published + unpublished_replies f) phase in
-      let views : length l.views ≡ l.published + 0 = h.phase.views ∙ ap (λ (f : Phase). l.published + unpublished_views f) phase in
-      let seen : length l.seen + 0 ≡ l.published = ap (λ (f : Phase). length l.seen + unseen_records f) (sym phase) ∙ h.phase.seen in
+      let calls : l.announced ≡ l.published + 1 =
+      h.phase.announced ∙ ap (λ (f : Phase). l.published + unpublished_calls f) phase in
+      let replies : length l.replies ≡ l.published + 0 =
+      h.phase.replies ∙ ap (λ (f : Phase). l.published + unpublished_replies f) phase in
+      let views : length l.views ≡ l.published + 0 =
+      h.phase.views ∙ ap (λ (f : Phase). l.published + unpublished_views f) phase in
+      let seen : length l.seen + 0 ≡ l.published =
+      ap (λ (f : Phase). length l.seen + unseen_records f) (sym phase) ∙ h.phase.seen in
       record {
-        counts = turned_count s words i l h (l.replies ++ reply ∷ []) l.views l.seen Viewing (Some (record { region = N; is_view = true; since = since; taken = taken })) cuts;
+        counts = turned_count s words i l h (l.replies ++ reply ∷ []) l.views l.seen Viewing
+            (Some (record { region = N; is_view = true; since = since; taken = taken })) cuts;
         few = h.few;
-        rows = turned_row s words i l h (l.replies ++ reply ∷ []) l.views l.seen Viewing (Some (record { region = N; is_view = true; since = since; taken = taken })) cuts
-            (λ k below. get_or_append_left l.replies (reply ∷ []) 0 k (omega arith)) (λ k below. refl);
+        rows = turned_row s words i l h (l.replies ++ reply ∷ []) l.views l.seen Viewing
+            (Some (record { region = N; is_view = true; since = since; taken = taken })) cuts
+            (λ k below. get_or_append_left l.replies (reply ∷ []) 0 k (omega arith))
+            (λ k below. refl);
         staged = λ r p staging staged. absurd (none_staged l.staged p empty staged);
         staged_in = empty;
-        kept_in = let none : l.to_embed ≡ None = subst (λ (f : Phase). IsKeptIn f l.to_embed) phase h.kept_in in none;
+        kept_in = let none : l.to_embed ≡ None =
+            subst (λ (f : Phase). IsKeptIn f l.to_embed) phase h.kept_in in none;
         phase = record {
           announced = calls;
           operations = h.phase.operations;
@@ -133,15 +171,21 @@ module _ (s : Shape) (words : List ℕ) (i : ℕ) (l : Local) (cuts : List Given
 
   -- the view, at the last look of its scan
   viewed_agrees : (cut : List ℕ) → l.phase ≡ Viewing
-      → Agrees s words i (turned s words i l h l.replies (l.views ++ cut ∷ []) l.seen Publishing None cuts)
+      → Agrees s words i
+      (turned s words i l h l.replies (l.views ++ cut ∷ []) l.seen Publishing None cuts)
   viewed_agrees cut phase =
       let empty : l.staged ≡ [] = subst (λ (f : Phase). IsStagedIn f l.staged) phase h.staged_in in
-      let calls : l.announced ≡ l.published + 1 = h.phase.announced ∙ ap (λ (f : Phase). l.published + unpublished_calls f) phase in
-      let replies : length l.replies ≡ l.published + 1 = h.phase.replies ∙ ap (λ (f : Phase). l.published + unpublished_replies f) phase in
-      let views : length l.views ≡ l.published + 0 = h.phase.views ∙ ap (λ (f : Phase). l.published + unpublished_views f) phase in
-      let seen : length l.seen + 0 ≡ l.published = ap (λ (f : Phase). length l.seen + unseen_records f) (sym phase) ∙ h.phase.seen in
+      let calls : l.announced ≡ l.published + 1 =
+      h.phase.announced ∙ ap (λ (f : Phase). l.published + unpublished_calls f) phase in
+      let replies : length l.replies ≡ l.published + 1 =
+      h.phase.replies ∙ ap (λ (f : Phase). l.published + unpublished_replies f) phase in
+      let views : length l.views ≡ l.published + 0 =
+      h.phase.views ∙ ap (λ (f : Phase). l.published + unpublished_views f) phase in
+      let seen : length l.seen + 0 ≡ l.published =
+      ap (λ (f : Phase). length l.seen + unseen_records f) (sym phase) ∙ h.phase.seen in
       record {
-        counts = turned_count s words i l h l.replies (l.views ++ cut ∷ []) l.seen Publishing None cuts;
+        counts =
+            turned_count s words i l h l.replies (l.views ++ cut ∷ []) l.seen Publishing None cuts;
         few = h.few;
         rows = turned_row s words i l h l.replies (l.views ++ cut ∷ []) l.seen Publishing None cuts
             (λ k below. refl) (λ k below. get_or_append_left l.views (cut ∷ []) [] k (omega arith));
@@ -163,17 +207,24 @@ module _ (s : Shape) (words : List ℕ) (i : ℕ) (l : Local) (cuts : List Given
 
   -- the seen cut, at the last look of its scan
   seen_agrees : (cut : List ℕ) → l.phase ≡ Judging
-      → Agrees s words i (turned s words i l h l.replies l.views (l.seen ++ cut ∷ []) Announcing None cuts)
+      → Agrees s words i
+      (turned s words i l h l.replies l.views (l.seen ++ cut ∷ []) Announcing None cuts)
   seen_agrees cut phase =
       let empty : l.staged ≡ [] = subst (λ (f : Phase). IsStagedIn f l.staged) phase h.staged_in in
-      let calls : l.announced ≡ l.published + 0 = h.phase.announced ∙ ap (λ (f : Phase). l.published + unpublished_calls f) phase in
-      let replies : length l.replies ≡ l.published + 0 = h.phase.replies ∙ ap (λ (f : Phase). l.published + unpublished_replies f) phase in
-      let views : length l.views ≡ l.published + 0 = h.phase.views ∙ ap (λ (f : Phase). l.published + unpublished_views f) phase in
-      let seen : length l.seen + 1 ≡ l.published = ap (λ (f : Phase). length l.seen + unseen_records f) (sym phase) ∙ h.phase.seen in
+      let calls : l.announced ≡ l.published + 0 =
+      h.phase.announced ∙ ap (λ (f : Phase). l.published + unpublished_calls f) phase in
+      let replies : length l.replies ≡ l.published + 0 =
+      h.phase.replies ∙ ap (λ (f : Phase). l.published + unpublished_replies f) phase in
+      let views : length l.views ≡ l.published + 0 =
+      h.phase.views ∙ ap (λ (f : Phase). l.published + unpublished_views f) phase in
+      let seen : length l.seen + 1 ≡ l.published =
+      ap (λ (f : Phase). length l.seen + unseen_records f) (sym phase) ∙ h.phase.seen in
       record {
-        counts = turned_count s words i l h l.replies l.views (l.seen ++ cut ∷ []) Announcing None cuts;
+        counts =
+            turned_count s words i l h l.replies l.views (l.seen ++ cut ∷ []) Announcing None cuts;
         few = h.few;
-        rows = turned_row s words i l h l.replies l.views (l.seen ++ cut ∷ []) Announcing None cuts (λ k below. refl) (λ k below. refl);
+        rows = turned_row s words i l h l.replies l.views (l.seen ++ cut ∷ []) Announcing None cuts
+            (λ k below. refl) (λ k below. refl);
         staged = λ r p staging staged. absurd (none_staged l.staged p empty staged);
         staged_in = tt;
         kept_in = tt;
@@ -197,16 +248,20 @@ module _ (s : Shape) (words : List ℕ) (i : ℕ) (l : Local) (cuts : List Given
   nothing_agrees : FitsPhase l.phase None → Agrees s words i ended
   nothing_agrees fits = with_scan s words i l None cuts l.looked l.peeked h fits
 
-  row_agrees : (cut : List ℕ) → FitsPhase l.phase None → IsKeptIn l.phase (Some cut) → l.staged ≡ [] → Agrees s words i (served ended For_row cut)
-  row_agrees cut fits may_keep empty = like_agrees s words i l None (Some cut) cuts l.looked l.peeked l.object_steps h fits may_keep (inr empty) h.phase.object_steps
+  row_agrees : (cut : List ℕ) → FitsPhase l.phase None → IsKeptIn l.phase (Some cut)
+      → l.staged ≡ [] → Agrees s words i (served ended For_row cut)
+  row_agrees cut fits may_keep empty = like_agrees s words i l None (Some cut) cuts l.looked
+      l.peeked l.object_steps h fits may_keep (inr empty) h.phase.object_steps
 
   -- a cut to embed, or none
-  maybe_row : (b : Bool) (cut : List ℕ) → FitsPhase l.phase None → IsKeptIn l.phase (Some cut) → (b ≡ true → l.staged ≡ [])
+  maybe_row : (b : Bool) (cut : List ℕ) → FitsPhase l.phase None → IsKeptIn l.phase (Some cut)
+      → (b ≡ true → l.staged ≡ [])
       → Agrees s words i (served ended (if b then For_row else For_nothing) cut)
   maybe_row true cut fits may_keep empty = row_agrees cut fits may_keep (empty refl)
   maybe_row false cut fits may_keep empty = nothing_agrees fits
 
-  maybe_seen : (b : Bool) (cut : List ℕ) → l.phase ≡ Judging → Agrees s words i (served ended (if b then For_seen else For_nothing) cut)
+  maybe_seen : (b : Bool) (cut : List ℕ) → l.phase ≡ Judging
+      → Agrees s words i (served ended (if b then For_seen else For_nothing) cut)
   maybe_seen true cut is = seen_agrees cut is
   maybe_seen false cut is = nothing_agrees (subst (λ (f : Phase). FitsPhase f None) (sym is) tt)
 
@@ -215,32 +270,44 @@ module _ (s : Shape) (words : List ℕ) (i : ℕ) (l : Local) (cuts : List Given
   unstaged_is (w ∷ ws) e = absurd cc
 
   -- a cut serves its purpose
-  served_agrees : (scan : Scan) (cut : List ℕ) (phase : Phase) → l.phase ≡ phase → FitsPhase phase (Some scan)
+  served_agrees : (scan : Scan) (cut : List ℕ) (phase : Phase) → l.phase ≡ phase
+      → FitsPhase phase (Some scan)
       → Agrees s words i (served ended (purpose_of phase l.staged scan) cut)
   served_agrees scan cut Viewing is fits =
       subst (λ (p : Purpose). Agrees s words i (served ended p cut))
       (let e : For_view ≡ purpose_of Viewing l.staged scan =
-      sym (ap (λ (r : Region). if is_same_region r N && scan.is_view then For_view else For_nothing) fits.1
+      sym (ap
+      (λ (r : Region). if is_same_region r N && scan.is_view then For_view else For_nothing) fits.1
       ∙ ap (λ (b : Bool). if is_same_region N N && b then For_view else For_nothing) fits.0) in e)
       (viewed_agrees cut is)
   served_agrees scan cut Judging is fits = maybe_seen (is_same_region scan.region M) cut is
-  served_agrees scan cut Asking is fits = nothing_agrees (subst (λ (f : Phase). FitsPhase f None) (sym is) tt)
+  served_agrees scan cut Asking is fits =
+      nothing_agrees (subst (λ (f : Phase). FitsPhase f None) (sym is) tt)
   served_agrees scan cut Announcing is fits =
-      maybe_row (is_same_region scan.region N && is_unstaged l.staged) cut (subst (λ (f : Phase). FitsPhase f None) (sym is) tt)
-      (subst (λ (f : Phase). IsKeptIn f (Some cut)) (sym is) tt) (λ e. unstaged_is l.staged (and_parts (is_same_region scan.region N) (is_unstaged l.staged) e).1)
+      maybe_row (is_same_region scan.region N && is_unstaged l.staged) cut
+      (subst (λ (f : Phase). FitsPhase f None) (sym is) tt)
+      (subst (λ (f : Phase). IsKeptIn f (Some cut)) (sym is) tt) (λ e.
+      unstaged_is l.staged (and_parts (is_same_region scan.region N) (is_unstaged l.staged) e).1)
   served_agrees scan cut Publishing is fits =
-      maybe_row (is_same_region scan.region M && is_unstaged l.staged) cut (subst (λ (f : Phase). FitsPhase f None) (sym is) tt)
-      (subst (λ (f : Phase). IsKeptIn f (Some cut)) (sym is) tt) (λ e. unstaged_is l.staged (and_parts (is_same_region scan.region M) (is_unstaged l.staged) e).1)
+      maybe_row (is_same_region scan.region M && is_unstaged l.staged) cut
+      (subst (λ (f : Phase). FitsPhase f None) (sym is) tt)
+      (subst (λ (f : Phase). IsKeptIn f (Some cut)) (sym is) tt) (λ e.
+      unstaged_is l.staged (and_parts (is_same_region scan.region M) (is_unstaged l.staged) e).1)
 
 -- a scan that took a word keeps the agreement
-went_on_agrees : (s : Shape) (words : List ℕ) (i : ℕ) (l : Local) (scan : Scan) (want : Want) → Agrees s words i l → FitsPhase l.phase (Some scan)
+went_on_agrees : (s : Shape) (words : List ℕ) (i : ℕ) (l : Local) (scan : Scan) (want : Want)
+    → Agrees s words i l → FitsPhase l.phase (Some scan)
     → Agrees s words i (went_on l scan want)
-went_on_agrees s words i l scan (Done cut) h fits = served_agrees s words i l (l.cuts ++ given_by scan cut ∷ []) h scan cut l.phase refl fits
-went_on_agrees s words i l scan (Wants_look j) h fits = with_scan s words i l (Some scan) l.cuts l.looked l.peeked h fits
-went_on_agrees s words i l scan (Wants_peek j k e) h fits = with_scan s words i l (Some scan) l.cuts l.looked l.peeked h fits
+went_on_agrees s words i l scan (Done cut) h fits =
+    served_agrees s words i l (l.cuts ++ given_by scan cut ∷ []) h scan cut l.phase refl fits
+went_on_agrees s words i l scan (Wants_look j) h fits =
+    with_scan s words i l (Some scan) l.cuts l.looked l.peeked h fits
+went_on_agrees s words i l scan (Wants_peek j k e) h fits =
+    with_scan s words i l (Some scan) l.cuts l.looked l.peeked h fits
 
 -- what a phase allows of a scan doesn't hang on its words
-more_fits : (phase : Phase) (scan : Scan) (x : ℕ) → FitsPhase phase (Some scan) → FitsPhase phase (Some (with_word scan x))
+more_fits : (phase : Phase) (scan : Scan) (x : ℕ) → FitsPhase phase (Some scan)
+    → FitsPhase phase (Some (with_word scan x))
 more_fits Announcing scan x h = h
 more_fits Asking scan x h = h
 more_fits Viewing scan x h = h
@@ -248,17 +315,21 @@ more_fits Publishing scan x h = h
 more_fits Judging scan x h = h
 
 -- a loaded word keeps the agreement, whether or not a scan takes it
-fed_agrees : (s : Shape) (words : List ℕ) (i : ℕ) (l : Local) (o : Option Scan) (q : Region) (is_it : Want → Bool) (x : ℕ) → Agrees s words i l → FitsPhase l.phase o
+fed_agrees : (s : Shape) (words : List ℕ) (i : ℕ) (l : Local) (o : Option Scan) (q : Region)
+    (is_it : Want → Bool) (x : ℕ) → Agrees s words i l → FitsPhase l.phase o
     → Agrees s words i (fed s.callers l o q is_it x)
 fed_agrees s words i l None q is_it x h fits = h
 fed_agrees s words i l (Some scan) q is_it x h fits =
     cond_both (is_same_region scan.region q && is_it (wanted s.callers scan.taken))
-    (went_on l (with_word scan x) (wanted s.callers (with_word scan x).taken)) l (λ (m : Local). Agrees s words i m)
-    (λ _. went_on_agrees s words i l (with_word scan x) (wanted s.callers (with_word scan x).taken) h (more_fits l.phase scan x fits))
+    (went_on l (with_word scan x) (wanted s.callers (with_word scan x).taken)) l
+    (λ (m : Local). Agrees s words i m)
+    (λ _. went_on_agrees s words i l (with_word scan x)
+    (wanted s.callers (with_word scan x).taken) h (more_fits l.phase scan x fits))
     (λ _. h)
 
 -- where no view's scan is under way, another may begin
-may_fit : (phase : Phase) (o : Option Scan) (scan : Scan) → FitsPhase phase o → is_view_under_way o ≡ false → scan.is_view ≡ false → FitsPhase phase (Some scan)
+may_fit : (phase : Phase) (o : Option Scan) (scan : Scan) → FitsPhase phase o
+    → is_view_under_way o ≡ false → scan.is_view ≡ false → FitsPhase phase (Some scan)
 may_fit Announcing o scan fits h plain = plain
 may_fit Asking o scan fits h plain = plain
 may_fit Publishing o scan fits h plain = plain
@@ -274,12 +345,14 @@ asking_is Publishing h = absurd cc
 asking_is Judging h = absurd cc
 
 -- the beginning of a scan keeps the agreement
-pub opened_agrees : (s : Shape) (me : ℕ) (words : List ℕ) (i : ℕ) (l : Local) (q : Region) (j : ℕ) (o : Opening) → Agrees s words i l → IsTrue (may_begin s me l q j o)
+pub opened_agrees : (s : Shape) (me : ℕ) (words : List ℕ) (i : ℕ) (l : Local) (q : Region) (j : ℕ)
+    (o : Opening) → Agrees s words i l → IsTrue (may_begin s me l q j o)
     → Agrees s words i (opened l q o)
 opened_agrees s me words i l q j Begins_none h may = h
 opened_agrees s me words i l q j Begins_scan h may =
     let free = not-true (is_view_under_way l.scan) (and_parts (j == 0) _ may).1 in
-    with_scan s words i l (Some (begun l q false)) l.cuts l.looked l.peeked h (may_fit l.phase l.scan (begun l q false) h.scan free refl)
+    with_scan s words i l (Some (begun l q false)) l.cuts l.looked l.peeked h
+    (may_fit l.phase l.scan (begun l q false) h.scan free refl)
 opened_agrees s me words i l N j (Begins_view reply) h may =
     let asks = and_parts (is_asking l.phase) _ (and_parts (j == 0) _ may).1 in
     replied_agrees s words i l l.cuts h reply (length l.looked) [] (asking_is l.phase asks.0)
@@ -287,17 +360,21 @@ opened_agrees s me words i l M j (Begins_view reply) h may =
     let never : false ≡ true = (and_parts (j == 0) false may).1 in absurd cc
 
 -- a look keeps the agreement of its own caller
-look_agrees : (s : Shape) (me : ℕ) (l : Local) (words : List ℕ) (q : Region) (j x : ℕ) (o : Opening) → IsTrue (is_enabled s me l (Look q j x o)) → Agrees s words me l
+look_agrees : (s : Shape) (me : ℕ) (l : Local) (words : List ℕ) (q : Region) (j x : ℕ) (o : Opening)
+    → IsTrue (is_enabled s me l (Look q j x o)) → Agrees s words me l
     → Agrees s words me (local_after s.callers l (Look q j x o))
 look_agrees s me l words q j x o may h =
     let begins : Local = opened l q o in
-    let opens : Agrees s words me begins = opened_agrees s me words me l q j o h (and_parts (nat_lt j s.callers) _ may).1 in
+    let opens : Agrees s words me begins =
+    opened_agrees s me words me l q j o h (and_parts (nat_lt j s.callers) _ may).1 in
     let look : Looked = record { region = q; caller = j; count = x } in
     fed_agrees s words me (with_look begins look) begins.scan q (is_look_wanted j) x
-    (with_scan s words me begins begins.scan begins.cuts (look ∷ begins.looked) begins.peeked opens opens.scan) opens.scan
+    (with_scan s words me begins begins.scan begins.cuts
+    (look ∷ begins.looked) begins.peeked opens opens.scan) opens.scan
 
 -- and so does a peek
-peek_agrees : (s : Shape) (me : ℕ) (l : Local) (words : List ℕ) (q : Region) (j k t x : ℕ) → Agrees s words me l
+peek_agrees : (s : Shape) (me : ℕ) (l : Local) (words : List ℕ) (q : Region) (j k t x : ℕ)
+    → Agrees s words me l
     → Agrees s words me (local_after s.callers l (Peek q j k t x))
 peek_agrees s me l words q j k t x h =
     let peek : Peeked = record { region = q; caller = j; row = k; place = t; word = x } in
@@ -306,18 +383,26 @@ peek_agrees s me l words q j k t x h =
 
 -- a change of no word of the counts and the rows keeps the agreement
 same_words : (s : Shape) (words more : List ℕ) (i : ℕ) (l : Local) → i < s.callers
-    → ((r : Region) → slice_index more (count_index s.callers r i) ≡ slice_index words (count_index s.callers r i))
+    → ((r : Region)
+    → slice_index more (count_index s.callers r i) ≡ slice_index words (count_index s.callers r i))
     → ((r : Region) (k p : ℕ) → k < s.cap → p < places s.callers r
-    → slice_index more (place_index s.callers s.cap r i k p) ≡ slice_index words (place_index s.callers s.cap r i k p))
+    → slice_index more (place_index s.callers s.cap r i k p)
+    ≡ slice_index words (place_index s.callers s.cap r i k p))
     → Agrees s words i l → Agrees s more i l
 same_words s words more i l low counts rows h =
     record {
       counts = λ r. counts r ∙ h.counts r;
       few = h.few;
-      rows = λ r k p below fits. rows r k p (omega (arith, own_few s words i l h r)) fits ∙ h.rows r k p below fits;
+      rows = λ r k p below fits. rows r k p (omega (arith, own_few s words i l h r)) fits
+          ∙ h.rows r k p below fits;
       staged = λ r p staging staged.
           let here = h.staged r p staging staged in
-          record { row = here.row; place_fits = here.place_fits; stands = rows r (own_count l r) p here.row here.place_fits ∙ here.stands; due = here.due };
+          record {
+            row = here.row;
+            place_fits = here.place_fits;
+            stands = rows r (own_count l r) p here.row here.place_fits ∙ here.stands;
+            due = here.due;
+          };
       staged_in = h.staged_in;
       kept_in = h.kept_in;
       phase = h.phase;
@@ -325,20 +410,29 @@ same_words s words more i l low counts rows h =
     }
 
 -- and so does an object step
-object_agrees : (s : Shape) (me : ℕ) (l : Local) (words : List ℕ) (o : Object_step) → me < s.callers → Agrees s words me l
+object_agrees : (s : Shape) (me : ℕ) (l : Local) (words : List ℕ) (o : Object_step) → me < s.callers
+    → Agrees s words me l
     → Agrees s (words_after s me l words (Object o)) me (local_after s.callers l (Object o))
 object_agrees s me l words o low h =
-    same_words s words (words_after s me l words (Object o)) me (local_after s.callers l (Object o)) low
-    (λ r. get_or-set_other words (object_index s.callers s.cap o.place) (count_index s.callers r me) o.new 0 (count_or_object s.callers s.cap r me o.place low))
-    (λ r k p a b. get_or-set_other words (object_index s.callers s.cap o.place) (place_index s.callers s.cap r me k p) o.new 0
+    same_words s words (words_after s me l words (Object o)) me
+    (local_after s.callers l (Object o)) low
+    (λ r. get_or-set_other words (object_index s.callers s.cap o.place)
+    (count_index s.callers r me) o.new 0 (count_or_object s.callers s.cap r me o.place low))
+    (λ r k p a b. get_or-set_other words (object_index s.callers s.cap o.place)
+    (place_index s.callers s.cap r me k p) o.new 0
     (row_or_object s.callers s.cap r me k p o.place low a b))
-    (like_agrees s words me l l.scan l.to_embed l.cuts l.looked l.peeked (with_step l.object_steps l.published o) h h.scan h.kept_in (inl refl)
-    (length-set l.object_steps l.published (slice_index_or l.object_steps l.published [] ++ o ∷ []) ∙ h.phase.object_steps))
+    (like_agrees s words me l l.scan l.to_embed l.cuts l.looked l.peeked
+    (with_step l.object_steps l.published o) h h.scan h.kept_in (inl refl)
+    (length-set l.object_steps l.published (slice_index_or l.object_steps l.published [] ++ o ∷ [])
+    ∙ h.phase.object_steps))
 
 -- an event keeps the agreement of its own caller
-pub own_agrees : (s : Shape) (me : ℕ) (l : Local) (words : List ℕ) (e : Event) → me < s.callers → words_of s ≤ length words
-    → IsTrue (is_enabled s me l e) → Agrees s words me l → Agrees s (words_after s me l words e) me (local_after s.callers l e)
-own_agrees s me l words (Stage q t x) low long may h = stage_agrees s me l words q t x low long may h
+pub own_agrees : (s : Shape) (me : ℕ) (l : Local) (words : List ℕ) (e : Event) → me < s.callers
+    → words_of s ≤ length words
+    → IsTrue (is_enabled s me l e) → Agrees s words me l
+    → Agrees s (words_after s me l words e) me (local_after s.callers l e)
+own_agrees s me l words (Stage q t x) low long may h =
+    stage_agrees s me l words q t x low long may h
 own_agrees s me l words Announce low long may h = announce_agrees s me l words low long may h
 own_agrees s me l words Publish low long may h = publish_agrees s me l words low long may h
 own_agrees s me l words (Object o) low long may h = object_agrees s me l words o low h

@@ -25,7 +25,8 @@ pub record Was (s : Shape) (steps : List Step) (region : Region) (cut : List ℕ
   pub wide : length cut ≡ s.callers
   pub same : (j : ℕ) → j < s.callers → count_of s (end_of s early) region j ≡ slice_index cut j
 
-pub was_on : (s : Shape) (steps more : List Step) (region : Region) (cut : List ℕ) → Was s steps region cut → Was s (steps ++ more) region cut
+pub was_on : (s : Shape) (steps more : List Step) (region : Region) (cut : List ℕ)
+    → Was s steps region cut → Was s (steps ++ more) region cut
 was_on s steps more region cut h =
     record {
       early = h.early;
@@ -35,13 +36,16 @@ was_on s steps more region cut h =
       same = h.same;
     }
 
--- At some moment the counts were at least those of a whole collect, and at most those of the words taken after it.
-pub record Between (s : Shape) (steps : List Step) (region : Region) (closed words : List ℕ) : Type 0 where
+-- At some moment the counts were at least those of a whole collect, and at most those of the words
+-- taken after it.
+pub record Between (s : Shape) (steps : List Step) (region : Region)
+    (closed words : List ℕ) : Type 0 where
   pub early : List Step
   pub later : List Step
   pub parts : steps ≡ early ++ later
   pub above : (j : ℕ) → j < s.callers → slice_index closed j ≤ count_of s (end_of s early) region j
-  pub below : (j : ℕ) → j < length words → count_of s (end_of s early) region j ≤ slice_index words j
+  pub below : (j : ℕ) → j < length words
+      → count_of s (end_of s early) region j ≤ slice_index words j
 
 -- A word of a row, which is counted.
 pub record FromRow (s : Shape) (w : World) (region : Region) (j k e x : ℕ) : Type 0 where
@@ -49,17 +53,23 @@ pub record FromRow (s : Shape) (w : World) (region : Region) (j k e x : ℕ) : T
   pub row : k < count_of s w region j
   pub word : x ≡ row_word s w region j k (embedded_place s.callers region e)
 
--- A collect under way has such a moment for the collect before it, and the peeks of a borrowed cut are words of its row.
-pub record Scanned (s : Shape) (steps : List Step) (w : World) (region : Region) (taken : List ℕ) : Type 0 where
+-- A collect under way has such a moment for the collect before it, and the peeks of a borrowed cut
+-- are words of its row.
+pub record Scanned (s : Shape) (steps : List Step) (w : World) (region : Region)
+    (taken : List ℕ) : Type 0 where
   pub between : (k : ℕ) → rounds s.callers taken ≡ suc k → course s.callers taken ≡ Collects
       → Between s steps region (round s.callers taken k) (open_round s.callers taken)
-  pub borrowed : (j k : ℕ) → course s.callers taken ≡ Borrows j k → (e : ℕ) → e < length (open_round s.callers taken)
+  pub borrowed : (j k : ℕ) → course s.callers taken ≡ Borrows j k → (e : ℕ)
+      → e < length (open_round s.callers taken)
       → FromRow s w region j k e (slice_index (open_round s.callers taken) e)
 
--- What a word that is taken is: the count that the collect lacks, or the entry that the borrowed cut lacks.
+-- What a word that is taken is: the count that the collect lacks, or the entry that the borrowed
+-- cut lacks.
 pub data Found (s : Shape) (w : World) (region : Region) (taken : List ℕ) (x : ℕ) : Type 0 where
-  Count : course s.callers taken ≡ Collects → x ≡ count_of s w region (length (open_round s.callers taken)) → Found s w region taken x
-  Entry : (j k : ℕ) → course s.callers taken ≡ Borrows j k → FromRow s w region j k (length (open_round s.callers taken)) x → Found s w region taken x
+  Count : course s.callers taken ≡ Collects
+      → x ≡ count_of s w region (length (open_round s.callers taken)) → Found s w region taken x
+  Entry : (j k : ℕ) → course s.callers taken ≡ Borrows j k
+      → FromRow s w region j k (length (open_round s.callers taken)) x → Found s w region taken x
 
 same_rows : (a b c d : ℕ) → (let p : Course = Borrows a b in p) ≡ Borrows c d → (a ≡ c) × (b ≡ d)
 same_rows a b c d h = (cc, cc)
@@ -76,20 +86,29 @@ record Ended (last : Option (List ℕ)) (latest cut : List ℕ) : Type 0 where
   cut_is : cut ≡ latest
 
 ended_same : (b : Bool) (first before latest cut : List ℕ) → is_same_cut before latest ≡ b
-    → (if b then Ends latest else lent_by latest (mover first latest)) ≡ Ends cut → Ended (Some before) latest cut
-ended_same true first before latest cut e h = record { before = before; is = refl; same = (bytes_eq-Decides before latest).0 e; cut_is = cc }
+    → (if b then Ends latest else lent_by latest (mover first latest)) ≡ Ends cut
+    → Ended (Some before) latest cut
+ended_same true first before latest cut e h =
+    record { before = before; is = refl; same = (bytes_eq-Decides before latest).0 e; cut_is = cc }
 ended_same false first before latest cut e h = absurd (ends_lent latest cut (mover first latest) h)
 
-ended_by : (first : List ℕ) (last : Option (List ℕ)) (latest cut : List ℕ) → course_by first last latest ≡ Ends cut → Ended last latest cut
+ended_by : (first : List ℕ) (last : Option (List ℕ)) (latest cut : List ℕ)
+    → course_by first last latest ≡ Ends cut → Ended last latest cut
 ended_by first None latest cut h = absurd cc
-ended_by first (Some before) latest cut h = ended_same (is_same_cut before latest) first before latest cut refl h
+ended_by first (Some before) latest cut h =
+    ended_same (is_same_cut before latest) first before latest cut refl h
 
-module _ (s : Shape) (steps : List Step) (w : World) (some : 0 < s.callers) (region : Region) (taken : List ℕ) (x : ℕ)
-    (rise : (early later : List Step) → steps ≡ early ++ later → (j : ℕ) → j < s.callers → count_of s (end_of s early) region j ≤ count_of s w region j)
+module _ (s : Shape) (steps : List Step) (w : World) (some : 0 < s.callers) (region : Region)
+    (taken : List ℕ) (x : ℕ)
+    (rise : (early later : List Step) → steps ≡ early ++ later → (j : ℕ) → j < s.callers
+    → count_of s (end_of s early) region j ≤ count_of s w region j)
     (now : end_of s steps ≡ w)
-    (rows : (j k : ℕ) → j < s.callers → k < count_of s w region j → (cut : List ℕ) × Was s steps region cut
-    × ((e : ℕ) → e < s.callers → row_word s w region j k (embedded_place s.callers region e) ≡ slice_index cut e))
-    (low : AreLow s w region (taken ++ x ∷ [])) (h : Scanned s steps w region taken) (found : Found s w region taken x) where
+    (rows : (j k : ℕ) → j < s.callers → k < count_of s w region j → (cut : List ℕ)
+    × Was s steps region cut
+    × ((e : ℕ) → e < s.callers
+    → row_word s w region j k (embedded_place s.callers region e) ≡ slice_index cut e))
+    (low : AreLow s w region (taken ++ x ∷ [])) (h : Scanned s steps w region taken)
+    (found : Found s w region taken x) where
   abbrev n : ℕ
   n = s.callers
 
@@ -100,7 +119,8 @@ module _ (s : Shape) (steps : List Step) (w : World) (some : 0 < s.callers) (reg
   more = taken ++ x ∷ []
 
   -- the count that is looked at is at least that of each earlier moment
-  above_moment : course n taken ≡ Collects → (early later : List Step) → steps ≡ early ++ later → count_of s (end_of s early) region (length words) ≤ x
+  above_moment : course n taken ≡ Collects → (early later : List Step) → steps ≡ early ++ later
+      → count_of s (end_of s early) region (length words) ≤ x
   above_moment going early later parts = elim found [
     | Count is count ↦
         let grown = rise early later parts (length words) (open_lacks n taken 0 some) in
@@ -109,7 +129,8 @@ module _ (s : Shape) (steps : List Step) (w : World) (some : 0 < s.callers) (reg
   ]
 
   -- the moment of the collect before, with one more word
-  between_more : (k : ℕ) → rounds n taken ≡ suc k → course n taken ≡ Collects → Between s steps region (round n taken k) (words ++ x ∷ [])
+  between_more : (k : ℕ) → rounds n taken ≡ suc k → course n taken ≡ Collects
+      → Between s steps region (round n taken k) (words ++ x ∷ [])
   between_more k is going =
       let b = h.between k is going in
       record {
@@ -120,9 +141,12 @@ module _ (s : Shape) (steps : List Step) (w : World) (some : 0 < s.callers) (reg
         below = λ j low_j. elim (cases_lt j (length words)) [
           | inl old ↦ omega (arith, b.below j old, get_or_append_left words (x ∷ []) 0 j old)
           | inr past ↦
-              let here : length words ≡ j = omega (arith, length-append words (x ∷ []), past, low_j) in
-              let bound : count_of s (end_of s b.early) region (length words) ≤ x = above_moment going b.early b.later b.parts in
-              let there : count_of s (end_of s b.early) region j ≤ x = subst (λ (i : ℕ). count_of s (end_of s b.early) region i ≤ x) here bound in
+              let here : length words ≡ j =
+              omega (arith, length-append words (x ∷ []), past, low_j) in
+              let bound : count_of s (end_of s b.early) region (length words) ≤ x =
+              above_moment going b.early b.later b.parts in
+              let there : count_of s (end_of s b.early) region j ≤ x =
+              subst (λ (i : ℕ). count_of s (end_of s b.early) region i ≤ x) here bound in
               omega (arith, there, get_or_push words x 0 j here)
         ];
       }
@@ -133,13 +157,16 @@ module _ (s : Shape) (steps : List Step) (w : World) (some : 0 < s.callers) (reg
     | Count is count ↦ let never : Collects ≡ Borrows j k = sym is ∙ going in absurd cc
     | Entry i m is row ↦
         let same = same_rows i m j k (sym is ∙ going) in
-        subst (λ (b : ℕ). FromRow s w region j b (length words) x) same.1 (subst (λ (a : ℕ). FromRow s w region a m (length words) x) same.0 row)
+        subst (λ (b : ℕ). FromRow s w region j b (length words) x) same.1
+        (subst (λ (a : ℕ). FromRow s w region a m (length words) x) same.0 row)
   ]
 
   -- the words of a row, with one more
-  borrowed_more : (j k : ℕ) → course n taken ≡ Borrows j k → (e : ℕ) → e < length (words ++ x ∷ []) → FromRow s w region j k e (slice_index (words ++ x ∷ []) e)
+  borrowed_more : (j k : ℕ) → course n taken ≡ Borrows j k → (e : ℕ) → e < length (words ++ x ∷ [])
+      → FromRow s w region j k e (slice_index (words ++ x ∷ []) e)
   borrowed_more j k going e low_e = elim (cases_lt e (length words)) [
-    | inl old ↦ subst (λ (y : ℕ). FromRow s w region j k e y) (sym (get_or_append_left words (x ∷ []) 0 e old)) (h.borrowed j k going e old)
+    | inl old ↦ subst (λ (y : ℕ). FromRow s w region j k e y)
+        (sym (get_or_append_left words (x ∷ []) 0 e old)) (h.borrowed j k going e old)
     | inr past ↦
         let here : length words ≡ e = omega (arith, length-append words (x ∷ []), past, low_e) in
         subst (λ (y : ℕ). FromRow s w region j k e y) (sym (get_or_push words x 0 e here))
@@ -152,7 +179,8 @@ module _ (s : Shape) (steps : List Step) (w : World) (some : 0 < s.callers) (reg
     rounds_same = rounds_more n taken x some lacks
 
     course_same : course n more ≡ course n taken
-    course_same = ap (course_after n more) rounds_same ∙ course_kept n taken x some (rounds n taken) (omega arith)
+    course_same = ap (course_after n more) rounds_same
+        ∙ course_kept n taken x some (rounds n taken) (omega arith)
 
     open_same : open_round n more ≡ words ++ x ∷ []
     open_same = open_more n taken x some (rounds n more) rounds_same
@@ -164,14 +192,17 @@ module _ (s : Shape) (steps : List Step) (w : World) (some : 0 < s.callers) (reg
               let old : rounds n taken ≡ suc k = sym rounds_same ∙ is in
               let b = between_more k old (sym course_same ∙ going) in
               subst (λ (ws : List ℕ). Between s steps region (round n more k) ws) (sym open_same)
-              (subst (λ (c : List ℕ). Between s steps region c (words ++ x ∷ [])) (sym (round_kept n taken x some k (omega (arith, old)))) b);
+              (subst (λ (c : List ℕ). Between s steps region c (words ++ x ∷ []))
+              (sym (round_kept n taken x some k (omega (arith, old)))) b);
           borrowed = λ j k going.
-              subst (λ (ws : List ℕ). (e : ℕ) → e < length ws → FromRow s w region j k e (slice_index ws e)) (sym open_same) (borrowed_more j k (sym course_same ∙ going));
+              subst (λ (ws : List ℕ). (e : ℕ) → e < length ws → FromRow s w region j k e
+              (slice_index ws e)) (sym open_same) (borrowed_more j k (sym course_same ∙ going));
         }
 
     not_done : (cut : List ℕ) → wanted n more ≡ Done cut → ⊥
     not_done cut done =
-        let ends : course n taken ≡ Ends cut = sym course_same ∙ done_ends (course n more) (open_round n more) cut done in
+        let ends : course n taken ≡ Ends cut =
+        sym course_same ∙ done_ends (course n more) (open_round n more) cut done in
         elim found [
           | Count is count ↦ let never : Collects ≡ Ends cut = sym is ∙ ends in cc
           | Entry j k is row ↦ let never : Borrows j k ≡ Ends cut = sym is ∙ ends in cc
@@ -194,15 +225,20 @@ module _ (s : Shape) (steps : List Step) (w : World) (some : 0 < s.callers) (reg
     abbrev first : List ℕ
     first = unwrap_or (first_of n taken (rounds n taken)) latest
 
-    course_next : course n more ≡ course_on first (last_of n taken (rounds n taken)) latest (course n taken)
-    course_next = ap (course_after n more) rounds_next ∙ course_filled n taken x some fills (rounds n taken) refl
+    course_next : course n more
+        ≡ course_on first (last_of n taken (rounds n taken)) latest (course n taken)
+    course_next = ap (course_after n more) rounds_next
+        ∙ course_filled n taken x some fills (rounds n taken) refl
 
     -- a count of the latest collect is at most the count now
     latest_low : (j : ℕ) → j < n → slice_index latest j ≤ count_of s w region j
     latest_low j below =
-        let word : slice_index (round n more (rounds n taken)) j ≡ slice_index more (rounds n taken * n + j) = round_word n more (rounds n taken) j below in
-        let fits : rounds n taken * n + j < length more = omega (arith, length-append taken (x ∷ []), open_length n taken 0 some, fills, below) in
-        let bound : slice_index more (rounds n taken * n + j) ≤ count_of s w region j = low (rounds n taken) j below fits in
+        let word : slice_index (round n more (rounds n taken)) j
+        ≡ slice_index more (rounds n taken * n + j) = round_word n more (rounds n taken) j below in
+        let fits : rounds n taken * n + j < length more =
+        omega (arith, length-append taken (x ∷ []), open_length n taken 0 some, fills, below) in
+        let bound : slice_index more (rounds n taken * n + j) ≤ count_of s w region j =
+        low (rounds n taken) j below fits in
         omega (arith, word, bound, ap (λ (c : List ℕ). slice_index c j) round_is)
 
     -- the moment of the latest collect is now
@@ -224,19 +260,23 @@ module _ (s : Shape) (steps : List Step) (w : World) (some : 0 < s.callers) (reg
           between = λ k is going.
               let here : rounds n taken ≡ k = omega (arith, rounds_next, is) in
               subst (λ (ws : List ℕ). Between s steps region (round n more k) ws) (sym open_none)
-              (subst (λ (m : ℕ). Between s steps region (round n more m) []) here (subst (λ (c : List ℕ). Between s steps region c []) (sym round_is) now_between));
-          borrowed = λ j k going. subst (λ (ws : List ℕ). (e : ℕ) → e < length ws → FromRow s w region j k e (slice_index ws e)) (sym open_none) (λ e below. absurd (omega arith));
+              (subst (λ (m : ℕ). Between s steps region (round n more m) []) here
+              (subst (λ (c : List ℕ). Between s steps region c []) (sym round_is) now_between));
+          borrowed = λ j k going. subst (λ (ws : List ℕ). (e : ℕ) → e < length ws → FromRow s w
+              region j k e (slice_index ws e)) (sym open_none) (λ e below. absurd (omega arith));
         }
 
     latest_wide : length latest ≡ n
     latest_wide = omega (arith, length-append words (x ∷ []), fills)
 
     -- two equal collects were the counts between them
-    equal_was : (m : ℕ) (cut : List ℕ) → rounds n taken ≡ m → course n taken ≡ Collects → Ended (last_of n taken m) latest cut → Was s steps region cut
+    equal_was : (m : ℕ) (cut : List ℕ) → rounds n taken ≡ m → course n taken ≡ Collects
+        → Ended (last_of n taken m) latest cut → Was s steps region cut
     equal_was zero cut is going e = let never : None ≡ Some e.before = e.is in absurd cc
     equal_was (suc k) cut is going e =
         let b = between_more k is going in
-        let closed : round n taken k ≡ latest = (let f : round n taken k ≡ e.before = cc in f) ∙ e.same in
+        let closed : round n taken k ≡ latest =
+        (let f : round n taken k ≡ e.before = cc in f) ∙ e.same in
         subst (λ (c : List ℕ). Was s steps region c) (sym e.cut_is)
         (record {
           early = b.early;
@@ -264,19 +304,25 @@ module _ (s : Shape) (steps : List Step) (w : World) (some : 0 < s.callers) (reg
               was.same e below ∙ sym (entries e below) ∙ sym word.word;
         }
 
-    ends_borrow : (j k : ℕ) (cut : List ℕ) → course_on first (last_of n taken (rounds n taken)) latest (Borrows j k) ≡ Ends cut → latest ≡ cut
+    ends_borrow : (j k : ℕ) (cut : List ℕ)
+        → course_on first (last_of n taken (rounds n taken)) latest (Borrows j k) ≡ Ends cut
+        → latest ≡ cut
     ends_borrow j k cut h = cc
 
     done_next : (cut : List ℕ) → wanted n more ≡ Done cut → Was s steps region cut
     done_next cut done =
-        let ends : course_on first (last_of n taken (rounds n taken)) latest (course n taken) ≡ Ends cut =
+        let ends : course_on first (last_of n taken (rounds n taken)) latest (course n taken)
+        ≡ Ends cut =
         sym course_next ∙ done_ends (course n more) (open_round n more) cut done in
         elim found [
           | Count is count ↦
               equal_was (rounds n taken) cut refl is
-              (ended_by first (last_of n taken (rounds n taken)) latest cut (sym (ap (course_on first (last_of n taken (rounds n taken)) latest) is) ∙ ends))
+              (ended_by first (last_of n taken (rounds n taken)) latest cut
+              (sym (ap (course_on first (last_of n taken (rounds n taken)) latest) is) ∙ ends))
           | Entry j k is row ↦
-              subst (λ (c : List ℕ). Was s steps region c) (ends_borrow j k cut (sym (ap (course_on first (last_of n taken (rounds n taken)) latest) is) ∙ ends)) (borrowed_was j k is)
+              subst (λ (c : List ℕ). Was s steps region c) (ends_borrow j k cut
+              (sym (ap (course_on first (last_of n taken (rounds n taken)) latest) is) ∙ ends))
+              (borrowed_was j k is)
         ]
 
   pub word_scanned : Scanned s steps w region more

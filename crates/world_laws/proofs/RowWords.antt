@@ -22,12 +22,14 @@ SameRow l m N k = SameAnnouncement l m k
 SameRow l m M k = SameRecord l m k
 
 same_entry : (l m : Local) (k i j : ℕ) (b : Bool) → SameRecord l m k
-    → word_of l k (if b then View_entry i else Embedded_entry M j) ≡ word_of m k (if b then View_entry i else Embedded_entry M j)
+    → word_of l k (if b then View_entry i else Embedded_entry M j)
+    ≡ word_of m k (if b then View_entry i else Embedded_entry M j)
 same_entry l m k i j true h = ap (λ (c : List ℕ). slice_index c i) h.view
 same_entry l m k i j false h = ap (λ (c : List ℕ). slice_index c j) h.embedded
 
 -- so the same words belong in it
-pub same_row : (n : ℕ) (l m : Local) (r : Region) (k p : ℕ) → SameRow l m r k → word_of l k (content n r p) ≡ word_of m k (content n r p)
+pub same_row : (n : ℕ) (l m : Local) (r : Region) (k p : ℕ) → SameRow l m r k
+    → word_of l k (content n r p) ≡ word_of m k (content n r p)
 same_row n l m N k zero h = ap low_of h.operation
 same_row n l m N k (suc zero) h = ap high_of h.operation
 same_row n l m N k (suc (suc j)) h = ap (λ (c : List ℕ). slice_index c j) h.embedded
@@ -36,7 +38,9 @@ same_row n l m M k (suc j) h = same_entry l m k j (j - n) (nat_lt j n) h
 
 -- the words of an operation that was joined from two
 pub low_joined : (a b : ℕ) → a < 2 ^ 64 → low_of (joined a b) ≡ a
-low_joined a b low = ap low_of (let e : a + b * 2 ^ 64 ≡ b * 2 ^ 64 + a = omega arith in e) ∙ mod-mul-add b (2 ^ 64) a low
+low_joined a b low = ap low_of (let e : a + b * 2 ^ 64 ≡ b * 2 ^ 64 + a = omega arith in e)
+    ∙ mod-mul-add b (2 ^ 64) a low
 
 pub high_joined : (a b : ℕ) → a < 2 ^ 64 → high_of (joined a b) ≡ b
-high_joined a b low = ap high_of (let e : a + b * 2 ^ 64 ≡ b * 2 ^ 64 + a = omega arith in e) ∙ div-mul-add b (2 ^ 64) a low
+high_joined a b low = ap high_of (let e : a + b * 2 ^ 64 ≡ b * 2 ^ 64 + a = omega arith in e)
+    ∙ div-mul-add b (2 ^ 64) a low

@@ -22,21 +22,29 @@ served_calls l For_nothing cut = record { operations = refl; replies = refl; obj
 
 went_on_calls : (l : Local) (scan : Scan) (want : Want) → SameCalls l (went_on l scan want)
 went_on_calls l scan (Done cut) =
-    let h = served_calls (record l { scan = None; cuts = l.cuts ++ given_by scan cut ∷ [] }) (purpose_of l.phase l.staged scan) cut in
+    let h = served_calls (record l { scan = None; cuts = l.cuts ++ given_by scan cut ∷ [] })
+    (purpose_of l.phase l.staged scan) cut in
     record { operations = h.operations; replies = h.replies; object_steps = h.object_steps }
-went_on_calls l scan (Wants_look i) = record { operations = refl; replies = refl; object_steps = refl }
-went_on_calls l scan (Wants_peek i k e) = record { operations = refl; replies = refl; object_steps = refl }
+went_on_calls l scan (Wants_look i) =
+    record { operations = refl; replies = refl; object_steps = refl }
+went_on_calls l scan (Wants_peek i k e) =
+    record { operations = refl; replies = refl; object_steps = refl }
 
 -- a word that is fed to the scan under way
-pub fed_calls : (n : ℕ) (l : Local) (o : Option Scan) (q : Region) (is_it : Want → Bool) (x : ℕ) → SameCalls l (fed n l o q is_it x)
+pub fed_calls : (n : ℕ) (l : Local) (o : Option Scan) (q : Region) (is_it : Want → Bool) (x : ℕ)
+    → SameCalls l (fed n l o q is_it x)
 fed_calls n l None q is_it x = record { operations = refl; replies = refl; object_steps = refl }
 fed_calls n l (Some scan) q is_it x =
-    cond_both (is_same_region scan.region q && is_it (wanted n scan.taken)) (went_on l (with_word scan x) (wanted n (with_word scan x).taken)) l
-    (λ (m : Local). SameCalls l m) (λ _. went_on_calls l (with_word scan x) (wanted n (with_word scan x).taken))
+    cond_both (is_same_region scan.region q && is_it (wanted n scan.taken))
+    (went_on l (with_word scan x) (wanted n (with_word scan x).taken)) l
+    (λ (m : Local). SameCalls l m)
+    (λ _. went_on_calls l (with_word scan x) (wanted n (with_word scan x).taken))
     (λ _. record { operations = refl; replies = refl; object_steps = refl })
 
 -- a look, but for what it opens
-pub looked_calls : (n : ℕ) (l : Local) (q : Region) (j x : ℕ) (o : Opening) → SameCalls (opened l q o) (local_after n l (Look q j x o))
+pub looked_calls : (n : ℕ) (l : Local) (q : Region) (j x : ℕ) (o : Opening)
+    → SameCalls (opened l q o) (local_after n l (Look q j x o))
 looked_calls n l q j x o =
-    let h = fed_calls n (with_look (opened l q o) (record { region = q; caller = j; count = x })) (opened l q o).scan q (is_look_wanted j) x in
+    let h = fed_calls n (with_look (opened l q o) (record { region = q; caller = j; count = x }))
+    (opened l q o).scan q (is_look_wanted j) x in
     record { operations = h.operations; replies = h.replies; object_steps = h.object_steps }

@@ -1,5 +1,5 @@
--- What scans and rows hold since some world: a scan that began after it, and a row that was staged whole after it, hold at least
--- the counts that the world had.
+-- What scans and rows hold since some world: a scan that began after it, and a row that was staged
+-- whole after it, hold at least the counts that the world had.
 use Rattle.std.proofs.Common.{◌≡◌, ℕ, zero, suc, ◌+◌, ◌-◌, ◌*◌, ◌<◌, ◌≤◌, Bool, true, false, ◌&&◌, if◌then◌else◌, nat_lt, List, [], ◌∷◌, ◌++◌, length, Option, Some, None, slice_index, slice_index_or, refl, sym, ap, ◌∙◌, subst, arith, inl, inr, length-append}
 use Rattle.std.proofs.lemmas.List.{get_or_append_left, get_or_push}
 use Rattle.std.proofs.lemmas.Nat.{same_from_place}
@@ -32,45 +32,70 @@ record Moved_from (i : ℕ) (first latest : List ℕ) (j : ℕ) : Type 0 where
   below : at < length first
   more : slice_index first at + 1 < slice_index latest at
 
-mover_some : (i : ℕ) (first latest : List ℕ) (j : ℕ) → mover_from i first latest ≡ Some j → Moved_from i first latest j
+mover_some : (i : ℕ) (first latest : List ℕ) (j : ℕ) → mover_from i first latest ≡ Some j
+    → Moved_from i first latest j
 mover_some i [] latest j h = absurd cc
 mover_some i (a ∷ first) [] j h = absurd cc
 mover_some i (a ∷ first) (b ∷ latest) j h = elim (cases_Bool (nat_lt (a + 1) b)) [
   | inl moved ↦
-      let here : Some i ≡ Some j = sym (ap (λ (c : Bool). if c then Some i else mover_from (suc i) first latest) moved) ∙ h in
+      let here : Some i ≡ Some j =
+      sym (ap (λ (c : Bool). if c then Some i else mover_from (suc i) first latest) moved) ∙ h in
       let same : i ≡ j = cc in
-      record { at = 0; is = omega (arith, same); below = omega arith; more = ltb-true (a + 1) b moved }
+      record {
+        at = 0;
+        is = omega (arith, same);
+        below = omega arith;
+        more = ltb-true (a + 1) b moved;
+      }
   | inr stays ↦
-      let rest = mover_some (suc i) first latest j (sym (ap (λ (c : Bool). if c then Some i else mover_from (suc i) first latest) stays) ∙ h) in
-      record { at = suc rest.at; is = omega (arith, rest.is); below = omega (arith, rest.below); more = rest.more }
+      let rest = mover_some (suc i) first latest j
+      (sym (ap (λ (c : Bool). if c then Some i else mover_from (suc i) first latest) stays) ∙ h) in
+      record {
+        at = suc rest.at;
+        is = omega (arith, rest.is);
+        below = omega (arith, rest.below);
+        more = rest.more;
+      }
 ]
 
-lent_moved : (first latest : List ℕ) (m : Option ℕ) (j k : ℕ) → mover first latest ≡ m → lent_by latest m ≡ Borrows j k → HasMoved first j k
+lent_moved : (first latest : List ℕ) (m : Option ℕ) (j k : ℕ) → mover first latest ≡ m
+    → lent_by latest m ≡ Borrows j k → HasMoved first j k
 lent_moved first latest None j k is h = absurd cc
 lent_moved first latest (Some i) j k is h =
     let m = mover_some 0 first latest i is in
     let caller : i ≡ j = cc in
     let row : slice_index latest i - 1 ≡ k = cc in
     let at : i ≡ m.at = omega (arith, m.is) in
-    let more : slice_index first i + 1 < slice_index latest i = subst (λ (t : ℕ). slice_index first t + 1 < slice_index latest t) (sym at) m.more in
-    subst (λ (t : ℕ). HasMoved first t k) caller (record { caller = omega (arith, at, m.below); moved = omega (arith, more, row) })
+    let more : slice_index first i + 1 < slice_index latest i =
+    subst (λ (t : ℕ). slice_index first t + 1 < slice_index latest t) (sym at) m.more in
+    subst (λ (t : ℕ). HasMoved first t k) caller
+    (record { caller = omega (arith, at, m.below); moved = omega (arith, more, row) })
 
-choice_moved : (b : Bool) (first latest : List ℕ) (j k : ℕ) → (if b then Ends latest else lent_by latest (mover first latest)) ≡ Borrows j k → HasMoved first j k
+choice_moved : (b : Bool) (first latest : List ℕ) (j k : ℕ)
+    → (if b then Ends latest else lent_by latest (mover first latest)) ≡ Borrows j k
+    → HasMoved first j k
 choice_moved true first latest j k h = absurd cc
 choice_moved false first latest j k h = lent_moved first latest (mover first latest) j k refl h
 
-collect_moved : (first : List ℕ) (last : Option (List ℕ)) (latest : List ℕ) (j k : ℕ) → course_by first last latest ≡ Borrows j k → HasMoved first j k
+collect_moved : (first : List ℕ) (last : Option (List ℕ)) (latest : List ℕ) (j k : ℕ)
+    → course_by first last latest ≡ Borrows j k → HasMoved first j k
 collect_moved first None latest j k h = absurd cc
-collect_moved first (Some before) latest j k h = choice_moved (is_same_cut before latest) first latest j k h
+collect_moved first (Some before) latest j k h =
+    choice_moved (is_same_cut before latest) first latest j k h
 
-on_moved : (first : List ℕ) (last : Option (List ℕ)) (latest : List ℕ) (c : Course) (j k : ℕ) → course_on first last latest c ≡ Borrows j k → HasMoved first j k
+on_moved : (first : List ℕ) (last : Option (List ℕ)) (latest : List ℕ) (c : Course) (j k : ℕ)
+    → course_on first last latest c ≡ Borrows j k → HasMoved first j k
 on_moved first last latest Collects j k h = collect_moved first last latest j k h
 on_moved first last latest (Borrows i row) j k h = absurd cc
 on_moved first last latest (Ends cut) j k h = absurd cc
 
-after_moved : (n : ℕ) (taken : List ℕ) (m j k : ℕ) → m * n ≤ length taken → course_after n taken m ≡ Borrows j k → HasMoved (round n taken 0) j k × (n ≤ length taken)
+after_moved : (n : ℕ) (taken : List ℕ) (m j k : ℕ) → m * n ≤ length taken
+    → course_after n taken m ≡ Borrows j k → HasMoved (round n taken 0) j k × (n ≤ length taken)
 after_moved n taken zero j k fits h = absurd cc
-after_moved n taken (suc m) j k fits h = (on_moved (round n taken 0) (last_of n taken m) (round n taken m) (course_after n taken m) j k h, omega (arith, fits))
+after_moved n taken (suc m) j k fits h = (
+  on_moved (round n taken 0) (last_of n taken m) (round n taken m) (course_after n taken m) j k h,
+  omega (arith, fits),
+)
 
 -- What was looked at, found and embedded since a world.
 module _ (s : Shape) (from : World) where
@@ -83,19 +108,23 @@ module _ (s : Shape) (from : World) where
   IsHighKept region (Some cut) = IsHighCut region cut
 
   abbrev pub AreHigh : Region → List ℕ → Type 0
-  AreHigh region taken = (k t : ℕ) → t < s.callers → k * s.callers + t < length taken → count_of s from region t ≤ slice_index taken (k * s.callers + t)
+  AreHigh region taken = (k t : ℕ) → t < s.callers → k * s.callers + t < length taken
+      → count_of s from region t ≤ slice_index taken (k * s.callers + t)
 
   -- the scan under way of a caller that has counted a row of its region since
   abbrev pub IsHighScan : ℕ → Local → Option Scan → Type 0
   IsHighScan j l None = Unit {0}
-  IsHighScan j l (Some scan) = count_of s from scan.region j < own_count l scan.region → AreHigh scan.region scan.taken
+  IsHighScan j l (Some scan) = count_of s from scan.region j < own_count l scan.region
+      → AreHigh scan.region scan.taken
 
-  -- Each row that a caller counted since, but the first, embeds a cut that is high; and once it counted one, so are the cut that
-  -- it may embed next and the words of its scan under way.
+  -- Each row that a caller counted since, but the first, embeds a cut that is high; and once it
+  -- counted one, so are the cut that it may embed next and the words of its scan under way.
   pub record High (j : ℕ) (l : Local) : Type 0 where
     pub grows : (r : Region) → count_of s from r j ≤ own_count l r
-    pub rows : (r : Region) (k : ℕ) → count_of s from r j < k → k < own_count l r → IsHighCut r (slice_index_or (embedded_in l r) k [])
-    pub to_embed : (r : Region) → is_staging l.phase r ≡ true → count_of s from r j < own_count l r → IsHighKept r l.to_embed
+    pub rows : (r : Region) (k : ℕ) → count_of s from r j < k → k < own_count l r
+        → IsHighCut r (slice_index_or (embedded_in l r) k [])
+    pub to_embed : (r : Region) → is_staging l.phase r ≡ true → count_of s from r j < own_count l r
+        → IsHighKept r l.to_embed
     pub scan : IsHighScan j l l.scan
 
   abbrev pub AllHigh : World → Type 0
@@ -106,35 +135,49 @@ module _ (s : Shape) (from : World) where
 
   module _ (some : 0 < s.callers) where
     -- a scan that is done ends with a high cut
-    pub done_high : (region : Region) (taken cut : List ℕ) → AreHigh region taken → wanted s.callers taken ≡ Done cut → IsHighCut region cut
+    pub done_high : (region : Region) (taken cut : List ℕ) → AreHigh region taken
+        → wanted s.callers taken ≡ Done cut → IsHighCut region cut
     done_high region taken cut h done =
         let r = ended_round s.callers taken some cut done in
         record {
           high = λ j below.
-              let word : slice_index cut j ≡ slice_index taken (r.number * s.callers + j) = ap (λ (c : List ℕ). slice_index c j) r.is ∙ round_word s.callers taken r.number j below in
-              let high : count_of s from region j ≤ slice_index taken (r.number * s.callers + j) = h r.number j below (omega (arith, r.whole)) in
+              let word : slice_index cut j ≡ slice_index taken (r.number * s.callers + j) =
+              ap (λ (c : List ℕ). slice_index c j) r.is
+              ∙ round_word s.callers taken r.number j below in
+              let high : count_of s from region j ≤ slice_index taken (r.number * s.callers + j) =
+              h r.number j below (omega (arith, r.whole)) in
               omega (arith, word, high);
         }
 
-    pub word_high : (region : Region) (taken : List ℕ) (x : ℕ) → AreHigh region taken → count_of s from region (length (open_round s.callers taken)) ≤ x
+    pub word_high : (region : Region) (taken : List ℕ) (x : ℕ) → AreHigh region taken
+        → count_of s from region (length (open_round s.callers taken)) ≤ x
         → AreHigh region (taken ++ x ∷ [])
-    word_high region taken x h new k t below fits = elim (cases_lt (k * s.callers + t) (length taken)) [
-      | inl old ↦
-          let high : count_of s from region t ≤ slice_index taken (k * s.callers + t) = h k t below old in
-          omega (arith, high, get_or_append_left taken (x ∷ []) 0 (k * s.callers + t) old)
-      | inr past ↦
-          let here : k * s.callers + t ≡ length taken = omega (arith, length-append taken (x ∷ []), past, fits) in
-          let same = same_from_place k t (rounds s.callers taken) (length (open_round s.callers taken)) s.callers below (open_lacks s.callers taken 0 some)
-          (omega (arith, here, open_length s.callers taken 0 some)) in
-          let bound : count_of s from region t ≤ x = subst (λ (u : ℕ). count_of s from region u ≤ x) (sym same.1) new in
-          omega (arith, bound, get_or_push taken x 0 (k * s.callers + t) (sym here))
-    ]
+    word_high region taken x h new k t below fits =
+        elim (cases_lt (k * s.callers + t) (length taken)) [
+          | inl old ↦
+              let high : count_of s from region t ≤ slice_index taken (k * s.callers + t) =
+              h k t below old in
+              omega (arith, high, get_or_append_left taken (x ∷ []) 0 (k * s.callers + t) old)
+          | inr past ↦
+              let here : k * s.callers + t ≡ length taken =
+              omega (arith, length-append taken (x ∷ []), past, fits) in
+              let same = same_from_place k t (rounds s.callers taken)
+              (length (open_round s.callers taken)) s.callers below
+              (open_lacks s.callers taken 0 some)
+              (omega (arith, here, open_length s.callers taken 0 some)) in
+              let bound : count_of s from region t ≤ x =
+              subst (λ (u : ℕ). count_of s from region u ≤ x) (sym same.1) new in
+              omega (arith, bound, get_or_push taken x 0 (k * s.callers + t) (sym here))
+        ]
 
     -- a row that a scan with high words borrows was counted since, and isn't the first
-    pub borrowed_row : (region : Region) (taken : List ℕ) (j k : ℕ) → AreHigh region taken → course s.callers taken ≡ Borrows j k → j < s.callers → count_of s from region j < k
+    pub borrowed_row : (region : Region) (taken : List ℕ) (j k : ℕ) → AreHigh region taken
+        → course s.callers taken ≡ Borrows j k → j < s.callers → count_of s from region j < k
     borrowed_row region taken j k h borrows caller =
-        let moved = after_moved s.callers taken (rounds s.callers taken) j k (omega (arith, open_length s.callers taken 0 some)) borrows in
-        let high : count_of s from region j ≤ slice_index taken (0 * s.callers + j) = h 0 j caller (omega (arith, moved.1, caller)) in
+        let moved = after_moved s.callers taken (rounds s.callers taken) j k
+        (omega (arith, open_length s.callers taken 0 some)) borrows in
+        let high : count_of s from region j ≤ slice_index taken (0 * s.callers + j) =
+        h 0 j caller (omega (arith, moved.1, caller)) in
         omega (arith, high, moved.0.moved, round_word s.callers taken 0 j caller)
 
     -- A word that the scan under way takes, in a world whose locals are all high.
@@ -142,36 +185,49 @@ module _ (s : Shape) (from : World) where
       counted : (r : Region) (t : ℕ) → t < s.callers → count_of s w r t ≡ own_count (local_of w t) r
       counted r t low = (sound.kept.agree t low).counts r
 
-      pub look_high : (q : Region) (j x : ℕ) (taken : List ℕ) → x ≡ count_of s w q j → is_look_wanted j (wanted s.callers taken) ≡ true
+      pub look_high : (q : Region) (j x : ℕ) (taken : List ℕ) → x ≡ count_of s w q j
+          → is_look_wanted j (wanted s.callers taken) ≡ true
           → count_of s from q (length (open_round s.callers taken)) ≤ x
       look_high q j x taken found wants =
-          let there : j ≡ length (open_round s.callers taken) = (look_is (course s.callers taken) (open_round s.callers taken) j wants).1 in
-          let low : length (open_round s.callers taken) < s.callers = open_lacks s.callers taken 0 some in
-          let grown : count_of s from q (length (open_round s.callers taken)) ≤ own_count (local_of w (length (open_round s.callers taken))) q =
+          let there : j ≡ length (open_round s.callers taken) =
+          (look_is (course s.callers taken) (open_round s.callers taken) j wants).1 in
+          let low : length (open_round s.callers taken) < s.callers =
+          open_lacks s.callers taken 0 some in
+          let grown : count_of s from q (length (open_round s.callers taken))
+          ≤ own_count (local_of w (length (open_round s.callers taken))) q =
           (all (length (open_round s.callers taken)) low).grows q in
-          let same : count_of s w q j ≡ count_of s w q (length (open_round s.callers taken)) = ap (count_of s w q) there in
+          let same : count_of s w q j ≡ count_of s w q (length (open_round s.callers taken)) =
+          ap (count_of s w q) there in
           omega (arith, found, same, counted q (length (open_round s.callers taken)) low, grown)
 
-      pub peek_high : (q : Region) (j k t x : ℕ) (taken : List ℕ) → j < s.callers → k < count_of s w q j → x ≡ row_word s w q j k t
+      pub peek_high : (q : Region) (j k t x : ℕ) (taken : List ℕ) → j < s.callers
+          → k < count_of s w q j → x ≡ row_word s w q j k t
           → AreHigh q taken → is_peek_wanted s.callers q j k t (wanted s.callers taken) ≡ true
           → count_of s from q (length (open_round s.callers taken)) ≤ x
       peek_high q j k t x taken caller row found h wants =
-          let at = peek_is s.callers q j k t (course s.callers taken) (open_round s.callers taken) wants in
+          let at =
+          peek_is s.callers q j k t (course s.callers taken) (open_round s.callers taken) wants in
           let e = length (open_round s.callers taken) in
           let low : e < s.callers = open_lacks s.callers taken 0 some in
           let since : count_of s from q j < k = borrowed_row q taken j k h at.borrows caller in
           let below : k < own_count (local_of w j) q = omega (arith, row, counted q j caller) in
-          let cut : IsHighCut q (slice_index_or (embedded_in (local_of w j) q) k []) = (all j caller).rows q k since below in
-          let high : count_of s from q e ≤ slice_index (slice_index_or (embedded_in (local_of w j) q) k []) e = cut.high e low in
+          let cut : IsHighCut q (slice_index_or (embedded_in (local_of w j) q) k []) =
+          (all j caller).rows q k since below in
+          let high : count_of s from q e
+          ≤ slice_index (slice_index_or (embedded_in (local_of w j) q) k []) e = cut.high e low in
           let word : x ≡ slice_index (slice_index_or (embedded_in (local_of w j) q) k []) e =
           found ∙ ap (λ (p : ℕ). row_word s w q j k p) at.at
-          ∙ word_is s w sound.kept sound.low q j k (embedded_place s.callers q e) caller row (embedded_fits s.callers q e low)
-          ∙ ap (λ (part : Content). word_of (local_of w j) k part) (content_embedded s.callers q e) in
+          ∙ word_is s w sound.kept sound.low q j k (embedded_place s.callers q e) caller row
+          (embedded_fits s.callers q e low)
+          ∙ ap (λ (part : Content). word_of (local_of w j) k part)
+          (content_embedded s.callers q e) in
           omega (arith, word, high)
 
     -- What a local keeps as its scan under way takes a word.
-    module _ (j : ℕ) (l : Local) (h : High j l) (keeps : IsKeptIn l.phase l.to_embed) (scan : Scan) (cut : List ℕ)
-        (high : count_of s from scan.region j < own_count l scan.region → IsHighCut scan.region cut) where
+    module _ (j : ℕ) (l : Local) (h : High j l) (keeps : IsKeptIn l.phase l.to_embed) (scan : Scan)
+        (cut : List ℕ)
+        (high : count_of s from scan.region j < own_count l scan.region
+        → IsHighCut scan.region cut) where
       abbrev ended : Local
       ended = record l { scan = None; cuts = l.cuts ++ given_by scan cut ∷ [] }
 
@@ -184,20 +240,23 @@ module _ (s : Shape) (from : World) where
             scan = tt;
           }
 
-      row_high : ((r : Region) → is_staging l.phase r ≡ true → scan.region ≡ r) → High j (served ended For_row cut)
+      row_high : ((r : Region) → is_staging l.phase r ≡ true → scan.region ≡ r)
+          → High j (served ended For_row cut)
       row_high same =
           record {
             grows = λ r. h.grows r;
             rows = λ r k since below. h.rows r k since below;
             to_embed = λ r staging since.
                 let there = same r staging in
-                let before : count_of s from scan.region j < own_count l scan.region = subst (λ (q : Region). count_of s from q j < own_count l q) (sym there) since in
+                let before : count_of s from scan.region j < own_count l scan.region =
+                subst (λ (q : Region). count_of s from q j < own_count l q) (sym there) since in
                 subst (λ (q : Region). IsHighCut q cut) there (high before);
             scan = tt;
           }
 
       -- a phase that begins keeps no cut to embed
-      turned_high : (views seen : List (List ℕ)) (phase : Phase) → l.to_embed ≡ None → High j (record ended { views = views; seen = seen; phase = phase })
+      turned_high : (views seen : List (List ℕ)) (phase : Phase) → l.to_embed ≡ None
+          → High j (record ended { views = views; seen = seen; phase = phase })
       turned_high views seen phase none =
           record {
             grows = λ r. h.grows r;
@@ -206,57 +265,89 @@ module _ (s : Shape) (from : World) where
             scan = tt;
           }
 
-      only_N : l.phase ≡ Announcing → scan.region ≡ N → (r : Region) → is_staging l.phase r ≡ true → scan.region ≡ r
+      only_N : l.phase ≡ Announcing → scan.region ≡ N → (r : Region) → is_staging l.phase r ≡ true
+          → scan.region ≡ r
       only_N phase region N staging = region
-      only_N phase region M staging = let never : false ≡ true = sym (ap (λ (f : Phase). is_staging f M) phase) ∙ staging in absurd cc
+      only_N phase region M staging = let never : false ≡ true =
+          sym (ap (λ (f : Phase). is_staging f M) phase) ∙ staging in absurd cc
 
-      only_M : l.phase ≡ Publishing → scan.region ≡ M → (r : Region) → is_staging l.phase r ≡ true → scan.region ≡ r
+      only_M : l.phase ≡ Publishing → scan.region ≡ M → (r : Region) → is_staging l.phase r ≡ true
+          → scan.region ≡ r
       only_M phase region M staging = region
-      only_M phase region N staging = let never : false ≡ true = sym (ap (λ (f : Phase). is_staging f N) phase) ∙ staging in absurd cc
+      only_M phase region N staging = let never : false ≡ true =
+          sym (ap (λ (f : Phase). is_staging f N) phase) ∙ staging in absurd cc
 
-      served_high : (phase : Phase) → l.phase ≡ phase → High j (served ended (purpose_of phase l.staged scan) cut)
+      served_high : (phase : Phase) → l.phase ≡ phase
+          → High j (served ended (purpose_of phase l.staged scan) cut)
       served_high Announcing is =
-          cond_both (is_same_region scan.region N && is_unstaged l.staged) For_row For_nothing (λ (p : Purpose). High j (served ended p cut))
-          (λ e. row_high (only_N is (same_region_is scan.region N (and_parts (is_same_region scan.region N) (is_unstaged l.staged) e).0))) (λ _. ended_high)
+          cond_both (is_same_region scan.region N && is_unstaged l.staged) For_row For_nothing
+          (λ (p : Purpose). High j (served ended p cut))
+          (λ e. row_high (only_N is (same_region_is scan.region N
+          (and_parts (is_same_region scan.region N) (is_unstaged l.staged) e).0))) (λ _. ended_high)
       served_high Publishing is =
-          cond_both (is_same_region scan.region M && is_unstaged l.staged) For_row For_nothing (λ (p : Purpose). High j (served ended p cut))
-          (λ e. row_high (only_M is (same_region_is scan.region M (and_parts (is_same_region scan.region M) (is_unstaged l.staged) e).0))) (λ _. ended_high)
+          cond_both (is_same_region scan.region M && is_unstaged l.staged) For_row For_nothing
+          (λ (p : Purpose). High j (served ended p cut))
+          (λ e. row_high (only_M is (same_region_is scan.region M
+          (and_parts (is_same_region scan.region M) (is_unstaged l.staged) e).0))) (λ _. ended_high)
       served_high Viewing is =
-          cond_both (is_same_region scan.region N && scan.is_view) For_view For_nothing (λ (p : Purpose). High j (served ended p cut))
-          (λ e. turned_high (l.views ++ cut ∷ []) l.seen Publishing (subst (λ (f : Phase). IsKeptIn f l.to_embed) is keeps)) (λ _. ended_high)
+          cond_both (is_same_region scan.region N && scan.is_view) For_view For_nothing
+          (λ (p : Purpose). High j (served ended p cut))
+          (λ e. turned_high (l.views ++ cut ∷ []) l.seen Publishing
+          (subst (λ (f : Phase). IsKeptIn f l.to_embed) is keeps)) (λ _. ended_high)
       served_high Judging is =
-          cond_both (is_same_region scan.region M) For_seen For_nothing (λ (p : Purpose). High j (served ended p cut))
-          (λ e. turned_high l.views (l.seen ++ cut ∷ []) Announcing (subst (λ (f : Phase). IsKeptIn f l.to_embed) is keeps)) (λ _. ended_high)
+          cond_both (is_same_region scan.region M) For_seen For_nothing
+          (λ (p : Purpose). High j (served ended p cut))
+          (λ e. turned_high l.views (l.seen ++ cut ∷ []) Announcing
+          (subst (λ (f : Phase). IsKeptIn f l.to_embed) is keeps)) (λ _. ended_high)
       served_high Asking is = ended_high
 
-    scanning_high : (j : ℕ) (l : Local) (o : Option Scan) → High j l → IsHighScan j l o → High j (record l { scan = o })
+    scanning_high : (j : ℕ) (l : Local) (o : Option Scan) → High j l → IsHighScan j l o
+        → High j (record l { scan = o })
     scanning_high j l None h high =
-        record { grows = λ r. h.grows r; rows = λ r k since below. h.rows r k since below; to_embed = λ r staging since. h.to_embed r staging since; scan = tt }
+        record {
+          grows = λ r. h.grows r;
+          rows = λ r k since below. h.rows r k since below;
+          to_embed = λ r staging since. h.to_embed r staging since;
+          scan = tt;
+        }
     scanning_high j l (Some scan) h high =
-        record { grows = λ r. h.grows r; rows = λ r k since below. h.rows r k since below; to_embed = λ r staging since. h.to_embed r staging since; scan = high }
+        record {
+          grows = λ r. h.grows r;
+          rows = λ r k since below. h.rows r k since below;
+          to_embed = λ r staging since. h.to_embed r staging since;
+          scan = high;
+        }
 
-    went_on_high : (j : ℕ) (l : Local) (scan : Scan) (want : Want) → High j l → IsKeptIn l.phase l.to_embed → IsHighScan j l (Some scan)
+    went_on_high : (j : ℕ) (l : Local) (scan : Scan) (want : Want) → High j l
+        → IsKeptIn l.phase l.to_embed → IsHighScan j l (Some scan)
         → wanted s.callers scan.taken ≡ want → High j (went_on l scan want)
     went_on_high j l scan (Done cut) h keeps high done =
-        served_high j l h keeps scan cut (λ since. done_high scan.region scan.taken cut (high since) done) l.phase refl
+        served_high j l h keeps scan cut
+        (λ since. done_high scan.region scan.taken cut (high since) done) l.phase refl
     went_on_high j l scan (Wants_look i) h keeps high done = scanning_high j l (Some scan) h high
-    went_on_high j l scan (Wants_peek i k e) h keeps high done = scanning_high j l (Some scan) h high
+    went_on_high j l scan (Wants_peek i k e) h keeps high done =
+        scanning_high j l (Some scan) h high
 
-    pub fed_high : (j : ℕ) (l : Local) (o : Option Scan) (q : Region) (is_it : Want → Bool) (x : ℕ) → High j l → IsKeptIn l.phase l.to_embed → IsHighScan j l o
-        → ((taken : List ℕ) → AreHigh q taken → is_it (wanted s.callers taken) ≡ true → count_of s from q (length (open_round s.callers taken)) ≤ x)
+    pub fed_high : (j : ℕ) (l : Local) (o : Option Scan) (q : Region) (is_it : Want → Bool) (x : ℕ)
+        → High j l → IsKeptIn l.phase l.to_embed → IsHighScan j l o
+        → ((taken : List ℕ) → AreHigh q taken → is_it (wanted s.callers taken) ≡ true
+        → count_of s from q (length (open_round s.callers taken)) ≤ x)
         → High j (fed s.callers l o q is_it x)
     fed_high j l None q is_it x h keeps high new = h
     fed_high j l (Some scan) q is_it x h keeps high new =
         cond_both (is_same_region scan.region q && is_it (wanted s.callers scan.taken))
-        (went_on l (with_word scan x) (wanted s.callers (with_word scan x).taken)) l (λ (m : Local). High j m)
+        (went_on l (with_word scan x) (wanted s.callers (with_word scan x).taken)) l
+        (λ (m : Local). High j m)
         (λ e.
-        let parts = and_parts (is_same_region scan.region q) (is_it (wanted s.callers scan.taken)) e in
+        let parts =
+        and_parts (is_same_region scan.region q) (is_it (wanted s.callers scan.taken)) e in
         let region : scan.region ≡ q = same_region_is scan.region q parts.0 in
         went_on_high j l (with_word scan x) (wanted s.callers (with_word scan x).taken) h keeps
         (λ since.
         let old : AreHigh scan.region scan.taken = high since in
         let bound : count_of s from scan.region (length (open_round s.callers scan.taken)) ≤ x =
-        subst (λ (r : Region). count_of s from r (length (open_round s.callers scan.taken)) ≤ x) (sym region)
+        subst (λ (r : Region). count_of s from r (length (open_round s.callers scan.taken)) ≤ x)
+        (sym region)
         (new scan.taken (subst (λ (r : Region). AreHigh r scan.taken) region old) parts.1) in
         word_high scan.region scan.taken x old bound) refl)
         (λ _. h)
@@ -264,9 +355,11 @@ module _ (s : Shape) (from : World) where
     pub none_taken : (region : Region) → AreHigh region []
     none_taken region k t below fits = absurd (omega (arith, fits))
 
-    pub opened_high : (j : ℕ) (l : Local) (q : Region) (o : Opening) → ((r : ℕ) → o ≡ Begins_view r → l.to_embed ≡ None) → High j l → High j (opened l q o)
+    pub opened_high : (j : ℕ) (l : Local) (q : Region) (o : Opening)
+        → ((r : ℕ) → o ≡ Begins_view r → l.to_embed ≡ None) → High j l → High j (opened l q o)
     opened_high j l q Begins_none none h = h
-    opened_high j l q Begins_scan none h = scanning_high j l (Some (begun l q false)) h (λ since. none_taken q)
+    opened_high j l q Begins_scan none h =
+        scanning_high j l (Some (begun l q false)) h (λ since. none_taken q)
     opened_high j l q (Begins_view reply) none h =
         record {
           grows = λ r. h.grows r;

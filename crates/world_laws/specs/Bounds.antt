@@ -8,8 +8,8 @@ use Rattle.world_core.specs.World.{Step, local_of, IsRun, end_of}
 use Rattle.world_core.specs.Snapshot.{Span, up_to_last, GivesCut}
 use Rattle.world_core.specs.Calls.{AreTogether, local_at}
 
--- The words that a scan of caller i of n has taken are steady, and come of at most n + 1 collects, which are n * (n + 1) looks, and
--- n peeks; and they are at most that many.
+-- The words that a scan of caller i of n has taken are steady, and come of at most n + 1 collects,
+-- which are n * (n + 1) looks, and n peeks; and they are at most that many.
 pub record IsBounded (n i : ℕ) (taken : List ℕ) : Type 0 where
   pub steady : IsSteady n i taken
   pub looks : looks n taken ≤ n * (n + 1)
@@ -19,15 +19,18 @@ pub record IsBounded (n i : ℕ) (taken : List ℕ) : Type 0 where
 -- The scan under way of each caller is bounded.
 abbrev pub ScansAreBounded : Type 0
 ScansAreBounded =
-    (s : Shape) (locals : List Local) (i : ℕ) (scan : Scan) → AreTogether s locals → i < s.callers → (local_at locals i).scan ≡ Some scan
+    (s : Shape) (locals : List Local) (i : ℕ) (scan : Scan) → AreTogether s locals → i < s.callers
+    → (local_at locals i).scan ≡ Some scan
     → IsBounded s.callers i scan.taken
 
 abbrev pub ScansAreBoundedInRuns : Type 0
 ScansAreBoundedInRuns =
-    (s : Shape) (steps : List Step) (i : ℕ) (scan : Scan) → IsRun s steps → i < s.callers → (local_of (end_of s steps) i).scan ≡ Some scan
+    (s : Shape) (steps : List Step) (i : ℕ) (scan : Scan) → IsRun s steps → i < s.callers
+    → (local_of (end_of s steps) i).scan ≡ Some scan
     → IsBounded s.callers i scan.taken
 
--- The scan that gave a cut at the end of a span: with its last word it was done with that cut, and it is bounded.
+-- The scan that gave a cut at the end of a span: with its last word it was done with that cut, and
+-- it is bounded.
 pub record IsEnded (s : Shape) (who : ℕ) (given : Given) (r : Span) : Type 0 where
   pub scan : Scan
   pub under : (local_of (end_of s (up_to_last r)) who).scan ≡ Some scan
@@ -36,4 +39,5 @@ pub record IsEnded (s : Shape) (who : ℕ) (given : Given) (r : Span) : Type 0 w
   pub bounded : IsBounded s.callers who (scan.taken ++ word ∷ [])
 
 abbrev pub EndedScansAreBounded : Type 0
-EndedScansAreBounded = (s : Shape) (who : ℕ) (given : Given) (r : Span) → GivesCut s who given r → IsEnded s who given r
+EndedScansAreBounded = (s : Shape) (who : ℕ) (given : Given) (r : Span) → GivesCut s who given r
+    → IsEnded s who given r

@@ -1,4 +1,5 @@
--- What the views, the seen cuts and the embedded cuts of a caller come from: the cuts that its scans gave.
+-- What the views, the seen cuts and the embedded cuts of a caller come from: the cuts that its
+-- scans gave.
 use Rattle.std.specs.Prelude.{◌≡◌, ℕ, ◌<◌, List, [], length, Some, slice_get, slice_index_or}
 use Rattle.book_base.specs.Cut.{IsWithin}
 use Rattle.world_core.specs.declared.region.Region.{Region}
@@ -13,30 +14,38 @@ pub record IsGivenIn (cuts : List Given) (region : Region) (cut : List ℕ) : Ty
   pub since : ℕ
   pub is : slice_get cuts place ≡ Some (record { region = region; cut = cut; since = since })
 
--- Each view of a caller is a cut of announcements that a scan of its own gave; each seen cut is one of answers; and the cut that a
--- row embeds is one of the row's region.
+-- Each view of a caller is a cut of announcements that a scan of its own gave; each seen cut is one
+-- of answers; and the cut that a row embeds is one of the row's region.
 abbrev pub ViewsAreGiven : Type 0
 ViewsAreGiven =
-    (s : Shape) (locals : List Local) (i k : ℕ) → AreTogether s locals → i < s.callers → k < length (local_at locals i).views
+    (s : Shape) (locals : List Local) (i k : ℕ) → AreTogether s locals → i < s.callers
+    → k < length (local_at locals i).views
     → IsGivenIn (local_at locals i).cuts N (slice_index_or (local_at locals i).views k [])
 
 abbrev pub SeenCutsAreGiven : Type 0
 SeenCutsAreGiven =
-    (s : Shape) (locals : List Local) (i k : ℕ) → AreTogether s locals → i < s.callers → k < length (local_at locals i).seen
+    (s : Shape) (locals : List Local) (i k : ℕ) → AreTogether s locals → i < s.callers
+    → k < length (local_at locals i).seen
     → IsGivenIn (local_at locals i).cuts M (slice_index_or (local_at locals i).seen k [])
 
 abbrev pub EmbeddedCutsAreGiven : Type 0
 EmbeddedCutsAreGiven =
-    (s : Shape) (locals : List Local) (i k : ℕ) (region : Region) → AreTogether s locals → i < s.callers → k < own_count (local_at locals i) region
-    → IsGivenIn (local_at locals i).cuts region (slice_index_or (embedded_in (local_at locals i) region) k [])
+    (s : Shape) (locals : List Local) (i k : ℕ) (region : Region) → AreTogether s locals
+    → i < s.callers → k < own_count (local_at locals i) region
+    → IsGivenIn (local_at locals i).cuts region
+    (slice_index_or (embedded_in (local_at locals i) region) k [])
 
 -- A later view of a caller contains its earlier ones, and a later seen cut the earlier ones.
 abbrev pub ViewsRise : Type 0
 ViewsRise =
-    (s : Shape) (locals : List Local) (i k m : ℕ) → AreTogether s locals → i < s.callers → k < m → m < length (local_at locals i).views
-    → IsWithin (slice_index_or (local_at locals i).views k []) (slice_index_or (local_at locals i).views m [])
+    (s : Shape) (locals : List Local) (i k m : ℕ) → AreTogether s locals → i < s.callers → k < m
+    → m < length (local_at locals i).views
+    → IsWithin (slice_index_or (local_at locals i).views k [])
+    (slice_index_or (local_at locals i).views m [])
 
 abbrev pub SeenCutsRise : Type 0
 SeenCutsRise =
-    (s : Shape) (locals : List Local) (i k m : ℕ) → AreTogether s locals → i < s.callers → k < m → m < length (local_at locals i).seen
-    → IsWithin (slice_index_or (local_at locals i).seen k []) (slice_index_or (local_at locals i).seen m [])
+    (s : Shape) (locals : List Local) (i k m : ℕ) → AreTogether s locals → i < s.callers → k < m
+    → m < length (local_at locals i).seen
+    → IsWithin (slice_index_or (local_at locals i).seen k [])
+    (slice_index_or (local_at locals i).seen m [])

@@ -1,4 +1,5 @@
--- What holds of the locals of one reachable world, said of locals alone; and the same of the world at the end of a run.
+-- What holds of the locals of one reachable world, said of locals alone; and the same of the world
+-- at the end of a run.
 use Rattle.std.specs.Prelude.{◌≡◌, ℕ, ◌<◌, ◌≤◌, IsTrue, List, [], ◌∷◌, ◌++◌, length, Some, None, slice_get, slice_index}
 use Rattle.book_base.specs.declared.call.Call.{Call}
 use Rattle.world_core.specs.declared.region.Region.{Region}
@@ -11,7 +12,8 @@ use Rattle.world_core.specs.World.{Step, local_of, count_of, row_word, IsRun, en
 use Rattle.world_core.specs.Agreement.{HasPhase}
 use Rattle.world_core.specs.Calls.{AreTogether, IsPublished, HasPeeked, local_at}
 
--- There is one local for each caller, and each is of its phase, with counts that are at most the cap.
+-- There is one local for each caller, and each is of its phase, with counts that are at most the
+-- cap.
 abbrev pub LocalsHavePhases : Type 0
 LocalsHavePhases =
     (s : Shape) (locals : List Local) → AreTogether s locals
@@ -21,18 +23,21 @@ LocalsHavePhases =
 
 -- Row k of caller j exists and is counted in a region.
 abbrev pub IsCountedRow : Shape → List Local → Region → ℕ → ℕ → Type 0
-IsCountedRow s locals region j k = (j < s.callers) × (k < s.cap) × (k < own_count (local_at locals j) region)
+IsCountedRow s locals region j k = (j < s.callers) × (k < s.cap)
+    × (k < own_count (local_at locals j) region)
 
 -- A row that a caller knows of is counted.
 abbrev pub KnownRowsAreCounted : Type 0
 KnownRowsAreCounted =
-    (s : Shape) (locals : List Local) (i j k : ℕ) (region : Region) → AreTogether s locals → i < s.callers
+    (s : Shape) (locals : List Local) (i j k : ℕ) (region : Region) → AreTogether s locals
+    → i < s.callers
     → IsTrue (knows_row s.callers (local_at locals i) region j k) → IsCountedRow s locals region j k
 
 -- A word that a caller peeked is the word of its owner's call, in a row that is counted.
 abbrev pub PeekedWordsAreWords : Type 0
 PeekedWordsAreWords =
-    (s : Shape) (locals : List Local) (i : ℕ) (region : Region) (call : Call) (place x : ℕ) → AreTogether s locals → i < s.callers
+    (s : Shape) (locals : List Local) (i : ℕ) (region : Region) (call : Call) (place x : ℕ)
+    → AreTogether s locals → i < s.callers
     → HasPeeked (local_at locals i) region call place x
     → IsCountedRow s locals region call.caller call.number × (place < places s.callers region)
     × (x ≡ word_of (local_at locals call.caller) call.number (content s.callers region place))
@@ -40,35 +45,44 @@ PeekedWordsAreWords =
 -- A count that a caller looked at is one of a caller, and is at most that caller's own count.
 abbrev pub LookedCountsAreLow : Type 0
 LookedCountsAreLow =
-    (s : Shape) (locals : List Local) (i p : ℕ) (look : Looked) → AreTogether s locals → i < s.callers
+    (s : Shape) (locals : List Local) (i p : ℕ) (look : Looked) → AreTogether s locals
+    → i < s.callers
     → slice_get (local_at locals i).looked p ≡ Some look
     → (look.caller < s.callers) × (look.count ≤ own_count (local_at locals look.caller) look.region)
 
--- A cut that a scan gave has one count for each caller, none above that caller's own count; so a cut of M is one of what was
--- published.
+-- A cut that a scan gave has one count for each caller, none above that caller's own count; so a
+-- cut of M is one of what was published.
 abbrev pub GivenCutsAreLow : Type 0
 GivenCutsAreLow =
-    (s : Shape) (locals : List Local) (i p : ℕ) (given : Given) → AreTogether s locals → i < s.callers
+    (s : Shape) (locals : List Local) (i p : ℕ) (given : Given) → AreTogether s locals
+    → i < s.callers
     → slice_get (local_at locals i).cuts p ≡ Some given
-    → (length given.cut ≡ s.callers) × ((j : ℕ) → j < s.callers → slice_index given.cut j ≤ own_count (local_at locals j) given.region)
+    → (length given.cut ≡ s.callers) × ((j : ℕ) → j < s.callers
+    → slice_index given.cut j ≤ own_count (local_at locals j) given.region)
 
 abbrev pub GivenCutsArePublished : Type 0
 GivenCutsArePublished =
-    (s : Shape) (locals : List Local) (i p : ℕ) (given : Given) → AreTogether s locals → i < s.callers
-    → slice_get (local_at locals i).cuts p ≡ Some given → given.region ≡ M → IsPublished locals given.cut
+    (s : Shape) (locals : List Local) (i p : ℕ) (given : Given) → AreTogether s locals
+    → i < s.callers
+    → slice_get (local_at locals i).cuts p ≡ Some given → given.region ≡ M
+    → IsPublished locals given.cut
 
--- At the end of a run: a row that a caller knows of is counted; a peeked word is the one that stands in its row, which is counted;
--- and a count that was looked at is at most the count that stands there.
+-- At the end of a run: a row that a caller knows of is counted; a peeked word is the one that
+-- stands in its row, which is counted; and a count that was looked at is at most the count that
+-- stands there.
 abbrev pub KnownRowsAreCountedInRuns : Type 0
 KnownRowsAreCountedInRuns =
     (s : Shape) (steps : List Step) (i j k : ℕ) (region : Region) → IsRun s steps → i < s.callers
-    → IsTrue (knows_row s.callers (local_of (end_of s steps) i) region j k) → (j < s.callers) × (k < s.cap) × (k < count_of s (end_of s steps) region j)
+    → IsTrue (knows_row s.callers (local_of (end_of s steps) i) region j k) → (j < s.callers)
+    × (k < s.cap) × (k < count_of s (end_of s steps) region j)
 
 abbrev pub PeekedWordsStand : Type 0
 PeekedWordsStand =
-    (s : Shape) (steps : List Step) (i : ℕ) (region : Region) (call : Call) (place x : ℕ) → IsRun s steps → i < s.callers
+    (s : Shape) (steps : List Step) (i : ℕ) (region : Region) (call : Call) (place x : ℕ)
+    → IsRun s steps → i < s.callers
     → HasPeeked (local_of (end_of s steps) i) region call place x
-    → (call.number < count_of s (end_of s steps) region call.caller) × (x ≡ row_word s (end_of s steps) region call.caller call.number place)
+    → (call.number < count_of s (end_of s steps) region call.caller)
+    × (x ≡ row_word s (end_of s steps) region call.caller call.number place)
 
 abbrev pub LookedCountsAreLowInRuns : Type 0
 LookedCountsAreLowInRuns =
@@ -79,10 +93,12 @@ LookedCountsAreLowInRuns =
 -- An announcement and a publication give up the scan that was under way.
 abbrev pub AnnouncementsGiveUpScans : Type 0
 AnnouncementsGiveUpScans =
-    (s : Shape) (before : List Step) (who : ℕ) → IsRun s (before ++ record { who = who; event = Announce } ∷ [])
+    (s : Shape) (before : List Step) (who : ℕ)
+    → IsRun s (before ++ record { who = who; event = Announce } ∷ [])
     → (local_of (end_of s (before ++ record { who = who; event = Announce } ∷ [])) who).scan ≡ None
 
 abbrev pub PublicationsGiveUpScans : Type 0
 PublicationsGiveUpScans =
-    (s : Shape) (before : List Step) (who : ℕ) → IsRun s (before ++ record { who = who; event = Publish } ∷ [])
+    (s : Shape) (before : List Step) (who : ℕ)
+    → IsRun s (before ++ record { who = who; event = Publish } ∷ [])
     → (local_of (end_of s (before ++ record { who = who; event = Publish } ∷ [])) who).scan ≡ None

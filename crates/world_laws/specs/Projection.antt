@@ -31,8 +31,9 @@ pub record IsPlain (s : Shape) (w v : World) : Type 0 where
   pub words : v.words ≡ take (row_words s.callers s.cap) w.words
   pub locals : v.locals ≡ map without_steps w.locals
 
--- A run of any program, without its object steps, is a run for the outside program. It ends in the same words but the object
--- words, and in the same locals but their object steps, and it has the same object history.
+-- A run of any program, without its object steps, is a run for the outside program. It ends in the
+-- same words but the object words, and in the same locals but their object steps, and it has the
+-- same object history.
 abbrev pub RunsProject : Type 0
 RunsProject =
     (s : Shape) (steps : List Step) → IsRun s steps
@@ -42,7 +43,8 @@ RunsProject =
 
 -- This holds at each moment of the run, since a beginning of it projects to a beginning.
 abbrev pub BeginningsProject : Type 0
-BeginningsProject = (before later : List Step) → plain (before ++ later) ≡ plain before ++ plain later
+BeginningsProject = (before later : List Step)
+    → plain (before ++ later) ≡ plain before ++ plain later
 
 -- And the books are the same.
 abbrev pub BooksProject : Type 0

@@ -16,38 +16,47 @@ abbrev pub StartIsReachable : Type 0
 StartIsReachable = (s : Shape) → IsReachable s (start s)
 
 abbrev pub StepsReach : Type 0
-StepsReach = (s : Shape) (w : World) (step : Step) → IsReachable s w → IsTrue (is_possible s w step) → IsReachable s (after s w step)
+StepsReach = (s : Shape) (w : World) (step : Step) → IsReachable s w → IsTrue (is_possible s w step)
+    → IsReachable s (after s w step)
 
 -- Counts never fall along a run.
 abbrev pub CountsNeverFall : Type 0
 CountsNeverFall =
-    (s : Shape) (before later : List Step) (region : Region) (i : ℕ) → IsRun s (before ++ later) → i < s.callers
+    (s : Shape) (before later : List Step) (region : Region) (i : ℕ) → IsRun s (before ++ later)
+    → i < s.callers
     → count_of s (end_of s before) region i ≤ count_of s (end_of s (before ++ later)) region i
 
 -- A row below its count never changes.
 abbrev pub CountedRowsStay : Type 0
 CountedRowsStay =
-    (s : Shape) (before later : List Step) (region : Region) (i k place : ℕ) → IsRun s (before ++ later) → i < s.callers
+    (s : Shape) (before later : List Step) (region : Region) (i k place : ℕ)
+    → IsRun s (before ++ later) → i < s.callers
     → k < count_of s (end_of s before) region i → place < places s.callers region
-    → row_word s (end_of s (before ++ later)) region i k place ≡ row_word s (end_of s before) region i k place
+    → row_word s (end_of s (before ++ later)) region i k place
+    ≡ row_word s (end_of s before) region i k place
 
 -- Only a caller's own events change its counts, its rows and its local.
 abbrev pub CountsAreOwn : Type 0
 CountsAreOwn =
-    (s : Shape) (before later : List Step) (region : Region) (i : ℕ) → IsRun s (before ++ later) → i < s.callers → IsTrue (are_of_others i later)
+    (s : Shape) (before later : List Step) (region : Region) (i : ℕ) → IsRun s (before ++ later)
+    → i < s.callers → IsTrue (are_of_others i later)
     → count_of s (end_of s (before ++ later)) region i ≡ count_of s (end_of s before) region i
 
 abbrev pub RowsAreOwn : Type 0
 RowsAreOwn =
-    (s : Shape) (before later : List Step) (region : Region) (i k place : ℕ) → IsRun s (before ++ later) → i < s.callers → IsTrue (are_of_others i later)
+    (s : Shape) (before later : List Step) (region : Region) (i k place : ℕ)
+    → IsRun s (before ++ later) → i < s.callers → IsTrue (are_of_others i later)
     → k < s.cap → place < places s.callers region
-    → row_word s (end_of s (before ++ later)) region i k place ≡ row_word s (end_of s before) region i k place
+    → row_word s (end_of s (before ++ later)) region i k place
+    ≡ row_word s (end_of s before) region i k place
 
 abbrev pub LocalsAreOwn : Type 0
 LocalsAreOwn =
-    (s : Shape) (before later : List Step) (i : ℕ) → IsRun s (before ++ later) → i < s.callers → IsTrue (are_of_others i later)
+    (s : Shape) (before later : List Step) (i : ℕ) → IsRun s (before ++ later) → i < s.callers
+    → IsTrue (are_of_others i later)
     → local_of (end_of s (before ++ later)) i ≡ local_of (end_of s before) i
 
 -- The local of each caller agrees with the words of the table.
 abbrev pub LocalsAgree : Type 0
-LocalsAgree = (s : Shape) (steps : List Step) (i : ℕ) → IsRun s steps → i < s.callers → Agrees s (end_of s steps).words i (local_of (end_of s steps) i)
+LocalsAgree = (s : Shape) (steps : List Step) (i : ℕ) → IsRun s steps → i < s.callers
+    → Agrees s (end_of s steps).words i (local_of (end_of s steps) i)

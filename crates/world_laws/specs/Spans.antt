@@ -5,20 +5,24 @@ use Rattle.world_core.specs.Local.{Given}
 use Rattle.world_core.specs.World.{Step, local_of, count_of, IsRun, end_of}
 use Rattle.world_core.specs.Snapshot.{Span, through_last, GivesCut, IsInstantaneous}
 
--- The cut of every scan of every run is instantaneous, borrowed cuts included (Afek and others 1993).
+-- The cut of every scan of every run is instantaneous, borrowed cuts included (Afek and others
+-- 1993).
 abbrev pub CutsAreInstantaneous : Type 0
-CutsAreInstantaneous = (s : Shape) (who : ℕ) (given : Given) (r : Span) → GivesCut s who given r → IsInstantaneous s given r
+CutsAreInstantaneous = (s : Shape) (who : ℕ) (given : Given) (r : Span) → GivesCut s who given r
+    → IsInstantaneous s given r
 
--- The cut of a scan holds all that was counted before the scan began, and nothing that was counted after it ended. Its entry
--- for its own caller is that caller's count.
+-- The cut of a scan holds all that was counted before the scan began, and nothing that was counted
+-- after it ended. Its entry for its own caller is that caller's count.
 abbrev pub CutsHoldEarlier : Type 0
 CutsHoldEarlier =
-    (s : Shape) (who : ℕ) (given : Given) (r : Span) (j : ℕ) → GivesCut s who given r → j < s.callers
+    (s : Shape) (who : ℕ) (given : Given) (r : Span) (j : ℕ) → GivesCut s who given r
+    → j < s.callers
     → count_of s (end_of s r.before) given.region j ≤ slice_index given.cut j
 
 abbrev pub CutsHoldNoLater : Type 0
 CutsHoldNoLater =
-    (s : Shape) (who : ℕ) (given : Given) (r : Span) (j : ℕ) → GivesCut s who given r → j < s.callers
+    (s : Shape) (who : ℕ) (given : Given) (r : Span) (j : ℕ) → GivesCut s who given r
+    → j < s.callers
     → slice_index given.cut j ≤ count_of s (end_of s (through_last r)) given.region j
 
 abbrev pub CutsHoldOwn : Type 0
@@ -29,7 +33,8 @@ CutsHoldOwn =
 -- A cut tells how many counts its caller had looked at before the scan began.
 abbrev pub CutsTellSince : Type 0
 CutsTellSince =
-    (s : Shape) (who : ℕ) (given : Given) (r : Span) → GivesCut s who given r → given.since ≡ length (local_of (end_of s r.before) who).looked
+    (s : Shape) (who : ℕ) (given : Given) (r : Span) → GivesCut s who given r
+    → given.since ≡ length (local_of (end_of s r.before) who).looked
 
 -- A scan by a caller gave this cut in the run, in this span of it.
 pub record IsGivenBy (s : Shape) (steps : List Step) (who : ℕ) (given : Given) : Type 0 where
@@ -38,7 +43,8 @@ pub record IsGivenBy (s : Shape) (steps : List Step) (who : ℕ) (given : Given)
   pub parts : steps ≡ through_last span ++ later
   pub gives : GivesCut s who given span
 
--- Each cut that a caller has was given by a scan of its own: so what is said here of spans holds of each of them.
+-- Each cut that a caller has was given by a scan of its own: so what is said here of spans holds of
+-- each of them.
 abbrev pub CutsHaveSpans : Type 0
 CutsHaveSpans =
     (s : Shape) (steps : List Step) (i p : ℕ) (given : Given) → IsRun s steps → i < s.callers

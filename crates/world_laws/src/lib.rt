@@ -1,4 +1,5 @@
-//! The laws of the world: what holds in every run, for every program, whatever the callers do and in whatever order.
+//! The laws of the world: what holds in every run, for every program, whatever the callers do and
+//! in whatever order.
 #![tactic(auto)]
 
 pub mod cut_laws;

@@ -1,4 +1,5 @@
-//! What holds of the locals of one reachable world, said of locals alone; and the same at the end of a run.
+//! What holds of the locals of one reachable world, said of locals alone; and the same at the end
+//! of a run.
 
 ghost use Rattle.world_laws.specs.Locals.{LocalsHavePhases, KnownRowsAreCounted, PeekedWordsAreWords, LookedCountsAreLow, GivenCutsAreLow, GivenCutsArePublished, KnownRowsAreCountedInRuns, PeekedWordsStand, LookedCountsAreLowInRuns, AnnouncementsGiveUpScans, PublicationsGiveUpScans};
 
@@ -33,8 +34,8 @@ pub fn looked_counts_are_low()
     ensures runs { LookedCountsAreLowInRuns }
 {}
 
-/// A cut that a scan gave is never above the counts, so that one of the region of answers is a cut of what
-/// was published.
+/// A cut that a scan gave is never above the counts, so that one of the region of answers is a cut
+/// of what was published.
 pub fn given_cuts_are_low()
     // A cut that a scan gave has one count for each caller, none above that caller's own count.
     ensures low { GivenCutsAreLow }

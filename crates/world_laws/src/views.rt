@@ -2,8 +2,8 @@
 
 ghost use Rattle.world_laws.specs.Views.{ViewsHoldEarlier, ViewsHoldNoLater};
 
-/// The view of a call holds every call that was invoked before its own call returned, and none that is
-/// invoked after the view was taken (Castañeda and Rodríguez 2023).
+/// The view of a call holds every call that was invoked before its own call returned, and none that
+/// is invoked after the view was taken (Castañeda and Rodríguez 2023).
 pub fn views_hold_calls_by_time()
     // The view of a call holds every call that was invoked before its own call returned.
     ensures earlier { ViewsHoldEarlier }

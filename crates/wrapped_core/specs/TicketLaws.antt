@@ -10,19 +10,27 @@ use Rattle.object_orders.proofs.OneWords.{one_words_linearize}
 use Rattle.wrapped_core.specs.Tickets.{take, ticket, after_call, dispenser, taken_by}
 
 -- a call that takes a ticket
-after_call-take : (first : ℕ) (list : List ℕ) (op : ℕ) → (op == take) ≡ true → after_call first list op ≡ ((first_or_zero list + 1) % 2 ^ 64 ∷ [], ticket first (first_or_zero list))
+after_call-take : (first : ℕ) (list : List ℕ) (op : ℕ) → (op == take) ≡ true
+    → after_call first list op
+    ≡ ((first_or_zero list + 1) % 2 ^ 64 ∷ [], ticket first (first_or_zero list))
 after_call-take first list op takes = cond-true (op == take) _ _ takes
 
 -- and one of another operation
-pub after_call-unknown : (first : ℕ) (list : List ℕ) (op : ℕ) → (op == take) ≡ false → after_call first list op ≡ (list, BAD)
+pub after_call-unknown : (first : ℕ) (list : List ℕ) (op : ℕ) → (op == take) ≡ false
+    → after_call first list op ≡ (list, BAD)
 after_call-unknown first list op other = cond-false (op == take) _ _ other
 
 -- no call makes the list longer by more than one
-pub length-after_call : (first : ℕ) (list : List ℕ) (op : ℕ) → length (after_call first list op).0 ≤ length list + 1
+pub length-after_call : (first : ℕ) (list : List ℕ) (op : ℕ)
+    → length (after_call first list op).0 ≤ length list + 1
 length-after_call first list op =
     elim (cases_Bool (op == take)) [
-      | inl takes ↦ let one = ap (λ (r : List ℕ × ℕ). length r.0) (after_call-take first list op takes) in omega (arith, one)
-      | inr other ↦ let same = ap (λ (r : List ℕ × ℕ). length r.0) (after_call-unknown first list op other) in omega (arith, same)
+      | inl takes ↦ let one =
+          ap (λ (r : List ℕ × ℕ). length r.0) (after_call-take first list op takes) in
+          omega (arith, one)
+      | inr other ↦ let same =
+          ap (λ (r : List ℕ × ℕ). length r.0) (after_call-unknown first list op other) in
+          omega (arith, same)
     ]
 
 serves : (first : ℕ) → Serves (dispenser first) taken_by (0 ∷ []) (after_call first)
@@ -33,8 +41,12 @@ serves first =
       no_step = λ op taken other. after_call-unknown first (taken_by taken) op other;
     }
 
--- The object history of every run of a dispenser is linearizable, by the law of objects of one word.
-pub dispensers_linearize : (first n cap : ℕ) (steps : List Step) → IsRun (one_word_shape n cap (dispenser first)) steps
-    → IsLinearizable (0 ∷ []) (after_call first) (history_of (one_word_shape n cap (dispenser first)) steps)
+-- The object history of every run of a dispenser is linearizable, by the law of objects of one
+-- word.
+pub dispensers_linearize : (first n cap : ℕ) (steps : List Step)
+    → IsRun (one_word_shape n cap (dispenser first)) steps
+    → IsLinearizable (0 ∷ []) (after_call first)
+    (history_of (one_word_shape n cap (dispenser first)) steps)
 dispensers_linearize first n cap steps run =
-    one_words_linearize (dispenser first) taken_by (0 ∷ []) (after_call first) (serves first) n cap steps run
+    one_words_linearize (dispenser first) taken_by (0 ∷ []) (after_call first)
+    (serves first) n cap steps run

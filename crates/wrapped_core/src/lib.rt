@@ -1,5 +1,5 @@
-//! An object inside the world of one's own: a dispenser of tickets, whose law is proved, so that no run of it has an
-//! error.
+//! An object inside the world of one's own: a dispenser of tickets, whose law is proved, so that no
+//! run of it has an error.
 #![tactic(auto)]
 
 mod ticket_dispenser;

@@ -12,8 +12,8 @@ use world_core::{InWorld, Program};
 /// The operation word of taking a ticket. A script of a counter spells it `inc`.
 pub const TAKE: OpWord = 1 << 32;
 
-/// A dispenser of numbered tickets. The first one has the number `first`, and each further one the next number,
-/// modulo 2^32.
+/// A dispenser of numbered tickets. The first one has the number `first`, and each further one the
+/// next number, modulo 2^32.
 #[derive(Clone, Copy, Debug, PartialEq, Eq)]
 pub struct TicketDispenser {
     pub first: u32,
@@ -73,8 +73,8 @@ impl SeqObject for TicketDispenser {
     }
 }
 
-/// What its callers may do inside the world: taking a ticket adds 1 once to the one object word, and nothing else
-/// makes a step.
+/// What its callers may do inside the world: taking a ticket adds 1 once to the one object word,
+/// and nothing else makes a step.
 impl Program for TicketDispenser {
     ghost use Rattle.object_orders.specs.OneWord.{one_word_program};
     ghost use Rattle.wrapped_core.specs.Tickets.{dispenser};

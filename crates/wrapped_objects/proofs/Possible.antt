@@ -15,36 +15,44 @@ use Rattle.wrapped_objects.specs.Replies.{IsPossible}
 use Rattle.object_kit.proofs.Calling.{found-first}
 
 -- A word that the kind doesn't know can have the reply bad.
-pub unknown-possible : (kind : Kind) (op : ℕ) → is_known_word kind op ≡ false → IsPossible kind op BAD
-unknown-possible kind op unknown = record { state = []; gives = ap (λ r. r.1) (kind_next-unknown kind [] op unknown) }
+pub unknown-possible : (kind : Kind) (op : ℕ) → is_known_word kind op ≡ false
+    → IsPossible kind op BAD
+unknown-possible kind op unknown =
+    record { state = []; gives = ap (λ r. r.1) (kind_next-unknown kind [] op unknown) }
 
 -- A write can be done.
-pub write-possible : (value op : ℕ) → value < 2 ^ 32 → word_of 1 value 0 ≡ op → IsPossible Register op reply_done
+pub write-possible : (value op : ℕ) → value < 2 ^ 32 → word_of 1 value 0 ≡ op
+    → IsPossible Register op reply_done
 unfolding kind_next
 write-possible value op small is =
     let word : ℕ = word_of 1 value 0 in
     let parts = word_of-parts 1 value 0 (omega arith) small in
-    let known : is_operation_of word words.write ≡ true = and_from (code_of word == 1) (extra_of word == 0) (eq-eqb (code_of word) 1 parts.0) (eq-eqb (extra_of word) 0 parts.2) in
+    let known : is_operation_of word words.write ≡ true = and_from (code_of word == 1)
+    (extra_of word == 0) (eq-eqb (code_of word) 1 parts.0) (eq-eqb (extra_of word) 0 parts.2) in
     subst (λ w. IsPossible Register w reply_done) is
     record {
       state = [];
-      gives = ap (λ o. (register_after [] o).1) (cond-true (is_operation_of (word_of 1 value 0) words.write) _ _ known);
+      gives = ap (λ o. (register_after [] o).1)
+          (cond-true (is_operation_of (word_of 1 value 0) words.write) _ _ known);
     }
 
 -- A read can find any value.
 pub read-possible : (found op : ℕ) → word_of 2 0 0 ≡ op → IsPossible Register op (reply_value found)
 unfolding kind_next
-read-possible found op is = subst (λ w. IsPossible Register w (reply_value found)) is record { state = found ∷ []; gives = refl }
+read-possible found op is = subst
+    (λ w. IsPossible Register w (reply_value found)) is record { state = found ∷ []; gives = refl }
 
 -- An increment can find any count.
-pub increment-possible : (found op : ℕ) → is_known_word Counter op ≡ true → IsPossible Counter op (reply_value found)
+pub increment-possible : (found op : ℕ) → is_known_word Counter op ≡ true
+    → IsPossible Counter op (reply_value found)
 unfolding kind_next is_known_word entry_of entries
 increment-possible found op known =
     elim (found-first (is_operation_of op) words.inc [] known) [
       | inl is ↦
           record {
             state = found ∷ [];
-            gives = ap (λ o. (counter_after (found ∷ []) o).1) (cond-true (is_operation_of op words.inc) _ _ is);
+            gives = ap (λ o. (counter_after (found ∷ []) o).1)
+                (cond-true (is_operation_of op words.inc) _ _ is);
           }
       | inr never ↦ absurd (true≢false (sym never))
     ]

@@ -14,7 +14,8 @@ pub struct CellCounter {
 }
 
 impl CellCounter {
-    /// Makes the call of this operation word. A word that no counter knows makes no step, and the reply is bad.
+    /// Makes the call of this operation word. A word that no counter knows makes no step, and the
+    /// reply is bad.
     pub fn answer(&self, op: OpWord) -> u64
         ensures { IsPossible Counter op result }
     {

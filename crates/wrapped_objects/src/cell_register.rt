@@ -7,15 +7,16 @@ use drv_wrapper::{Announced, BlackBox};
 use object_kit::{CountingPass, RegisterCall};
 use seq_objects::{DONE, value_reply};
 
-/// A register over a cell of the kit, which holds 0 at first: a write is one store, and a read one load.
+/// A register over a cell of the kit, which holds 0 at first: a write is one store, and a read one
+/// load.
 #[derive(Default, Drop)]
 pub struct CellRegister {
     value: AtomicCell<u32>,
 }
 
 impl CellRegister {
-    /// Makes the call of this operation word. A word that no register knows makes no step, and the reply is
-    /// bad.
+    /// Makes the call of this operation word. A word that no register knows makes no step, and the
+    /// reply is bad.
     pub fn answer(&self, op: OpWord) -> u64
         ensures { IsPossible Register op result }
     {

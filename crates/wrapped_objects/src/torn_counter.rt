@@ -7,15 +7,16 @@ use drv_wrapper::{Announced, BlackBox};
 use object_kit::CountingPass;
 use seq_objects::{Kind, value_reply};
 
-/// A counter that uses its cell wrongly, which stands at 0 at first: an increment is a load, and then a store of
-/// one more. So of increments that overlap some may be lost.
+/// A counter that uses its cell wrongly, which stands at 0 at first: an increment is a load, and
+/// then a store of one more. So of increments that overlap some may be lost.
 #[derive(Default, Drop)]
 pub struct TornCounter {
     count: AtomicCell<u32>,
 }
 
 impl TornCounter {
-    /// Makes the call of this operation word. A word that no counter knows makes no step, and the reply is bad.
+    /// Makes the call of this operation word. A word that no counter knows makes no step, and the
+    /// reply is bad.
     pub fn answer(&self, op: OpWord) -> u64
         ensures { IsPossible Counter op result }
     {

@@ -8,8 +8,8 @@ use object_kit::CountingPass;
 use std::alloc::Global;
 use std::sync::Wait;
 
-/// Two of the kit's queues instead of one, and each caller keeps to one of them. So what a caller enqueues is
-/// never found by the half of the callers that keep to the other.
+/// Two of the kit's queues instead of one, and each caller keeps to one of them. So what a caller
+/// enqueues is never found by the half of the callers that keep to the other.
 #[derive(Drop)]
 pub(crate) struct TwinQueues<R> {
     rt: R,

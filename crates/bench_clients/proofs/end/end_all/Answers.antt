@@ -9,7 +9,9 @@ use Rattle.bench_clients.proofs.end.end_all.Goals as goal
 pub unwrap-client-requires : goal.unwrap-client-requires
 unwrap-client-requires g c =
     let k = vec_len c.loop-worker.passes in
-    let spent = last_down _ _ _ _ k c.in-Some.worker c.in-Some.ensures.items (omega (arith, c.loop-worker.invariant.count, c.in-Some.ensures.len)) c.loop-worker.invariant.workers in
+    let spent = last_down _ _ _ _ k c.in-Some.worker c.in-Some.ensures.items
+    (omega (arith, c.loop-worker.invariant.count, c.in-Some.ensures.len))
+    c.loop-worker.invariant.workers in
     rw spent.here refl
 
 pub bring_back-wants_memory-requires : goal.bring_back-wants_memory-requires
@@ -17,16 +19,64 @@ bring_back-wants_memory-requires g c κs within =
     let asked = c.requires.1.1.1.1 in
     let k = vec_len c.loop-worker.passes in
     let inv = c.loop-worker.invariant in
-    let spent = last_down _ _ _ _ k c.in-Some.worker c.in-Some.ensures.items (omega (arith, inv.count, c.in-Some.ensures.len)) inv.workers in
-    let h = spent_client _ _ _ _ _ _ _ k c.in-Some.worker c.unwrap-client.result spent c.unwrap-client.ensures in
-    let gone = inv.back.gone c.unwrap-client.result.sheet.who (omega (arith, h.2)) (omega (arith, h.2, inv.count, c.in-Some.ensures.len)) in
-    let long = length-map c.loop-worker.lines.items (λ (o : Own). o.lines.items) in
-    (within.0, (within.1.0, (within.1.1.0, (within.1.1.1, (h.0, (h.1, (inv.bench, (gone, (omega (arith, h.2), (omega (arith, h.2, inv.lines_count, long), (omega (arith, inv.count, c.in-Some.ensures.len, inv.passes_capacity, asked.1.1.1.1.1.1.1), omega (arith, inv.count, c.in-Some.ensures.len, inv.lines_count, inv.lines_capacity))))))))))))
+    let spent = last_down _ _ _ _ k c.in-Some.worker c.in-Some.ensures.items
+    (omega (arith, inv.count, c.in-Some.ensures.len)) inv.workers in
+    let h = spent_client _ _ _ _ _ _ _ k c.in-Some.worker c.unwrap-client.result spent
+    c.unwrap-client.ensures in
+    let gone = inv.back.gone c.unwrap-client.result.sheet.who (omega (arith, h.2))
+    (omega (arith, h.2, inv.count, c.in-Some.ensures.len)) in
+    let long = length-map c.loop-worker.lines.items (λ (o : Own). o.lines.items) in (
+      within.0,
+      (
+        within.1.0,
+        (
+          within.1.1.0,
+          (
+            within.1.1.1,
+            (
+              h.0,
+              (
+                h.1,
+                (
+                  inv.bench,
+                  (
+                    gone,
+                    (
+                      omega (arith, h.2),
+                      (
+                        omega (arith, h.2, inv.lines_count, long),
+                        (
+                          omega (
+                            arith,
+                            inv.count,
+                            c.in-Some.ensures.len,
+                            inv.passes_capacity,
+                            asked.1.1.1.1.1.1.1,
+                          ),
+                          omega (
+                            arith,
+                            inv.count,
+                            c.in-Some.ensures.len,
+                            inv.lines_count,
+                            inv.lines_capacity,
+                          ),
+                        ),
+                      ),
+                    ),
+                  ),
+                ),
+              ),
+            ),
+          ),
+        ),
+      ),
+    )
 
 pub loop-worker-init : goal.loop-worker-init
 loop-worker-init g c =
     let asked = c.requires.1.1.1.1 in
-    let passes : length c.args.passes.now.items ≡ 0 = ap (λ (xs : List _). length xs) asked.1.1.1.1.1.1.0 in
+    let passes : length c.args.passes.now.items ≡ 0 =
+    ap (λ (xs : List _). length xs) asked.1.1.1.1.1.1.0 in
     let lines : length c.args.lines.items ≡ 0 = ap (λ (xs : List _). length xs) asked.1.1.0 in
     record {
       workers = asked.1.0;
@@ -36,15 +86,20 @@ loop-worker-init g c =
       passes_capacity = omega arith;
       lines_capacity = asked.1.1.1.0;
       others = λ i high. (refl, refl);
-      back = record { back = λ i low. absurd (omega (arith, low, passes)); gone = λ i high within. asked.1.1.1.1.1.0 i within };
+      back = record {
+        back = λ i low. absurd (omega (arith, low, passes));
+        gone = λ i high within. asked.1.1.1.1.1.0 i within;
+      };
     }
 
 pub loop-worker-preserved : goal.loop-worker-preserved
 loop-worker-preserved g c =
     let k = vec_len c.loop-worker.passes in
     let inv = c.loop-worker.invariant in
-    let spent = last_down _ _ _ _ k c.in-Some.worker c.in-Some.ensures.items (omega (arith, inv.count, c.in-Some.ensures.len)) inv.workers in
-    let h = spent_client _ _ _ _ _ _ _ k c.in-Some.worker c.unwrap-client.result spent c.unwrap-client.ensures in
+    let spent = last_down _ _ _ _ k c.in-Some.worker c.in-Some.ensures.items
+    (omega (arith, inv.count, c.in-Some.ensures.len)) inv.workers in
+    let h = spent_client _ _ _ _ _ _ _ k c.in-Some.worker c.unwrap-client.result spent
+    c.unwrap-client.ensures in
     let done = c.bring_back-wants_memory in
     let passes_longer = one_longer _ _ _ done.ensures.passes in
     let lines_longer = one_longer _ _ _ done.ensures.lines.1 in
@@ -58,11 +113,15 @@ loop-worker-preserved g c =
       passes_capacity = omega (arith, inv.passes_capacity, done.ensures.capacity.0);
       lines_capacity = omega (arith, inv.lines_capacity, done.ensures.capacity.1);
       others = λ i high.
-          let other = done.ensures.others i (λ same. omega (arith, high, same ∙ h.2, inv.count, c.in-Some.ensures.len)) in
+          let other = done.ensures.others i
+          (λ same. omega (arith, high, same ∙ h.2, inv.count, c.in-Some.ensures.len)) in
           let before = inv.others i high in
           (other.0 ∙ before.0, other.1 ∙ before.1);
-      back = one_more_back _ _ _ _ _ _ g.course c.loop-worker.bench done.new.bench _ _ _ _ c.loop-worker.wants_memory (c.loop-worker.wants_memory || done.result) done.result k c.unwrap-client.result.sheet.who (vec_len done.new.passes) _ _
-          h.2 (omega (arith, passes_longer)) (neither_wanted c.loop-worker.wants_memory done.result) done.ensures.passes done.ensures.lines.1 inv.back done.ensures.back done.ensures.others;
+      back = one_more_back _ _ _ _ _ _ g.course c.loop-worker.bench done.new.bench _ _ _ _
+          c.loop-worker.wants_memory (c.loop-worker.wants_memory || done.result) done.result k
+          c.unwrap-client.result.sheet.who (vec_len done.new.passes) _ _
+          h.2 (omega (arith, passes_longer)) (neither_wanted c.loop-worker.wants_memory done.result)
+          done.ensures.passes done.ensures.lines.1 inv.back done.ensures.back done.ensures.others;
     }
 
 pub returns-then-wants_memory-clause-back : goal.returns-then-wants_memory-clause-back

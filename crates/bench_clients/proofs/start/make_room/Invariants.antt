@@ -5,4 +5,5 @@ use Rattle.bench_clients.proofs.start.make_room.Given as goal
 
 abbrev pub invariant-loop-i : goal.invariant-loop-i
 invariant-loop-i l =
-    (vec_len l.room ≡ l.i) × (l.callers ≤ vec_capacity l.room) × AreInOrder (IsRoomFor l.script.operations) l.room.items
+    (vec_len l.room ≡ l.i) × (l.callers ≤ vec_capacity l.room)
+    × AreInOrder (IsRoomFor l.script.operations) l.room.items

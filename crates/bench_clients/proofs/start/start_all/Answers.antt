@@ -12,7 +12,11 @@ loop-left-init g c =
     record {
       few = omega (arith, count);
       bench = c.requires.starts.bench_of;
-      held = record { below = λ i low. (refl, refl); gone = λ i high within. absurd (omega (arith, high, within, count)); others = λ i high. (refl, refl) };
+      held = record {
+        below = λ i low. (refl, refl);
+        gone = λ i high within. absurd (omega (arith, high, within, count));
+        others = λ i high. (refl, refl);
+      };
       all_passes = omega (arith, c.requires.passes.as_many, count);
       passes_capacity = refl;
       passes = c.requires.passes.each;
@@ -27,8 +31,12 @@ loop-left-init g c =
 pub part-caller-requires-clause-held : goal.part-caller-requires-clause-held
 part-caller-requires-clause-held g c =
     let i = c.loop-left.left - 1 in
-    let unused : IsUnused c.args.bench.now i = c.requires.starts.unused i (omega (arith, c.loop-left.invariant.few, c.loop-left-test.true)) in
-    (unused.local, (c.loop-left.invariant.held.below i (omega (arith, c.loop-left-test.true))).0 ∙ unused.here)
+    let unused : IsUnused c.args.bench.now i =
+    c.requires.starts.unused i
+    (omega (arith, c.loop-left.invariant.few, c.loop-left-test.true)) in (
+      unused.local,
+      (c.loop-left.invariant.held.below i (omega (arith, c.loop-left-test.true))).0 ∙ unused.here,
+    )
 
 pub begin-worker-requires : goal.begin-worker-requires
 begin-worker-requires g c =
@@ -37,11 +45,15 @@ begin-worker-requires g c =
     let who : who_of c.part-caller.result ≡ i = c.part-caller.ensures.caller.1 in
     let pass_items = popped _ _ _ _ c.pop.ensures.items c.unwrap-pass.ensures in
     let own_items = popped _ _ _ _ c.pop-in-loop-left.ensures.items c.unwrap-own.ensures in
-    let pass = last_in_order _ _ _ (who_of c.part-caller.result) c.unwrap-pass.result pass_items (omega (arith, who, inv.all_passes, one_longer _ _ _ pass_items)) inv.passes in
-    let own = last_in_order _ _ _ (who_of c.part-caller.result) c.unwrap-own.result own_items (omega (arith, who, inv.all_rooms, one_longer _ _ _ own_items)) inv.rooms in
+    let pass = last_in_order _ _ _ (who_of c.part-caller.result) c.unwrap-pass.result pass_items
+    (omega (arith, who, inv.all_passes, one_longer _ _ _ pass_items)) inv.passes in
+    let own = last_in_order _ _ _ (who_of c.part-caller.result) c.unwrap-own.result own_items
+    (omega (arith, who, inv.all_rooms, one_longer _ _ _ own_items)) inv.rooms in
     let below = inv.held.below i (omega (arith, c.loop-left-test.true)) in
-    let unused : IsUnused c.args.bench.now i = c.requires.starts.unused i (omega (arith, inv.few, c.loop-left-test.true)) in
-    let fresh = fresh_from_bench c.args.bench.now i c.part-caller.result unused (sym below.0 ∙ c.part-caller.ensures.local) (sym below.1 ∙ c.part-caller.ensures.stance) in
+    let unused : IsUnused c.args.bench.now i =
+    c.requires.starts.unused i (omega (arith, inv.few, c.loop-left-test.true)) in
+    let fresh = fresh_from_bench c.args.bench.now i c.part-caller.result unused
+    (sym below.0 ∙ c.part-caller.ensures.local) (sym below.1 ∙ c.part-caller.ensures.stance) in
     record {
       plan = c.callers-left.ensures.plan;
       rows = c.requires.starts.rows_for;
@@ -65,7 +77,9 @@ loop-left-preserved g c =
     record {
       few = omega (arith, inv.few);
       bench = c.part-caller.ensures.bench;
-      held = one_less_held n i c.args.bench.now c.loop-left.bench c.part-caller.new.bench (omega (arith, inv.few, left)) (subst (λ (m : ℕ). HoldsBelow n m c.args.bench.now c.loop-left.bench) left inv.held)
+      held = one_less_held n i c.args.bench.now c.loop-left.bench c.part-caller.new.bench
+          (omega (arith, inv.few, left))
+          (subst (λ (m : ℕ). HoldsBelow n m c.args.bench.now c.loop-left.bench) left inv.held)
           c.part-caller.ensures.gone c.part-caller.ensures.others;
       all_passes = omega (arith, inv.all_passes, one_longer _ _ _ pass_items);
       passes_capacity = c.pop.ensures.capacity ∙ inv.passes_capacity;
@@ -75,8 +89,10 @@ loop-left-preserved g c =
       rooms = one_less_in_order _ _ _ c.unwrap-own.result own_items inv.rooms;
       workers_count = omega (arith, inv.workers_count, one_longer _ _ _ put, left);
       workers_capacity = omega (arith, inv.workers_capacity, c.push.ensures.lower_bound);
-      workers = one_more_down n _ _ _ (who_of c.part-caller.result) c.begin-worker.result put (omega (arith, who, inv.workers_count, left)) c.begin-worker.ensures inv.workers;
+      workers = one_more_down n _ _ _ (who_of c.part-caller.result) c.begin-worker.result put
+          (omega (arith, who, inv.workers_count, left)) c.begin-worker.ensures inv.workers;
     }
 
 pub returns-clause-gone : goal.returns-clause-gone
-returns-clause-gone g c i low = c.loop-left.invariant.held.gone i (omega (arith, c.loop-left-test.false)) low
+returns-clause-gone g c i low =
+    c.loop-left.invariant.held.gone i (omega (arith, c.loop-left-test.false)) low

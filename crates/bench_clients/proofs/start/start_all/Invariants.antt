@@ -12,13 +12,18 @@ invariant-loop-left g l =
       held : HoldsBelow (length l.script.operations) l.left l.initial.bench l.bench;
       all_passes : vec_len l.passes ≡ l.left;
       passes_capacity : vec_capacity l.passes ≡ vec_capacity l.initial.passes;
-      passes : AreInOrder (IsFreshPass l.shared.rows.now (g.A.Asks.fits l.shared.asks.now) g.A.Asks.count l.script.operations) l.passes.items;
+      passes : AreInOrder (IsFreshPass l.shared.rows.now
+          (g.A.Asks.fits l.shared.asks.now) g.A.Asks.count l.script.operations) l.passes.items;
       all_rooms : vec_len l.lines ≡ l.left;
       lines_capacity : length l.script.operations ≤ vec_capacity l.lines;
       rooms : AreInOrder (IsRoomFor l.script.operations) l.lines.items;
       workers_count : vec_len l.workers + l.left ≡ length l.script.operations;
       workers_capacity : length l.script.operations ≤ vec_capacity l.workers;
-      workers : AreDownFrom (length l.script.operations) (IsStart g.P.Program.meaning l.shared.rows.now g.E.Ending.says g.E.Ending.object (g.A.Asks.fits l.shared.asks.now) g.A.Asks.count (course_of l.script (run_allotments l.script) (g.E.Ending.object l.ending))) l.workers.items;
+      workers : AreDownFrom (length l.script.operations)
+          (IsStart g.P.Program.meaning l.shared.rows.now g.E.Ending.says g.E.Ending.object
+          (g.A.Asks.fits l.shared.asks.now) g.A.Asks.count
+          (course_of l.script (run_allotments l.script) (g.E.Ending.object l.ending)))
+          l.workers.items;
     }
 
 abbrev pub decreases-loop-left : goal.decreases-loop-left

@@ -12,5 +12,8 @@ invariant-loop-turn g l =
       last : l.last + 1 ≡ length l.script.operations;
       turns : l.turn-items ≡ l.script.turns;
       workers : AreDownFrom (length l.script.operations)
-          (λ i w. IsTurned g.P.Program.meaning l.shared.rows.now g.E.Ending.says g.E.Ending.object (g.A.Asks.fits l.shared.asks.now) g.A.Asks.count (course_of l.script (run_allotments l.script) (g.E.Ending.object l._ending)) i (turns_of (take l.turn-index l.turn-items) i) w) l.workers.items;
+          (λ i w. IsTurned g.P.Program.meaning l.shared.rows.now g.E.Ending.says g.E.Ending.object
+          (g.A.Asks.fits l.shared.asks.now) g.A.Asks.count
+          (course_of l.script (run_allotments l.script) (g.E.Ending.object l._ending)) i
+          (turns_of (take l.turn-index l.turn-items) i) w) l.workers.items;
     }

@@ -4,7 +4,8 @@ use Rattle.book_picture.proofs.DrawingLemmas.{drawable_at, elements_turn}
 use Rattle.book_picture.proofs.draw.put_lane.Goals as goal
 
 pub element-requires : goal.element-requires
-element-requires c = drawable_at c.args.sheet.now.book.now c.args.lane.now _ _ c.loop-interval-test.true c.requires
+element-requires c =
+    drawable_at c.args.sheet.now.book.now c.args.lane.now _ _ c.loop-interval-test.true c.requires
 
 pub loop-interval-preserved : goal.loop-interval-preserved
 loop-interval-preserved c =
@@ -13,7 +14,8 @@ loop-interval-preserved c =
     let more = string_bytes c.in_ok-element.element in
     let joined = append_assoc (string_bytes c.args.out.now) was.0 more in (
       was.0 ++ more,
-      elements_turn (class_of_call sheet.kind sheet.book.now sheet.values.now sheet.marks.now) sheet.rows.now c.args.lane.now c.loop-interval.interval-index _ was.0 more
+      elements_turn (class_of_call sheet.kind sheet.book.now sheet.values.now sheet.marks.now)
+          sheet.rows.now c.args.lane.now c.loop-interval.interval-index _ was.0 more
           c.loop-interval-test.true was.1 c.in_ok-element.ensures,
       cc (joined, was.2, c.in_ok-push_str.ensures.bytes, c.deref.ensures),
     )

@@ -6,4 +6,5 @@ use Rattle.book_picture.proofs.draw.put_lane.Given as goal
 abbrev pub invariant-loop-interval : goal.invariant-loop-interval
 invariant-loop-interval l =
     let class = class_of_call l.sheet.kind l.sheet.book.now l.sheet.values.now l.sheet.marks.now in
-    (text : List ℕ) × AreElementsOf class l.sheet.rows.now (take l.interval-index l.lane) text × (string_bytes l.out ≡ string_bytes l.initial.out ++ text)
+    (text : List ℕ) × AreElementsOf class l.sheet.rows.now (take l.interval-index l.lane) text
+    × (string_bytes l.out ≡ string_bytes l.initial.out ++ text)

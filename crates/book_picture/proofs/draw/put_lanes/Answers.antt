@@ -7,7 +7,9 @@ use Rattle.book_picture.proofs.draw.put_lanes.Goals as goal
 
 pub put_lane-requires : goal.put_lane-requires
 put_lane-requires c =
-    drawable_lane c.args.sheet.now.book.now c.args.lanes.now c.loop-lane.lane-index c.lane-item.result c.deref.result.now c.loop-lane-test.true c.lane-item.is c.deref.ensures.value c.requires
+    drawable_lane c.args.sheet.now.book.now c.args.lanes.now c.loop-lane.lane-index
+    c.lane-item.result c.deref.result.now c.loop-lane-test.true c.lane-item.is
+    c.deref.ensures.value c.requires
 
 pub loop-lane-preserved : goal.loop-lane-preserved
 loop-lane-preserved c =
@@ -17,7 +19,9 @@ loop-lane-preserved c =
     let put = c.in_ok-put_lane.ensures in
     let joined = append_assoc (string_bytes c.args.out.now) was.0 put.0 in (
       was.0 ++ put.0,
-      lanes_turn class sheet.rows.now c.args.lanes.now c.loop-lane.lane-index c.lane-item.result was.0 put.0 c.loop-lane-test.true c.lane-item.is was.1
-          (subst (λ (lane : List Interval). AreElementsOf class sheet.rows.now lane put.0) c.deref.ensures.value put.1),
+      lanes_turn class sheet.rows.now c.args.lanes.now c.loop-lane.lane-index c.lane-item.result
+          was.0 put.0 c.loop-lane-test.true c.lane-item.is was.1
+          (subst (λ (lane : List Interval). AreElementsOf class sheet.rows.now lane put.0)
+          c.deref.ensures.value put.1),
       cc (joined, was.2, put.2),
     )

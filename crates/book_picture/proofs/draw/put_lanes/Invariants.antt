@@ -7,4 +7,6 @@ use Rattle.book_picture.proofs.draw.put_lanes.Given as goal
 abbrev pub invariant-loop-lane : goal.invariant-loop-lane
 invariant-loop-lane l =
     let class = class_of_call l.sheet.kind l.sheet.book.now l.sheet.values.now l.sheet.marks.now in
-    (text : List ℕ) × AreLanesElements class l.sheet.rows.now (rows_of (take l.lane-index l.lanes)) text × (string_bytes l.out ≡ string_bytes l.initial.out ++ text)
+    (text : List ℕ)
+    × AreLanesElements class l.sheet.rows.now (rows_of (take l.lane-index l.lanes)) text
+    × (string_bytes l.out ≡ string_bytes l.initial.out ++ text)

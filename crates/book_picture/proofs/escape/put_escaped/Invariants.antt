@@ -3,4 +3,5 @@ use Rattle.book_picture.specs.Escape.{escaped}
 use Rattle.book_picture.proofs.escape.put_escaped.Given as goal
 
 abbrev pub invariant-loop-byte : goal.invariant-loop-byte
-invariant-loop-byte l = string_bytes l.out ≡ string_bytes l.initial.out ++ escaped (take l.byte-index l.text)
+invariant-loop-byte l =
+    string_bytes l.out ≡ string_bytes l.initial.out ++ escaped (take l.byte-index l.text)

@@ -9,8 +9,10 @@ returns-then-left-le-ROW_PLACES c =
     let first = c.folding.first in
     let rows = c.folding.rows.items in
     let was = c.folding.invariant in
-    let last : IsRow places (length rows) _ = row_is places (length rows) (places - first) c.min.result _ was.place refl c.min.ensures c.in_ok-edges.ensures in
-    all_folded places first rows c.push.new.self.items _ c.in_ok-push.ensures.items was.place was.each last was.within was.more (omega arith)
+    let last : IsRow places (length rows) _ = row_is places (length rows)
+    (places - first) c.min.result _ was.place refl c.min.ensures c.in_ok-edges.ensures in
+    all_folded places first rows c.push.new.self.items _ c.in_ok-push.ensures.items was.place
+    was.each last was.within was.more (omega arith)
 
 pub folding-preserved : goal.folding-preserved
 folding-preserved c =
@@ -18,10 +20,13 @@ folding-preserved c =
     let first = c.folding.first in
     let rows = c.folding.rows.items in
     let was = c.folding.invariant in
-    let last : IsRow places (length rows) _ = row_is places (length rows) (places - first) c.min.result _ was.place refl c.min.ensures c.in_ok-edges.ensures in
+    let last : IsRow places (length rows) _ = row_is places (length rows)
+    (places - first) c.min.result _ was.place refl c.min.ensures c.in_ok-edges.ensures in
     record {
-      place = next_place places first rows c.push.new.self.items _ c.in_ok-push.ensures.items was.place was.each last;
+      place = next_place places first rows c.push.new.self.items _ c.in_ok-push.ensures.items
+          was.place was.each last;
       within = omega arith;
       more = λ _. omega arith;
-      each = each_new places first rows c.push.new.self.items _ c.in_ok-push.ensures.items was.place was.each last;
+      each = each_new places first rows c.push.new.self.items _ c.in_ok-push.ensures.items was.place
+          was.each last;
     }

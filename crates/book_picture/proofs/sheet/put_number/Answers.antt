@@ -8,6 +8,7 @@ returns-in_ok-write c = (
   plain_number c.saturating_sub-x.result _ (omega arith)
       (plain_number c.saturating_add-y.result _ (omega arith)
       (plain_number c.saturating_sub-x.result _ (omega arith)
-      (plain_number c.saturating_add-base.result _ (omega arith) (plain_number c.in-Some.number _ (omega arith) refl)))),
+      (plain_number c.saturating_add-base.result _ (omega arith)
+      (plain_number c.in-Some.number _ (omega arith) refl)))),
   c.in_ok-write.ensures.bytes,
 )

@@ -14,5 +14,6 @@ loop-event-preserved c =
     let kind = c.args.kind in
     let book = c.args.book.now in
     let events = c.args.events.now in
-    values_turn kind book c.loop-event.values.items c.add_event.new.values.items (values_after kind book [] events) events c.loop-event.event-index _
+    values_turn kind book c.loop-event.values.items c.add_event.new.values.items
+    (values_after kind book [] events) events c.loop-event.event-index _
     c.loop-event-test.true c.in_ok-add_event.ensures c.loop-event.invariant

@@ -7,8 +7,10 @@ use Rattle.book_text.specs.CallLines.{Progress, call_rules, calls_from}
 use Rattle.book_text.proofs.CallTexts.{stops_then}
 use Rattle.book_text.proofs.calls.read_caller.Goals as goal
 
-next_due : (i k count : ℕ) (more : List Call) → suc k ≤ count → calls_from i k (count - k) ++ more ≡ record { caller = i; number = k } ∷ (calls_from i (k + 1) (count - (k + 1)) ++ more)
-next_due i k count more lt = let one : count - k ≡ suc (count - (k + 1)) = omega arith in ap (λ (m : ℕ). calls_from i k m ++ more) one
+next_due : (i k count : ℕ) (more : List Call) → suc k ≤ count → calls_from i k (count - k) ++ more
+    ≡ record { caller = i; number = k } ∷ (calls_from i (k + 1) (count - (k + 1)) ++ more)
+next_due i k count more lt = let one : count - k ≡ suc (count - (k + 1)) = omega arith in
+    ap (λ (m : ℕ). calls_from i k m ++ more) one
 
 pub returns-in_err-read_call-clause-refused : goal.returns-in_err-read_call-clause-refused
 returns-in_err-read_call-clause-refused g c =
@@ -16,9 +18,15 @@ returns-in_err-read_call-clause-refused g c =
     let p = err_from_is_err_and c.from_residual.result c.from_residual.ensures.1 in
     let k = c.loop-number.number in
     rw (p.1, p.2) (λ more.
-    let start : Progress = record { book = c.args.book.now; due = calls_from c.args.i 0 c.args.count ++ more } in
-    let here = subst (λ (calls : List Call). GoesTo rules start c.args.lines.now (record { book = c.loop-number.book; due = calls }) c.loop-number.lines) (next_due c.args.i k c.args.count more c.loop-number-test.true) (c.loop-number.invariant.goes more) in
-    stops_then rules start _ c.args.lines.now c.loop-number.lines c.in_err-read_call.field-0.0 here (c.in_err-read_call.ensures.refused (calls_from c.args.i (k + 1) (c.args.count - (k + 1)) ++ more)))
+    let start : Progress =
+    record { book = c.args.book.now; due = calls_from c.args.i 0 c.args.count ++ more } in
+    let here = subst (λ (calls : List Call). GoesTo rules start c.args.lines.now
+    (record { book = c.loop-number.book; due = calls }) c.loop-number.lines)
+    (next_due c.args.i k c.args.count more c.loop-number-test.true)
+    (c.loop-number.invariant.goes more) in
+    stops_then rules start _ c.args.lines.now c.loop-number.lines c.in_err-read_call.field-0.0 here
+    (c.in_err-read_call.ensures.refused
+    (calls_from c.args.i (k + 1) (c.args.count - (k + 1)) ++ more)))
 
 pub loop-number-preserved : goal.loop-number-preserved
 loop-number-preserved g c =
@@ -26,10 +34,17 @@ loop-number-preserved g c =
     let k = c.loop-number.number in
     record {
       goes = λ more.
-          let start : Progress = record { book = c.args.book.now; due = calls_from c.args.i 0 c.args.count ++ more } in
-          let here = subst (λ (calls : List Call). GoesTo rules start c.args.lines.now (record { book = c.loop-number.book; due = calls }) c.loop-number.lines) (next_due c.args.i k c.args.count more c.loop-number-test.true) (c.loop-number.invariant.goes more) in
-          goes_then rules start _ _ c.args.lines.now c.loop-number.lines c.read_call.new.lines here (c.in_ok-read_call.ensures.found (calls_from c.args.i (k + 1) (c.args.count - (k + 1)) ++ more));
+          let start : Progress =
+          record { book = c.args.book.now; due = calls_from c.args.i 0 c.args.count ++ more } in
+          let here = subst (λ (calls : List Call). GoesTo rules start c.args.lines.now
+          (record { book = c.loop-number.book; due = calls }) c.loop-number.lines)
+          (next_due c.args.i k c.args.count more c.loop-number-test.true)
+          (c.loop-number.invariant.goes more) in
+          goes_then rules start _ _ c.args.lines.now c.loop-number.lines c.read_call.new.lines here
+          (c.in_ok-read_call.ensures.found
+          (calls_from c.args.i (k + 1) (c.args.count - (k + 1)) ++ more));
       calls = λ j. c.in_ok-read_call.ensures.calls j ∙ c.loop-number.invariant.calls j;
       own = c.in_ok-read_call.ensures.answers;
-      others = λ j other. c.in_ok-read_call.ensures.others j other ∙ c.loop-number.invariant.others j other;
+      others = λ j other. c.in_ok-read_call.ensures.others j other
+          ∙ c.loop-number.invariant.others j other;
     }

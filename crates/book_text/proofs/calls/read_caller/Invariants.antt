@@ -7,8 +7,10 @@ use Rattle.book_text.proofs.calls.read_caller.Given as goal
 
 abbrev pub invariant-loop-number : goal.invariant-loop-number
 invariant-loop-number g l = record {
-  goes : (more : List Call) → GoesTo (call_rules l.version (g.T.OpText.operations l.operations)) (record { book = l.fn.book; due = calls_from l.i 0 l.count ++ more }) l.fn.lines
-      (record { book = l.book; due = calls_from l.i l.number (l.count - l.number) ++ more }) l.lines;
+  goes : (more : List Call) → GoesTo (call_rules l.version (g.T.OpText.operations l.operations))
+      (record { book = l.fn.book; due = calls_from l.i 0 l.count ++ more }) l.fn.lines
+      (record { book = l.book; due = calls_from l.i l.number (l.count - l.number) ++ more })
+      l.lines;
   calls : (j : ℕ) → calls_of l.book j ≡ calls_of l.fn.book j;
   own : answers_of l.book l.i ≤ l.number;
   others : (j : ℕ) → j ≢ l.i → answers_of l.book j ≡ answers_of l.fn.book j;

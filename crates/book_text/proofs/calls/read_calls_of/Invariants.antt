@@ -6,7 +6,8 @@ use Rattle.book_text.proofs.calls.read_calls_of.Given as goal
 
 abbrev pub invariant-loop-i : goal.invariant-loop-i
 invariant-loop-i g l = record {
-  goes : GoesTo (call_rules l.version (g.T.OpText.operations l.operations)) (no_call_read l.calls) l.fn.lines (record { book = l.book; due = all_calls l.i (drop l.i l.calls) }) l.lines;
+  goes : GoesTo (call_rules l.version (g.T.OpText.operations l.operations)) (no_call_read l.calls)
+      l.fn.lines (record { book = l.book; due = all_calls l.i (drop l.i l.calls) }) l.lines;
   calls : (j : ℕ) → calls_of l.book j ≡ get_or l.calls j 0;
   unanswered : (j : ℕ) → l.i ≤ j → answers_of l.book j ≡ 0;
 }

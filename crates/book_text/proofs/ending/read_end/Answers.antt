@@ -13,7 +13,8 @@ returns-then-not-is_end-clause-refused c =
       line = c.in_ok-line.field-0.now;
       left = c.line.new.self;
       next = c.in_ok-line.ensures.line;
-      words = λ e. let is : c.is_end.result ≡ true = c.is_end.ensures.1 (c.new-words.ensures ∙ e) in absurd (cc (is, c.if-not-is_end.true));
+      words = λ e. let is : c.is_end.result ≡ true = c.is_end.ensures.1 (c.new-words.ensures ∙ e) in
+          absurd (cc (is, c.if-not-is_end.true));
       fault_is = rw c.number-line.ensures refl;
     }))
 
@@ -32,6 +33,7 @@ returns-else-at_end-clause-refused c =
       left = c.line.new.self;
       next = c.in_ok-line.ensures.line;
       words = sym c.new-words.ensures ∙ c.is_end.ensures.0 c.if-not-is_end.false;
-      more = λ e. let is : c.at_end.result ≡ true = c.at_end.ensures.1 e in absurd (cc (is, c.if-at_end.false));
+      more = λ e. let is : c.at_end.result ≡ true = c.at_end.ensures.1 e in
+          absurd (cc (is, c.if-at_end.false));
       fault_is = rw c.number.ensures refl;
     }))

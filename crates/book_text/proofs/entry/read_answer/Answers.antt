@@ -4,8 +4,15 @@ use Rattle.book_text.proofs.entry.read_answer.Goals as goal
 pub returns-then-gap-clause-refused : goal.returns-then-gap-clause-refused
 returns-then-gap-clause-refused c = (λ none. absurd (cc (c.in-Some.ensures, none)), c.if-gap.true)
 
-pub returns-in_default-reply_from_word-clause-refused : goal.returns-in_default-reply_from_word-clause-refused
-returns-in_default-reply_from_word-clause-refused c = (c.in-Some.word.now, c.next.new.self, c.if-gap.false, c.in-Some.ensures, c.in_default-reply_from_word.ensures.none)
+pub returns-in_default-reply_from_word-clause-refused :
+    goal.returns-in_default-reply_from_word-clause-refused
+returns-in_default-reply_from_word-clause-refused c = (
+  c.in-Some.word.now,
+  c.next.new.self,
+  c.if-gap.false,
+  c.in-Some.ensures,
+  c.in_default-reply_from_word.ensures.none,
+)
 
 pub returns-in-None-clause-refused : goal.returns-in-None-clause-refused
 returns-in-None-clause-refused c =
@@ -14,6 +21,7 @@ returns-in-None-clause-refused c =
       c.next.new.self,
       c.if-gap.false,
       small,
-      c.in-Some.ensures ∙ ap (λ (w : List ℕ). w ∷ c.next.new.self) (sym c.in-Some-reply_from_word.ensures.found),
+      c.in-Some.ensures ∙ ap (λ (w : List ℕ). w ∷ c.next.new.self)
+          (sym c.in-Some-reply_from_word.ensures.found),
       c.in-None.ensures.none,
     )

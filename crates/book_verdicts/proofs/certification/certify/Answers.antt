@@ -2,10 +2,13 @@ use Rattle.book_verdicts.proofs.BookLemmas.{only_some, only_none, first_of_certi
 use Rattle.book_verdicts.proofs.certification.certify.Goals as goal
 
 pub returns-clause-legal : goal.returns-clause-legal
-returns-clause-legal c = only_some c.args.bytes.now c.written.result c.written.ensures.certificate c.written.ensures.refused
+returns-clause-legal c = only_some c.args.bytes.now c.written.result c.written.ensures.certificate
+    c.written.ensures.refused
 
 pub returns-clause-illegal : goal.returns-clause-illegal
-returns-clause-illegal c = only_none c.args.bytes.now c.written.result c.written.ensures.certificate c.written.ensures.refused
+returns-clause-illegal c = only_none c.args.bytes.now c.written.result c.written.ensures.certificate
+    c.written.ensures.refused
 
 pub returns-clause-first : goal.returns-clause-first
-returns-clause-first c = first_of_certificate c.args.bytes.now c.written.result c.written.ensures.certificate c.written.ensures.refused
+returns-clause-first c = first_of_certificate c.args.bytes.now c.written.result
+    c.written.ensures.certificate c.written.ensures.refused

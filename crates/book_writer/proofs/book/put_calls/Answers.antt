@@ -11,12 +11,16 @@ use Rattle.book_writer.proofs.book.put_calls.Goals as goal
 pub loop-number-preserved : goal.loop-number-preserved
 loop-number-preserved c =
     let old : List ℕ = c.args.out.now.items in
-    let line : Call → List (List ℕ) = line_of Second (kind_operations Second c.args.kind) c.args.book.now in
+    let line : Call → List (List ℕ) =
+    line_of Second (kind_operations Second c.args.kind) c.args.book.now in
     let call : Call = record { caller = c.args.caller; number = c.loop-number.number } in
     let calls : List Call = calls_from c.args.caller 0 c.loop-number.number in
-    let same : map line (calls_from c.args.caller 0 (c.loop-number.number + 1)) ≡ map line calls ++ line call ∷ [] = ap (map line) (calls_more c.args.caller c.loop-number.number) ∙ lines_push line calls call in
+    let same : map line (calls_from c.args.caller 0 (c.loop-number.number + 1))
+    ≡ map line calls ++ line call ∷ [] =
+    ap (map line) (calls_more c.args.caller c.loop-number.number) ∙ lines_push line calls call in
     record {
-      text = one_more old c.loop-number.out.items c.put_call.new.out.items (map line calls) (line call) c.loop-number.invariant.text c.in_ok-put_call.ensures.ok
+      text = one_more old c.loop-number.out.items c.put_call.new.out.items (map line calls)
+          (line call) c.loop-number.invariant.text c.in_ok-put_call.ensures.ok
           ∙ ap (λ (ls : List (List (List ℕ))). old ++ text_of ls) (sym same);
       words = below_more _ _ c.loop-number.invariant.words c.in_ok-put_call.ensures.words;
     }

@@ -9,6 +9,7 @@ use Rattle.book_writer.proofs.book.put_calls.Given as goal
 
 abbrev pub invariant-loop-number : goal.invariant-loop-number
 invariant-loop-number l = record {
-  text : l.out.items ≡ l.initial.out.items ++ text_of (map (line_of Second (kind_operations Second l.kind) l.book) (calls_from l.caller 0 l.number));
+  text : l.out.items ≡ l.initial.out.items ++ text_of (map
+      (line_of Second (kind_operations Second l.kind) l.book) (calls_from l.caller 0 l.number));
   words : (k : ℕ) → k < l.number → HasWords l.book (record { caller = l.caller; number = k });
 }

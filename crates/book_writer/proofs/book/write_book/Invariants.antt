@@ -13,6 +13,8 @@ use Rattle.book_writer.proofs.book.write_book.Given as goal
 
 abbrev pub invariant-loop-caller : goal.invariant-loop-caller
 invariant-loop-caller l = record {
-  text : l.out.items ≡ text_of (head_lines Second (codes "book") l.kind (announced l.book) ++ map (line_of Second (kind_operations Second l.kind) l.book) (all_calls 0 (take l.caller (announced l.book))));
+  text : l.out.items
+      ≡ text_of (head_lines Second (codes "book") l.kind (announced l.book) ++ map (line_of Second
+      (kind_operations Second l.kind) l.book) (all_calls 0 (take l.caller (announced l.book))));
   words : (call : Call) → call.caller < l.caller → IsCall l.book call → HasWords l.book call;
 }

@@ -7,4 +7,5 @@ use Rattle.book_writer.specs.Sketches.{event_words}
 use Rattle.book_writer.proofs.sketch_text.events_text.Given as goal
 
 abbrev pub invariant-loop-event : goal.invariant-loop-event
-invariant-loop-event l = l.out.items ≡ text_of (title_words Second (codes "sketch") ∷ map (event_words l.kind l.book) (take l.event-index l.events))
+invariant-loop-event l = l.out.items ≡ text_of (title_words Second (codes "sketch")
+    ∷ map (event_words l.kind l.book) (take l.event-index l.events))

@@ -17,8 +17,12 @@ returns c =
     let m3 : List ℕ = c.put_operation.new.out.items in
     let name : List ℕ = codes "call" in
     let place : List (List ℕ) = place_words c.args.call in
-    let ops : List (List ℕ) = operation_words c.args.kind (call_operation c.args.book.now c.args.call) in
+    let ops : List (List ℕ) =
+    operation_words c.args.kind (call_operation c.args.book.now c.args.call) in
     let op = value_is (operation_of c.args.book.now c.args.call) c.op.result 0 c.op.ensures in
-    let e3 : m3 ≡ m2 ++ spaced ops = c.in_ok-put_operation.ensures ∙ ap (λ (w : ℕ). m2 ++ spaced (operation_words c.args.kind w)) (sym op) in
-    let l2 = more_words old m1 m2 name [] place (first_word old m1 name c.in_ok-extend_from_slice.ensures.items) c.in_ok-put_place.ensures in
-    line_ends old m3 c.push.new.self.items name (place ++ ops) (more_words old m2 m3 name place ops l2 e3) c.in_ok-push.ensures.items
+    let e3 : m3 ≡ m2 ++ spaced ops = c.in_ok-put_operation.ensures
+    ∙ ap (λ (w : ℕ). m2 ++ spaced (operation_words c.args.kind w)) (sym op) in
+    let l2 = more_words old m1 m2 name [] place
+    (first_word old m1 name c.in_ok-extend_from_slice.ensures.items) c.in_ok-put_place.ensures in
+    line_ends old m3 c.push.new.self.items name (place ++ ops)
+    (more_words old m2 m3 name place ops l2 e3) c.in_ok-push.ensures.items

@@ -6,22 +6,27 @@ use Rattle.broken_rules.proofs.breaking.are_related.Goals as goal
 
 pub returns-in-Same : goal.returns-in-Same
 returns-in-Same c =
-    subst (λ (r : Relation). IsTrue c.is_same.result ↔ Related c.args.kind c.args.book.now r c.args.first c.args.second) (sym c.in-Same.is) c.is_same.ensures
+    subst (λ (r : Relation). IsTrue c.is_same.result ↔ Related c.args.kind c.args.book.now r
+    c.args.first c.args.second) (sym c.in-Same.is) c.is_same.ensures
 
 pub returns-in-Apart : goal.returns-in-Apart
 returns-in-Apart c =
-    subst (λ (r : Relation). IsTrue (not c.is_same-in-Apart.result) ↔ Related c.args.kind c.args.book.now r c.args.first c.args.second) (sym c.in-Apart.is)
+    subst (λ (r : Relation). IsTrue (not c.is_same-in-Apart.result)
+    ↔ Related c.args.kind c.args.book.now r c.args.first c.args.second) (sym c.in-Apart.is)
     (not_decides c.is_same-in-Apart.ensures)
 
 pub returns-in-Before : goal.returns-in-Before
 returns-in-Before c =
-    subst (λ (r : Relation). IsTrue c.precedes.result ↔ Related c.args.kind c.args.book.now r c.args.first c.args.second) (sym c.in-Before.is) c.precedes.ensures
+    subst (λ (r : Relation). IsTrue c.precedes.result ↔ Related c.args.kind c.args.book.now r
+    c.args.first c.args.second) (sym c.in-Before.is) c.precedes.ensures
 
 pub returns-in-TakenByAnother : goal.returns-in-TakenByAnother
 returns-in-TakenByAnother c =
-    subst (λ (r : Relation). IsTrue (not c.all_meet.result) ↔ Related c.args.kind c.args.book.now r c.args.first c.args.second) (sym c.in-TakenByAnother.is)
+    subst (λ (r : Relation). IsTrue (not c.all_meet.result)
+    ↔ Related c.args.kind c.args.book.now r c.args.first c.args.second) (sym c.in-TakenByAnother.is)
     (not_decides c.all_meet.ensures)
 
 pub returns-in-Any : goal.returns-in-Any
 returns-in-Any c =
-    subst (λ (r : Relation). IsTrue true ↔ Related c.args.kind c.args.book.now r c.args.first c.args.second) (sym c.in-Any.is) (λ e. tt, λ all. refl)
+    subst (λ (r : Relation). IsTrue true ↔ Related c.args.kind c.args.book.now r c.args.first
+    c.args.second) (sym c.in-Any.is) (λ e. tt, λ all. refl)

@@ -4,5 +4,6 @@ use Rattle.broken_rules.proofs.demand.puts_value.Goals as goal
 
 pub returns : goal.returns
 returns c =
-    puts_same c.puts.result (deal_of_act c.act_of-2.result) (deal_of_act c.act_of.result) (did c.args.kind c.args.book.now c.args.call) (did c.args.kind c.args.book.now c.args.valued)
+    puts_same c.puts.result (deal_of_act c.act_of-2.result) (deal_of_act c.act_of.result)
+    (did c.args.kind c.args.book.now c.args.call) (did c.args.kind c.args.book.now c.args.valued)
     c.value-value.result c.puts.ensures c.value-value.ensures c.act_of-2.ensures c.act_of.ensures

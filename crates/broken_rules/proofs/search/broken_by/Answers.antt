@@ -8,11 +8,16 @@ use Rattle.broken_rules.proofs.search.broken_by.Goals as goal
 
 pub loop-caller-preserved : goal.loop-caller-preserved
 loop-caller-preserved c =
-    let P : Call → Type 0 = λ first. (second : Call) → Breaks c.args.kind c.args.book.now (record { rule = c.args.rule; first = first; second = second }) → ⊥ in
+    let P : Call → Type 0 = λ first. (second : Call) → Breaks c.args.kind c.args.book.now
+    (record { rule = c.args.rule; first = first; second = second }) → ⊥ in
     callers_more P c.loop-caller.caller c.loop-caller.invariant
-    (subst (λ o. IfNone o ((number : ℕ) → P (record { caller = c.loop-caller.caller; number = number }))) c.in-None.is c.broken_by_caller.ensures.none)
+    (subst
+    (λ o. IfNone o ((number : ℕ) → P (record { caller = c.loop-caller.caller; number = number })))
+    c.in-None.is c.broken_by_caller.ensures.none)
 
 pub returns-clause-none : goal.returns-clause-none
 returns-clause-none c first second breaks =
-    let inside : first.caller < length c.args.book.now = caller_from_call c.args.book.now first.caller first.number breaks.first in
-    c.loop-caller.invariant first (omega (arith, inside, c.callers-caller-end.ensures.count)) second breaks
+    let inside : first.caller < length c.args.book.now =
+    caller_from_call c.args.book.now first.caller first.number breaks.first in
+    c.loop-caller.invariant first
+    (omega (arith, inside, c.callers-caller-end.ensures.count)) second breaks

@@ -4,4 +4,5 @@ use Rattle.broken_rules.specs.Rules.{Breaks}
 use Rattle.broken_rules.proofs.search.broken_by.Given as goal
 
 abbrev pub invariant-loop-caller : goal.invariant-loop-caller
-invariant-loop-caller l = (first : Call) → first.caller < l.caller → (second : Call) → Breaks l.kind l.book (record { rule = l.rule; first = first; second = second }) → ⊥
+invariant-loop-caller l = (first : Call) → first.caller < l.caller → (second : Call)
+    → Breaks l.kind l.book (record { rule = l.rule; first = first; second = second }) → ⊥

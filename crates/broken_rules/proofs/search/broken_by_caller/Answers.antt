@@ -8,8 +8,13 @@ use Rattle.broken_rules.proofs.search.broken_by_caller.Goals as goal
 pub loop-number-preserved : goal.loop-number-preserved
 loop-number-preserved c =
     let P : ℕ → Type 0
-    = λ number. (second : Call) → Breaks c.args.kind c.args.book.now (record { rule = c.args.rule; first = record { caller = c.args.caller; number = number }; second = second }) → ⊥ in
-    below_more P c.loop-number.number c.loop-number.invariant (subst (λ o. IfNone o (P c.loop-number.number)) c.in-None.is c.broken_with.ensures.none)
+    = λ number. (second : Call) → Breaks c.args.kind c.args.book.now (record {
+      rule = c.args.rule;
+      first = record { caller = c.args.caller; number = number };
+      second = second;
+    }) → ⊥ in
+    below_more P c.loop-number.number c.loop-number.invariant
+    (subst (λ o. IfNone o (P c.loop-number.number)) c.in-None.is c.broken_with.ensures.none)
 
 pub returns-clause-none : goal.returns-clause-none
 returns-clause-none c number second breaks =

@@ -4,7 +4,8 @@ use Rattle.book_base.specs.Book.{calls_of}
 use Rattle.broken_rules.proofs.search.broken_with_caller.Goals as goal
 
 pub loop-number-preserved : goal.loop-number-preserved
-loop-number-preserved c = below_more _ _ c.loop-number.invariant (iff_false c.is_broken.ensures c.if-is_broken.false)
+loop-number-preserved c =
+    below_more _ _ c.loop-number.invariant (iff_false c.is_broken.ensures c.if-is_broken.false)
 
 pub returns-clause-none : goal.returns-clause-none
 returns-clause-none c number breaks =

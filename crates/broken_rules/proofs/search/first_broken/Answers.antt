@@ -24,9 +24,12 @@ loop-rule-preserved c k broken below listed breaks =
     elim (cases_eq k index) [
       | inr other ↦ c.loop-rule.invariant k broken (omega (arith, below, other)) listed breaks
       | inl same ↦
-          let at : slice_get rules index ≡ Some here = slice_get-get_or rules index named.TakenUnput c.loop-rule-test.true in
-          let rule : broken.rule ≡ here = same_Some broken.rule here (sym listed ∙ (ap (slice_get rules) same ∙ at)) in
-          let P : Type 0 = (first second : Call) → Breaks kind book (record { rule = here; first = first; second = second }) → ⊥ in
+          let at : slice_get rules index ≡ Some here =
+          slice_get-get_or rules index named.TakenUnput c.loop-rule-test.true in
+          let rule : broken.rule ≡ here =
+          same_Some broken.rule here (sym listed ∙ (ap (slice_get rules) same ∙ at)) in
+          let P : Type 0 = (first second : Call)
+          → Breaks kind book (record { rule = here; first = first; second = second }) → ⊥ in
           let none : P = subst (λ o. IfNone o P) c.in-None.is c.broken_by.ensures.none in
           none broken.first broken.second (with_rule kind book broken here rule breaks)
     ]

@@ -8,6 +8,7 @@ returns-in-Ok-clause-ends g c =
     let same : c.in-Ok.bytes.items ≡ c.deref.result.now = cc in
     inr (
       c.deref.result.now,
-      subst (λ (b : List ℕ). HasRead (g.S.Source.left c.args.source.now) (g.S.Source.left c.read_all.new.source) b) same c.in-Ok.ensures.read,
+      subst (λ (b : List ℕ). HasRead (g.S.Source.left c.args.source.now)
+          (g.S.Source.left c.read_all.new.source) b) same c.in-Ok.ensures.read,
       c.write_output.ensures.ends,
     )

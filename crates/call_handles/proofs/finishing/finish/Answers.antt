@@ -11,15 +11,24 @@ judge_after-requires-clause-rows g c = c.publish_reply-seen.ensures.published.st
 
 pub judge_after-requires-clause-gathered : goal.judge_after-requires-clause-gathered
 judge_after-requires-clause-gathered g c =
-    gathered_by_stays (announced_local c.args.announced) (local_with c.publish_reply-seen.result.caller) c.args.gathered.now
+    gathered_by_stays (announced_local c.args.announced)
+    (local_with c.publish_reply-seen.result.caller) c.args.gathered.now
     c.publish_reply-seen.ensures.published.grows.peeked c.requires.gathered
 
 pub returns-clause-judged : goal.returns-clause-judged
 returns-clause-judged g c =
-    judged_as every_reply c.args.rows.now c.args.announced c.args.reply c.publish_reply-seen.result c.publish_reply-seen.ensures.published (kind_init c.args.kind) (kind_next c.args.kind) c.publish_reply-seen.new.steps c.judge_after.new.steps c.judge_after.new.standing c.judge_after.result
-    c.judge_after.ensures.caller c.judge_after.ensures.peeks c.judge_after.ensures.record c.judge_after.ensures.cut c.judge_after.ensures.own c.judge_after.ensures.stance c.judge_after.ensures.gathered c.judge_after.ensures.verdict
+    judged_as every_reply c.args.rows.now c.args.announced c.args.reply c.publish_reply-seen.result
+    c.publish_reply-seen.ensures.published (kind_init c.args.kind)
+    (kind_next c.args.kind) c.publish_reply-seen.new.steps c.judge_after.new.steps
+    c.judge_after.new.standing c.judge_after.result
+    c.judge_after.ensures.caller c.judge_after.ensures.peeks c.judge_after.ensures.record
+    c.judge_after.ensures.cut c.judge_after.ensures.own c.judge_after.ensures.stance
+    c.judge_after.ensures.gathered c.judge_after.ensures.verdict
 
 pub returns-clause-unjudged : goal.returns-clause-unjudged
 returns-clause-unjudged g c =
-    unjudged_as every_reply c.args.rows.now c.args.announced c.args.reply c.publish_reply-seen.result c.publish_reply-seen.ensures.published c.publish_reply-seen.new.steps c.judge_after.new.steps c.judge_after.result
-    c.judge_after.ensures.unjudged_caller c.judge_after.ensures.unjudged_peeks c.judge_after.ensures.unjudged_record c.judge_after.ensures.unjudged_own
+    unjudged_as every_reply c.args.rows.now c.args.announced c.args.reply
+    c.publish_reply-seen.result c.publish_reply-seen.ensures.published
+    c.publish_reply-seen.new.steps c.judge_after.new.steps c.judge_after.result
+    c.judge_after.ensures.unjudged_caller c.judge_after.ensures.unjudged_peeks
+    c.judge_after.ensures.unjudged_record c.judge_after.ensures.unjudged_own

@@ -14,7 +14,8 @@ returns-clause-published g c =
     let seen = c.publish_reply.result in (
       record_seen seen,
       cut_seen seen,
-      deferred every_reply c.args.rows.now c.args.call c.args.reply seen c.publish_reply.ensures.published c.defer.result c.defer.ensures.caller,
+      deferred every_reply c.args.rows.now c.args.call c.args.reply seen
+          c.publish_reply.ensures.published c.defer.result c.defer.ensures.caller,
     )
 
 pub returns-clause-free : goal.returns-clause-free
@@ -23,8 +24,10 @@ returns-clause-free g c =
     let saw = c.publish_reply.result.saw in
     record {
       idle = record {
-        announcing = announcing_is _ (ap (λ (l : Local). is_announcing l.phase) same.local ∙ saw.announcing);
-        unstaged = unstaged_is _ (ap (λ (l : Local). is_unstaged l.staged) same.local ∙ saw.unstaged);
+        announcing =
+            announcing_is _ (ap (λ (l : Local). is_announcing l.phase) same.local ∙ saw.announcing);
+        unstaged =
+            unstaged_is _ (ap (λ (l : Local). is_unstaged l.staged) same.local ∙ saw.unstaged);
       };
       stance = c.defer.ensures.stance ∙ c.publish_reply.result.stands;
     }

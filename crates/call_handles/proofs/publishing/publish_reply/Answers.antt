@@ -3,11 +3,13 @@ use Rattle.call_handles.proofs.Published.{Course, is_published}
 use Rattle.call_handles.proofs.publishing.publish_reply.Goals as goal
 
 pub view-viewed-requires-clause-rows : goal.view-viewed-requires-clause-rows
-view-viewed-requires-clause-rows g c = c.hand_in-answered.ensures.caller.rows _ c.args.rows.now c.requires.rows
+view-viewed-requires-clause-rows g c =
+    c.hand_in-answered.ensures.caller.rows _ c.args.rows.now c.requires.rows
 
 pub returns : goal.returns
 returns g c =
-    let course : Course every_reply c.args.rows.now c.args.announced c.args.reply c.hand_in-answered.result c.view-viewed.result c.publish-published.result c.seen.result =
+    let course : Course every_reply c.args.rows.now c.args.announced c.args.reply
+    c.hand_in-answered.result c.view-viewed.result c.publish-published.result c.seen.result =
     record {
       same = c.hand_in-answered.ensures.caller;
       handed = c.hand_in-answered.ensures.reply;
@@ -28,5 +30,7 @@ returns g c =
       seen_grows = c.seen.ensures.grows;
     } in
     record {
-      published = is_published every_reply c.args.rows.now c.args.announced c.args.reply c.hand_in-answered.result c.view-viewed.result c.publish-published.result c.seen.result course;
+      published = is_published every_reply c.args.rows.now c.args.announced c.args.reply
+          c.hand_in-answered.result c.view-viewed.result c.publish-published.result
+          c.seen.result course;
     }

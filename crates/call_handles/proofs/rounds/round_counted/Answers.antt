@@ -15,13 +15,16 @@ returns-in-Ok-Legal-clause-sound g c =
     let m = c.round_after.new.self in
     let made : Round = Legal c.in-Ok-Legal.field-0-0 in
     let found =
-    subst (λ (r : Round). HasFound (kind_init h.kind) (kind_next h.kind) c.deref.result.now.callers (local_of h.monitor) (local_of m) (own_of m) r)
+    subst (λ (r : Round). HasFound (kind_init h.kind) (kind_next h.kind) c.deref.result.now.callers
+    (local_of h.monitor) (local_of m) (own_of m) r)
     c.in-Ok-Legal.field-0-is c.in-Ok-Legal.ensures.found in
     record {
-      of = subst (λ (r : Rows _). IsMonitorOf every_reply r m) c.deref.ensures c.round_after.ensures.later.monitor;
+      of = subst (λ (r : Rows _). IsMonitorOf every_reply r m) c.deref.ensures
+          c.round_after.ensures.later.monitor;
       on = c.round_after.ensures.later.on;
       stands = c.round_after.ensures.stands;
-      none = none_after (kind_init h.kind) (kind_next h.kind) c.deref.result.now.callers (local_of h.monitor) (local_of m) (own_of m) made found;
+      none = none_after (kind_init h.kind) (kind_next h.kind) c.deref.result.now.callers
+          (local_of h.monitor) (local_of m) (own_of m) made found;
     }
 
 pub returns-in-Ok-Legal-clause-judged : goal.returns-in-Ok-Legal-clause-judged
@@ -30,9 +33,13 @@ returns-in-Ok-Legal-clause-judged g c =
     let m = c.round_after.new.self in
     let made : Round = Legal c.in-Ok-Legal.field-0-0 in
     let found =
-    subst (λ (r : Round). HasFound (kind_init h.kind) (kind_next h.kind) c.deref.result.now.callers (local_of h.monitor) (local_of m) (own_of m) r)
-    c.in-Ok-Legal.field-0-is c.in-Ok-Legal.ensures.found in
-    (c.in-Ok-Legal.field-0-0, right_of_round h m c.deref.result.now made c.deref.ensures c.round_after.ensures.later.monitor found)
+    subst (λ (r : Round). HasFound (kind_init h.kind) (kind_next h.kind) c.deref.result.now.callers
+    (local_of h.monitor) (local_of m) (own_of m) r)
+    c.in-Ok-Legal.field-0-is c.in-Ok-Legal.ensures.found in (
+      c.in-Ok-Legal.field-0-0,
+      right_of_round h m c.deref.result.now made c.deref.ensures
+          c.round_after.ensures.later.monitor found,
+    )
 
 pub returns-in-Ok-Illegal-clause-sound : goal.returns-in-Ok-Illegal-clause-sound
 returns-in-Ok-Illegal-clause-sound g c =
@@ -40,13 +47,16 @@ returns-in-Ok-Illegal-clause-sound g c =
     let m = c.round_after.new.self in
     let made : Round = Illegal c.in-Ok-Illegal.field-0-0 in
     let found =
-    subst (λ (r : Round). HasFound (kind_init h.kind) (kind_next h.kind) c.deref.result.now.callers (local_of h.monitor) (local_of m) (own_of m) r)
+    subst (λ (r : Round). HasFound (kind_init h.kind) (kind_next h.kind) c.deref.result.now.callers
+    (local_of h.monitor) (local_of m) (own_of m) r)
     c.in-Ok-Illegal.field-0-is c.in-Ok-Illegal.ensures.found in
     record {
-      of = subst (λ (r : Rows _). IsMonitorOf every_reply r m) c.deref.ensures c.round_after.ensures.later.monitor;
+      of = subst (λ (r : Rows _). IsMonitorOf every_reply r m) c.deref.ensures
+          c.round_after.ensures.later.monitor;
       on = c.round_after.ensures.later.on;
       stands = c.round_after.ensures.stands;
-      none = none_after (kind_init h.kind) (kind_next h.kind) c.deref.result.now.callers (local_of h.monitor) (local_of m) (own_of m) made found;
+      none = none_after (kind_init h.kind) (kind_next h.kind) c.deref.result.now.callers
+          (local_of h.monitor) (local_of m) (own_of m) made found;
     }
 
 pub returns-in-Ok-Illegal-clause-judged : goal.returns-in-Ok-Illegal-clause-judged
@@ -55,17 +65,23 @@ returns-in-Ok-Illegal-clause-judged g c =
     let m = c.round_after.new.self in
     let made : Round = Illegal c.in-Ok-Illegal.field-0-0 in
     let found =
-    subst (λ (r : Round). HasFound (kind_init h.kind) (kind_next h.kind) c.deref.result.now.callers (local_of h.monitor) (local_of m) (own_of m) r)
-    c.in-Ok-Illegal.field-0-is c.in-Ok-Illegal.ensures.found in
-    (c.in-Ok-Illegal.field-0-0, right_of_round h m c.deref.result.now made c.deref.ensures c.round_after.ensures.later.monitor found)
+    subst (λ (r : Round). HasFound (kind_init h.kind) (kind_next h.kind) c.deref.result.now.callers
+    (local_of h.monitor) (local_of m) (own_of m) r)
+    c.in-Ok-Illegal.field-0-is c.in-Ok-Illegal.ensures.found in (
+      c.in-Ok-Illegal.field-0-0,
+      right_of_round h m c.deref.result.now made c.deref.ensures
+          c.round_after.ensures.later.monitor found,
+    )
 
 pub returns-clause-sound : goal.returns-clause-sound
 returns-clause-sound g c =
     let h = c.args.handle.now in
     let m = c.round_after.new.self in
     record {
-      of = subst (λ (r : Rows _). IsMonitorOf every_reply r m) c.deref.ensures c.round_after.ensures.later.monitor;
+      of = subst (λ (r : Rows _). IsMonitorOf every_reply r m) c.deref.ensures
+          c.round_after.ensures.later.monitor;
       on = c.round_after.ensures.later.on;
       stands = c.round_after.ensures.stands;
-      none = has_none (λ w. ¬ HasLegalOrder (kind_init h.kind) (kind_next h.kind) w.book) (own_of m) c.in-Err.ensures.err;
+      none = has_none (λ w. ¬ HasLegalOrder (kind_init h.kind) (kind_next h.kind) w.book)
+          (own_of m) c.in-Err.ensures.err;
     }

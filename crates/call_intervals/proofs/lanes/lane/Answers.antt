@@ -12,8 +12,10 @@ loop-number-init c =
     let events = c.args.events.now in
     record {
       count = omega (arith, ap (length {A = Interval}) c.new-lane.ensures.items);
-      prefix = prefix_none book events c.args.caller c.new-lane.result.items c.new-lane.ensures.items;
-      from = λ is. invoked_from book events c.requires.sketch (record { caller = c.args.caller; number = 0 }) 0 is (λ k _. omega arith);
+      prefix =
+          prefix_none book events c.args.caller c.new-lane.result.items c.new-lane.ensures.items;
+      from = λ is. invoked_from book events c.requires.sketch
+          (record { caller = c.args.caller; number = 0 }) 0 is (λ k _. omega arith);
     }
 
 pub loop-number-preserved : goal.loop-number-preserved
@@ -29,14 +31,20 @@ loop-number-preserved c =
     let named = c.interval_from-interval.ensures.call in
     record {
       count = omega (arith, c.in_ok-push.ensures.len, c.loop-number.invariant.count);
-      prefix = subst (IsPrefixOf book events caller) (sym grown) (prefix_more book events caller lane interval c.loop-number.invariant.prefix
-          (named ∙ ap made (sym c.loop-number.invariant.count)) c.interval_from-interval.ensures.told);
-      from = λ (is : IsCall book (made (number + 1))). invoked_from book events c.requires.sketch (made (number + 1)) interval.end is
-          (λ k at. ends_before book events c.requires.valid c.requires.sketch interval (made (number + 1)) k c.interval_from-interval.ensures.told is at
-          (inr (ap (λ (x : Call). x.caller) named, omega (arith, ap (λ (x : Call). x.number) named))));
+      prefix = subst (IsPrefixOf book events caller) (sym grown)
+          (prefix_more book events caller lane interval c.loop-number.invariant.prefix
+          (named ∙ ap made (sym c.loop-number.invariant.count))
+          c.interval_from-interval.ensures.told);
+      from = λ (is : IsCall book (made (number + 1))).
+          invoked_from book events c.requires.sketch (made (number + 1)) interval.end is
+          (λ k at. ends_before book events c.requires.valid c.requires.sketch interval
+          (made (number + 1)) k c.interval_from-interval.ensures.told is at
+          (inr
+          (ap (λ (x : Call). x.caller) named, omega (arith, ap (λ (x : Call). x.number) named))));
     }
 
 pub returns : goal.returns
 returns c =
-    prefix_whole c.args.book.now c.args.events.now c.args.caller c.loop-number.lane.items c.loop-number.invariant.prefix
+    prefix_whole c.args.book.now c.args.events.now c.args.caller c.loop-number.lane.items
+    c.loop-number.invariant.prefix
     (omega (arith, c.loop-number.invariant.count, c.calls-number-end.ensures))

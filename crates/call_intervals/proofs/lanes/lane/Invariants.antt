@@ -10,5 +10,6 @@ abbrev pub invariant-loop-number : goal.invariant-loop-number
 invariant-loop-number l = record {
   count : length l.lane.items ≡ l.number;
   prefix : IsPrefixOf l.book l.events l.caller l.lane.items;
-  from : let call : Call = record { caller = l.caller; number = l.number } in IsCall l.book call → StandsFrom l.events l.from (Invoke call);
+  from : let call : Call = record { caller = l.caller; number = l.number } in
+      IsCall l.book call → StandsFrom l.events l.from (Invoke call);
 }

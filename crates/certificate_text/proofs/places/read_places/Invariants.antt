@@ -7,7 +7,8 @@ use Rattle.certificate_text.specs.Reading.{Goes}
 use Rattle.certificate_text.proofs.places.read_places.Given as goal
 
 abbrev pub invariant-loop-order : goal.invariant-loop-order
-invariant-loop-order l = (kind : Kind) (book : List Page) → Goes (InPlaces kind book []) l.fn.lines (InPlaces kind book l.order.items) l.lines
+invariant-loop-order l = (kind : Kind) (book : List Page)
+    → Goes (InPlaces kind book []) l.fn.lines (InPlaces kind book l.order.items) l.lines
 
 abbrev pub decreases-loop-order : goal.decreases-loop-order
 decreases-loop-order l = length l.lines.bytes

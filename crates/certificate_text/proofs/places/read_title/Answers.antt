@@ -9,15 +9,22 @@ use Rattle.certificate_text.proofs.places.read_title.Goals as goal
 pub returns-in_err-line-clause-refused : goal.returns-in_err-line-clause-refused
 returns-in_err-line-clause-refused c =
     let p = err_from_is_err_and c.from_residual.result c.from_residual.ensures.1 in
-    rw (p.1, p.2) (λ kind book. stops_cut certificate_rules (OrderDue kind book) c.args.lines.now c.in_err-line.field-0.0 refl c.in_err-line.ensures.cut.0)
+    rw (p.1, p.2) (λ kind book. stops_cut certificate_rules
+    (OrderDue kind book) c.args.lines.now c.in_err-line.field-0.0 refl c.in_err-line.ensures.cut.0)
 
 pub returns-then-is_title-clause-found : goal.returns-then-is_title-clause-found
 returns-then-is_title-clause-found c = λ kind book.
-    goes_line certificate_rules (OrderDue kind book) (InPlaces kind book []) c.args.lines.now c.line.new.self c.in_ok-line.field-0.now c.in_ok-line.ensures.line
+    goes_line certificate_rules (OrderDue kind book) (InPlaces kind book []) c.args.lines.now
+    c.line.new.self c.in_ok-line.field-0.now c.in_ok-line.ensures.line
     (sym c.new-words.ensures ∙ c.is_title.ensures.0 c.if-is_title.true, refl)
 
 pub returns-else-is_title-clause-refused : goal.returns-else-is_title-clause-refused
 returns-else-is_title-clause-refused c = λ kind book.
-    rw c.number-line.ensures (stops_line certificate_rules (OrderDue kind book) c.args.lines.now c.line.new.self c.in_ok-line.field-0.now Head refl c.in_ok-line.ensures.line
-    (only_test (certificate_rules.Fails (OrderDue kind book) (words_of c.in_ok-line.field-0.now)) Head
-    (refl, λ e. let is : c.is_title.result ≡ true = c.is_title.ensures.1 (c.new-words.ensures ∙ e) in absurd (cc (is, c.if-is_title.false))) (λ other h. h.0)))
+    rw c.number-line.ensures (stops_line certificate_rules (OrderDue kind book) c.args.lines.now
+    c.line.new.self c.in_ok-line.field-0.now Head refl c.in_ok-line.ensures.line
+    (only_test
+    (certificate_rules.Fails (OrderDue kind book) (words_of c.in_ok-line.field-0.now)) Head (
+      refl,
+      λ e. let is : c.is_title.result ≡ true = c.is_title.ensures.1 (c.new-words.ensures ∙ e) in
+          absurd (cc (is, c.if-is_title.false)),
+    ) (λ other h. h.0)))

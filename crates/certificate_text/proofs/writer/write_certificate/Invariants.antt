@@ -8,6 +8,7 @@ use Rattle.certificate_text.proofs.writer.write_certificate.Given as goal
 
 abbrev pub invariant-loop-place : goal.invariant-loop-place
 invariant-loop-place l = record {
-  text : l.out.items ≡ text_of (book_lines Second l.fn.kind l.book ++ order_words ∷ map place_line (take l.place-index l.order));
+  text : l.out.items ≡ text_of (book_lines Second l.fn.kind l.book ++ order_words
+      ∷ map place_line (take l.place-index l.order));
   places : AllByRecursion IsPlace (take l.place-index l.order);
 }

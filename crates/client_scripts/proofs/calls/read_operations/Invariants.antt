@@ -7,7 +7,9 @@ use Rattle.client_scripts.proofs.calls.read_operations.Given as goal
 
 abbrev pub invariant-loop-number : goal.invariant-loop-number
 invariant-loop-number l = record {
-  goes : (begun : Begun) (more : List Call) → GoesTo (script_rules l.operations.version) (InBody l.operations.kind begun (calls_from l.i 0 l.count ++ more)) l.fn.lines
-      (InBody l.operations.kind (with_operations begun l.ops.items) (calls_from l.i l.number (l.count - l.number) ++ more)) l.lines;
+  goes : (begun : Begun) (more : List Call) → GoesTo (script_rules l.operations.version)
+      (InBody l.operations.kind begun (calls_from l.i 0 l.count ++ more)) l.fn.lines
+      (InBody l.operations.kind (with_operations begun l.ops.items)
+      (calls_from l.i l.number (l.count - l.number) ++ more)) l.lines;
   count : length l.ops.items ≡ l.number;
 }

@@ -12,10 +12,13 @@ loop-k-preserved c =
     let number = c.args.number in
     let caller = c.args.caller in
     let kind = c.args.kind in
-    let is : op ≡ generated_operation kind (value_of number caller l.k) l.k = c.operation.ensures ∙ ap (λ (i : ℕ). generated_operation kind (value_of number i l.k) l.k) c.from.ensures in
+    let is : op ≡ generated_operation kind (value_of number caller l.k) l.k = c.operation.ensures
+    ∙ ap (λ (i : ℕ). generated_operation kind (value_of number i l.k) l.k) c.from.ensures in
     let pushed = c.in_ok-push.ensures.items in
     record {
-      ops = pushed ∙ ap (λ (ops : List ℕ). ops ++ op ∷ []) l.invariant.ops ∙ ap (λ (o : ℕ). generated_operations number l.k kind caller ++ o ∷ []) is
+      ops = pushed ∙ ap (λ (ops : List ℕ). ops ++ op ∷ []) l.invariant.ops
+          ∙ ap (λ (o : ℕ). generated_operations number l.k kind caller ++ o ∷ []) is
           ∙ sym (map_range-push (λ k. generated_operation kind (value_of number caller k) k) l.k);
-      small = subst (AllByRecursion (λ op. op < 2 ^ 128)) (sym pushed) (AllByRecursion-append (λ (o : ℕ). o < 2 ^ 128) l.ops.items (op ∷ []) l.invariant.small (omega arith, tt));
+      small = subst (AllByRecursion (λ op. op < 2 ^ 128)) (sym pushed) (AllByRecursion-append
+          (λ (o : ℕ). o < 2 ^ 128) l.ops.items (op ∷ []) l.invariant.small (omega arith, tt));
     }

@@ -18,30 +18,50 @@ loop-caller-preserved c =
     let client : Client = record { operations = ops; stop = None } in
     let pushed = c.in_ok-push.ensures.items in
     let f : ℕ → List ℕ = generated_operations c.args.number c.args.calls c.args.kind in
-    let held : operations_in c.push.new.self.items ≡ operations_in l.clients.items ++ ops.items ∷ [] = ap operations_in pushed ∙ map_push (λ (x : Client). x.operations.items) l.clients.items client in
+    let held : operations_in c.push.new.self.items
+    ≡ operations_in l.clients.items ++ ops.items ∷ [] = ap operations_in pushed
+    ∙ map_push (λ (x : Client). x.operations.items) l.clients.items client in
     record {
-      operations = held ∙ ap (λ (xs : List (List ℕ)). xs ++ ops.items ∷ []) l.invariant.operations ∙ ap (λ (x : List ℕ). map f (range_with_len 0 l.caller) ++ x ∷ []) c.in_ok-make_operations.ensures.ok ∙ sym (map_range-push f l.caller);
-      stops = ap stops_in pushed ∙ map_push (λ (x : Client). x.stop) l.clients.items client ∙ ap (λ (s : List (Option ℕ)). s ++ None ∷ []) l.invariant.stops ∙ replicate_more l.caller None;
+      operations = held ∙ ap (λ (xs : List (List ℕ)). xs ++ ops.items ∷ []) l.invariant.operations
+          ∙ ap (λ (x : List ℕ). map f (range_with_len 0 l.caller) ++ x ∷ [])
+          c.in_ok-make_operations.ensures.ok ∙ sym (map_range-push f l.caller);
+      stops = ap stops_in pushed ∙ map_push (λ (x : Client). x.stop) l.clients.items client
+          ∙ ap (λ (s : List (Option ℕ)). s ++ None ∷ []) l.invariant.stops
+          ∙ replicate_more l.caller None;
       small = subst (AllByRecursion (AllByRecursion (λ op. op < 2 ^ 128))) (sym held)
-          (AllByRecursion-append (AllByRecursion (λ (op : ℕ). op < 2 ^ 128)) (operations_in l.clients.items) (ops.items ∷ []) l.invariant.small (c.in_ok-make_operations.ensures.small, tt));
+          (AllByRecursion-append (AllByRecursion (λ (op : ℕ). op < 2 ^ 128))
+          (operations_in l.clients.items) (ops.items ∷ []) l.invariant.small
+          (c.in_ok-make_operations.ensures.small, tt));
     }
 
-made : (kind : Kind) (number calls callers i : ℕ) (clients : List Client) (turns : List ℕ) → operations_in clients ≡ map (generated_operations number calls kind) (range_with_len 0 i) → stops_in clients ≡ replicate i None
+made : (kind : Kind) (number calls callers i : ℕ) (clients : List Client) (turns : List ℕ)
+    → operations_in clients ≡ map (generated_operations number calls kind) (range_with_len 0 i)
+    → stops_in clients ≡ replicate i None
     → turns ≡ [] → i ≡ callers → plan_in kind clients turns ≡ generated number callers calls kind
 made kind number calls callers i clients turns operations stops none all =
-    let part : List (List ℕ) → List (Option ℕ) → List ℕ → Plan = λ ops s ts. record { kind = kind; operations = ops; stops = s; turns = ts } in
-    ap (λ (ops : List (List ℕ)). part ops (stops_in clients) turns) operations ∙ ap (λ (s : List (Option ℕ)). part (map (generated_operations number calls kind) (range_with_len 0 i)) s turns) stops
-    ∙ ap (part (map (generated_operations number calls kind) (range_with_len 0 i)) (replicate i None)) none ∙ ap (λ (n : ℕ). generated number n calls kind) all
+    let part : List (List ℕ) → List (Option ℕ) → List ℕ → Plan =
+    λ ops s ts. record { kind = kind; operations = ops; stops = s; turns = ts } in
+    ap (λ (ops : List (List ℕ)). part ops (stops_in clients) turns) operations
+    ∙ ap (λ (s : List (Option ℕ)).
+    part (map (generated_operations number calls kind) (range_with_len 0 i)) s turns) stops
+    ∙ ap
+    (part (map (generated_operations number calls kind) (range_with_len 0 i)) (replicate i None))
+    none ∙ ap (λ (n : ℕ). generated number n calls kind) all
 
 pub from_parts-requires : goal.from_parts-requires
 from_parts-requires c =
     let l = c.loop-caller in
     let kind = c.args.kind in
-    let is = made kind c.args.number c.args.calls c.args.callers l.caller l.clients.items c.new.result.items l.invariant.operations l.invariant.stops c.new.ensures.items (omega arith) in
-    let small = subst (AllByRecursion (AllByRecursion (λ op. op < 2 ^ 128))) (ap (λ (p : Plan). p.operations) is) l.invariant.small in
-    subst (IsPlan Second) (sym is) (generated_is_plan c.args.number c.args.calls kind c.args.callers c.requires.some c.requires.few c.requires.calls small)
+    let is = made kind c.args.number c.args.calls c.args.callers l.caller l.clients.items
+    c.new.result.items l.invariant.operations l.invariant.stops c.new.ensures.items (omega arith) in
+    let small = subst (AllByRecursion (AllByRecursion (λ op. op < 2 ^ 128)))
+    (ap (λ (p : Plan). p.operations) is) l.invariant.small in
+    subst (IsPlan Second) (sym is) (generated_is_plan c.args.number c.args.calls kind c.args.callers
+    c.requires.some c.requires.few c.requires.calls small)
 
 pub returns : goal.returns
 returns c =
     let l = c.loop-caller in
-    c.from_parts.ensures ∙ made c.args.kind c.args.number c.args.calls c.args.callers l.caller l.clients.items c.new.result.items l.invariant.operations l.invariant.stops c.new.ensures.items (omega arith)
+    c.from_parts.ensures ∙ made c.args.kind c.args.number c.args.calls c.args.callers l.caller
+    l.clients.items c.new.result.items l.invariant.operations l.invariant.stops c.new.ensures.items
+    (omega arith)

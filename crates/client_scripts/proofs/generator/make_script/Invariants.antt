@@ -6,7 +6,8 @@ use Rattle.client_scripts.proofs.generator.make_script.Given as goal
 
 abbrev pub invariant-loop-caller : goal.invariant-loop-caller
 invariant-loop-caller l = record {
-  operations : operations_in l.clients.items ≡ map (generated_operations l.number l.calls l.kind) (range_with_len 0 l.caller);
+  operations : operations_in l.clients.items
+      ≡ map (generated_operations l.number l.calls l.kind) (range_with_len 0 l.caller);
   stops : stops_in l.clients.items ≡ replicate l.caller None;
   small : AllByRecursion (AllByRecursion (λ op. op < 2 ^ 128)) (operations_in l.clients.items);
 }

@@ -9,7 +9,9 @@ use Rattle.client_scripts.proofs.tail.read_tail.Given as goal
 
 abbrev pub invariant-loop-line : goal.invariant-loop-line
 invariant-loop-line l = record {
-  goes : (version : Version) (kind : Kind) → GoesTo (script_rules version) (InBody kind (told l.fn.clients.items 0) []) l.fn.lines (InBody kind (told l.clients.items l.least) []) l.lines;
+  goes : (version : Version) (kind : Kind)
+      → GoesTo (script_rules version) (InBody kind (told l.fn.clients.items 0) []) l.fn.lines
+      (InBody kind (told l.clients.items l.least) []) l.lines;
   few : length l.clients.items ≤ MAX_CALLERS;
 }
 

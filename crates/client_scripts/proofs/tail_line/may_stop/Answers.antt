@@ -10,10 +10,18 @@ pub returns : goal.returns
 returns c =
     let clients = c.args.clients.now in
     let held = c.index-clients-caller.result.operations in
-    let size : get_or (sizes (operations_in clients)) c.args.caller 0 ≡ length held.items = size_at clients c.args.caller c.index-clients-caller.result c.if-caller-clients.false c.index-clients-caller.is in
-    let read : c.len.result ≡ vec_len held = c.len.ensures ∙ ap (λ (r : Client). vec_len r.operations) (sym c.index-clients-caller.is) in
+    let size : get_or (sizes (operations_in clients)) c.args.caller 0 ≡ length held.items =
+    size_at clients c.args.caller c.index-clients-caller.result c.if-caller-clients.false
+    c.index-clients-caller.is in
+    let read : c.len.result ≡ vec_len held =
+    c.len.ensures ∙ ap (λ (r : Client). vec_len r.operations) (sym c.index-clients-caller.is) in
     let count : c.len.result ≡ length held.items = omega (arith, held.ok.0) in
     let callers : length (sizes (operations_in clients)) ≡ length clients = callers_in clients in (
-      λ test. let below = ltb-true _ _ test in record { rising = omega arith; inside = omega arith; early = omega arith; numbers = (omega arith, (omega arith, tt)) },
+      λ test. let below = ltb-true _ _ test in record {
+        rising = omega arith;
+        inside = omega arith;
+        early = omega arith;
+        numbers = (omega arith, (omega arith, tt));
+      },
       λ h. lt-ltb _ _ (omega (arith, h.early)),
     )

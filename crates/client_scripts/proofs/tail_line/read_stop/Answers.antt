@@ -9,8 +9,11 @@ returns-else-may_stop-clause-none c = λ caller phases h text.
     let begun = told c.args.clients.now c.args.least in
     let first = same_first _ _ _ _ (sym c.in_ok-caller.ensures.found.1 ∙ text) in
     let second = same_first _ _ _ _ (sym c.in_ok-phases.ensures.found.1 ∙ first.1) in
-    let callers : caller ≡ c.in_ok-caller.caller = same_number caller c.in_ok-caller.caller h.numbers.0 (omega arith) (sym first.0) in
-    let steps : phases ≡ c.in_ok-phases.phases = same_number phases c.in_ok-phases.phases h.numbers.1.0 (omega arith) (sym second.0) in
-    let may = subst (λ (p : ℕ). IsStop begun c.in_ok-caller.caller p) steps (subst (λ (i : ℕ). IsStop begun i phases) callers h) in
+    let callers : caller ≡ c.in_ok-caller.caller =
+    same_number caller c.in_ok-caller.caller h.numbers.0 (omega arith) (sym first.0) in
+    let steps : phases ≡ c.in_ok-phases.phases =
+    same_number phases c.in_ok-phases.phases h.numbers.1.0 (omega arith) (sym second.0) in
+    let may = subst (λ (p : ℕ). IsStop begun c.in_ok-caller.caller p) steps
+    (subst (λ (i : ℕ). IsStop begun i phases) callers h) in
     let is : c.may_stop.result ≡ true = c.may_stop.ensures.1 may in
     absurd (cc (is, c.if-may_stop.false))

@@ -7,6 +7,7 @@ pub returns-in-Some-2-clause-found : goal.returns-in-Some-2-clause-found
 returns-in-Some-2-clause-found c =
     let found = rw c.in-Some-2.is at c.in_ok-turns.ensures.found in
     record {
-      may = subst (λ (n : ℕ). AreTurns n c.in-Some-2.turns.items) (sym (callers_in c.args.clients.now)) found.0;
+      may = subst (λ (n : ℕ). AreTurns n c.in-Some-2.turns.items)
+          (sym (callers_in c.args.clients.now)) found.0;
       text = search rules;
     }

@@ -4,4 +4,5 @@ use Rattle.client_scripts.specs.Grammar.{by_number, caller_lines}
 use Rattle.client_scripts.proofs.writer.put_calls.Given as goal
 
 abbrev pub invariant-loop-caller : goal.invariant-loop-caller
-invariant-loop-caller l = l.out.items ≡ l.initial.out.items ++ text_of (by_number (caller_lines l.script.kind) 0 (take l.caller l.script.operations))
+invariant-loop-caller l = l.out.items ≡ l.initial.out.items
+    ++ text_of (by_number (caller_lines l.script.kind) 0 (take l.caller l.script.operations))

@@ -3,4 +3,5 @@ use Rattle.book_writer.specs.Fields.{spaced}
 use Rattle.client_scripts.proofs.writer.put_turn_words.Given as goal
 
 abbrev pub invariant-loop-turn : goal.invariant-loop-turn
-invariant-loop-turn l = l.out.items ≡ l.initial.out.items ++ spaced (map decimal (take l.turn-index l.turns))
+invariant-loop-turn l =
+    l.out.items ≡ l.initial.out.items ++ spaced (map decimal (take l.turn-index l.turns))

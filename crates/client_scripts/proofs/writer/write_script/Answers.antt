@@ -18,11 +18,18 @@ returns c =
     let m3 : List ℕ = c.put_stops.new.out.items in
     let counts : c.announced.result ≡ sizes plan.operations = c.announced.ensures.counts in
     let head : m1 ≡ text_of (head_lines Second (codes "script") plan.kind (sizes plan.operations))
-    = c.in_ok-put_head.ensures ∙ ap (λ (x : List ℕ). x ++ text_of (head_lines Second (codes "script") c.kind.result c.announced.result)) c.new-out.ensures.items
-    ∙ ap (λ (k : Kind). text_of (head_lines Second (codes "script") k c.announced.result)) c.kind.ensures ∙ ap (λ (ns : List ℕ). text_of (head_lines Second (codes "script") plan.kind ns)) counts in
-    let turns : c.put_turns.new.out.items ≡ m3 ++ line_text (turns_words plan.turns) = c.in_ok-put_turns.ensures ∙ ap (λ (ts : List ℕ). m3 ++ line_text (turns_words ts)) c.turns.ensures in
+    = c.in_ok-put_head.ensures ∙ ap (λ (x : List ℕ). x ++ text_of (head_lines Second
+    (codes "script") c.kind.result c.announced.result)) c.new-out.ensures.items
+    ∙ ap
+    (λ (k : Kind). text_of (head_lines Second (codes "script") k c.announced.result)) c.kind.ensures
+    ∙ ap (λ (ns : List ℕ). text_of (head_lines Second (codes "script") plan.kind ns)) counts in
+    let turns : c.put_turns.new.out.items ≡ m3 ++ line_text (turns_words plan.turns) =
+    c.in_ok-put_turns.ensures
+    ∙ ap (λ (ts : List ℕ). m3 ++ line_text (turns_words ts)) c.turns.ensures in
     let written : IsWrittenText Second out plan = record {
       writable = c.announced.ensures.plan;
-      text = whole_written plan m1 c.put_calls.new.out.items m3 c.put_turns.new.out.items out head c.in_ok-put_calls.ensures c.in_ok-put_stops.ensures turns c.in_ok-extend_from_slice.ensures.items;
+      text = whole_written plan m1 c.put_calls.new.out.items m3 c.put_turns.new.out.items out head
+          c.in_ok-put_calls.ensures c.in_ok-put_stops.ensures turns
+          c.in_ok-extend_from_slice.ensures.items;
     } in
     record { written = written; read = written_is_read Second out plan written }

@@ -8,8 +8,11 @@ pub returns : goal.returns
 returns g c =
     let l = local_with c.args.caller.now in
     let s = shape_of g.P.Program.meaning c.args.rows.now in
-    let free = view_scans_have_phase s (who_of c.args.caller.now) l c.requires.caller.seat.local c.requires.phase in
+    let free = view_scans_have_phase s
+    (who_of c.args.caller.now) l c.requires.caller.seat.local c.requires.phase in
     record {
       free = free;
-      begins = subst (λ (o : event.Opening). IsTrue (event.may_begin s (who_of c.args.caller.now) l c.args.region 0 o)) (sym c.requires.plain) (ap not free);
+      begins = subst (λ (o : event.Opening).
+          IsTrue (event.may_begin s (who_of c.args.caller.now) l c.args.region 0 o))
+          (sym c.requires.plain) (ap not free);
     }

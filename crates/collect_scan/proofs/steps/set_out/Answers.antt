@@ -15,6 +15,9 @@ returns-clause-taken g c =
     let x = c.look.result in
     let op = ap (λ (s : Stance). opening_in (opening_by s)) c.begin_scan.ensures.stance in (
       x,
-      c.look.ensures.event ∙ (λ i. local_after n (c.begin_scan.ensures.local.1 i) (Look c.args.region 0 x (op i)))
-          ∙ first_goes n (local_with c.args.caller.now) c.args.region (opening_at c.args.caller.now c.args.region) x (begins_with c.args.region (stance_of c.args.caller.now).reply),
+      c.look.ensures.event
+          ∙ (λ i. local_after n (c.begin_scan.ensures.local.1 i) (Look c.args.region 0 x (op i)))
+          ∙ first_goes n (local_with c.args.caller.now) c.args.region
+          (opening_at c.args.caller.now c.args.region) x
+          (begins_with c.args.region (stance_of c.args.caller.now).reply),
     )

@@ -11,7 +11,8 @@ invariant-loop-cut g l =
       still : IsStill g.P.Program.meaning l.rows l.fn.caller l.caller;
       stance : stance_of l.caller ≡ stance_scanned (stance_of l.fn.caller) l.region;
       taken : List ℕ;
-      stood : local_with l.caller ≡ local_stood l.rows.callers (local_with l.fn.caller) l.region (opening_at l.fn.caller l.region) taken;
+      stood : local_with l.caller ≡ local_stood l.rows.callers (local_with l.fn.caller) l.region
+          (opening_at l.fn.caller l.region) taken;
       few : length taken ≤ most_words l.rows.callers;
       ticks : l.steps ≡ l.fn.steps + length taken;
     }

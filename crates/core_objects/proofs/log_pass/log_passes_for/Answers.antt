@@ -6,5 +6,7 @@ pub loop-caller-preserved : goal.loop-caller-preserved
 loop-caller-preserved g c =
     let init = g.S.SeqObject.init c.args.object.now in
     let next = g.S.SeqObject.next c.args.object.now in
-    subst (AreLogPasses init next c.args.n c.args.cap (c.loop-caller.caller + 1)) (sym c.in_ok-push.ensures.items)
-    (one_log_pass init next c.args.n c.args.cap c.loop-caller.caller c.loop-caller.passes.items c.in_ok-pass_for.field-0 c.loop-caller.invariant c.in_ok-pass_for.ensures)
+    subst (AreLogPasses init next c.args.n c.args.cap (c.loop-caller.caller + 1))
+    (sym c.in_ok-push.ensures.items)
+    (one_log_pass init next c.args.n c.args.cap c.loop-caller.caller c.loop-caller.passes.items
+    c.in_ok-pass_for.field-0 c.loop-caller.invariant c.in_ok-pass_for.ensures)

@@ -12,7 +12,8 @@ use Rattle.core_objects.proofs.log_steps.load_operations.Goals as goal
 pub loop-place-init : goal.loop-place-init
 loop-place-init g c =
     record {
-      made = made_none g.S.SeqObject.init g.S.SeqObject.next c.args.rows.now c.args.announced.now c.requires.caller;
+      made = made_none g.S.SeqObject.init g.S.SeqObject.next c.args.rows.now c.args.announced.now
+          c.requires.caller;
       tickets = c.requires.tickets;
       log = c.requires.log;
       before = take_all _ c.args.log.now.items (omega arith);
@@ -25,7 +26,11 @@ overflow_sub-tickets g c =
     let tickets : List ℕ = c.args.tickets.now in
     let place : ℕ = c.loop-place.place in
     let low : place < length tickets = omega (arith, c.loop-place-test.true) in
-    omega (arith, (c.loop-place.invariant.tickets.filled place (slice_index_or tickets place 0) (slice_get-get_or tickets place 0 low)).1)
+    omega (
+      arith,
+      (c.loop-place.invariant.tickets.filled place (slice_index_or tickets place 0)
+          (slice_get-get_or tickets place 0 low)).1,
+    )
 
 pub load_operation-op-requires-clause-named : goal.load_operation-op-requires-clause-named
 load_operation-op-requires-clause-named g c =
@@ -40,7 +45,8 @@ load_operation-op-requires-clause-named g c =
     record {
       own = c.requires.placed.place;
       placed =
-          place_kept g.S.SeqObject.init g.S.SeqObject.next r c.args.announced.now c.loop-place.announced c.requires.placed.place c.requires.caller inv.made
+          place_kept g.S.SeqObject.init g.S.SeqObject.next r c.args.announced.now
+          c.loop-place.announced c.requires.placed.place c.requires.caller inv.made
           c.requires.placed.placed;
       place = place;
       before = omega (arith, c.loop-place-test.true, c.requires.placed.last);
@@ -65,20 +71,27 @@ loop-place-preserved g c =
     let filled = known_then.filled place ticket (slice_get-get_or tickets place 0 low) in
     let named : ticket ≡ ticket_of (ticket - 1) = omega (arith, filled.1) in
     let grown : c.push.new.self.items ≡ log ++ op ∷ [] =
-    c.push.ensures.items ∙ ap (λ (b : Bool). if b then log ++ op ∷ [] else log) (ap is_ok c.unwrap.ensures) in
-    let count : length c.push.new.self.items ≡ length log + 1 = ap (λ (xs : List ℕ). length xs) grown ∙ length-append log (op ∷ []) in
+    c.push.ensures.items ∙ ap (λ (b : Bool). if b then log ++ op ∷ [] else log)
+    (ap is_ok c.unwrap.ensures) in
+    let count : length c.push.new.self.items ≡ length log + 1 =
+    ap (λ (xs : List ℕ). length xs) grown ∙ length-append log (op ∷ []) in
     record {
-      made = made_both g.S.SeqObject.init g.S.SeqObject.next r a b d c.requires.caller inv.made c.load_operation-op.ensures.made;
+      made = made_both g.S.SeqObject.init g.S.SeqObject.next r a b d c.requires.caller inv.made
+          c.load_operation-op.ensures.made;
       tickets = known_then;
       log =
           subst (KnowsLog r d) (sym grown)
           (log_grown (places_on r) ticket op log (all_steps_of (announced_local d))
-          (log_kept g.S.SeqObject.init g.S.SeqObject.next r b d log c.load_operation-op.ensures.made inv.log)
-          (ap (λ (p : ℕ). known (ticket_place (places_on r) p) (all_steps_of (announced_local d))) (sym inv.place) ∙ filled.0)
-          (ap (λ (t : ℕ). known_operation (Some t) (all_steps_of (announced_local d))) named ∙ c.load_operation-op.ensures.operation));
+          (log_kept g.S.SeqObject.init g.S.SeqObject.next r b d log
+          c.load_operation-op.ensures.made inv.log)
+          (ap (λ (p : ℕ). known (ticket_place (places_on r) p) (all_steps_of (announced_local d)))
+          (sym inv.place) ∙ filled.0)
+          (ap (λ (t : ℕ). known_operation (Some t) (all_steps_of (announced_local d))) named
+          ∙ c.load_operation-op.ensures.operation));
       before =
           ap (take (length c.args.log.now.items)) grown
-          ∙ take-append-le (length c.args.log.now.items) log (op ∷ []) (omega (arith, ap (λ (xs : List ℕ). length xs) inv.before))
+          ∙ take-append-le (length c.args.log.now.items) log (op ∷ [])
+          (omega (arith, ap (λ (xs : List ℕ). length xs) inv.before))
           ∙ inv.before;
       place = omega (arith, count, inv.place);
       capacity = omega (arith, inv.capacity, c.push.ensures.capacity);

@@ -15,11 +15,13 @@ pub scan-cut-requires-clause-begins : goal.scan-cut-requires-clause-begins
 scan-cut-requires-clause-begins g c =
     let s = shape_of g.P.Program.meaning c.args.rows.now in
     let l : Local = local_with c.args.caller in
-    let free = announcing_is_free s (who_of c.args.caller) l c.requires.rows.seat.local c.requires.idle.announcing in
+    let free = announcing_is_free s
+    (who_of c.args.caller) l c.requires.rows.seat.local c.requires.idle.announcing in
     record {
       free = free;
       begins =
-          ap (λ (stance : Stance). event.may_begin s (who_of c.args.caller) l N 0 (opening_in (opening_with (Some N) stance.reply))) c.requires.stands
+          ap (λ (stance : Stance). event.may_begin s (who_of c.args.caller) l N 0
+          (opening_in (opening_with (Some N) stance.reply))) c.requires.stands
           ∙ ap not free;
     }
 
@@ -27,22 +29,39 @@ pub invariant_of-result : goal.invariant_of-result
 invariant_of-result g c =
     record {
       asked =
-          (announces (shape_of g.P.Program.meaning c.args.rows.now) (who_of c.args.caller) c.args.op c.scan-cut.result (stance_of c.args.caller) (local_with c.args.caller) (local_with c.scan-cut.new.caller)
-          (local_with c.announce_row.new.caller) c.requires.rows.seat.local c.requires.idle c.requires.stands c.scan-cut.ensures.scanned c.scan-cut.ensures.looked c.announce_row.ensures.announced).asked;
-      stands = c.announce_row.ensures.stance ∙ c.scan-cut.ensures.stance ∙ ap (λ (stance : Stance). stance_scanned stance N) c.requires.stands;
+          (announces (shape_of g.P.Program.meaning c.args.rows.now)
+          (who_of c.args.caller) c.args.op c.scan-cut.result (stance_of c.args.caller)
+          (local_with c.args.caller) (local_with c.scan-cut.new.caller)
+          (local_with c.announce_row.new.caller) c.requires.rows.seat.local c.requires.idle
+          c.requires.stands c.scan-cut.ensures.scanned c.scan-cut.ensures.looked
+          c.announce_row.ensures.announced).asked;
+      stands = c.announce_row.ensures.stance ∙ c.scan-cut.ensures.stance
+          ∙ ap (λ (stance : Stance). stance_scanned stance N) c.requires.stands;
     }
 
 pub returns-clause-progress : goal.returns-clause-progress
 returns-clause-progress g c =
-    (announces (shape_of g.P.Program.meaning c.args.rows.now) (who_of c.args.caller) c.args.op c.scan-cut.result (stance_of c.args.caller) (local_with c.args.caller) (local_with c.scan-cut.new.caller)
-    (local_with c.announce_row.new.caller) c.requires.rows.seat.local c.requires.idle c.requires.stands c.scan-cut.ensures.scanned c.scan-cut.ensures.looked c.announce_row.ensures.announced).progress
+    (announces (shape_of g.P.Program.meaning c.args.rows.now)
+    (who_of c.args.caller) c.args.op c.scan-cut.result (stance_of c.args.caller)
+    (local_with c.args.caller) (local_with c.scan-cut.new.caller)
+    (local_with c.announce_row.new.caller) c.requires.rows.seat.local c.requires.idle
+    c.requires.stands c.scan-cut.ensures.scanned c.scan-cut.ensures.looked
+    c.announce_row.ensures.announced).progress
 
 pub returns-clause-grows : goal.returns-clause-grows
 returns-clause-grows g c =
-    (announces (shape_of g.P.Program.meaning c.args.rows.now) (who_of c.args.caller) c.args.op c.scan-cut.result (stance_of c.args.caller) (local_with c.args.caller) (local_with c.scan-cut.new.caller)
-    (local_with c.announce_row.new.caller) c.requires.rows.seat.local c.requires.idle c.requires.stands c.scan-cut.ensures.scanned c.scan-cut.ensures.looked c.announce_row.ensures.announced).grows
+    (announces (shape_of g.P.Program.meaning c.args.rows.now)
+    (who_of c.args.caller) c.args.op c.scan-cut.result (stance_of c.args.caller)
+    (local_with c.args.caller) (local_with c.scan-cut.new.caller)
+    (local_with c.announce_row.new.caller) c.requires.rows.seat.local c.requires.idle
+    c.requires.stands c.scan-cut.ensures.scanned c.scan-cut.ensures.looked
+    c.announce_row.ensures.announced).grows
 
 pub returns-clause-announced : goal.returns-clause-announced
 returns-clause-announced g c =
-    (announces (shape_of g.P.Program.meaning c.args.rows.now) (who_of c.args.caller) c.args.op c.scan-cut.result (stance_of c.args.caller) (local_with c.args.caller) (local_with c.scan-cut.new.caller)
-    (local_with c.announce_row.new.caller) c.requires.rows.seat.local c.requires.idle c.requires.stands c.scan-cut.ensures.scanned c.scan-cut.ensures.looked c.announce_row.ensures.announced).events
+    (announces (shape_of g.P.Program.meaning c.args.rows.now)
+    (who_of c.args.caller) c.args.op c.scan-cut.result (stance_of c.args.caller)
+    (local_with c.args.caller) (local_with c.scan-cut.new.caller)
+    (local_with c.announce_row.new.caller) c.requires.rows.seat.local c.requires.idle
+    c.requires.stands c.scan-cut.ensures.scanned c.scan-cut.ensures.looked
+    c.announce_row.ensures.announced).events

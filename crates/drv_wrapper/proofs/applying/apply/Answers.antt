@@ -7,14 +7,19 @@ use Rattle.drv_wrapper.proofs.Growing.{grows_on}
 use Rattle.drv_wrapper.proofs.applying.apply.Goals as goal
 
 pub view-requires-clause-rows : goal.view-requires-clause-rows
-view-requires-clause-rows g c = c.ask-answered.ensures.caller.rows _ c.args.rows.now c.announce-announced.ensures.caller.0
+view-requires-clause-rows g c =
+    c.ask-answered.ensures.caller.rows _ c.args.rows.now c.announce-announced.ensures.caller.0
 
 pub returns-clause-grows : goal.returns-clause-grows
 returns-clause-grows g c =
-    let asked : local_with (caller_answered c.ask-answered.result) ≡ local_with (caller_announced c.announce-announced.result) = c.ask-answered.ensures.caller.local in
-    grows_on (local_with c.args.caller) (local_with (caller_announced c.announce-announced.result)) (local_with (caller_viewed c.view.result)) c.announce-announced.ensures.grows
-    (subst (λ (l : Local). Grows l (local_with (caller_viewed c.view.result))) asked c.view.ensures.grows)
+    let asked : local_with (caller_answered c.ask-answered.result) ≡ local_with
+    (caller_announced c.announce-announced.result) = c.ask-answered.ensures.caller.local in
+    grows_on (local_with c.args.caller) (local_with (caller_announced c.announce-announced.result))
+    (local_with (caller_viewed c.view.result)) c.announce-announced.ensures.grows
+    (subst (λ (l : Local). Grows l (local_with (caller_viewed c.view.result))) asked
+    c.view.ensures.grows)
 
 pub returns-clause-steps : goal.returns-clause-steps
 returns-clause-steps g c =
-    c.view.ensures.viewed.object_steps ∙ ap (λ (l : Local). l.object_steps) c.ask-answered.ensures.caller.local ∙ c.announce-announced.ensures.announced.object_steps
+    c.view.ensures.viewed.object_steps ∙ ap (λ (l : Local). l.object_steps)
+    c.ask-answered.ensures.caller.local ∙ c.announce-announced.ensures.announced.object_steps

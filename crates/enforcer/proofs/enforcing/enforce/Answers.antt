@@ -13,73 +13,111 @@ use Rattle.enforcer.proofs.enforcing.enforce.Goals as goal
 
 pub returns-clause-grows : goal.returns-clause-grows
 returns-clause-grows g c =
-    ok_from c.judge.result (λ r. HasOnlyPeeked (local_with c.seen-seen.result.caller) (local_with r.0) c.seen-seen.new.steps c.judge.new.steps) (λ r. Grows (local_with c.args.caller) (local_with r.0))
-    (λ r peeks. grows_through (local_with c.args.caller) (local_with c.apply-viewed.result.caller) (local_with c.publish-published.result.caller) (local_with c.seen-seen.result.caller) (local_with r.0)
-    c.seen-seen.new.steps c.judge.new.steps c.apply-viewed.ensures.grows c.publish-published.ensures.grows c.seen-seen.ensures.grows peeks)
+    ok_from c.judge.result (λ r. HasOnlyPeeked (local_with c.seen-seen.result.caller)
+    (local_with r.0) c.seen-seen.new.steps c.judge.new.steps)
+    (λ r. Grows (local_with c.args.caller) (local_with r.0))
+    (λ r peeks. grows_through (local_with c.args.caller) (local_with c.apply-viewed.result.caller)
+    (local_with c.publish-published.result.caller) (local_with c.seen-seen.result.caller)
+    (local_with r.0)
+    c.seen-seen.new.steps c.judge.new.steps c.apply-viewed.ensures.grows
+    c.publish-published.ensures.grows c.seen-seen.ensures.grows peeks)
     c.judge.ensures.peeks
 
 pub returns-clause-unjudged_grows : goal.returns-clause-unjudged_grows
 returns-clause-unjudged_grows g c =
-    err_from c.judge.result (λ u. HasOnlyPeeked (local_with c.seen-seen.result.caller) (local_with u.caller) c.seen-seen.new.steps c.judge.new.steps)
+    err_from c.judge.result (λ u. HasOnlyPeeked (local_with c.seen-seen.result.caller)
+    (local_with u.caller) c.seen-seen.new.steps c.judge.new.steps)
     (λ u. Grows (local_with c.args.caller) (local_with u.caller))
-    (λ u peeks. grows_through (local_with c.args.caller) (local_with c.apply-viewed.result.caller) (local_with c.publish-published.result.caller) (local_with c.seen-seen.result.caller)
-    (local_with u.caller) c.seen-seen.new.steps c.judge.new.steps c.apply-viewed.ensures.grows c.publish-published.ensures.grows c.seen-seen.ensures.grows peeks)
+    (λ u peeks. grows_through (local_with c.args.caller) (local_with c.apply-viewed.result.caller)
+    (local_with c.publish-published.result.caller) (local_with c.seen-seen.result.caller)
+    (local_with u.caller) c.seen-seen.new.steps c.judge.new.steps c.apply-viewed.ensures.grows
+    c.publish-published.ensures.grows c.seen-seen.ensures.grows peeks)
     c.judge.ensures.unjudged_peeks
 
 pub returns-clause-progress : goal.returns-clause-progress
 returns-clause-progress g c =
-    let viewed : Record = record { reply = c.apply-viewed.result.reply; view = c.apply-viewed.result.view } in
+    let viewed : Record =
+    record { reply = c.apply-viewed.result.reply; view = c.apply-viewed.result.view } in
     let r : Record = record { reply = c.seen-seen.result.reply; view = c.seen-seen.result.view } in
     let replies = sym (c.seen-seen.ensures.record.0 ∙ c.publish-published.ensures.record.0) in
     let views = sym (c.seen-seen.ensures.record.1 ∙ c.publish-published.ensures.record.1) in
-    ok_by c.judge.result (λ x. HasOnlyPeeked (local_with c.seen-seen.result.caller) (local_with x.0) c.seen-seen.new.steps c.judge.new.steps) (λ x. record_in x.1 ≡ r)
-    (λ x. cut_in x.1 ≡ c.seen-seen.result.cut) (λ x. progress_of (local_with x.0) ≡ after_call c.args.op (record_in x.1) (cut_in x.1) (progress_of (local_with c.args.caller)))
-    (λ x peeks record_is cut_is. whole_call c.args.op viewed r (record_in x.1) c.seen-seen.result.cut (cut_in x.1) (local_with c.args.caller) (local_with c.apply-viewed.result.caller)
-    (local_with c.publish-published.result.caller) (local_with c.seen-seen.result.caller) (local_with x.0) c.seen-seen.new.steps c.judge.new.steps c.apply-viewed.ensures.progress
-    c.publish-published.ensures.progress c.seen-seen.ensures.progress peeks (λ i. record { reply = replies i; view = views i }) record_is cut_is)
+    ok_by c.judge.result (λ x. HasOnlyPeeked (local_with c.seen-seen.result.caller)
+    (local_with x.0) c.seen-seen.new.steps c.judge.new.steps) (λ x. record_in x.1 ≡ r)
+    (λ x. cut_in x.1 ≡ c.seen-seen.result.cut) (λ x. progress_of (local_with x.0)
+    ≡ after_call c.args.op (record_in x.1) (cut_in x.1) (progress_of (local_with c.args.caller)))
+    (λ x peeks record_is cut_is.
+    whole_call c.args.op viewed r (record_in x.1) c.seen-seen.result.cut (cut_in x.1)
+    (local_with c.args.caller) (local_with c.apply-viewed.result.caller)
+    (local_with c.publish-published.result.caller) (local_with c.seen-seen.result.caller)
+    (local_with x.0) c.seen-seen.new.steps c.judge.new.steps c.apply-viewed.ensures.progress
+    c.publish-published.ensures.progress c.seen-seen.ensures.progress peeks
+    (λ i. record { reply = replies i; view = views i }) record_is cut_is)
     c.judge.ensures.peeks c.judge.ensures.record c.judge.ensures.cut
 
 pub returns-clause-unjudged_progress : goal.returns-clause-unjudged_progress
 returns-clause-unjudged_progress g c =
-    let viewed : Record = record { reply = c.apply-viewed.result.reply; view = c.apply-viewed.result.view } in
+    let viewed : Record =
+    record { reply = c.apply-viewed.result.reply; view = c.apply-viewed.result.view } in
     let r : Record = record { reply = c.seen-seen.result.reply; view = c.seen-seen.result.view } in
     let replies = sym (c.seen-seen.ensures.record.0 ∙ c.publish-published.ensures.record.0) in
     let views = sym (c.seen-seen.ensures.record.1 ∙ c.publish-published.ensures.record.1) in
-    err_by c.judge.result (λ u. HasOnlyPeeked (local_with c.seen-seen.result.caller) (local_with u.caller) c.seen-seen.new.steps c.judge.new.steps)
-    (λ u. (u.reply ≡ c.seen-seen.result.reply) × (u.view ≡ c.seen-seen.result.view) × (u.seen ≡ c.seen-seen.result.cut))
-    (λ u. progress_of (local_with u.caller) ≡ after_call c.args.op (record_unjudged u) u.seen (progress_of (local_with c.args.caller)))
-    (λ u peeks tells. whole_call c.args.op viewed r (record_unjudged u) c.seen-seen.result.cut u.seen (local_with c.args.caller) (local_with c.apply-viewed.result.caller)
-    (local_with c.publish-published.result.caller) (local_with c.seen-seen.result.caller) (local_with u.caller) c.seen-seen.new.steps c.judge.new.steps c.apply-viewed.ensures.progress
-    c.publish-published.ensures.progress c.seen-seen.ensures.progress peeks (λ i. record { reply = replies i; view = views i }) (λ i. record { reply = tells.0 i; view = tells.1 i }) tells.2)
+    err_by c.judge.result (λ u. HasOnlyPeeked (local_with c.seen-seen.result.caller)
+    (local_with u.caller) c.seen-seen.new.steps c.judge.new.steps)
+    (λ u. (u.reply ≡ c.seen-seen.result.reply) × (u.view ≡ c.seen-seen.result.view)
+    × (u.seen ≡ c.seen-seen.result.cut))
+    (λ u. progress_of (local_with u.caller)
+    ≡ after_call c.args.op (record_unjudged u) u.seen (progress_of (local_with c.args.caller)))
+    (λ u peeks tells. whole_call c.args.op viewed r (record_unjudged u) c.seen-seen.result.cut
+    u.seen (local_with c.args.caller) (local_with c.apply-viewed.result.caller)
+    (local_with c.publish-published.result.caller) (local_with c.seen-seen.result.caller)
+    (local_with u.caller) c.seen-seen.new.steps c.judge.new.steps c.apply-viewed.ensures.progress
+    c.publish-published.ensures.progress c.seen-seen.ensures.progress peeks
+    (λ i. record { reply = replies i; view = views i })
+    (λ i. record { reply = tells.0 i; view = tells.1 i }) tells.2)
     c.judge.ensures.unjudged_peeks c.judge.ensures.unjudged_record
 
 pub returns-clause-wide : goal.returns-clause-wide
 returns-clause-wide g c =
     let n = c.args.rows.now.callers in
-    let view : length c.seen-seen.result.view ≡ n = ap length (c.seen-seen.ensures.record.1 ∙ c.publish-published.ensures.record.1) ∙ c.apply-viewed.ensures.wide in
-    ok_by c.judge.result (λ x. record_in x.1 ≡ record { reply = c.seen-seen.result.reply; view = c.seen-seen.result.view }) (λ x. cut_in x.1 ≡ c.seen-seen.result.cut)
-    (λ x. cut_in x.1 ≡ c.seen-seen.result.cut) (λ x. (length (record_in x.1).view ≡ n) × (length (cut_in x.1) ≡ n))
-    (λ x record_is cut_is again. (ap (λ (r : Record). length r.view) record_is ∙ view, ap length cut_is ∙ c.seen-seen.ensures.wide))
+    let view : length c.seen-seen.result.view ≡ n =
+    ap length (c.seen-seen.ensures.record.1 ∙ c.publish-published.ensures.record.1)
+    ∙ c.apply-viewed.ensures.wide in
+    ok_by c.judge.result (λ x.
+    record_in x.1 ≡ record { reply = c.seen-seen.result.reply; view = c.seen-seen.result.view })
+    (λ x. cut_in x.1 ≡ c.seen-seen.result.cut)
+    (λ x. cut_in x.1 ≡ c.seen-seen.result.cut)
+    (λ x. (length (record_in x.1).view ≡ n) × (length (cut_in x.1) ≡ n))
+    (λ x record_is cut_is again. (
+      ap (λ (r : Record). length r.view) record_is ∙ view,
+      ap length cut_is ∙ c.seen-seen.ensures.wide,
+    ))
     c.judge.ensures.record c.judge.ensures.cut c.judge.ensures.cut
 
 pub returns-clause-unjudged_wide : goal.returns-clause-unjudged_wide
 returns-clause-unjudged_wide g c =
     let n = c.args.rows.now.callers in
-    let view : length c.seen-seen.result.view ≡ n = ap length (c.seen-seen.ensures.record.1 ∙ c.publish-published.ensures.record.1) ∙ c.apply-viewed.ensures.wide in
-    err_from c.judge.result (λ u. (u.reply ≡ c.seen-seen.result.reply) × (u.view ≡ c.seen-seen.result.view) × (u.seen ≡ c.seen-seen.result.cut))
+    let view : length c.seen-seen.result.view ≡ n =
+    ap length (c.seen-seen.ensures.record.1 ∙ c.publish-published.ensures.record.1)
+    ∙ c.apply-viewed.ensures.wide in
+    err_from c.judge.result (λ u. (u.reply ≡ c.seen-seen.result.reply)
+    × (u.view ≡ c.seen-seen.result.view) × (u.seen ≡ c.seen-seen.result.cut))
     (λ u. (length u.view ≡ n) × (length u.seen ≡ n))
     (λ u tells. (ap length tells.1 ∙ view, ap length tells.2 ∙ c.seen-seen.ensures.wide))
     c.judge.ensures.unjudged_record
 
 pub returns-clause-ticks : goal.returns-clause-ticks
 returns-clause-ticks g c =
-    ticks_through c.args.steps.now c.apply-viewed.new.steps c.publish-published.new.steps c.seen-seen.new.steps c.judge.new.steps
-    c.apply-viewed.ensures.ticks.0 c.publish-published.ensures.ticks.0 c.seen-seen.ensures.ticks.0 c.judge.ensures.ticks
+    ticks_through c.args.steps.now c.apply-viewed.new.steps c.publish-published.new.steps
+    c.seen-seen.new.steps c.judge.new.steps
+    c.apply-viewed.ensures.ticks.0 c.publish-published.ensures.ticks.0 c.seen-seen.ensures.ticks.0
+    c.judge.ensures.ticks
 
 pub judge-requires-clause-gathered : goal.judge-requires-clause-gathered
 judge-requires-clause-gathered g c =
-    gathered_through (local_with c.args.caller) (local_with c.apply-viewed.result.caller) (local_with c.publish-published.result.caller) (local_with c.seen-seen.result.caller)
-    c.args.gathered.now c.apply-viewed.ensures.grows c.publish-published.ensures.grows c.seen-seen.ensures.grows c.requires.gathered
+    gathered_through (local_with c.args.caller) (local_with c.apply-viewed.result.caller)
+    (local_with c.publish-published.result.caller) (local_with c.seen-seen.result.caller)
+    c.args.gathered.now c.apply-viewed.ensures.grows c.publish-published.ensures.grows
+    c.seen-seen.ensures.grows c.requires.gathered
 
 pub returns-clause-new_words : goal.returns-clause-new_words
 returns-clause-new_words g c =
@@ -87,8 +125,11 @@ returns-clause-new_words g c =
     let before = c.args.steps.now in
     let scanned = c.seen-seen.new.steps in
     let after = c.judge.new.steps in
-    let few = ticks_of_scans (most_words n) before c.apply-viewed.new.steps c.publish-published.new.steps scanned
+    let few = ticks_of_scans
+    (most_words n) before c.apply-viewed.new.steps c.publish-published.new.steps scanned
     c.apply-viewed.ensures.ticks c.publish-published.ensures.ticks c.seen-seen.ensures.ticks in
-    ok_from c.judge.result (λ r. TicksForNewAfter n c.args.gathered.now r.1 c.judge.new.gathered scanned after)
-    (λ r. TicksForWholeCall n c.args.gathered.now r.1 c.judge.new.gathered before after) (λ r new_words. (scanned, few.0, few.1, new_words))
+    ok_from c.judge.result
+    (λ r. TicksForNewAfter n c.args.gathered.now r.1 c.judge.new.gathered scanned after)
+    (λ r. TicksForWholeCall n c.args.gathered.now r.1 c.judge.new.gathered before after)
+    (λ r new_words. (scanned, few.0, few.1, new_words))
     c.judge.ensures.new_words

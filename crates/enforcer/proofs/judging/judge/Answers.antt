@@ -13,12 +13,15 @@ pub returns-in-Legal-clause-verdict : goal.returns-in-Legal-clause-verdict
 returns-in-Legal-clause-verdict g c = λ locals together is.
     let init = g.S.SeqObject.init c.args.object.now in
     let next = g.S.SeqObject.next c.args.object.now in
-    subst (λ (book : List Page). IsLegalOrder init next book c.in-Legal.order.items) (c.in-Ok.ensures.exact locals together is)
-    (subst (λ (verdict : Verdict). IsRight init next c.in-Ok.found.book verdict) c.in-Legal.is c.in-Ok.ensures.verdict)
+    subst (λ (book : List Page). IsLegalOrder init next book c.in-Legal.order.items)
+    (c.in-Ok.ensures.exact locals together is)
+    (subst (λ (verdict : Verdict). IsRight init next c.in-Ok.found.book verdict) c.in-Legal.is
+    c.in-Ok.ensures.verdict)
 
 pub returns-in-Legal-clause-kept : goal.returns-in-Legal-clause-kept
 returns-in-Legal-clause-kept g c =
-    gathered_by_now c.args.rows.now.callers (local_with c.decide-decided.new.seen.caller) c.decide-decided.new.seen.cut c.in-Ok.found c.in-Ok.ensures.at c.in-Ok.ensures.gathered
+    gathered_by_now c.args.rows.now.callers (local_with c.decide-decided.new.seen.caller)
+    c.decide-decided.new.seen.cut c.in-Ok.found c.in-Ok.ensures.at c.in-Ok.ensures.gathered
 
 pub returns-in-Legal-clause-kept_book : goal.returns-in-Legal-clause-kept_book
 returns-in-Legal-clause-kept_book g c = (c.in-Ok.ensures.gathered.callers, c.in-Ok.ensures.at)
@@ -28,5 +31,7 @@ returns-in-Illegal-clause-new_words g c =
     let n = c.args.rows.now.callers in
     let before = c.args.steps.now in
     let after = c.decide-decided.new.steps in
-    subst (λ (cut : List ℕ). TicksForNew n c.args.gathered.now (record { book = c.in-Ok.found.book; cut = cut }) before after) c.in-Ok.ensures.at
-    (subst (λ (kept : Option Gathered). TicksForNew n kept c.in-Ok.found before after) c.take.ensures.value c.in-Ok.ensures.ticks)
+    subst (λ (cut : List ℕ). TicksForNew n c.args.gathered.now
+    (record { book = c.in-Ok.found.book; cut = cut }) before after) c.in-Ok.ensures.at
+    (subst (λ (kept : Option Gathered). TicksForNew n kept c.in-Ok.found before after)
+    c.take.ensures.value c.in-Ok.ensures.ticks)

@@ -12,12 +12,16 @@ pub returns-in-Some-clause-verdict : goal.returns-in-Some-clause-verdict
 returns-in-Some-clause-verdict g c = λ locals together is.
     let init = g.S.SeqObject.init c.args.object.now in
     let next = g.S.SeqObject.next c.args.object.now in
-    subst (λ (book : List Page). IsLegalOrder init next book c.in-Some.stands.order.items) (c.in-Ok.ensures.exact locals together is)
-    (subst (λ (after : Option Standing). IfSome after (λ s. IsLegalOrder init next c.in-Ok.found.book s.order.items)) c.in-Some.is c.in-Ok.ensures.legal)
+    subst (λ (book : List Page). IsLegalOrder init next book c.in-Some.stands.order.items)
+    (c.in-Ok.ensures.exact locals together is)
+    (subst (λ (after : Option Standing).
+    IfSome after (λ s. IsLegalOrder init next c.in-Ok.found.book s.order.items)) c.in-Some.is
+    c.in-Ok.ensures.legal)
 
 pub returns-in-Some-clause-kept : goal.returns-in-Some-clause-kept
 returns-in-Some-clause-kept g c =
-    gathered_by_now c.args.rows.now.callers (local_with c.decide_after-decided.new.seen.caller) c.decide_after-decided.new.seen.cut c.in-Ok.found c.in-Ok.ensures.at c.in-Ok.ensures.gathered
+    gathered_by_now c.args.rows.now.callers (local_with c.decide_after-decided.new.seen.caller)
+    c.decide_after-decided.new.seen.cut c.in-Ok.found c.in-Ok.ensures.at c.in-Ok.ensures.gathered
 
 pub returns-in-Some-clause-kept_book : goal.returns-in-Some-clause-kept_book
 returns-in-Some-clause-kept_book g c = (c.in-Ok.ensures.gathered.callers, c.in-Ok.ensures.at)
@@ -27,5 +31,7 @@ returns-in-None-clause-new_words g c =
     let n = c.args.rows.now.callers in
     let before = c.args.steps.now in
     let after = c.decide_after-decided.new.steps in
-    subst (λ (cut : List ℕ). TicksForNew n c.args.gathered.now (record { book = c.in-Ok.found.book; cut = cut }) before after) c.in-Ok.ensures.at
-    (subst (λ (kept : Option Gathered). TicksForNew n kept c.in-Ok.found before after) c.take.ensures.value c.in-Ok.ensures.ticks)
+    subst (λ (cut : List ℕ). TicksForNew n c.args.gathered.now
+    (record { book = c.in-Ok.found.book; cut = cut }) before after) c.in-Ok.ensures.at
+    (subst (λ (kept : Option Gathered). TicksForNew n kept c.in-Ok.found before after)
+    c.take.ensures.value c.in-Ok.ensures.ticks)

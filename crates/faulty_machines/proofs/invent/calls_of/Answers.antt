@@ -8,5 +8,7 @@ use Rattle.faulty_machines.proofs.invent.calls_of.Goals as goal
 pub returns : goal.returns
 returns c =
     count_from_yields_List c.filter.result _ c.count.ensures.ran
-    (YieldsList-from_filter _ (λ e. e.caller == c.args.caller) (YieldsList-from_slice c.args.log.now (cc)) c.filter.ensures.closure (λ x b q k. search (rules, tests)))
+    (YieldsList-from_filter _ (λ e. e.caller == c.args.caller)
+    (YieldsList-from_slice c.args.log.now (cc)) c.filter.ensures.closure
+    (λ x b q k. search (rules, tests)))
     ∙ sym (length-map (filter (λ e. e.caller == c.args.caller) c.args.log.now) (λ e. e.op))

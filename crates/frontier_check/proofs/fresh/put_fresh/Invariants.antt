@@ -11,5 +11,6 @@ invariant-loop g l = record {
   spare : l.spare.room ≡ ROOM;
   counts : length l.counts ≡ length l.book;
   turns : length l.turns ≡ length l.book;
-  marks : AreMarks (g.S.SeqObject.init l.object) (g.S.SeqObject.next l.object) l.book l.prefix.places.items 0 l.marks.items;
+  marks : AreMarks (g.S.SeqObject.init l.object)
+      (g.S.SeqObject.next l.object) l.book l.prefix.places.items 0 l.marks.items;
 }

@@ -8,37 +8,55 @@ pub last_standing-requires : goal.last_standing-requires
 last_standing-requires g c =
     let object = c.args.object.now in
     let book = c.args.book.now in
-    subst (λ (ms : List Mark). (k : ℕ) (m : Mark) → k < length ms → m ≡ slice_index_or ms k m → IsAsWide book m) (sym c.deref.ensures.value)
-    (marks_wide (g.S.SeqObject.init object) (g.S.SeqObject.next object) book c.args.order.items c.args.marks.now.items c.requires.marks)
+    subst (λ (ms : List Mark). (k : ℕ) (m : Mark) → k < length ms → m ≡ slice_index_or ms k m
+    → IsAsWide book m) (sym c.deref.ensures.value)
+    (marks_wide (g.S.SeqObject.init object)
+    (g.S.SeqObject.next object) book c.args.order.items c.args.marks.now.items c.requires.marks)
 
 pub prefix_at-requires-clause-len : goal.prefix_at-requires-clause-len
 prefix_at-requires-clause-len g c =
     let object = c.args.object.now in
-    let low = subst (λ (ms : List Mark). c.in-Some.index < length ms) c.deref.ensures.value c.in-Some.ensures.within in
-    (marks_fit (g.S.SeqObject.init object) (g.S.SeqObject.next object) c.args.book.now c.args.order.items c.args.marks.now.items c.requires.marks c.in-Some.index c.index.result.now low c.index.ensures).0
+    let low = subst (λ (ms : List Mark). c.in-Some.index < length ms) c.deref.ensures.value
+    c.in-Some.ensures.within in
+    (marks_fit (g.S.SeqObject.init object)
+    (g.S.SeqObject.next object) c.args.book.now c.args.order.items c.args.marks.now.items
+    c.requires.marks c.in-Some.index c.index.result.now low c.index.ensures).0
 
 pub prefix_at-requires-clause-words : goal.prefix_at-requires-clause-words
 prefix_at-requires-clause-words g c =
     let object = c.args.object.now in
-    let low = subst (λ (ms : List Mark). c.in-Some.index < length ms) c.deref.ensures.value c.in-Some.ensures.within in
-    (marks_fit (g.S.SeqObject.init object) (g.S.SeqObject.next object) c.args.book.now c.args.order.items c.args.marks.now.items c.requires.marks c.in-Some.index c.index.result.now low c.index.ensures).1
+    let low = subst (λ (ms : List Mark). c.in-Some.index < length ms) c.deref.ensures.value
+    c.in-Some.ensures.within in
+    (marks_fit (g.S.SeqObject.init object)
+    (g.S.SeqObject.next object) c.args.book.now c.args.order.items c.args.marks.now.items
+    c.requires.marks c.in-Some.index c.index.result.now low c.index.ensures).1
 
 pub returns-in_ok-found-in-Some-clause-put : goal.returns-in_ok-found-in-Some-clause-put
 returns-in_ok-found-in-Some-clause-put g c =
     let object = c.args.object.now in
     let marks = c.args.marks.now.items in
-    let low = subst (λ (ms : List Mark). c.in-Some.index < length ms) c.deref.ensures.value c.in-Some.ensures.within in
-    let stands = subst (λ (ms : List Mark). (m : Mark) → m ≡ slice_index_or ms c.in-Some.index m → StillStands c.args.book.now m) c.deref.ensures.value c.in-Some.ensures.stands in
-    mark_resumed (g.S.SeqObject.init object) (g.S.SeqObject.next object) c.args.book.now c.args.order.items marks c.in-Some.index c.index.result.now c.in_ok-found-in-Some.found.0 c.callers-callers.ensures.valid c.callers-callers.ensures.small low c.index.ensures
-    c.requires.marks (stands c.index.result.now c.index.ensures) c.in_ok-found-in-Some.ensures.places c.in_ok-found-in-Some.ensures.cut c.in_ok-found-in-Some.ensures.words
+    let low = subst (λ (ms : List Mark). c.in-Some.index < length ms) c.deref.ensures.value
+    c.in-Some.ensures.within in
+    let stands = subst (λ (ms : List Mark). (m : Mark) → m ≡ slice_index_or ms c.in-Some.index m
+    → StillStands c.args.book.now m) c.deref.ensures.value c.in-Some.ensures.stands in
+    mark_resumed (g.S.SeqObject.init object) (g.S.SeqObject.next object) c.args.book.now
+    c.args.order.items marks c.in-Some.index c.index.result.now c.in_ok-found-in-Some.found.0
+    c.callers-callers.ensures.valid c.callers-callers.ensures.small low c.index.ensures
+    c.requires.marks (stands c.index.result.now c.index.ensures)
+    c.in_ok-found-in-Some.ensures.places c.in_ok-found-in-Some.ensures.cut
+    c.in_ok-found-in-Some.ensures.words
 
 pub returns-in_ok-found-in-Some-clause-marks : goal.returns-in_ok-found-in-Some-clause-marks
 returns-in_ok-found-in-Some-clause-marks g c =
     let object = c.args.object.now in
     let marks = c.args.marks.now.items in
-    let low = subst (λ (ms : List Mark). c.in-Some.index < length ms) c.deref.ensures.value c.in-Some.ensures.within in
-    marks_taken (g.S.SeqObject.init object) (g.S.SeqObject.next object) c.args.book.now c.args.order.items c.in_ok-found-in-Some.found.0.places.items marks c.truncate.new.self.items c.in-Some.index c.index.result.now
-    low c.index.ensures c.requires.marks c.in_ok-found-in-Some.ensures.places c.truncate.ensures.items
+    let low = subst (λ (ms : List Mark). c.in-Some.index < length ms) c.deref.ensures.value
+    c.in-Some.ensures.within in
+    marks_taken (g.S.SeqObject.init object) (g.S.SeqObject.next object) c.args.book.now
+    c.args.order.items c.in_ok-found-in-Some.found.0.places.items marks c.truncate.new.self.items
+    c.in-Some.index c.index.result.now
+    low c.index.ensures c.requires.marks c.in_ok-found-in-Some.ensures.places
+    c.truncate.ensures.items
 
 pub returns-in_ok-found-in-Some-clause-fewer : goal.returns-in_ok-found-in-Some-clause-fewer
 returns-in_ok-found-in-Some-clause-fewer g c = (c.in-Some.index + 1, c.truncate.ensures.items)

@@ -12,7 +12,10 @@ order_after_mark-requires g c =
     let book = c.args.book.now in
     record {
       marks =
-          subst (λ (ps : List Place). AreMarks init next book ps 0 c.truncate.new.self.items) (sym c.deref-in-loop.ensures.value)
-          (subst (λ (ms : List Mark). AreMarks init next book c.args.order.items 0 ms) (sym c.truncate.ensures.items)
-          (marks_fewer init next book c.args.order.items 0 c.saturating_sub-left.result c.loop.marks.items c.loop.invariant));
+          subst (λ (ps : List Place). AreMarks init next book ps 0 c.truncate.new.self.items)
+          (sym c.deref-in-loop.ensures.value)
+          (subst (λ (ms : List Mark). AreMarks init next book c.args.order.items 0 ms)
+          (sym c.truncate.ensures.items)
+          (marks_fewer init next book c.args.order.items 0 c.saturating_sub-left.result
+          c.loop.marks.items c.loop.invariant));
     }

@@ -10,5 +10,7 @@ returns-clause-stands g c =
     let next = g.S.SeqObject.next c.args.object.now in
     let book = c.args.book.now in
     let marks = c.put_fresh.new.marks.items in
-    subst (λ (ps : List Place). AreMarks init next book ps 0 marks) (sym c.in_ok-extend_from_slice-in-Some.ensures.items)
-    (marks_longer init next book c.put_fresh.new.prefix.places.items c.deref-in-Some.result.now 0 marks (c.in_ok-put_fresh.ensures.marks c.if-not-branch-2.false))
+    subst (λ (ps : List Place). AreMarks init next book ps 0 marks)
+    (sym c.in_ok-extend_from_slice-in-Some.ensures.items)
+    (marks_longer init next book c.put_fresh.new.prefix.places.items c.deref-in-Some.result.now 0
+    marks (c.in_ok-put_fresh.ensures.marks c.if-not-branch-2.false))

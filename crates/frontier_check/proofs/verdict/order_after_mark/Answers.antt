@@ -10,4 +10,5 @@ returns-in_default-3-clause-kept g c =
     let next = g.S.SeqObject.next c.args.object.now in
     let order = c.args.order.now in
     let fewer = c.in_ok-prefix.ensures.fewer in
-    subst (λ (ms : List Mark). AreMarks init next c.args.book.now order 0 ms) (sym fewer.1) (marks_fewer init next c.args.book.now order 0 fewer.0 c.args.marks.now.items c.requires.marks)
+    subst (λ (ms : List Mark). AreMarks init next c.args.book.now order 0 ms) (sym fewer.1)
+    (marks_fewer init next c.args.book.now order 0 fewer.0 c.args.marks.now.items c.requires.marks)

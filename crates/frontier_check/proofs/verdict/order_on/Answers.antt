@@ -10,5 +10,7 @@ returns-clause-marks g c =
     let next = g.S.SeqObject.next c.args.object.now in
     let book = c.args.book.now in
     let marks = c.args._marks.now in
-    subst (λ (ps : List Place). AreMarks init next book ps 0 marks) (sym c.in_ok-extend_from_slice.ensures.items)
-    (marks_longer init next book c.args.prefix.places.items c.deref.result.now 0 marks c.requires.marks)
+    subst (λ (ps : List Place). AreMarks init next book ps 0 marks)
+    (sym c.in_ok-extend_from_slice.ensures.items)
+    (marks_longer init next book c.args.prefix.places.items c.deref.result.now 0 marks
+    c.requires.marks)

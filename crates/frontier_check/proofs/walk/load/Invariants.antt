@@ -2,4 +2,5 @@ use Rattle.std.proofs.Common.{◌≡◌, take}
 use Rattle.frontier_check.proofs.walk.load.Given as goal
 
 abbrev pub invariant-loop-word : goal.invariant-loop-word
-invariant-loop-word l = (l.state.words ≡ take l.word-index l.words) × (l.state.room ≡ l.fn.state.room)
+invariant-loop-word l = (l.state.words ≡ take l.word-index l.words)
+    × (l.state.room ≡ l.fn.state.room)

@@ -23,14 +23,19 @@ pub returns-in-Ok-clause-none : goal.returns-in-Ok-clause-none
 returns-in-Ok-clause-none c =
     IfNone_then c.first_error_of.result c.first_error_of.ensures.none (λ none call given.
     let part = c.report_part.result.now in
-    let same : given.part ≡ part = one_report_part c.args.bytes.now given.part part given.is c.report_part.ensures in
-    let told : IsReportText part given.findings = subst (λ (p : List ℕ). IsReportText p given.findings) same given.told in
+    let same : given.part ≡ part =
+    one_report_part c.args.bytes.now given.part part given.is c.report_part.ensures in
+    let told : IsReportText part given.findings =
+    subst (λ (p : List ℕ). IsReportText p given.findings) same given.told in
     let is : c.in-Ok.report ≡ given.findings = c.in-Ok.ensures.only given.findings told in
-    none-some given.cut (sym (none call) ∙ (ap (λ (f : Findings). error_at f.lines call) is ∙ given.error.error)))
+    none-some given.cut
+    (sym (none call) ∙ (ap (λ (f : Findings). error_at f.lines call) is ∙ given.error.error)))
 
 pub returns-in-Err-Text-clause-none : goal.returns-in-Err-Text-clause-none
 returns-in-Err-Text-clause-none c = λ call given.
     let part = c.report_part.result.now in
-    let same : given.part ≡ part = one_report_part c.args.bytes.now given.part part given.is c.report_part.ensures in
-    let told : IsReportText part given.findings = subst (λ (p : List ℕ). IsReportText p given.findings) same given.told in
+    let same : given.part ≡ part =
+    one_report_part c.args.bytes.now given.part part given.is c.report_part.ensures in
+    let told : IsReportText part given.findings =
+    subst (λ (p : List ℕ). IsReportText p given.findings) same given.told in
     let never = c.in-Err-Text.ensures.only given.findings told in absurd cc

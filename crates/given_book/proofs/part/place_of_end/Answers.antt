@@ -13,7 +13,9 @@ returns-then-has_end_at-clause-first c = c.loop-at.invariant
 pub loop-at-preserved : goal.loop-at-preserved
 loop-at-preserved c =
     none_before c.args.bytes.now c.loop-at.at c.loop-at.invariant (λ rest has.
-    let yes : c.has_end_at.result ≡ true = c.has_end_at.ensures.has.1 (rest, has) in never_both (sym c.if-has_end_at.false ∙ yes))
+    let yes : c.has_end_at.result ≡ true = c.has_end_at.ensures.has.1 (rest, has) in
+    never_both (sym c.if-has_end_at.false ∙ yes))
 
 pub returns-clause-none : goal.returns-clause-none
-returns-clause-none c = λ _. none_at_all c.args.bytes.now c.loop-at.at c.loop-at.invariant c.loop-at-test.false
+returns-clause-none c =
+    λ _. none_at_all c.args.bytes.now c.loop-at.at c.loop-at.invariant c.loop-at-test.false

@@ -5,10 +5,15 @@ use Rattle.handle_slots.proofs.calls.witness_in.Goals as goal
 
 pub returns-clause-when : goal.returns-clause-when
 returns-clause-when c =
-    let was : handle_in c.args.slot ≡ Some c.deref.result.now = c.take-handle.ensures.value ∙ ap Some (sym c.deref.ensures) in
-    subst (λ (place : Option Handle). IfOk c.witness_of-found.result (λ found. IsSome found ↔ HasWitness place)) (sym was) c.witness_of-found.ensures.when
+    let was : handle_in c.args.slot ≡ Some c.deref.result.now =
+    c.take-handle.ensures.value ∙ ap Some (sym c.deref.ensures) in
+    subst (λ (place : Option Handle). IfOk c.witness_of-found.result
+    (λ found. IsSome found ↔ HasWitness place)) (sym was) c.witness_of-found.ensures.when
 
 pub returns-clause-text : goal.returns-clause-text
 returns-clause-text c =
-    let was : handle_in c.args.slot ≡ Some c.deref.result.now = c.take-handle.ensures.value ∙ ap Some (sym c.deref.ensures) in
-    subst (λ (place : Option Handle). IfOk c.witness_of-found.result (λ found. IfSome found (λ text. Witnesses place text.items))) (sym was) c.witness_of-found.ensures.text
+    let was : handle_in c.args.slot ≡ Some c.deref.result.now =
+    c.take-handle.ensures.value ∙ ap Some (sym c.deref.ensures) in
+    subst (λ (place : Option Handle).
+    IfOk c.witness_of-found.result (λ found. IfSome found (λ text. Witnesses place text.items)))
+    (sym was) c.witness_of-found.ensures.text

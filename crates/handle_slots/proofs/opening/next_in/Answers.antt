@@ -11,12 +11,16 @@ pub returns-in-Some-clause-given : goal.returns-in-Some-clause-given
 returns-in-Some-clause-given c =
     let t = c.args.table.now in
     let h = c.in-Some.caller in
-    let fresh = subst (λ (o : Option CallerHandle). IfSome o (IsFreshOf t (next_of t))) c.in-Some.is c.in_ok-caller-in-Caller.ensures.given in
-    subst (λ (role : Role). IsFreshAs role t (next_of t) (Caller h)) (sym c.in-Caller.is) (h, refl, fresh)
+    let fresh = subst (λ (o : Option CallerHandle). IfSome o (IsFreshOf t (next_of t))) c.in-Some.is
+    c.in_ok-caller-in-Caller.ensures.given in
+    subst (λ (role : Role). IsFreshAs role t (next_of t) (Caller h)) (sym c.in-Caller.is)
+    (h, refl, fresh)
 
 pub returns-in-Some-2-clause-given : goal.returns-in-Some-2-clause-given
 returns-in-Some-2-clause-given c =
     let t = c.args.table.now in
     let m = c.in-Some-2.monitor in
-    let fresh = subst (λ (o : Option MonitorHandle). IfSome o (IsFreshMonitorOf t (next_of t))) c.in-Some-2.is c.in_ok-monitor-in-Monitor.ensures.given in
-    subst (λ (role : Role). IsFreshAs role t (next_of t) (Monitor m)) (sym c.in-Monitor.is) (m, refl, fresh)
+    let fresh = subst (λ (o : Option MonitorHandle). IfSome o (IsFreshMonitorOf t (next_of t)))
+    c.in-Some-2.is c.in_ok-monitor-in-Monitor.ensures.given in
+    subst (λ (role : Role). IsFreshAs role t (next_of t) (Monitor m)) (sym c.in-Monitor.is)
+    (m, refl, fresh)

@@ -6,8 +6,11 @@ use Rattle.hunt_program.proofs.hunting.hunt_and_write.Goals as goal
 
 pub returns-in-Ok-clause-ends : goal.returns-in-Ok-clause-ends
 returns-in-Ok-clause-ends g c =
-    let IsOne = IsHuntOutput g.B.Pass.ObjectPass.made g.B.Pass.ObjectPass.told c.args.settings.now c.args.shown in
+    let IsOne = IsHuntOutput g.B.Pass.ObjectPass.made g.B.Pass.ObjectPass.told c.args.settings.now
+    c.args.shown in
     let same : c.in-Ok.output.text.items ≡ c.deref.result.now = cc in
-    written_ends IsOne c.deref.result.now (g.K.Sink.taken c.args.sink.now) (g.K.Sink.taken c.write_text.new.sink) (λ e. e) (λ e. e) (λ e. e)
-    (Rose (g.K.Sink.faults c.args.sink.now) (g.K.Sink.faults c.write_text.new.sink)) c.in-Ok.output.status c.write_text.result
+    written_ends IsOne c.deref.result.now (g.K.Sink.taken c.args.sink.now)
+    (g.K.Sink.taken c.write_text.new.sink) (λ e. e) (λ e. e) (λ e. e)
+    (Rose (g.K.Sink.faults c.args.sink.now) (g.K.Sink.faults c.write_text.new.sink))
+    c.in-Ok.output.status c.write_text.result
     (subst (IsOne c.in-Ok.output.status) same c.in-Ok.ensures) c.write_text.ensures.written

@@ -9,12 +9,16 @@ use Rattle.hunts.proofs.once.run_once.Goals as goal
 pub run_asked-report-requires-clause-begins : goal.run_asked-report-requires-clause-begins
 run_asked-report-requires-clause-begins g c κs within =
     let opened = c.in_ok-rows.ensures in
-    may_begin _ c.args.script.now 0 _ 256 _ _ (omega (arith, c.callers.ensures.count)) c.callers.ensures.plan.calls opened.rows.0 opened.rows.1 opened.bench opened.fresh
+    may_begin _ c.args.script.now 0 _ 256 _ _ (omega (arith, c.callers.ensures.count))
+    c.callers.ensures.plan.calls opened.rows.0 opened.rows.1 opened.bench opened.fresh
 
 pub returns : goal.returns
 returns g c =
     let done = c.run_asked-report.ensures in
     if_ok_both c.run_asked-report.result _ _ _
-    (λ (report : Findings) is counted. told_report g.B.Pass.ObjectPass.made g.B.Pass.ObjectPass.cap g.B.Pass.ObjectPass.told c.args.script.now c.kind-kind.result _ (locals_on c.run_asked-report.new.bench) c.run_asked-report.new.passes.items report
-    c.kind-kind.ensures (outside_shapes _ _ _ (c.in_ok-rows.ensures.rows.0 ∙ c.callers.ensures.count) c.in_ok-rows.ensures.rows.1) is counted)
+    (λ (report : Findings) is counted. told_report g.B.Pass.ObjectPass.made g.B.Pass.ObjectPass.cap
+    g.B.Pass.ObjectPass.told c.args.script.now c.kind-kind.result _
+    (locals_on c.run_asked-report.new.bench) c.run_asked-report.new.passes.items report
+    c.kind-kind.ensures (outside_shapes _ _ _
+    (c.in_ok-rows.ensures.rows.0 ∙ c.callers.ensures.count) c.in_ok-rows.ensures.rows.1) is counted)
     done.report done.counted

@@ -10,6 +10,8 @@ loop-number-preserved g c =
     let made = g.B.Pass.ObjectPass.made in
     let told = g.B.Pass.ObjectPass.told in
     let settings = c.args.settings.now in
-    let Quiet : ℕ → Type 0 = λ k. IsQuiet made told settings.workload (seed_at made told settings k) in
+    let Quiet : ℕ → Type 0 =
+    λ k. IsQuiet made told settings.workload (seed_at made told settings k) in
     below_next Quiet c.loop-number.number c.loop-number.invariant
-    (subst (λ (found : Option Catch). IfNone found (Quiet c.loop-number.number)) c.in_default.is c.in_ok-catch.ensures.quiet)
+    (subst (λ (found : Option Catch). IfNone found (Quiet c.loop-number.number)) c.in_default.is
+    c.in_ok-catch.ensures.quiet)

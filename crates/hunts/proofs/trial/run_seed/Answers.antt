@@ -17,12 +17,17 @@ returns-in-Some-clause-caught g c =
     let script = c.in_ok-script.script in
     let report = c.in_ok-report.report in
     let book = c.in-Some.witness in
-    let ran : IsMade made told script report = (c.run_once.new.passes.items, c.in_ok-report.ensures) in
-    let witness : IsWitness report.lines book = subst (λ (found : Option (List Page)). IfSome found (IsWitness report.lines)) c.in-Some.is c.in_ok-witness.ensures.found in
+    let ran : IsMade made told script report =
+    (c.run_once.new.passes.items, c.in_ok-report.ensures) in
+    let witness : IsWitness report.lines book =
+    subst (λ (found : Option (List Page)). IfSome found (IsWitness report.lines)) c.in-Some.is
+    c.in_ok-witness.ensures.found in
     record {
       seed_is = refl;
       script = c.in_ok-script.ensures;
       ran = ran;
       witness = witness;
-      no_order = subst (λ (k : Kind). ¬ HasLegalOrder (kind_init k) (kind_next k) book) (ap (λ (p : Plan). p.kind) c.in_ok-script.ensures) (made_no_order made told script report book ran witness);
+      no_order = subst (λ (k : Kind). ¬ HasLegalOrder (kind_init k) (kind_next k) book)
+          (ap (λ (p : Plan). p.kind) c.in_ok-script.ensures)
+          (made_no_order made told script report book ran witness);
     }

@@ -4,7 +4,8 @@ use Rattle.lawful_reports.proofs.cases.wrong_reports_are_refused.Goals as goal
 
 pub returns-clause-view_without_call : goal.returns-clause-view_without_call
 returns-clause-view_without_call c s operations allotments h =
-    let e : 0 ≡ 1 = h.valid.own (call 0 0) (answer 50 (0 ∷ 1 ∷ [])) refl in absurd (omega (arith, e))
+    let e : 0 ≡ 1 = h.valid.own (call 0 0) (answer 50 (0 ∷ 1 ∷ [])) refl in
+    absurd (omega (arith, e))
 
 pub returns-clause-narrow_cut : goal.returns-clause-narrow_cut
 returns-clause-narrow_cut c s operations allotments h =

@@ -7,10 +7,16 @@ pub overflow_add-calls : goal.overflow_add-calls
 overflow_add-calls c =
     omega (
       arith,
-      calls_fit c.args.script.now c.loop-i.i c.loop-i.calls c.callers-i-end.ensures.plan c.loop-i.invariant,
+      calls_fit c.args.script.now c.loop-i.i c.loop-i.calls c.callers-i-end.ensures.plan
+          c.loop-i.invariant,
       c.calls-calls.ensures,
-      operations_within 256 c.args.script.now.operations c.loop-i.i c.callers-i-end.ensures.plan.calls,
+      operations_within 256 c.args.script.now.operations c.loop-i.i
+          c.callers-i-end.ensures.plan.calls,
     )
 
 pub overflow_add-result : goal.overflow_add-result
-overflow_add-result c = omega (arith, calls_fit c.args.script.now c.loop-i.i c.loop-i.calls c.callers-i-end.ensures.plan c.loop-i.invariant)
+overflow_add-result c = omega (
+  arith,
+  calls_fit c.args.script.now c.loop-i.i c.loop-i.calls c.callers-i-end.ensures.plan
+      c.loop-i.invariant,
+)

@@ -14,7 +14,9 @@ judge_at-requires-clause-wide g c =
       arith,
       ap (length {A = _}) c.published_counts.ensures,
       published_long c.args.script.now,
-      ap (length {A = Page}) (c.in_ok-book.ensures ∙ ap (λ (all : List Own). book_of_lines (lines_in all)) c.deref.ensures.value ∙ ap book_of_lines c.in_ok-add_monitors.ensures),
+      ap (length {A = Page})
+          (c.in_ok-book.ensures ∙ ap (λ (all : List Own). book_of_lines (lines_in all))
+          c.deref.ensures.value ∙ ap book_of_lines c.in_ok-add_monitors.ensures),
       book_with_monitors lines,
       length-map c.args.lines.items (λ (o : Own). o.lines.items),
       c.requires.callers,

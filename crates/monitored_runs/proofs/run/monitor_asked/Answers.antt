@@ -5,75 +5,101 @@ use Rattle.monitored_runs.proofs.run.monitor_asked.Goals as goal
 
 pub returns-in_err-lines-clause-bench : goal.returns-in_err-lines-clause-bench
 returns-in_err-lines-clause-bench g c =
-    let d = c.watch_all.ensures in
-    (d.bench, holds_beside _ _ _ _ c.args.script.now _ _ _ c.requires.begins d.bench d.back d.monitors)
+    let d = c.watch_all.ensures in (
+      d.bench,
+      holds_beside _ _ _ _ c.args.script.now _ _ _ c.requires.begins d.bench d.back d.monitors,
+    )
 
 pub returns-in-Some-clause-bench : goal.returns-in-Some-clause-bench
 returns-in-Some-clause-bench g c =
-    let d = c.watch_all.ensures in
-    (d.bench, holds_beside _ _ _ _ c.args.script.now _ _ _ c.requires.begins d.bench d.back d.monitors)
+    let d = c.watch_all.ensures in (
+      d.bench,
+      holds_beside _ _ _ _ c.args.script.now _ _ _ c.requires.begins d.bench d.back d.monitors,
+    )
 
 pub returns-in-Some-clause-made : goal.returns-in-Some-clause-made
 returns-in-Some-clause-made g c =
     let d = c.in_ok-lines.ensures in
-    made_all _ _ _ _ c.args.script.now _ _ _ _ c.requires.begins d.bench d.lines (omega (arith, d.all_lines)) d.monitors
+    made_all _ _ _ _ c.args.script.now _ _ _ _ c.requires.begins d.bench d.lines
+    (omega (arith, d.all_lines)) d.monitors
 
 pub returns-in-Some-clause-free : goal.returns-in-Some-clause-free
 returns-in-Some-clause-free g c =
     let d = c.in_ok-lines.ensures in
-    free_again _ _ _ _ c.args.script.now _ _ _ _ c.requires.begins d.bench d.lines (omega (arith, d.all_lines)) d.monitors
+    free_again _ _ _ _ c.args.script.now _ _ _ _ c.requires.begins d.bench d.lines
+    (omega (arith, d.all_lines)) d.monitors
 
 pub returns-in-Some-clause-counted : goal.returns-in-Some-clause-counted
 returns-in-Some-clause-counted g c =
     let d = c.in_ok-lines.ensures in
-    counted_all _ _ _ _ c.args.script.now _ _ _ _ c.requires.begins d.bench d.lines (omega (arith, d.all_lines)) d.monitors (omega (arith, d.all_passes))
+    counted_all _ _ _ _ c.args.script.now _ _ _ _ c.requires.begins d.bench d.lines
+    (omega (arith, d.all_lines)) d.monitors (omega (arith, d.all_passes))
 
 pub returns-in-Some-clause-rounds : goal.returns-in-Some-clause-rounds
 returns-in-Some-clause-rounds g c =
     let d = c.in_ok-lines.ensures in
-    all_monitored _ _ _ _ c.args.script.now _ _ _ _ c.requires.begins d.bench d.lines (omega (arith, d.all_lines)) d.monitors (g.S.SeqObject.init c.args.sequential.now) (g.S.SeqObject.next c.args.sequential.now) _ _ _ d.one d.other c.most_rounds-most.ensures.rounds
+    all_monitored _ _ _ _ c.args.script.now _ _ _ _ c.requires.begins d.bench d.lines
+    (omega (arith, d.all_lines)) d.monitors (g.S.SeqObject.init c.args.sequential.now)
+    (g.S.SeqObject.next c.args.sequential.now) _ _ _ d.one d.other c.most_rounds-most.ensures.rounds
 
 pub returns-in-Some-clause-answer : goal.returns-in-Some-clause-answer
 returns-in-Some-clause-answer g c =
     let d = c.in_ok-lines.ensures in
-    found_by _ _ _ _ c.args.script.now _ _ _ _ c.requires.begins d.bench d.lines (omega (arith, d.all_lines)) d.monitors (g.S.SeqObject.init c.args.sequential.now) (g.S.SeqObject.next c.args.sequential.now) _ _ _ d.one d.other c.in-Some.witness c.in-Some.ensures
+    found_by _ _ _ _ c.args.script.now _ _ _ _ c.requires.begins d.bench d.lines
+    (omega (arith, d.all_lines)) d.monitors (g.S.SeqObject.init c.args.sequential.now)
+    (g.S.SeqObject.next c.args.sequential.now) _ _ _ d.one d.other c.in-Some.witness
+    c.in-Some.ensures
 
 pub judge_lines-requires-clause-lines : goal.judge_lines-requires-clause-lines
 judge_lines-requires-clause-lines g c =
     let d = c.in_ok-lines.ensures in
-    of_a_book _ _ _ _ c.args.script.now _ _ _ _ c.requires.begins d.bench d.lines (omega (arith, d.all_lines)) d.monitors
+    of_a_book _ _ _ _ c.args.script.now _ _ _ _ c.requires.begins d.bench d.lines
+    (omega (arith, d.all_lines)) d.monitors
 
 pub judge_lines-requires-clause-within : goal.judge_lines-requires-clause-within
 judge_lines-requires-clause-within g c =
     let d = c.in_ok-lines.ensures in
-    within_the_book _ _ _ _ c.args.script.now _ _ _ _ c.requires.begins d.bench d.lines (omega (arith, d.all_lines)) d.monitors
+    within_the_book _ _ _ _ c.args.script.now _ _ _ _ c.requires.begins d.bench d.lines
+    (omega (arith, d.all_lines)) d.monitors
 
 pub returns-in-None-clause-bench : goal.returns-in-None-clause-bench
 returns-in-None-clause-bench g c =
-    let d = c.watch_all.ensures in
-    (d.bench, holds_beside _ _ _ _ c.args.script.now _ _ _ c.requires.begins d.bench d.back d.monitors)
+    let d = c.watch_all.ensures in (
+      d.bench,
+      holds_beside _ _ _ _ c.args.script.now _ _ _ c.requires.begins d.bench d.back d.monitors,
+    )
 
 pub returns-in-None-clause-made : goal.returns-in-None-clause-made
 returns-in-None-clause-made g c =
     let d = c.in_ok-lines.ensures in
-    if_ok_as c.judge_lines.result _ _ (λ answer h. made_all _ _ _ _ c.args.script.now _ _ _ _ c.requires.begins d.bench d.lines (omega (arith, d.all_lines)) d.monitors) c.judge_lines.ensures
+    if_ok_as c.judge_lines.result _ _ (λ answer h. made_all _ _ _ _ c.args.script.now _ _ _ _
+    c.requires.begins d.bench d.lines (omega (arith, d.all_lines)) d.monitors) c.judge_lines.ensures
 
 pub returns-in-None-clause-free : goal.returns-in-None-clause-free
 returns-in-None-clause-free g c =
     let d = c.in_ok-lines.ensures in
-    if_ok_as c.judge_lines.result _ _ (λ answer h. free_again _ _ _ _ c.args.script.now _ _ _ _ c.requires.begins d.bench d.lines (omega (arith, d.all_lines)) d.monitors) c.judge_lines.ensures
+    if_ok_as c.judge_lines.result _ _ (λ answer h. free_again _ _ _ _ c.args.script.now _ _ _ _
+    c.requires.begins d.bench d.lines (omega (arith, d.all_lines)) d.monitors) c.judge_lines.ensures
 
 pub returns-in-None-clause-counted : goal.returns-in-None-clause-counted
 returns-in-None-clause-counted g c =
     let d = c.in_ok-lines.ensures in
-    if_ok_as c.judge_lines.result _ _ (λ answer h. counted_all _ _ _ _ c.args.script.now _ _ _ _ c.requires.begins d.bench d.lines (omega (arith, d.all_lines)) d.monitors (omega (arith, d.all_passes))) c.judge_lines.ensures
+    if_ok_as c.judge_lines.result _ _
+    (λ answer h. counted_all _ _ _ _ c.args.script.now _ _ _ _ c.requires.begins d.bench d.lines
+    (omega (arith, d.all_lines)) d.monitors (omega (arith, d.all_passes))) c.judge_lines.ensures
 
 pub returns-in-None-clause-rounds : goal.returns-in-None-clause-rounds
 returns-in-None-clause-rounds g c =
     let d = c.in_ok-lines.ensures in
-    if_ok_as c.judge_lines.result _ _ (λ answer h. all_monitored _ _ _ _ c.args.script.now _ _ _ _ c.requires.begins d.bench d.lines (omega (arith, d.all_lines)) d.monitors (g.S.SeqObject.init c.args.sequential.now) (g.S.SeqObject.next c.args.sequential.now) _ _ _ d.one d.other c.most_rounds-most.ensures.rounds) c.judge_lines.ensures
+    if_ok_as c.judge_lines.result _ _ (λ answer h. all_monitored _ _ _ _ c.args.script.now _ _ _ _
+    c.requires.begins d.bench d.lines (omega (arith, d.all_lines)) d.monitors
+    (g.S.SeqObject.init c.args.sequential.now) (g.S.SeqObject.next c.args.sequential.now) _ _ _
+    d.one d.other c.most_rounds-most.ensures.rounds) c.judge_lines.ensures
 
 pub returns-in-None-clause-answer : goal.returns-in-None-clause-answer
 returns-in-None-clause-answer g c =
     let d = c.in_ok-lines.ensures in
-    if_ok_as c.judge_lines.result _ _ (judged _ _ _ _ c.args.script.now _ _ _ _ c.requires.begins d.bench d.lines (omega (arith, d.all_lines)) d.monitors (g.S.SeqObject.init c.args.sequential.now) (g.S.SeqObject.next c.args.sequential.now)) c.judge_lines.ensures
+    if_ok_as c.judge_lines.result _ _
+    (judged _ _ _ _ c.args.script.now _ _ _ _ c.requires.begins d.bench d.lines
+    (omega (arith, d.all_lines)) d.monitors (g.S.SeqObject.init c.args.sequential.now)
+    (g.S.SeqObject.next c.args.sequential.now)) c.judge_lines.ensures

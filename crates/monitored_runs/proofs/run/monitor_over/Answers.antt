@@ -22,5 +22,8 @@ returns-clause-told g c =
     let told = g.B.Pass.ObjectPass.told in
     let passes = c.monitor_asked.new.passes.items in
     let locals = locals_on c.monitor_asked.new.bench in
-    if_ok_as c.monitor_asked.result (λ (answer : Option Witness). AreInOrder (IsCountedAll (own_count made cap told) plan locals) passes)
-    (λ (answer : Option Witness). AreInOrder (IsToldAll made told plan locals) passes) (λ answer all. counted_told_all made cap told plan locals passes all) c.monitor_asked.ensures.counted
+    if_ok_as c.monitor_asked.result (λ (answer : Option Witness).
+    AreInOrder (IsCountedAll (own_count made cap told) plan locals) passes)
+    (λ (answer : Option Witness). AreInOrder (IsToldAll made told plan locals) passes)
+    (λ answer all. counted_told_all made cap told plan locals passes all)
+    c.monitor_asked.ensures.counted

@@ -8,12 +8,16 @@ use Rattle.named_runs.proofs.fresh.monitor_fresh.Goals as goal
 pub returns-in_default-clause-passes : goal.returns-in_default-clause-passes
 returns-in_default-clause-passes g c = unused_own _ _ _ _ _ _ c.requires.passes.each
 
-pub monitor_and_write-status-requires-clause-begins : goal.monitor_and_write-status-requires-clause-begins
+pub monitor_and_write-status-requires-clause-begins :
+    goal.monitor_and_write-status-requires-clause-begins
 monitor_and_write-status-requires-clause-begins g c κs within =
     let opened = c.in-Ok.ensures in
-    may_begin _ c.args.script.now 2 _ 256 _ _ (omega (arith, c.callers.ensures.count)) c.callers.ensures.plan.calls opened.rows.0 opened.rows.1 opened.bench opened.fresh
+    may_begin _ c.args.script.now 2 _ 256 _ _ (omega (arith, c.callers.ensures.count))
+    c.callers.ensures.plan.calls opened.rows.0 opened.rows.1 opened.bench opened.fresh
 
 pub returns-clause-ends : goal.returns-clause-ends
 returns-clause-ends g c =
     let done = c.monitor_and_write-status.ensures in
-    told_ends _ _ _ _ _ _ c.args.script.now (outside_shapes _ _ _ (omega (arith, c.in-Ok.ensures.rows.0, c.callers.ensures.count)) c.in-Ok.ensures.rows.1) done.bench.0 done.bench.1 _ _ _ done.made done.told done.ends
+    told_ends _ _ _ _ _ _ c.args.script.now (outside_shapes _ _ _
+    (omega (arith, c.in-Ok.ensures.rows.0, c.callers.ensures.count)) c.in-Ok.ensures.rows.1)
+    done.bench.0 done.bench.1 _ _ _ done.made done.told done.ends

@@ -11,9 +11,12 @@ returns-in_default-clause-passes g c = unused_own _ _ _ _ _ _ c.requires.passes.
 pub run_and_write-status-requires-clause-begins : goal.run_and_write-status-requires-clause-begins
 run_and_write-status-requires-clause-begins g c κs within =
     let opened = c.in-Ok.ensures in
-    may_begin _ c.args.script.now 0 _ 256 _ _ (omega (arith, c.callers.ensures.count)) c.callers.ensures.plan.calls opened.rows.0 opened.rows.1 opened.bench opened.fresh
+    may_begin _ c.args.script.now 0 _ 256 _ _ (omega (arith, c.callers.ensures.count))
+    c.callers.ensures.plan.calls opened.rows.0 opened.rows.1 opened.bench opened.fresh
 
 pub returns-clause-ends : goal.returns-clause-ends
 returns-clause-ends g c =
     RunEnds-weaker _ _ _ _ _ _ _
-    (fresh_report _ _ _ _ _ _ c.args.script.now _ (outside_shapes _ _ _ (c.in-Ok.ensures.rows.0 ∙ c.callers.ensures.count) c.in-Ok.ensures.rows.1)) c.run_and_write-status.ensures.ends
+    (fresh_report _ _ _ _ _ _ c.args.script.now _ (outside_shapes _ _ _
+    (c.in-Ok.ensures.rows.0 ∙ c.callers.ensures.count) c.in-Ok.ensures.rows.1))
+    c.run_and_write-status.ensures.ends

@@ -7,7 +7,8 @@ use Rattle.object_foresight.proofs.Foreseeing.{followed_without_ranks, kept_with
 use Rattle.object_foresight.proofs.foresee.foresee_queue.Goals as goal
 
 pub hold-requires-clause-links : goal.hold-requires-clause-links
-hold-requires-clause-links g c = links_name_calls (g.R.Reader.reading c.args.reader.now) c.args.book.now Queue c.in_ok-links.links c.in_ok-links.ensures.links
+hold-requires-clause-links g c = links_name_calls (g.R.Reader.reading c.args.reader.now)
+    c.args.book.now Queue c.in_ok-links.links c.in_ok-links.ensures.links
 
 pub returns : goal.returns
 returns g c init next queue none =
@@ -17,6 +18,9 @@ returns g c init next queue none =
     let are = c.in_ok-links.ensures.links in
     let container = queue_is_container reading next queue in
     let ranks = ap (λ (k : Known). k.ranks) c.in_ok-known.ensures.blank in
-    c.hold.ensures.right init next (c.in_ok-known.ensures.right init next) (λ refused. are.refused refused init next container none)
-    (followed_without_ranks reading init next book Queue links c.in_ok-known.known.ranks are container (λ _. queue) none ranks)
-    (kept_without_ranks reading init next book Queue links c.in_ok-uses.uses c.in_ok-known.known.ranks are c.in_ok-uses.ensures container (λ _. queue) none ranks)
+    c.hold.ensures.right init next (c.in_ok-known.ensures.right init next)
+    (λ refused. are.refused refused init next container none)
+    (followed_without_ranks reading init next book Queue links c.in_ok-known.known.ranks are
+    container (λ _. queue) none ranks)
+    (kept_without_ranks reading init next book Queue links c.in_ok-uses.uses
+    c.in_ok-known.known.ranks are c.in_ok-uses.ensures container (λ _. queue) none ranks)

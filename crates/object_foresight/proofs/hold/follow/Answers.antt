@@ -8,6 +8,9 @@ loop-caller-preserved c =
     record {
       bars = c.follow_caller.ensures.bars;
       ranks = c.follow_caller.ensures.ranks ∙ i.ranks;
-      right = λ init next right are. c.follow_caller.ensures.right init next (i.right init next right are)
-          (subst (λ (ranks : List (ℕ × ℕ)). AreFollowed init next c.args.book.now c.args.links.now ranks) (sym i.ranks) are);
+      right = λ init next right are.
+          c.follow_caller.ensures.right init next (i.right init next right are)
+          (subst
+          (λ (ranks : List (ℕ × ℕ)). AreFollowed init next c.args.book.now c.args.links.now ranks)
+          (sym i.ranks) are);
     }

@@ -10,5 +10,6 @@ invariant-loop-caller l = record {
   bars : (c : Call) → IsCall l.book c → HasBar l.known c;
   ranks : l.known.ranks ≡ l.fn.known.ranks;
   right : (init : List ℕ) (next : List ℕ → ℕ → List ℕ × ℕ) → IsForesight init next l.book l.fn.known
-      → AreFollowed init next l.book l.links l.fn.known.ranks → IsForesight init next l.book l.known;
+      → AreFollowed init next l.book l.links l.fn.known.ranks
+      → IsForesight init next l.book l.known;
 }

@@ -12,19 +12,23 @@ use Rattle.object_foresight.proofs.hold.follow_caller.Goals.{in-Some, in_default
 
 pub loop-number-init : goal.loop-number-init
 loop-number-init c = record {
-  past = none_is_past (λ a. Precedes c.args.book.now a (call_of c.args.caller 0)) c.args.book.now c.args.links.now c.none-past.result c.none-past.ensures.passed c.none-past.ensures.floor c.none-past.ensures.limit;
+  past = none_is_past (λ a. Precedes c.args.book.now a (call_of c.args.caller 0)) c.args.book.now
+      c.args.links.now c.none-past.result c.none-past.ensures.passed c.none-past.ensures.floor
+      c.none-past.ensures.limit;
   bars = c.requires.bars;
   ranks = refl;
   right = λ init next right are. right;
 }
 
 pub pass_preceding-requires-clause-call : goal.pass_preceding-requires-clause-call
-pass_preceding-requires-clause-call c = omega (arith, c.answers-number-end.ensures, c.requires.valid.answers c.args.caller)
+pass_preceding-requires-clause-call c =
+    omega (arith, c.answers-number-end.ensures, c.requires.valid.answers c.args.caller)
 
 pub hold_after-requires-clause-bar : goal.hold_after-requires-clause-bar
 hold_after-requires-clause-bar c =
     let after = ap (λ (l : Link). l.after) (sym c.at.ensures) ∙ c.in-Some.is in
-    c.loop-number.invariant.bars c.in-Some.put (c.requires.links (call_of c.args.caller c.loop-number.number) c.in-Some.put (inr after))
+    c.loop-number.invariant.bars c.in-Some.put
+    (c.requires.links (call_of c.args.caller c.loop-number.number) c.in-Some.put (inr after))
 
 pub loop-number-preserved : goal.loop-number-preserved
 loop-number-preserved c =
@@ -35,7 +39,8 @@ loop-number-preserved c =
     let known : Known = c.loop-number.known in
     let past = c.pass_preceding.new.self in
     let now = c.pass_preceding.ensures.past in
-    let later = past_wider (λ a. Precedes book a call) (λ a. Precedes book a (call_of c.args.caller (c.loop-number.number + 1))) book links past
+    let later = past_wider (λ a. Precedes book a call)
+    (λ a. Precedes book a (call_of c.args.caller (c.loop-number.number + 1))) book links past
     (λ a p. precedes_next book a c.args.caller c.loop-number.number p) now in
     elim c.match-at.branch [
       | in-Some w ↦
@@ -45,11 +50,15 @@ loop-number-preserved c =
             past = later;
             bars = λ d h. rw w.known-is (w.hold_after.ensures.bars d (i.bars d h));
             ranks = rw w.known-is (w.hold_after.ensures.ranks ∙ i.ranks);
-            right = λ init next right are. rw w.known-is (w.hold_after.ensures.right init next book (i.right init next right are)
-                (λ j some. let from = now.floor j some in are.order from.0 call (last_held past.floor j) put from.1 from.2 after)
+            right = λ init next right are. rw w.known-is
+                (w.hold_after.ensures.right init next book (i.right init next right are)
+                (λ j some. let from = now.floor j some in
+                are.order from.0 call (last_held past.floor j) put from.1 from.2 after)
                 (λ cut list early. elim now.limit [
                   | inl none ↦ absurd (none_early_at known.ranks list past.limit none early)
-                  | inr from ↦ are.covers from.0 call put from.1 after cut list (early_same known.ranks c.args.known.now.ranks list past.limit (link_at links from.0).reach i.ranks from.2 early)
+                  | inr from ↦ are.covers from.0 call put from.1 after cut list
+                      (early_same known.ranks c.args.known.now.ranks list past.limit
+                      (link_at links from.0).reach i.ranks from.2 early)
                 ]));
           }
       | in_default w ↦ record {

@@ -8,9 +8,11 @@ use Rattle.object_foresight.proofs.hold.follow_caller.Given as goal
 
 abbrev pub invariant-loop-number : goal.invariant-loop-number
 invariant-loop-number l = record {
-  past : IsPast (λ a. Precedes l.book a (record { caller = l.caller; number = l.number })) l.book l.links l.past;
+  past : IsPast (λ a. Precedes l.book a (record { caller = l.caller; number = l.number })) l.book
+      l.links l.past;
   bars : (c : Call) → IsCall l.book c → HasBar l.known c;
   ranks : l.known.ranks ≡ l.fn.known.ranks;
   right : (init : List ℕ) (next : List ℕ → ℕ → List ℕ × ℕ) → IsForesight init next l.book l.fn.known
-      → AreFollowed init next l.book l.links l.fn.known.ranks → IsForesight init next l.book l.known;
+      → AreFollowed init next l.book l.links l.fn.known.ranks
+      → IsForesight init next l.book l.known;
 }

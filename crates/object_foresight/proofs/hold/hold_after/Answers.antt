@@ -12,8 +12,11 @@ loop-caller-preserved c =
           record {
             bars = λ d h. rw w.known-is (w.hold_back.ensures.bars d (i.bars d h));
             ranks = rw w.known-is (ap (λ (k : Known). k.ranks) w.hold_back.ensures.held ∙ i.ranks);
-            right = λ init next book right first. rw w.known-is (w.hold_back.ensures.right init next book (i.right init next book right first)
-                (subst (λ (n : ℕ). MustComeFirst init next book (record { caller = caller; number = n - 1 }) c.args.put) (sym c.get-count.ensures) (first caller (omega (arith, c.get-count.ensures)))));
+            right = λ init next book right first. rw w.known-is
+                (w.hold_back.ensures.right init next book (i.right init next book right first)
+                (subst (λ (n : ℕ). MustComeFirst init next book
+                (record { caller = caller; number = n - 1 }) c.args.put) (sym c.get-count.ensures)
+                (first caller (omega (arith, c.get-count.ensures)))));
           }
       | else-count-gt0 w ↦ record {
         bars = λ d h. rw w.known-is (i.bars d h);
@@ -26,7 +29,9 @@ pub returns-then-past-gt0-clause-right : goal.returns-then-past-gt0-clause-right
 returns-then-past-gt0-clause-right c init next book right first early =
     let i = c.loop-caller.invariant in
     c.hold_back_below.ensures.right init next book (i.right init next book right first)
-    (λ cut list word. early cut list (subst (λ (ranks : List (ℕ × ℕ)). HasEarly ranks list c.args.past.now.limit) i.ranks word))
+    (λ cut list word. early cut list
+    (subst (λ (ranks : List (ℕ × ℕ)). HasEarly ranks list c.args.past.now.limit) i.ranks word))
 
 pub returns-else-past-gt0-clause-right : goal.returns-else-past-gt0-clause-right
-returns-else-past-gt0-clause-right c init next book right first early = c.loop-caller.invariant.right init next book right first
+returns-else-past-gt0-clause-right c init next book right first early =
+    c.loop-caller.invariant.right init next book right first

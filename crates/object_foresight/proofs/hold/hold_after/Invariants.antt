@@ -9,6 +9,9 @@ abbrev pub invariant-loop-caller : goal.invariant-loop-caller
 invariant-loop-caller l = record {
   bars : (c : Call) → HasBar l.fn.known c → HasBar l.known c;
   ranks : l.known.ranks ≡ l.fn.known.ranks;
-  right : (init : List ℕ) (next : List ℕ → ℕ → List ℕ × ℕ) (book : List Page) → IsForesight init next book l.fn.known
-      → ((i : ℕ) → 0 < get_or l.past.floor i 0 → MustComeFirst init next book (last_held l.past.floor i) l.put) → IsForesight init next book l.known;
+  right : (init : List ℕ) (next : List ℕ → ℕ → List ℕ × ℕ) (book : List Page)
+      → IsForesight init next book l.fn.known
+      → ((i : ℕ) → 0 < get_or l.past.floor i 0
+      → MustComeFirst init next book (last_held l.past.floor i) l.put)
+      → IsForesight init next book l.known;
 }

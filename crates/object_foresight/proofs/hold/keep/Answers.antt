@@ -8,6 +8,8 @@ loop-caller-preserved c =
     record {
       bars = c.keep_caller.ensures.bars;
       ranks = c.keep_caller.ensures.ranks ∙ i.ranks;
-      right = λ init next right are. c.keep_caller.ensures.right init next (i.right init next right are)
-          (subst (λ (ranks : List (ℕ × ℕ)). AreKept init next c.args.book.now c.args.links.now c.args.uses.now.open_from ranks) (sym i.ranks) are);
+      right =
+          λ init next right are. c.keep_caller.ensures.right init next (i.right init next right are)
+          (subst (λ (ranks : List (ℕ × ℕ)). AreKept init next c.args.book.now c.args.links.now
+          c.args.uses.now.open_from ranks) (sym i.ranks) are);
     }

@@ -6,18 +6,23 @@ use Rattle.object_foresight.proofs.hold.refuse_caller.Goals as goal
 
 pub hold_back-requires-clause-bar : goal.hold_back-requires-clause-bar
 hold_back-requires-clause-bar c =
-    let there : IsCall c.args.book.now (call_of c.args.caller c.loop-number.number) = omega (arith, c.calls-number-end.ensures) in
+    let there : IsCall c.args.book.now (call_of c.args.caller c.loop-number.number) =
+    omega (arith, c.calls-number-end.ensures) in
     c.loop-number.invariant (call_of c.args.caller c.loop-number.number) there
 
 pub hold_back-requires-clause-caller : goal.hold_back-requires-clause-caller
 hold_back-requires-clause-caller c =
-    let there : IsCall c.args.book.now (call_of c.args.caller c.loop-number.number) = omega (arith, c.calls-number-end.ensures) in
-    (small_call c.args.book.now (call_of c.args.caller c.loop-number.number) c.requires.small there).0
+    let there : IsCall c.args.book.now (call_of c.args.caller c.loop-number.number) =
+    omega (arith, c.calls-number-end.ensures) in
+    (small_call c.args.book.now
+    (call_of c.args.caller c.loop-number.number) c.requires.small there).0
 
 pub hold_back-requires-clause-number : goal.hold_back-requires-clause-number
 hold_back-requires-clause-number c =
-    let there : IsCall c.args.book.now (call_of c.args.caller c.loop-number.number) = omega (arith, c.calls-number-end.ensures) in
-    (small_call c.args.book.now (call_of c.args.caller c.loop-number.number) c.requires.small there).1
+    let there : IsCall c.args.book.now (call_of c.args.caller c.loop-number.number) =
+    omega (arith, c.calls-number-end.ensures) in
+    (small_call c.args.book.now
+    (call_of c.args.caller c.loop-number.number) c.requires.small there).1
 
 pub loop-number-preserved : goal.loop-number-preserved
 loop-number-preserved c = λ d h. c.hold_back.ensures.bars d (c.loop-number.invariant d h)

@@ -7,5 +7,6 @@ loop-number-preserved c =
     record {
       bars = c.in_ok-nest_take.ensures.bars;
       ranks = c.in_ok-nest_take.ensures.ranks ∙ i.ranks;
-      right = λ init next right are. c.in_ok-nest_take.ensures.right init next (i.right init next right are) are;
+      right = λ init next right are.
+          c.in_ok-nest_take.ensures.right init next (i.right init next right are) are;
     }

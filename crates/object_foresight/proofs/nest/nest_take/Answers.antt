@@ -12,15 +12,20 @@ pub loop-caller-preserved : goal.loop-caller-preserved
 loop-caller-preserved c =
     let i = c.loop-caller.invariant in
     let after = ap (λ (l : Link). l.after) (sym c.at.ensures) ∙ c.in-Some.is in
-    let P : Call → Type 0 = λ first. IsCall c.args.book.now first × (Precedes c.args.book.now first c.args.take × Outlasts c.args.book.now c.args.links.now c.args.uses.now.open_from first c.args.take) in
+    let P : Call → Type 0 =
+    λ first. IsCall c.args.book.now first × (Precedes c.args.book.now first c.args.take
+    × Outlasts c.args.book.now c.args.links.now c.args.uses.now.open_from first c.args.take) in
     elim c.match-found.branch [
       | in-Some-found w ↦
           let first = w.in-Some-found.first in
-          let facts : P first = subst (λ (o : Option Call). IfSome o P) w.in-Some-found.is c.in_ok-found.ensures in
+          let facts : P first =
+          subst (λ (o : Option Call). IfSome o P) w.in-Some-found.is c.in_ok-found.ensures in
           record {
             bars = λ d h. rw w.known-is (w.hold_back.ensures.bars d (i.bars d h));
             ranks = rw w.known-is (ap (λ (k : Known). k.ranks) w.hold_back.ensures.held ∙ i.ranks);
-            right = λ init next right are. rw w.known-is (w.hold_back.ensures.right init next c.args.book.now (i.right init next right are) (are c.args.take c.in-Some.put first after facts.1.0 facts.1.1));
+            right = λ init next right are. rw w.known-is
+                (w.hold_back.ensures.right init next c.args.book.now (i.right init next right are)
+                (are c.args.take c.in-Some.put first after facts.1.0 facts.1.1));
           }
       | in_default-found w ↦ record {
         bars = λ d h. rw w.known-is (i.bars d h);

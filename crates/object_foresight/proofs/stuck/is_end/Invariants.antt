@@ -5,4 +5,5 @@ use Rattle.object_foresight.specs.Stuck.{IsBlocked}
 use Rattle.object_foresight.proofs.stuck.is_end.Given as goal
 
 abbrev pub invariant-loop-caller : goal.invariant-loop-caller
-invariant-loop-caller l = (i : ℕ) → i < l.caller → IsCall l.book (next_call l.cut i) → IsBlocked l.book l.known l.cut (next_call l.cut i)
+invariant-loop-caller l = (i : ℕ) → i < l.caller → IsCall l.book (next_call l.cut i)
+    → IsBlocked l.book l.known l.cut (next_call l.cut i)

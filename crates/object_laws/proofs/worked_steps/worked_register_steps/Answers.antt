@@ -6,21 +6,26 @@ use Rattle.seq_objects.specs.Objects.{kind_next}
 use Rattle.object_laws.proofs.worked_steps.worked_register_steps.Goals as goal
 
 pub returns-clause-writes : goal.returns-clause-writes
-unfolding digits entries entry_of operation_words operation_text named_replies named_reply reply_word kind_next
+unfolding digits entries entry_of operation_words operation_text named_replies named_reply
+    reply_word kind_next
 returns-clause-writes c = record { text = refl; list = refl; reply = refl }
 
 pub returns-clause-reads : goal.returns-clause-reads
-unfolding digits entries entry_of operation_words operation_text named_replies named_reply reply_word kind_next
+unfolding digits entries entry_of operation_words operation_text named_replies named_reply
+    reply_word kind_next
 returns-clause-reads c = record { text = refl; list = refl; reply = refl }
 
 pub returns-clause-reads_an_empty_list : goal.returns-clause-reads_an_empty_list
-unfolding digits entries entry_of operation_words operation_text named_replies named_reply reply_word kind_next
+unfolding digits entries entry_of operation_words operation_text named_replies named_reply
+    reply_word kind_next
 returns-clause-reads_an_empty_list c = record { text = refl; list = refl; reply = refl }
 
 pub returns-clause-reads_the_low_bits : goal.returns-clause-reads_the_low_bits
-unfolding digits entries entry_of operation_words operation_text named_replies named_reply reply_word kind_next
+unfolding digits entries entry_of operation_words operation_text named_replies named_reply
+    reply_word kind_next
 returns-clause-reads_the_low_bits c = record { text = refl; list = refl; reply = refl }
 
 pub returns-clause-leaves_an_unknown_word : goal.returns-clause-leaves_an_unknown_word
-unfolding digits entries entry_of operation_words operation_text named_replies named_reply reply_word kind_next
+unfolding digits entries entry_of operation_words operation_text named_replies named_reply
+    reply_word kind_next
 returns-clause-leaves_an_unknown_word c = record { text = refl; list = refl; reply = refl }

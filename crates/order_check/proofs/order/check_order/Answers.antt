@@ -18,13 +18,16 @@ pub returns-in-Some-clause-fault : goal.returns-in-Some-clause-fault
 returns-in-Some-clause-fault g c =
     let init = g.S.SeqObject.init c.args.object.now in
     let next = g.S.SeqObject.next c.args.object.now in
-    first_fault init next c.args.book.now c.args.order.now c.loop-p.p c.in-Some.fault c.loop-p-test.true c.loop-p.invariant.in_place c.loop-p.invariant.given (c.in-Some.ensures.fault init next)
+    first_fault init next c.args.book.now c.args.order.now c.loop-p.p c.in-Some.fault
+    c.loop-p-test.true c.loop-p.invariant.in_place c.loop-p.invariant.given
+    (c.in-Some.ensures.fault init next)
 
 pub returns-in-Some-clause-accepted : goal.returns-in-Some-clause-accepted
 returns-in-Some-clause-accepted g c legal =
     let init = g.S.SeqObject.init c.args.object.now in
     let next = g.S.SeqObject.next c.args.object.now in
-    absurd (legal_orders_fail_no_test init next c.args.book.now c.args.order.now legal c.in-Some.fault (c.in-Some.ensures.fault init next).fails)
+    absurd (legal_orders_fail_no_test init next c.args.book.now c.args.order.now legal
+    c.in-Some.fault (c.in-Some.ensures.fault init next).fails)
 
 pub op-requires : goal.op-requires
 op-requires g c =
@@ -32,7 +35,8 @@ op-requires g c =
     let p = c.loop-p.p in
     let here : Place = get_or order p no_place in
     let at : slice_get order p ≡ Some here = slice_get-get_or order p no_place c.loop-p-test.true in
-    subst (IsCall c.args.book.now) (sym c.call_at.ensures) (c.in_default.ensures.none.known (call_at here) (stands_here order p here at))
+    subst (IsCall c.args.book.now) (sym c.call_at.ensures)
+    (c.in_default.ensures.none.known (call_at here) (stands_here order p here at))
 
 pub step-wanted-requires : goal.step-wanted-requires
 step-wanted-requires g c =
@@ -42,12 +46,24 @@ step-wanted-requires g c =
     let standing = c.loop-p.standing in
     let here : Place = get_or order p no_place in
     let at : slice_get order p ≡ Some here = slice_get-get_or order p no_place c.loop-p-test.true in
-    let is : IsCall book (call_at here) = c.in_default.ensures.none.known (call_at here) (stands_here order p here at) in
-    let inside : here.caller < length standing = (let there = caller_from_call book here.caller here.number is in omega (arith, c.loop-p.invariant.standing.wide)) in
-    let number = number_in_line book order p standing here c.loop-p.invariant.standing c.in_default.ensures.none at in
-    let more = standing_more book order p standing here c.loop-p.invariant.standing c.in_default.ensures.none at in
-    let few = few_stand book (raised standing here.caller) c.callers.ensures.small more.wide (made_more book standing here inside number is c.loop-p.invariant.made) in
-    omega (arith, few, sum-raised standing here.caller inside, c.loop-p.invariant.short, c.loop-p.invariant.room)
+    let is : IsCall book (call_at here) =
+    c.in_default.ensures.none.known (call_at here) (stands_here order p here at) in
+    let inside : here.caller < length standing =
+    (let there = caller_from_call book here.caller here.number is in
+    omega (arith, c.loop-p.invariant.standing.wide)) in
+    let number = number_in_line book order p standing here c.loop-p.invariant.standing
+    c.in_default.ensures.none at in
+    let more = standing_more book order p standing here c.loop-p.invariant.standing
+    c.in_default.ensures.none at in
+    let few = few_stand book (raised standing here.caller) c.callers.ensures.small more.wide
+    (made_more book standing here inside number is c.loop-p.invariant.made) in
+    omega (
+      arith,
+      few,
+      sum-raised standing here.caller inside,
+      c.loop-p.invariant.short,
+      c.loop-p.invariant.room,
+    )
 
 pub returns-then-wanted-place-clause-fault : goal.returns-then-wanted-place-clause-fault
 returns-then-wanted-place-clause-fault g c =
@@ -58,10 +74,15 @@ returns-then-wanted-place-clause-fault g c =
     let p = c.loop-p.p in
     let here : Place = get_or order p no_place in
     let at : slice_get order p ≡ Some here = slice_get-get_or order p no_place c.loop-p-test.true in
-    let op : operation_of book (call_at here) ≡ Some c.op.result = subst (λ (x : Call). operation_of book x ≡ Some c.op.result) c.call_at.ensures c.op.ensures in
-    let wanted : c.step-wanted.result ≡ reply_at init next book order p here = c.step-wanted.ensures.reply ∙ reply_more init next book order p c.op.result c.loop-p.state.words here op c.loop-p.invariant.words in
-    first_fault init next book order p (Run p c.step-wanted.result here.reply) c.loop-p-test.true c.loop-p.invariant.in_place c.loop-p.invariant.given
-    (run_first init next book order p here c.step-wanted.result at c.in_default.ensures.none wanted c.if-wanted-place.true)
+    let op : operation_of book (call_at here) ≡ Some c.op.result =
+    subst (λ (x : Call). operation_of book x ≡ Some c.op.result) c.call_at.ensures c.op.ensures in
+    let wanted : c.step-wanted.result ≡ reply_at init next book order p here =
+    c.step-wanted.ensures.reply ∙ reply_more init next book order p c.op.result c.loop-p.state.words
+    here op c.loop-p.invariant.words in
+    first_fault init next book order p (Run p c.step-wanted.result here.reply) c.loop-p-test.true
+    c.loop-p.invariant.in_place c.loop-p.invariant.given
+    (run_first init next book order p here c.step-wanted.result at c.in_default.ensures.none wanted
+    c.if-wanted-place.true)
 
 pub returns-then-wanted-place-clause-accepted : goal.returns-then-wanted-place-clause-accepted
 returns-then-wanted-place-clause-accepted g c legal =
@@ -72,9 +93,13 @@ returns-then-wanted-place-clause-accepted g c legal =
     let p = c.loop-p.p in
     let here : Place = get_or order p no_place in
     let at : slice_get order p ≡ Some here = slice_get-get_or order p no_place c.loop-p-test.true in
-    let op : operation_of book (call_at here) ≡ Some c.op.result = subst (λ (x : Call). operation_of book x ≡ Some c.op.result) c.call_at.ensures c.op.ensures in
-    let wanted : c.step-wanted.result ≡ reply_at init next book order p here = c.step-wanted.ensures.reply ∙ reply_more init next book order p c.op.result c.loop-p.state.words here op c.loop-p.invariant.words in
-    absurd (legal_orders_fail_no_test init next book order legal (Run p c.step-wanted.result here.reply) (here, at, wanted, refl, c.if-wanted-place.true))
+    let op : operation_of book (call_at here) ≡ Some c.op.result =
+    subst (λ (x : Call). operation_of book x ≡ Some c.op.result) c.call_at.ensures c.op.ensures in
+    let wanted : c.step-wanted.result ≡ reply_at init next book order p here =
+    c.step-wanted.ensures.reply ∙ reply_more init next book order p c.op.result c.loop-p.state.words
+    here op c.loop-p.invariant.words in
+    absurd (legal_orders_fail_no_test init next book order legal
+    (Run p c.step-wanted.result here.reply) (here, at, wanted, refl, c.if-wanted-place.true))
 
 pub overflow_add-place : goal.overflow_add-place
 overflow_add-place g c =
@@ -82,7 +107,11 @@ overflow_add-place g c =
     let p = c.loop-p.p in
     let here : Place = get_or order p no_place in
     let at : slice_get order p ≡ Some here = slice_get-get_or order p no_place c.loop-p-test.true in
-    omega (arith, c.in_default.ensures.none.known (call_at here) (stands_here order p here at), c.callers.ensures.small.calls here.caller)
+    omega (
+      arith,
+      c.in_default.ensures.none.known (call_at here) (stands_here order p here at),
+      c.callers.ensures.small.calls here.caller,
+    )
 
 pub loop-p-preserved : goal.loop-p-preserved
 loop-p-preserved g c =
@@ -96,27 +125,45 @@ loop-p-preserved g c =
     let here : Place = get_or order p no_place in
     let at : slice_get order p ≡ Some here = slice_get-get_or order p no_place c.loop-p-test.true in
     let in_place : IsInPlace book order p = c.in_default.ensures.none in
-    let is : IsCall book (call_at here) = in_place.known (call_at here) (stands_here order p here at) in
-    let inside : here.caller < length standing = (let there = caller_from_call book here.caller here.number is in omega (arith, before.standing.wide)) in
+    let is : IsCall book (call_at here) =
+    in_place.known (call_at here) (stands_here order p here at) in
+    let inside : here.caller < length standing = (let there =
+    caller_from_call book here.caller here.number is in omega (arith, before.standing.wide)) in
     let number = number_in_line book order p standing here before.standing in_place at in
-    let set_is : c.set.new.self ≡ raised standing here.caller = c.set.ensures ∙ ap (λ (n : ℕ). set standing here.caller (n + 1)) number in
-    let op : operation_of book (call_at here) ≡ Some c.op.result = subst (λ (x : Call). operation_of book x ≡ Some c.op.result) c.call_at.ensures c.op.ensures in
-    let words : c.step-wanted.new.state.words ≡ (next c.loop-p.state.words c.op.result).0 = ap (λ s. s.words) c.step-wanted.ensures.list in
-    let longer = g.met.S.SeqObject.grows_by_one c.args.object.now c.loop-p.state.words c.op.result in
+    let set_is : c.set.new.self ≡ raised standing here.caller =
+    c.set.ensures ∙ ap (λ (n : ℕ). set standing here.caller (n + 1)) number in
+    let op : operation_of book (call_at here) ≡ Some c.op.result =
+    subst (λ (x : Call). operation_of book x ≡ Some c.op.result) c.call_at.ensures c.op.ensures in
+    let words : c.step-wanted.new.state.words ≡ (next c.loop-p.state.words c.op.result).0 =
+    ap (λ s. s.words) c.step-wanted.ensures.list in
+    let longer =
+    g.met.S.SeqObject.grows_by_one c.args.object.now c.loop-p.state.words c.op.result in
     let wanted : reply_at init next book order p here ≡ here.reply =
-    sym (reply_more init next book order p c.op.result c.loop-p.state.words here op before.words) ∙ (sym c.step-wanted.ensures.reply ∙ c.if-wanted-place.false) in
+    sym (reply_more init next book order p c.op.result c.loop-p.state.words here op before.words)
+    ∙ (sym c.step-wanted.ensures.reply ∙ c.if-wanted-place.false) in
     record {
       room = ap (λ s. s.room) c.step-wanted.ensures.list ∙ before.room;
-      words = words ∙ list_more init next book order p c.op.result c.loop-p.state.words c.loop-p-test.true op before.words;
-      short = omega (arith, ap (λ (w : List ℕ). length w) words, longer, before.short, sum-raised standing here.caller inside, ap (λ (w : List ℕ). sum w) set_is);
-      made = subst (λ (cut : List ℕ). (i : ℕ) → get_or cut i 0 ≤ calls_of book i) (sym set_is) (made_more book standing here inside number is before.made);
-      standing = subst (IsStanding book order (p + 1)) (sym set_is) (standing_more book order p standing here before.standing in_place at);
+      words = words ∙ list_more init next book order p c.op.result c.loop-p.state.words
+          c.loop-p-test.true op before.words;
+      short = omega (
+        arith,
+        ap (λ (w : List ℕ). length w) words,
+        longer,
+        before.short,
+        sum-raised standing here.caller inside,
+        ap (λ (w : List ℕ). sum w) set_is,
+      );
+      made = subst (λ (cut : List ℕ). (i : ℕ) → get_or cut i 0 ≤ calls_of book i) (sym set_is)
+          (made_more book standing here inside number is before.made);
+      standing = subst (IsStanding book order (p + 1)) (sym set_is)
+          (standing_more book order p standing here before.standing in_place at);
       in_place = λ (k : ℕ) (less : k < p + 1). elim (cases_eq k p) [
         | inl same ↦ subst (IsInPlace book order) (sym same) in_place
         | inr other ↦ before.in_place k (omega (arith, less, other))
       ];
       given = λ (k : ℕ) (less : k < p + 1). elim (cases_eq k p) [
-        | inl same ↦ subst (IsGiven init next book order) (sym same) (given_here init next book order p here at wanted)
+        | inl same ↦ subst (IsGiven init next book order) (sym same)
+            (given_here init next book order p here at wanted)
         | inr other ↦ before.given k (omega (arith, less, other))
       ];
     }
@@ -130,11 +177,14 @@ returns-in-Some-first_missing-clause-fault g c =
     let all : c.loop-p.p ≡ length order = omega (arith, c.loop-p-test.false, c.loop-p.auto.p-end) in
     missing_first init next book order c.loop-p.standing c.in-Some-first_missing.call
     (subst (λ (n : ℕ). (k : ℕ) → k < n → IsInPlace book order k) all c.loop-p.invariant.in_place)
-    (subst (λ (n : ℕ). (k : ℕ) → k < n → IsGiven init next book order k) all c.loop-p.invariant.given)
+    (subst (λ (n : ℕ). (k : ℕ) → k < n → IsGiven init next book order k) all
+    c.loop-p.invariant.given)
     (subst (λ (n : ℕ). IsStanding book order n c.loop-p.standing) all c.loop-p.invariant.standing)
-    c.in-Some-first_missing.ensures.answered c.in-Some-first_missing.ensures.missing c.in-Some-first_missing.ensures.least
+    c.in-Some-first_missing.ensures.answered c.in-Some-first_missing.ensures.missing
+    c.in-Some-first_missing.ensures.least
 
-pub returns-in-Some-first_missing-clause-accepted : goal.returns-in-Some-first_missing-clause-accepted
+pub returns-in-Some-first_missing-clause-accepted :
+    goal.returns-in-Some-first_missing-clause-accepted
 returns-in-Some-first_missing-clause-accepted g c legal =
     let init = g.S.SeqObject.init c.args.object.now in
     let next = g.S.SeqObject.next c.args.object.now in
@@ -142,12 +192,16 @@ returns-in-Some-first_missing-clause-accepted g c legal =
     let book = c.args.book.now in
     let all : c.loop-p.p ≡ length order = omega (arith, c.loop-p-test.false, c.loop-p.auto.p-end) in
     let call : Call = c.in-Some-first_missing.call in
-    let first : IsFirstFault init next book order (Missing call.caller call.number) = missing_first init next book order c.loop-p.standing call
+    let first : IsFirstFault init next book order (Missing call.caller call.number) =
+    missing_first init next book order c.loop-p.standing call
     (subst (λ (n : ℕ). (k : ℕ) → k < n → IsInPlace book order k) all c.loop-p.invariant.in_place)
-    (subst (λ (n : ℕ). (k : ℕ) → k < n → IsGiven init next book order k) all c.loop-p.invariant.given)
+    (subst (λ (n : ℕ). (k : ℕ) → k < n → IsGiven init next book order k) all
+    c.loop-p.invariant.given)
     (subst (λ (n : ℕ). IsStanding book order n c.loop-p.standing) all c.loop-p.invariant.standing)
-    c.in-Some-first_missing.ensures.answered c.in-Some-first_missing.ensures.missing c.in-Some-first_missing.ensures.least in
-    absurd (legal_orders_fail_no_test init next book order legal (Missing call.caller call.number) first.fails)
+    c.in-Some-first_missing.ensures.answered c.in-Some-first_missing.ensures.missing
+    c.in-Some-first_missing.ensures.least in
+    absurd (legal_orders_fail_no_test init next book order legal
+    (Missing call.caller call.number) first.fails)
 
 pub returns-clause-legal : goal.returns-clause-legal
 returns-clause-legal g c =
@@ -158,6 +212,7 @@ returns-clause-legal g c =
     let all : c.loop-p.p ≡ length order = omega (arith, c.loop-p-test.false, c.loop-p.auto.p-end) in
     legal init next book order c.loop-p.standing c.callers.ensures.valid
     (subst (λ (n : ℕ). (k : ℕ) → k < n → IsInPlace book order k) all c.loop-p.invariant.in_place)
-    (subst (λ (n : ℕ). (k : ℕ) → k < n → IsGiven init next book order k) all c.loop-p.invariant.given)
+    (subst (λ (n : ℕ). (k : ℕ) → k < n → IsGiven init next book order k) all
+    c.loop-p.invariant.given)
     (subst (λ (n : ℕ). IsStanding book order n c.loop-p.standing) all c.loop-p.invariant.standing)
     c.in-None.ensures.none

@@ -27,9 +27,16 @@ returns-then-call-next-clause-fault c = λ init next.
     let p = c.args.at in
     let here : Place = get_or order p no_place in
     let at : slice_get order p ≡ Some here = slice_get-get_or order p no_place c.requires.place in
-    let is : IsCall c.args.book.now (call_at here) = subst (IsCall c.args.book.now) c.call_at-call.ensures (c.is_call.ensures.0 c.if-not-is_call.false) in
+    let is : IsCall c.args.book.now (call_at here) = subst
+    (IsCall c.args.book.now) c.call_at-call.ensures (c.is_call.ensures.0 c.if-not-is_call.false) in
     twice_first init next c.args.book.now order p c.args.standing.now here c.requires.standing at is
-    (omega (arith, c.if-call-next.true, c.get-next.ensures, ap (λ (x : Call). x.number) c.call_at-call.ensures, ap (λ (x : Call). get_or c.args.standing.now x.caller 0) c.call_at-call.ensures))
+    (omega (
+      arith,
+      c.if-call-next.true,
+      c.get-next.ensures,
+      ap (λ (x : Call). x.number) c.call_at-call.ensures,
+      ap (λ (x : Call). get_or c.args.standing.now x.caller 0) c.call_at-call.ensures,
+    ))
 
 pub returns-then-call-next-2-clause-fault : goal.returns-then-call-next-2-clause-fault
 returns-then-call-next-2-clause-fault c = λ init next.
@@ -37,9 +44,17 @@ returns-then-call-next-2-clause-fault c = λ init next.
     let p = c.args.at in
     let here : Place = get_or order p no_place in
     let at : slice_get order p ≡ Some here = slice_get-get_or order p no_place c.requires.place in
-    let is : IsCall c.args.book.now (call_at here) = subst (IsCall c.args.book.now) c.call_at-call.ensures (c.is_call.ensures.0 c.if-not-is_call.false) in
-    skipped_first init next c.args.book.now order p c.args.standing.now here c.requires.standing at is
-    (omega (arith, c.if-call-next-2.true, c.get-next.ensures, ap (λ (x : Call). x.number) c.call_at-call.ensures, ap (λ (x : Call). get_or c.args.standing.now x.caller 0) c.call_at-call.ensures))
+    let is : IsCall c.args.book.now (call_at here) = subst
+    (IsCall c.args.book.now) c.call_at-call.ensures (c.is_call.ensures.0 c.if-not-is_call.false) in
+    skipped_first init next c.args.book.now order p c.args.standing.now here
+    c.requires.standing at is
+    (omega (
+      arith,
+      c.if-call-next-2.true,
+      c.get-next.ensures,
+      ap (λ (x : Call). x.number) c.call_at-call.ensures,
+      ap (λ (x : Call). get_or c.args.standing.now x.caller 0) c.call_at-call.ensures,
+    ))
 
 pub returns-then-call-answers-clause-none : goal.returns-then-call-answers-clause-none
 returns-then-call-answers-clause-none c =
@@ -48,14 +63,30 @@ returns-then-call-answers-clause-none c =
     let book = c.args.book.now in
     let here : Place = get_or order p no_place in
     let at : slice_get order p ≡ Some here = slice_get-get_or order p no_place c.requires.place in
-    let is : IsCall book (call_at here) = subst (IsCall book) c.call_at-call.ensures (c.is_call.ensures.0 c.if-not-is_call.false) in
+    let is : IsCall book (call_at here) =
+    subst (IsCall book) c.call_at-call.ensures (c.is_call.ensures.0 c.if-not-is_call.false) in
     let number : here.number ≡ get_or c.args.standing.now here.caller 0 =
-    omega (arith, c.if-call-next.false, c.if-call-next-2.false, c.get-next.ensures, ap (λ (x : Call). x.number) c.call_at-call.ensures, ap (λ (x : Call). get_or c.args.standing.now x.caller 0) c.call_at-call.ensures) in
+    omega (
+      arith,
+      c.if-call-next.false,
+      c.if-call-next-2.false,
+      c.get-next.ensures,
+      ap (λ (x : Call). x.number) c.call_at-call.ensures,
+      ap (λ (x : Call). get_or c.args.standing.now x.caller 0) c.call_at-call.ensures,
+    ) in
     let unanswered : answers_of book here.caller ≤ here.number =
-    omega (arith, c.if-call-answers.true, c.answers.ensures, ap (λ (x : Call). x.number) c.call_at-call.ensures, ap (λ (x : Call). answers_of book x.caller) c.call_at-call.ensures) in
+    omega (
+      arith,
+      c.if-call-answers.true,
+      c.answers.ensures,
+      ap (λ (x : Call). x.number) c.call_at-call.ensures,
+      ap (λ (x : Call). answers_of book x.caller) c.call_at-call.ensures,
+    ) in
     in_place book order p c.args.standing.now here c.requires.standing at is number
-    (unanswered_in_time book order p c.args.standing.now (call_at here) c.requires.standing number unanswered)
-    (λ (r : Answer) (known : record_of book (call_at here) ≡ Some r). absurd (omega (arith, unanswered, slice_get_within _ here.number r known)))
+    (unanswered_in_time book order p c.args.standing.now
+    (call_at here) c.requires.standing number unanswered)
+    (λ (r : Answer) (known : record_of book (call_at here) ≡ Some r).
+    absurd (omega (arith, unanswered, slice_get_within _ here.number r known)))
 
 pub returns-in-Some-clause-fault : goal.returns-in-Some-clause-fault
 returns-in-Some-clause-fault c = λ init next.
@@ -64,13 +95,23 @@ returns-in-Some-clause-fault c = λ init next.
     let book = c.args.book.now in
     let here : Place = get_or order p no_place in
     let at : slice_get order p ≡ Some here = slice_get-get_or order p no_place c.requires.place in
-    let is : IsCall book (call_at here) = subst (IsCall book) c.call_at-call.ensures (c.is_call.ensures.0 c.if-not-is_call.false) in
+    let is : IsCall book (call_at here) =
+    subst (IsCall book) c.call_at-call.ensures (c.is_call.ensures.0 c.if-not-is_call.false) in
     let number : here.number ≡ get_or c.args.standing.now here.caller 0 =
-    omega (arith, c.if-call-next.false, c.if-call-next-2.false, c.get-next.ensures, ap (λ (x : Call). x.number) c.call_at-call.ensures, ap (λ (x : Call). get_or c.args.standing.now x.caller 0) c.call_at-call.ensures) in
+    omega (
+      arith,
+      c.if-call-next.false,
+      c.if-call-next-2.false,
+      c.get-next.ensures,
+      ap (λ (x : Call). x.number) c.call_at-call.ensures,
+      ap (λ (x : Call). get_or c.args.standing.now x.caller 0) c.call_at-call.ensures,
+    ) in
     let found = c.in-Some.ensures.preceded in
-    late_first init next book order p c.in-Some.earlier c.args.standing.now here c.requires.standing at is number found.0 found.1.0 found.1.1
+    late_first init next book order p c.in-Some.earlier c.args.standing.now here c.requires.standing
+    at is number found.0 found.1.0 found.1.1
     (subst (λ (x : Call). Precedes book x found.1.0) c.call_at-call.ensures found.1.2)
-    (subst (λ (x : Call). (j : ℕ) (other : Call) → j < c.in-Some.earlier → StandsAt order j other → Precedes book x other → ⊥) c.call_at-call.ensures c.in-Some.ensures.least)
+    (subst (λ (x : Call). (j : ℕ) (other : Call) → j < c.in-Some.earlier → StandsAt order j other
+    → Precedes book x other → ⊥) c.call_at-call.ensures c.in-Some.ensures.least)
 
 pub returns-then-wanted-place-clause-fault : goal.returns-then-wanted-place-clause-fault
 returns-then-wanted-place-clause-fault c = λ init next.
@@ -79,12 +120,23 @@ returns-then-wanted-place-clause-fault c = λ init next.
     let book = c.args.book.now in
     let here : Place = get_or order p no_place in
     let at : slice_get order p ≡ Some here = slice_get-get_or order p no_place c.requires.place in
-    let is : IsCall book (call_at here) = subst (IsCall book) c.call_at-call.ensures (c.is_call.ensures.0 c.if-not-is_call.false) in
+    let is : IsCall book (call_at here) =
+    subst (IsCall book) c.call_at-call.ensures (c.is_call.ensures.0 c.if-not-is_call.false) in
     let number : here.number ≡ get_or c.args.standing.now here.caller 0 =
-    omega (arith, c.if-call-next.false, c.if-call-next-2.false, c.get-next.ensures, ap (λ (x : Call). x.number) c.call_at-call.ensures, ap (λ (x : Call). get_or c.args.standing.now x.caller 0) c.call_at-call.ensures) in
-    record_first init next book order p c.args.standing.now here c.record-wanted.result c.requires.standing at is number
-    (subst (λ (x : Call). (j : ℕ) (other : Call) → j < p → StandsAt order j other → Precedes book x other → ⊥) c.call_at-call.ensures c.in_default.ensures.none)
-    (ap (record_of book) (sym c.call_at-call.ensures) ∙ c.record-wanted.ensures.record) c.if-wanted-place.true
+    omega (
+      arith,
+      c.if-call-next.false,
+      c.if-call-next-2.false,
+      c.get-next.ensures,
+      ap (λ (x : Call). x.number) c.call_at-call.ensures,
+      ap (λ (x : Call). get_or c.args.standing.now x.caller 0) c.call_at-call.ensures,
+    ) in
+    record_first init next book order p c.args.standing.now here c.record-wanted.result
+    c.requires.standing at is number
+    (subst (λ (x : Call). (j : ℕ) (other : Call) → j < p → StandsAt order j other
+    → Precedes book x other → ⊥) c.call_at-call.ensures c.in_default.ensures.none)
+    (ap (record_of book) (sym c.call_at-call.ensures) ∙ c.record-wanted.ensures.record)
+    c.if-wanted-place.true
 
 pub returns-clause-none : goal.returns-clause-none
 returns-clause-none c =
@@ -93,11 +145,21 @@ returns-clause-none c =
     let book = c.args.book.now in
     let here : Place = get_or order p no_place in
     let at : slice_get order p ≡ Some here = slice_get-get_or order p no_place c.requires.place in
-    let is : IsCall book (call_at here) = subst (IsCall book) c.call_at-call.ensures (c.is_call.ensures.0 c.if-not-is_call.false) in
+    let is : IsCall book (call_at here) =
+    subst (IsCall book) c.call_at-call.ensures (c.is_call.ensures.0 c.if-not-is_call.false) in
     let number : here.number ≡ get_or c.args.standing.now here.caller 0 =
-    omega (arith, c.if-call-next.false, c.if-call-next-2.false, c.get-next.ensures, ap (λ (x : Call). x.number) c.call_at-call.ensures, ap (λ (x : Call). get_or c.args.standing.now x.caller 0) c.call_at-call.ensures) in
+    omega (
+      arith,
+      c.if-call-next.false,
+      c.if-call-next-2.false,
+      c.get-next.ensures,
+      ap (λ (x : Call). x.number) c.call_at-call.ensures,
+      ap (λ (x : Call). get_or c.args.standing.now x.caller 0) c.call_at-call.ensures,
+    ) in
     in_place book order p c.args.standing.now here c.requires.standing at is number
-    (subst (λ (x : Call). (j : ℕ) (other : Call) → j < p → StandsAt order j other → Precedes book x other → ⊥) c.call_at-call.ensures c.in_default.ensures.none)
+    (subst (λ (x : Call). (j : ℕ) (other : Call) → j < p → StandsAt order j other
+    → Precedes book x other → ⊥) c.call_at-call.ensures c.in_default.ensures.none)
     (λ (r : Answer) (known : record_of book (call_at here) ≡ Some r).
-    let one : r ≡ c.record-wanted.result = same_Some r c.record-wanted.result (sym known ∙ (ap (record_of book) (sym c.call_at-call.ensures) ∙ c.record-wanted.ensures.record)) in
+    let one : r ≡ c.record-wanted.result = same_Some r c.record-wanted.result (sym known
+    ∙ (ap (record_of book) (sym c.call_at-call.ensures) ∙ c.record-wanted.ensures.record)) in
     ap (λ (x : Answer). x.reply) one ∙ c.if-wanted-place.false)

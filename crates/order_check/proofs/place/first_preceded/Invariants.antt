@@ -5,4 +5,5 @@ use Rattle.book_base.specs.Order.{StandsAt}
 use Rattle.order_check.proofs.place.first_preceded.Given as goal
 
 abbrev pub invariant-loop-q : goal.invariant-loop-q
-invariant-loop-q l = (j : ℕ) (other : Call) → j < l.q → StandsAt l.order j other → Precedes l.book l.call other → ⊥
+invariant-loop-q l = (j : ℕ) (other : Call) → j < l.q → StandsAt l.order j other
+    → Precedes l.book l.call other → ⊥

@@ -11,7 +11,8 @@ pub loop-i-preserved : goal.loop-i-preserved
 loop-i-preserved c =
     let values = λ (i : ℕ). last_of (get_or c.args.calls.now i None) in
     subst (IsLeastOf values (c.loop-i.i + 1)) (sym c.min-least.ensures)
-    (least-more values c.loop-i.i c.loop-i.least c.last_of.result c.loop-i.invariant c.last_of.ensures)
+    (least-more values c.loop-i.i c.loop-i.least c.last_of.result c.loop-i.invariant
+    c.last_of.ensures)
 
 pub returns : goal.returns
 returns c =

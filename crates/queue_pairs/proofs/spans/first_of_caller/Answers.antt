@@ -13,13 +13,16 @@ returns-then-number-answers c =
     let there = answer_stands book own (omega (arith, c.answers.ensures)) in
     record {
       few = omega (arith, c.moment_at.ensures.few);
-      held = λ lt. subst (IsHeldBy book c.args.call) (sym (c.moment_at.ensures.moment there.0 there.1))
-          (first-held book c.args.caller c.args.call number there.0 c.first_holding-number.ensures there.1);
+      held =
+          λ lt. subst (IsHeldBy book c.args.call) (sym (c.moment_at.ensures.moment there.0 there.1))
+          (first-held book c.args.caller c.args.call number there.0
+          c.first_holding-number.ensures there.1);
       least = λ other r at holds.
           omega (
             arith,
             c.moment_at.ensures.moment there.0 there.1,
-            first-least book c.args.caller c.args.call number other there.0 r c.requires.valid c.first_holding-number.ensures there.1 at holds,
+            first-least book c.args.caller c.args.call number other there.0 r c.requires.valid
+                c.first_holding-number.ensures there.1 at holds,
           );
     }
 
@@ -28,5 +31,6 @@ returns-else-number-answers c = record {
   few = omega arith;
   held = λ lt. absurd (omega arith);
   least = λ other r at holds. absurd
-      (none-holds c.args.book.now c.args.caller c.args.call c.first_holding-number.result other r c.first_holding-number.ensures (omega (arith, c.answers.ensures)) at holds);
+      (none-holds c.args.book.now c.args.caller c.args.call c.first_holding-number.result other r
+      c.first_holding-number.ensures (omega (arith, c.answers.ensures)) at holds);
 }

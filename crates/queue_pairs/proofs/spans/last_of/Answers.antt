@@ -13,7 +13,8 @@ returns-then-call-answers c = record {
 pub returns-else-call-answers : goal.returns-else-call-answers
 returns-else-call-answers c = record {
   answered = λ r at.
-      let there : c.args.call.number < answers_of c.args.book.now c.args.call.caller = slice_get_within _ c.args.call.number r at in
+      let there : c.args.call.number < answers_of c.args.book.now c.args.call.caller =
+      slice_get_within _ c.args.call.number r at in
       absurd (omega (arith, there, c.answers.ensures));
   few = λ answered. absurd (omega (arith, answered, c.answers.ensures));
   unanswered = λ past. search (arith);

@@ -5,14 +5,16 @@ use Rattle.queue_pairs.proofs.Spanning.{few-counts}
 use Rattle.queue_pairs.proofs.spans.moment_at.Goals as goal
 
 pub moment_of-requires-clause-small : goal.moment_of-requires-clause-small
-moment_of-requires-clause-small c = few-counts c.args.book.now c.args.call c.record.result c.requires.valid c.requires.small c.record.ensures.record
+moment_of-requires-clause-small c = few-counts c.args.book.now c.args.call c.record.result
+    c.requires.valid c.requires.small c.record.ensures.record
 
 pub moment_of-requires-clause-few : goal.moment_of-requires-clause-few
 moment_of-requires-clause-few c = omega (arith, c.record.ensures.wide, c.requires.small.callers)
 
 pub returns-clause-moment : goal.returns-clause-moment
 returns-clause-moment c = λ r at.
-    let same : c.record.result ≡ r = same_Some c.record.result r (sym c.record.ensures.record ∙ at) in
+    let same : c.record.result ≡ r =
+    same_Some c.record.result r (sym c.record.ensures.record ∙ at) in
     c.moment_of.ensures.moment ∙ ap (λ (x : Record). sum x.view) same
 
 pub returns-clause-few : goal.returns-clause-few

@@ -7,7 +7,8 @@ use Rattle.queue_pairs.proofs.table.row_of.Goals as goal
 
 pub loop-number-init : goal.loop-number-init
 loop-number-init g c = record {
-  row = subst (IsRowTo (g.R.Reader.reading c.args.reader.now) c.args.book.now c.args.caller 0) (sym c.new-row.ensures.items)
+  row = subst (IsRowTo (g.R.Reader.reading c.args.reader.now) c.args.book.now c.args.caller 0)
+      (sym c.new-row.ensures.items)
       (row-none (g.R.Reader.reading c.args.reader.now) c.args.book.now c.args.caller);
   finds = c.requires.finds;
 }
@@ -18,9 +19,12 @@ loop-number-preserved g c =
     let book = c.args.book.now in
     let h = c.loop-number.invariant in
     record {
-      row = subst (IsRowTo reading book c.args.caller (c.loop-number.number + 1)) (sym c.in_ok-push.ensures.items)
-          (row-more reading book c.args.caller c.loop-number.number c.loop-number.row.items c.timed-timed.result h.row c.timed-timed.ensures);
-      finds = finds-step reading book c.args.caller c.loop-number.number c.loop-number.finds.items c.add_find.new.finds.items c.timed-timed.result h.finds c.timed-timed.ensures
+      row = subst (IsRowTo reading book c.args.caller (c.loop-number.number + 1))
+          (sym c.in_ok-push.ensures.items)
+          (row-more reading book c.args.caller c.loop-number.number c.loop-number.row.items
+          c.timed-timed.result h.row c.timed-timed.ensures);
+      finds = finds-step reading book c.args.caller c.loop-number.number c.loop-number.finds.items
+          c.add_find.new.finds.items c.timed-timed.result h.finds c.timed-timed.ensures
           c.in_ok-add_find.ensures.found c.in_ok-add_find.ensures.other;
     }
 
@@ -29,9 +33,12 @@ returns g c =
     let reading = g.R.Reader.reading c.args.reader.now in
     let book = c.args.book.now in
     let h = c.loop-number.invariant in
-    let all : c.loop-number.number ≡ calls_of book c.args.caller = omega (arith, c.calls-number-end.ensures, c.loop-number-test.false) in
+    let all : c.loop-number.number ≡ calls_of book c.args.caller =
+    omega (arith, c.calls-number-end.ensures, c.loop-number-test.false) in
     record {
-      row = subst (λ (n : ℕ). IsRowTo reading book c.args.caller n c.loop-number.row.items) all h.row;
+      row =
+          subst (λ (n : ℕ). IsRowTo reading book c.args.caller n c.loop-number.row.items) all h.row;
       finds = finds-caller reading book c.args.caller c.loop-number.finds.items
-          (subst (λ (n : ℕ). AreFindsTo reading book c.args.caller n c.loop-number.finds.items) all h.finds);
+          (subst (λ (n : ℕ). AreFindsTo reading book c.args.caller n c.loop-number.finds.items)
+          all h.finds);
     }

@@ -14,5 +14,6 @@ returns c told =
     let at : slice_get c.args.table.now.finds.items c.args.place ≡ Some find
     = ap (λ (xs : List TimedCall). slice_get xs c.args.place) (sym all)
     ∙ (slice_get-get_or finds c.args.place find inside ∙ ap Some (sym same)) in
-    find-refutes c.args.table.now c.args.place c.args.value (find.span.first - 1) find at (omega arith) (omega arith) (omega arith)
+    find-refutes c.args.table.now c.args.place c.args.value (find.span.first - 1) find at
+    (omega arith) (omega arith) (omega arith)
     (c.puts_are_ahead.ensures told)

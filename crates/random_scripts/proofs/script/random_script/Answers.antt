@@ -14,10 +14,13 @@ is_memory (Text fault) = ⊥
 pub returns-in-Ok : goal.returns-in-Ok
 returns-in-Ok c =
     let plan = drawn_plan c.args.workload.now c.args.seed in
-    c.in-Ok.ensures.only plan (subst (λ (bytes : List ℕ). IsScriptText Second bytes plan) (sym c.deref.ensures.value) c.in_ok-text.ensures)
+    c.in-Ok.ensures.only plan (subst (λ (bytes : List ℕ). IsScriptText Second bytes plan)
+    (sym c.deref.ensures.value) c.in_ok-text.ensures)
 
 pub unreachable-requires : goal.unreachable-requires
 unreachable-requires c =
     let plan = drawn_plan c.args.workload.now c.args.seed in
-    let wanted : c.in-Err-Text.field-0 ≡ NoMemory = c.in-Err-Text.ensures.only plan (subst (λ (bytes : List ℕ). IsScriptText Second bytes plan) (sym c.deref.ensures.value) c.in_ok-text.ensures) in
+    let wanted : c.in-Err-Text.field-0 ≡ NoMemory =
+    c.in-Err-Text.ensures.only plan (subst (λ (bytes : List ℕ). IsScriptText Second bytes plan)
+    (sym c.deref.ensures.value) c.in_ok-text.ensures) in
     subst is_memory (sym wanted ∙ c.in-Err-Text.field-0-is) tt

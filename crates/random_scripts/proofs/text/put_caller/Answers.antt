@@ -12,11 +12,14 @@ loop-number-preserved c =
     let w = c.args.workload.now in
     let l = c.loop-number in
     let f : ℕ → ℕ = drawn_operation w c.args.key c.args.caller in
-    let words = call_words w.kind (record { caller = c.args.caller; number = l.number }) (f l.number) in
+    let words =
+    call_words w.kind (record { caller = c.args.caller; number = l.number }) (f l.number) in
     record {
-      calls = lines_drawn (call_line w.kind c.args.caller) f c.args.out.now.items l.out.items c.put_call.new.out.items l.number l.invariant.calls
+      calls = lines_drawn (call_line w.kind c.args.caller) f c.args.out.now.items l.out.items
+          c.put_call.new.out.items l.number l.invariant.calls
           (one_line l.out.items c.put_call.new.out.items words c.in_ok-put_call.ensures.call);
-      words = all_drawn (λ (op : ℕ). op < 2 ^ 128) f l.number l.invariant.words c.put_call.ensures.word;
+      words =
+          all_drawn (λ (op : ℕ). op < 2 ^ 128) f l.number l.invariant.words c.put_call.ensures.word;
     }
 
 pub returns-clause-calls : goal.returns-clause-calls
@@ -24,11 +27,14 @@ returns-clause-calls c =
     let w = c.args.workload.now in
     let l = c.loop-number in
     let all : l.number ≡ w.calls = omega arith in
-    l.invariant.calls ∙ ap (λ (n : ℕ). c.args.out.now.items ++ text_of (by_number (call_line w.kind c.args.caller) 0 (map (drawn_operation w c.args.key c.args.caller) (range_with_len 0 n)))) all
+    l.invariant.calls ∙ ap
+    (λ (n : ℕ). c.args.out.now.items ++ text_of (by_number (call_line w.kind c.args.caller) 0
+    (map (drawn_operation w c.args.key c.args.caller) (range_with_len 0 n)))) all
 
 pub returns-clause-words : goal.returns-clause-words
 returns-clause-words c =
     let w = c.args.workload.now in
     let l = c.loop-number in
     let all : l.number ≡ w.calls = omega arith in
-    subst (λ (n : ℕ). AllByRecursion (λ op. op < 2 ^ 128) (map (drawn_operation w c.args.key c.args.caller) (range_with_len 0 n))) all l.invariant.words
+    subst (λ (n : ℕ). AllByRecursion (λ op. op < 2 ^ 128)
+    (map (drawn_operation w c.args.key c.args.caller) (range_with_len 0 n))) all l.invariant.words

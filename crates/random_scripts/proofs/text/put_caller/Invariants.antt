@@ -7,6 +7,9 @@ use Rattle.random_scripts.proofs.text.put_caller.Given as goal
 
 abbrev pub invariant-loop-number : goal.invariant-loop-number
 invariant-loop-number l = record {
-  calls : l.out.items ≡ l.initial.out.items ++ text_of (by_number (call_line l.workload.kind l.caller) 0 (map (drawn_operation l.workload l.key l.caller) (range_with_len 0 l.number)));
-  words : AllByRecursion (λ op. op < 2 ^ 128) (map (drawn_operation l.workload l.key l.caller) (range_with_len 0 l.number));
+  calls : l.out.items
+      ≡ l.initial.out.items ++ text_of (by_number (call_line l.workload.kind l.caller) 0
+      (map (drawn_operation l.workload l.key l.caller) (range_with_len 0 l.number)));
+  words : AllByRecursion (λ op. op < 2 ^ 128)
+      (map (drawn_operation l.workload l.key l.caller) (range_with_len 0 l.number));
 }

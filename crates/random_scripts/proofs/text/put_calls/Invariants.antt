@@ -7,6 +7,8 @@ use Rattle.random_scripts.proofs.text.put_calls.Given as goal
 
 abbrev pub invariant-loop-caller : goal.invariant-loop-caller
 invariant-loop-caller l = record {
-  calls : l.out.items ≡ l.initial.out.items ++ text_of (by_number (caller_lines l.workload.kind) 0 (map (drawn_operations l.workload l.key) (range_with_len 0 l.caller)));
-  words : AllByRecursion (AllByRecursion (λ op. op < 2 ^ 128)) (map (drawn_operations l.workload l.key) (range_with_len 0 l.caller));
+  calls : l.out.items ≡ l.initial.out.items ++ text_of (by_number (caller_lines l.workload.kind) 0
+      (map (drawn_operations l.workload l.key) (range_with_len 0 l.caller)));
+  words : AllByRecursion (AllByRecursion (λ op. op < 2 ^ 128))
+      (map (drawn_operations l.workload l.key) (range_with_len 0 l.caller));
 }

@@ -14,6 +14,8 @@ returns-clause-none g c has =
     let next : List ℕ → ℕ → List ℕ × ℕ = g.S.SeqObject.next c.args.object.now in
     let book : List Page = c.in_ok-book.book in
     let lines = c.args.report.now.lines in
-    let one = books_at_are_one (book_of_lines lines) (delivered_cut_of lines) has.0 book has.1 c.in_ok-book.ensures in
-    let none : HasLegalOrder init next book → ⊥ = subst (λ (v : Verdict). IsRight init next book v) c.in-Illegal.is c.in_ok-order.ensures.verdict in
+    let one = books_at_are_one (book_of_lines lines)
+    (delivered_cut_of lines) has.0 book has.1 c.in_ok-book.ensures in
+    let none : HasLegalOrder init next book → ⊥ = subst
+    (λ (v : Verdict). IsRight init next book v) c.in-Illegal.is c.in_ok-order.ensures.verdict in
     none (subst (λ (b : List Page). HasLegalOrder init next b) one has.2)

@@ -6,5 +6,6 @@ use Rattle.report_certificates.proofs.delivered.delivered_cut.Given as goal
 abbrev pub invariant-loop-caller : goal.invariant-loop-caller
 invariant-loop-caller l = record {
   wide : length l.greatest ≡ length l.report.lines;
-  counts : (i : ℕ) → get_or l.greatest i 0 ≡ greatest_count (delivered_cuts (take l.caller l.report.lines)) i;
+  counts : (i : ℕ)
+      → get_or l.greatest i 0 ≡ greatest_count (delivered_cuts (take l.caller l.report.lines)) i;
 }

@@ -7,5 +7,6 @@ use Rattle.report_certificates.proofs.delivered.raise_by_lines.Given as goal
 abbrev pub invariant-loop-number : goal.invariant-loop-number
 invariant-loop-number l = record {
   wide : length l.greatest ≡ length l.report.lines;
-  counts : (i : ℕ) → get_or l.greatest i 0 ≡ max (get_or l.fn.greatest i 0) (greatest_count (delivered_cuts_in (take l.number (lines_at l.report.lines l.caller))) i);
+  counts : (i : ℕ) → get_or l.greatest i 0 ≡ max (get_or l.fn.greatest i 0)
+      (greatest_count (delivered_cuts_in (take l.number (lines_at l.report.lines l.caller))) i);
 }

@@ -15,5 +15,12 @@ returns-clause-unlawful c h =
     let phases = locals_have_phases pair locals (h.reached.0, h.reached.1, refl) in
     let low : 0 < 2 = omega arith in
     let two : 2 ≡ length (calls_in l) =
-    ap (λ (calls : List (List Made)). length (slice_index_or calls 0 [])) h.reached.2.calls ∙ ap (λ (own : List Made). length own) (calls_at locals 0) in
-    absurd (omega (arith, two, length-map-range_with_len (λ k. call_in l k) 0 (length l.operations), (phases.1 0 low).operations, phases.2 0 N low))
+    ap (λ (calls : List (List Made)). length (slice_index_or calls 0 [])) h.reached.2.calls
+    ∙ ap (λ (own : List Made). length own) (calls_at locals 0) in
+    absurd (omega (
+      arith,
+      two,
+      length-map-range_with_len (λ k. call_in l k) 0 (length l.operations),
+      (phases.1 0 low).operations,
+      phases.2 0 N low,
+    ))

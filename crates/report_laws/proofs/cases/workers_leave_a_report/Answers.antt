@@ -11,10 +11,12 @@ pub returns-clause-worked : goal.returns-clause-worked
 returns-clause-worked c = both_worked
 
 pub returns-clause-lawful : goal.returns-clause-lawful
-returns-clause-lawful c = workers_are_lawful [] tenfold pair five_and_six (4 ∷ 5 ∷ []) (locals_after one_judging) one_unchecked judging_together both_worked
+returns-clause-lawful c = workers_are_lawful [] tenfold pair five_and_six (4 ∷ 5 ∷ [])
+    (locals_after one_judging) one_unchecked judging_together both_worked
 
 pub returns-clause-unpublished : goal.returns-clause-unpublished
-returns-clause-unpublished c h = let low : 1 ≤ 0 = h.seen.within (call 1 0) (1 ∷ 1 ∷ []) refl 0 in absurd (omega (arith, low))
+returns-clause-unpublished c h = let low : 1 ≤ 0 = h.seen.within (call 1 0) (1 ∷ 1 ∷ []) refl 0 in
+    absurd (omega (arith, low))
 
 pub returns-clause-unread : goal.returns-clause-unread
 returns-clause-unread c = unread

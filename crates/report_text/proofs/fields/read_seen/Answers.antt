@@ -5,4 +5,5 @@ use Rattle.report_text.proofs.fields.read_seen.Goals as goal
 
 pub returns-in-Some-clause-none : goal.returns-in-Some-clause-none
 returns-in-Some-clause-none c =
-    inr (after_pairs (pair_words 0 c.in_ok-cut.cut) c.read_pairs.new.words c.args.words.now _ _ c.in_ok-cut.ensures.found.2 c.in-Some.ensures c.in_ok-cut.ensures.whole)
+    inr (after_pairs (pair_words 0 c.in_ok-cut.cut) c.read_pairs.new.words c.args.words.now _ _
+    c.in_ok-cut.ensures.found.2 c.in-Some.ensures c.in_ok-cut.ensures.whole)

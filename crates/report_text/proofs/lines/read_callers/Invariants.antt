@@ -11,7 +11,9 @@ use Rattle.report_text.proofs.lines.read_callers.Given as goal
 
 abbrev pub invariant-loop-i : goal.invariant-loop-i
 invariant-loop-i l = record {
-  goes : GoesTo report_rules (InLines l.kind l.calls [] (all_calls 0 l.calls)) l.fn.lines (InLines l.kind l.calls (joined (lines_in l.callers.items)) (all_calls l.i (drop l.i l.calls))) l.lines;
+  goes : GoesTo report_rules (InLines l.kind l.calls [] (all_calls 0 l.calls)) l.fn.lines
+      (InLines l.kind l.calls (joined (lines_in l.callers.items))
+      (all_calls l.i (drop l.i l.calls))) l.lines;
   draft : IsDraft l.calls (joined (lines_in l.callers.items)) l.draft;
   sizes : sizes (lines_in l.callers.items) ≡ take l.i l.calls;
   wide : IsWide l.draft;

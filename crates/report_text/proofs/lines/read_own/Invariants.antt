@@ -8,7 +8,9 @@ use Rattle.report_text.proofs.lines.read_own.Given as goal
 
 abbrev pub invariant-loop-number : goal.invariant-loop-number
 invariant-loop-number l = record {
-  read : (counts : List ℕ) (told : List Line) (more : List Call) → IsDraft counts told l.fn.draft → StandBefore counts told l.i 0 → AreReadTo l.kind counts told l.i l.count l.number more l.fn.lines l.own.items l.draft l.lines;
+  read : (counts : List ℕ) (told : List Line) (more : List Call) → IsDraft counts told l.fn.draft
+      → StandBefore counts told l.i 0 → AreReadTo l.kind counts told l.i l.count l.number more
+      l.fn.lines l.own.items l.draft l.lines;
   count : length l.own.items ≡ l.number;
   wide : IsWide l.draft;
   calls : (j : ℕ) → calls_of l.draft.book j ≡ calls_of l.fn.draft.book j;

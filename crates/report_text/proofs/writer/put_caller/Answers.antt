@@ -19,11 +19,17 @@ loop-number-preserved c =
     let call : Call = record { caller = c.args.caller; number = k } in
     let line = c.line.result.now in
     let middle = c.loop-number.out.items in
-    let written = c.in_ok-put_line.ensures ∙ ap (λ (kind : Kind). middle ++ line_text (line_words kind call line)) c.kind.ensures
-    ∙ ap (λ (l : Line). middle ++ line_text (line_words kind call l)) (sym (get_or_from_slice_get own k line line c.line.ensures)) in
-    part_more (call_line kind c.args.caller) c.args.out.now.items middle c.put_line.new.out.items own line k (omega arith) c.loop-number.invariant (one_line middle c.put_line.new.out.items (line_words kind call (get_or own k line)) written)
+    let written = c.in_ok-put_line.ensures
+    ∙ ap (λ (kind : Kind). middle ++ line_text (line_words kind call line)) c.kind.ensures
+    ∙ ap (λ (l : Line). middle ++ line_text (line_words kind call l))
+    (sym (get_or_from_slice_get own k line line c.line.ensures)) in
+    part_more (call_line kind c.args.caller) c.args.out.now.items middle c.put_line.new.out.items
+    own line k (omega arith) c.loop-number.invariant
+    (one_line middle c.put_line.new.out.items (line_words kind call (get_or own k line)) written)
 
 pub returns : goal.returns
 returns c =
     let own = lines_at c.args.report.now.lines c.args.caller in
-    c.loop-number.invariant ∙ ap (λ (ls : List Line). c.args.out.now.items ++ text_of (by_number (call_line c.args.report.now.kind c.args.caller) 0 ls)) (take_all c.loop-number.number own (omega arith))
+    c.loop-number.invariant ∙ ap (λ (ls : List Line). c.args.out.now.items
+    ++ text_of (by_number (call_line c.args.report.now.kind c.args.caller) 0 ls))
+    (take_all c.loop-number.number own (omega arith))

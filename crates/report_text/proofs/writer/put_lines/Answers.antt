@@ -9,9 +9,13 @@ use Rattle.report_text.proofs.writer.put_lines.Goals as goal
 
 pub loop-caller-preserved : goal.loop-caller-preserved
 loop-caller-preserved c =
-    part_more (caller_lines c.args.report.now.kind) c.args.out.now.items c.loop-caller.out.items c.put_caller.new.out.items c.args.report.now.lines [] c.loop-caller.caller (omega arith) c.loop-caller.invariant c.in_ok-put_caller.ensures
+    part_more (caller_lines c.args.report.now.kind) c.args.out.now.items c.loop-caller.out.items
+    c.put_caller.new.out.items c.args.report.now.lines [] c.loop-caller.caller
+    (omega arith) c.loop-caller.invariant c.in_ok-put_caller.ensures
 
 pub returns : goal.returns
 returns c =
     let lines = c.args.report.now.lines in
-    c.loop-caller.invariant ∙ ap (λ (ls : List (List Line)). c.args.out.now.items ++ text_of (by_number (caller_lines c.args.report.now.kind) 0 ls)) (take_all c.loop-caller.caller lines (omega arith))
+    c.loop-caller.invariant ∙ ap (λ (ls : List (List Line)).
+    c.args.out.now.items ++ text_of (by_number (caller_lines c.args.report.now.kind) 0 ls))
+    (take_all c.loop-caller.caller lines (omega arith))

@@ -5,4 +5,5 @@ use Rattle.reports.specs.Grammar.{caller_lines}
 use Rattle.report_text.proofs.writer.put_lines.Given as goal
 
 abbrev pub invariant-loop-caller : goal.invariant-loop-caller
-invariant-loop-caller l = l.out.items ≡ l.initial.out.items ++ text_of (by_number (caller_lines l.report.kind) 0 (take l.caller l.report.lines))
+invariant-loop-caller l = l.out.items ≡ l.initial.out.items
+    ++ text_of (by_number (caller_lines l.report.kind) 0 (take l.caller l.report.lines))

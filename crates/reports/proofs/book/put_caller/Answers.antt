@@ -13,12 +13,14 @@ use Rattle.reports.proofs.Filling.{filling_begins, filling_ends, filling_more, c
 use Rattle.reports.proofs.book.put_caller.Goals as goal
 
 pub loop-number-init : goal.loop-number-init
-loop-number-init c = c.requires.filled ∙ filling_begins (lines_in c.args.callers.now) c.args.caller (omega (arith, c.requires.caller, length-map c.args.callers.now (λ (o : Own). o.lines.items)))
+loop-number-init c = c.requires.filled ∙ filling_begins (lines_in c.args.callers.now) c.args.caller
+    (omega (arith, c.requires.caller, length-map c.args.callers.now (λ (o : Own). o.lines.items)))
 
 pub put_line-requires-clause-call : goal.put_line-requires-clause-call
 put_line-requires-clause-call c =
     let lines = lines_in c.args.callers.now in
-    let low : c.args.caller < length lines = omega (arith, c.requires.caller, length-map c.args.callers.now (λ (o : Own). o.lines.items)) in
+    let low : c.args.caller < length lines =
+    omega (arith, c.requires.caller, length-map c.args.callers.now (λ (o : Own). o.lines.items)) in
     omega (
       arith,
       c.loop-number-test.true,
@@ -32,10 +34,14 @@ put_line-requires-clause-may c =
     let lines = lines_in c.args.callers.now in
     let k = c.loop-number.number in
     let line = c.index-own-number.result in
-    let low : c.args.caller < length lines = omega (arith, c.requires.caller, length-map c.args.callers.now (λ (o : Own). o.lines.items)) in
+    let low : c.args.caller < length lines =
+    omega (arith, c.requires.caller, length-map c.args.callers.now (λ (o : Own). o.lines.items)) in
     let there : slice_get (lines_at lines c.args.caller) k ≡ Some line =
-    ap (λ (own : List Line). slice_get own k) (sym c.lines_of-own.ensures) ∙ slice_get-get_or c.lines_of-own.result.now k line c.loop-number-test.true ∙ ap (λ (x : Line). Some x) (sym c.index-own-number.is) in
-    subst (λ (b : List Page). MayTake b (record { caller = c.args.caller; number = k }) line) (sym c.loop-number.invariant)
+    ap (λ (own : List Line). slice_get own k) (sym c.lines_of-own.ensures)
+    ∙ slice_get-get_or c.lines_of-own.result.now k line c.loop-number-test.true
+    ∙ ap (λ (x : Line). Some x) (sym c.index-own-number.is) in
+    subst (λ (b : List Page). MayTake b (record { caller = c.args.caller; number = k }) line)
+    (sym c.loop-number.invariant)
     (may_take lines c.args.caller k line low c.requires.lines.valid c.requires.lines.answered there)
 
 pub loop-number-preserved : goal.loop-number-preserved
@@ -44,14 +50,25 @@ loop-number-preserved c =
     let k = c.loop-number.number in
     let line = c.index-own-number.result in
     let call : Call = record { caller = c.args.caller; number = k } in
-    let low : c.args.caller < length lines = omega (arith, c.requires.caller, length-map c.args.callers.now (λ (o : Own). o.lines.items)) in
+    let low : c.args.caller < length lines =
+    omega (arith, c.requires.caller, length-map c.args.callers.now (λ (o : Own). o.lines.items)) in
     let there : slice_get (lines_at lines c.args.caller) k ≡ Some line =
-    ap (λ (own : List Line). slice_get own k) (sym c.lines_of-own.ensures) ∙ slice_get-get_or c.lines_of-own.result.now k line c.loop-number-test.true ∙ ap (λ (x : Line). Some x) (sym c.index-own-number.is) in
-    c.in_ok-put_line.ensures ∙ (ap (λ (b : List Page). with_line_of b call line) c.loop-number.invariant ∙ filling_more lines c.args.caller k line low c.requires.lines.answered there)
+    ap (λ (own : List Line). slice_get own k) (sym c.lines_of-own.ensures)
+    ∙ slice_get-get_or c.lines_of-own.result.now k line c.loop-number-test.true
+    ∙ ap (λ (x : Line). Some x) (sym c.index-own-number.is) in
+    c.in_ok-put_line.ensures
+    ∙ (ap (λ (b : List Page). with_line_of b call line) c.loop-number.invariant
+    ∙ filling_more lines c.args.caller k line low c.requires.lines.answered there)
 
 pub returns : goal.returns
 returns c =
     let lines = lines_in c.args.callers.now in
-    let low : c.args.caller < length lines = omega (arith, c.requires.caller, length-map c.args.callers.now (λ (o : Own). o.lines.items)) in
+    let low : c.args.caller < length lines =
+    omega (arith, c.requires.caller, length-map c.args.callers.now (λ (o : Own). o.lines.items)) in
     c.loop-number.invariant
-    ∙ filling_ends lines c.args.caller c.loop-number.number low (omega (arith, c.loop-number-test.false, c.loop-number.auto.number-end, ap length c.lines_of-own.ensures)) c.requires.lines.valid
+    ∙ filling_ends lines c.args.caller c.loop-number.number low (omega (
+      arith,
+      c.loop-number-test.false,
+      c.loop-number.auto.number-end,
+      ap length c.lines_of-own.ensures,
+    )) c.requires.lines.valid

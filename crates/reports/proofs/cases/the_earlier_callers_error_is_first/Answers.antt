@@ -6,7 +6,10 @@ use Rattle.reports.proofs.cases.the_earlier_callers_error_is_first.Goals as goal
 pub returns-clause-first : goal.returns-clause-first
 returns-clause-first c = record {
   error = refl;
-  first = λ other before. elim before [ inl lower ↦ absurd (omega (arith, lower)) | inr earlier ↦ absurd (omega (arith, earlier.1)) ];
+  first = λ other before. elim before [
+    | inl lower ↦ absurd (omega (arith, lower))
+    | inr earlier ↦ absurd (omega (arith, earlier.1))
+  ];
 }
 
 pub returns-clause-second : goal.returns-clause-second

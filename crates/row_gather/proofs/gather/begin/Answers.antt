@@ -13,7 +13,8 @@ returns c =
     (λ g there holds. elim c.match-gathered.branch [
       | in-Some+else-holds_all w ↦
           let same : w.in-Some.kept ≡ g = same_Some w.in-Some.kept g (sym w.in-Some.is ∙ there) in
-          false≢true (sym w.if-holds_all.false ∙ w.holds_all.ensures.1 (subst (λ (k : Gathered). HoldsAll c.args.cut.now k.book) (sym same) holds))
+          false≢true (sym w.if-holds_all.false ∙ w.holds_all.ensures.1
+          (subst (λ (k : Gathered). HoldsAll c.args.cut.now k.book) (sym same) holds))
       | in_default w ↦ w.in_default.not-Some g there
     ])
     c.new.ensures

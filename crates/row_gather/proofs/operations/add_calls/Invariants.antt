@@ -10,6 +10,7 @@ invariant-loop-j g l = record {
   alone : PeeksAlone g.P.Program.meaning l.rows l.fn.caller l.caller l.fn.steps l.steps;
   ticks : TicksForCalls l.fn.book l.book l.fn.steps l.steps;
   same : HasPeekedCalls (local_with l.caller) l.fn.book l.book;
-  done : (i : ℕ) → i < l.j → calls_of l.book i ≡ max (calls_of l.fn.book i) (slice_index l.counts i);
+  done : (i : ℕ) → i < l.j
+      → calls_of l.book i ≡ max (calls_of l.fn.book i) (slice_index l.counts i);
   rest : (i : ℕ) → l.j ≤ i → calls_of l.book i ≡ calls_of l.fn.book i;
 }

@@ -8,6 +8,8 @@ use Rattle.row_gather.proofs.records.peek_records.Given as goal
 abbrev pub invariant-loop-j : goal.invariant-loop-j
 invariant-loop-j g l = record {
   alone : PeeksAlone g.P.Program.meaning l.rows l.fn.caller l.caller l.fn.steps l.steps;
-  ticks : TicksForRecords l.rows.callers (sum (take l.j (answered l.book))) (sum (take l.j l.cut)) l.fn.steps l.steps;
-  lists : ArePeekedTo l.rows.callers (local_with l.caller) l.book l.cut l.j (map (λ records. records.items) l.lists.items);
+  ticks : TicksForRecords l.rows.callers (sum (take l.j (answered l.book)))
+      (sum (take l.j l.cut)) l.fn.steps l.steps;
+  lists : ArePeekedTo l.rows.callers (local_with l.caller) l.book l.cut l.j
+      (map (λ records. records.items) l.lists.items);
 }

@@ -7,5 +7,6 @@ abbrev pub invariant-loop-number : goal.invariant-loop-number
 invariant-loop-number g l = record {
   alone : PeeksAlone g.P.Program.meaning l.rows l.fn.caller l.caller l.fn.steps l.steps;
   ticks : TicksForRecords l.rows.callers l.from l.number l.fn.steps l.steps;
-  records : ArePeekedRecords l.rows.callers (local_with l.caller) l.j l.from l.number l.records.items;
+  records : ArePeekedRecords l.rows.callers
+      (local_with l.caller) l.j l.from l.number l.records.items;
 }

@@ -14,12 +14,17 @@ pub stage-requires-clause-due : goal.stage-requires-clause-due
 stage-requires-clause-due g c =
     let l : Local = local_with c.args.caller.now in
     let s = shape_of g.P.Program.meaning c.args.rows.now in
-    let staged : List Staged = staged_from c.args.first (take c.loop-k.k c.args.words.now) l.staged in
+    let staged : List Staged =
+    staged_from c.args.first (take c.loop-k.k c.args.words.now) l.staged in
     let word : ℕ = slice_index c.args.words.now c.loop-k.k in
     let due = c.requires.due c.loop-k.k c.loop-k-test.true in
-    let same = stage_same s (who_of c.loop-k.caller) l staged c.args.region (c.args.first + c.loop-k.k) word in
-    subst (λ (m : Local). IsTrue (is_enabled s (who_of c.loop-k.caller) m (Stage c.args.region (c.args.first + c.loop-k.k) word))) (sym c.loop-k.invariant.staged)
-    (same ∙ subst (λ (i : ℕ). IsTrue (is_enabled s i l (Stage c.args.region (c.args.first + c.loop-k.k) word))) (sym c.loop-k.invariant.still.1) due)
+    let same =
+    stage_same s (who_of c.loop-k.caller) l staged c.args.region (c.args.first + c.loop-k.k) word in
+    subst (λ (m : Local). IsTrue (is_enabled s (who_of c.loop-k.caller) m
+    (Stage c.args.region (c.args.first + c.loop-k.k) word))) (sym c.loop-k.invariant.staged)
+    (same ∙ subst
+    (λ (i : ℕ). IsTrue (is_enabled s i l (Stage c.args.region (c.args.first + c.loop-k.k) word)))
+    (sym c.loop-k.invariant.still.1) due)
 
 pub loop-k-preserved : goal.loop-k-preserved
 loop-k-preserved g c =
@@ -29,6 +34,9 @@ loop-k-preserved g c =
       stance = c.stage.ensures.stance ∙ c.loop-k.invariant.stance;
       staged =
           c.stage.ensures.event
-          ∙ ap (λ (m : Local). local_after c.args.rows.now.callers m (Stage c.args.region (c.args.first + c.loop-k.k) (slice_index c.args.words.now c.loop-k.k))) c.loop-k.invariant.staged
-          ∙ ap (with_staged l) (sym (next_word c.args.first c.args.words.now l.staged c.loop-k.k c.loop-k-test.true));
+          ∙ ap (λ (m : Local). local_after c.args.rows.now.callers m (Stage c.args.region
+          (c.args.first + c.loop-k.k) (slice_index c.args.words.now c.loop-k.k)))
+          c.loop-k.invariant.staged
+          ∙ ap (with_staged l)
+          (sym (next_word c.args.first c.args.words.now l.staged c.loop-k.k c.loop-k-test.true));
     }

@@ -8,5 +8,6 @@ invariant-loop-k g l =
     record {
       still : IsStill g.P.Program.meaning l.rows l.initial.caller l.caller;
       stance : stance_of l.caller ≡ stance_of l.initial.caller;
-      staged : local_with l.caller ≡ with_staged (local_with l.initial.caller) (staged_from l.first (take l.k l.words) (local_with l.initial.caller).staged);
+      staged : local_with l.caller ≡ with_staged (local_with l.initial.caller)
+          (staged_from l.first (take l.k l.words) (local_with l.initial.caller).staged);
     }

@@ -4,7 +4,8 @@ use mathlib.Core.Option.{some, some-injective, some-ne-none}
 use lib.ListN.{get_elem?}
 use Rattle.row_table.proofs.rows.copied.Goals as goal
 
-one_more : {A : Type 0} (xs : List A) (i : ℕ) (x : A) → get_elem? xs i ≡ some x → take (suc i) xs ≡ take i xs ++ x ∷ []
+one_more : {A : Type 0} (xs : List A) (i : ℕ) (x : A) → get_elem? xs i ≡ some x
+    → take (suc i) xs ≡ take i xs ++ x ∷ []
 one_more [] i x e = absurd (some-ne-none x (sym e))
 one_more (y ∷ xs) zero x e = ap (λ z. z ∷ []) (some-injective y x e)
 one_more (y ∷ xs) (suc i) x e = ap (λ zs. y ∷ zs) (one_more xs i x e)

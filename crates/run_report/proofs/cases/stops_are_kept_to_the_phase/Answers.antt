@@ -14,7 +14,11 @@ use Rattle.report_laws.proofs.Worked.{stopped_together, stopped_lines}
 use Rattle.run_report.proofs.cases.stops_are_kept_to_the_phase.Goals as goal
 
 published_together : AreTogether pair (locals_after (announced_both ++ published_one))
-published_together = (end_of pair (announced_both ++ published_one), (announced_both ++ published_one, refl, refl), refl)
+published_together = (
+  end_of pair (announced_both ++ published_one),
+  (announced_both ++ published_one, refl, refl),
+  refl,
+)
 
 published_lines : AreLinesOf [] silent (locals_after (announced_both ++ published_one)) stopped
 published_lines = record { calls = refl; judged = stopped_lines.judged }
@@ -22,14 +26,21 @@ published_lines = record { calls = refl; judged = stopped_lines.judged }
 recorded : HaveMade pair five_and_six (3 ∷ 2 ∷ []) (locals_after (take 24 two_calls)) stopped
 recorded = search rules
 
-published : HaveMade pair five_and_six (4 ∷ 2 ∷ []) (locals_after (announced_both ++ published_one)) stopped
+published : HaveMade pair five_and_six (4 ∷ 2 ∷ [])
+    (locals_after (announced_both ++ published_one)) stopped
 published = search rules
 
 -- the second caller was asked, and its program allows each reply
-asked_second : (first : ℕ) → (first % 5 ≡ 3) ⊎ (first % 5 ≡ 4) → (locals : List Local) (i : ℕ) → i < 2
-    → KeepsAsked pair.program i (phases_of (slice_index (first ∷ 2 ∷ []) i) (lines_at stopped i)) (local_at locals i)
-asked_second first late locals zero low = record { unasked = λ e. absurd (omega (arith, e, late)); asked = λ e. absurd (omega (arith, e, late)) }
-asked_second first late locals (suc zero) low = record { unasked = λ e. absurd (omega (arith, e)); asked = λ e. (0, refl) }
+asked_second : (first : ℕ) → (first % 5 ≡ 3) ⊎ (first % 5 ≡ 4)
+    → (locals : List Local) (i : ℕ) → i < 2
+    → KeepsAsked pair.program i (phases_of (slice_index (first ∷ 2 ∷ []) i) (lines_at stopped i))
+    (local_at locals i)
+asked_second first late locals zero low = record {
+  unasked = λ e. absurd (omega (arith, e, late));
+  asked = λ e. absurd (omega (arith, e, late));
+}
+asked_second first late locals (suc zero) low =
+    record { unasked = λ e. absurd (omega (arith, e)); asked = λ e. (0, refl) }
 asked_second first late locals (suc (suc i)) low = absurd (omega (arith, low))
 
 pub returns-clause-recorded : goal.returns-clause-recorded
@@ -39,7 +50,8 @@ returns-clause-recorded c = record {
   lines = stopped_lines;
   made = recorded.made;
   asked = asked_second 3 (inl refl) (locals_after (take 24 two_calls));
-  lawful = worlds_are_lawful [] silent pair five_and_six (3 ∷ 2 ∷ []) (locals_after (take 24 two_calls)) stopped stopped_together stopped_lines recorded;
+  lawful = worlds_are_lawful [] silent pair five_and_six (3 ∷ 2 ∷ [])
+      (locals_after (take 24 two_calls)) stopped stopped_together stopped_lines recorded;
 }
 
 pub returns-clause-published : goal.returns-clause-published
@@ -49,11 +61,15 @@ returns-clause-published c = record {
   lines = published_lines;
   made = published.made;
   asked = asked_second 4 (inr refl) (locals_after (announced_both ++ published_one));
-  lawful = worlds_are_lawful [] silent pair five_and_six (4 ∷ 2 ∷ []) (locals_after (announced_both ++ published_one)) stopped published_together published_lines published;
+  lawful = worlds_are_lawful [] silent pair five_and_six (4 ∷ 2 ∷ [])
+      (locals_after (announced_both ++ published_one)) stopped published_together
+      published_lines published;
 }
 
 pub returns-clause-unpublished : goal.returns-clause-unpublished
-returns-clause-unpublished c h = let e : 0 ≡ 1 = (h.made 0 (omega arith)).published in absurd (omega (arith, e))
+returns-clause-unpublished c h = let e : 0 ≡ 1 = (h.made 0 (omega arith)).published in
+    absurd (omega (arith, e))
 
 pub returns-clause-published_too_soon : goal.returns-clause-published_too_soon
-returns-clause-published_too_soon c h = let e : 1 ≡ 0 = (h.made 0 (omega arith)).published in absurd (omega (arith, e))
+returns-clause-published_too_soon c h = let e : 1 ≡ 0 = (h.made 0 (omega arith)).published in
+    absurd (omega (arith, e))

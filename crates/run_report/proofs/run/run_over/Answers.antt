@@ -20,5 +20,8 @@ returns-clause-told g c =
     let told = g.B.Pass.ObjectPass.told in
     let allotments = run_allotments plan in
     let passes = c.run_asked.new.passes.items in
-    if_ok_as c.run_asked.result (λ (report : Findings). AreInOrder (IsCountedIn (own_count made cap told) allotments report) passes)
-    (λ (report : Findings). AreInOrder (IsToldIn made told allotments report) passes) (λ report all. counted_told made cap told allotments report passes all) c.run_asked.ensures.counted
+    if_ok_as c.run_asked.result (λ (report : Findings).
+    AreInOrder (IsCountedIn (own_count made cap told) allotments report) passes)
+    (λ (report : Findings). AreInOrder (IsToldIn made told allotments report) passes)
+    (λ report all. counted_told made cap told allotments report passes all)
+    c.run_asked.ensures.counted

@@ -5,4 +5,5 @@ use Rattle.selfcheck.proofs.arguments.behaviour_named.Goals as goal
 
 pub returns : goal.returns
 returns c =
-    behaviour_read c.as_bytes.result.now c.from_name.result c.from_name.ensures.found c.from_name.ensures.none ∙ ap behaviour_named c.as_bytes.ensures.value
+    behaviour_read c.as_bytes.result.now c.from_name.result c.from_name.ensures.found
+    c.from_name.ensures.none ∙ ap behaviour_named c.as_bytes.ensures.value

@@ -11,4 +11,6 @@ returns c =
     let word : List ℕ = codes "fault" in
     let words : List (List ℕ) = fault_words c.args.fault in
     let e1 : m1 ≡ word = c.in_ok-out.ensures.items_if_clones_equal (λ x y h. h) in
-    line_ends [] m2 c.push.new.self.items word words (more_words [] m1 m2 word [] words (first_word [] m1 word e1) c.in_ok-put_words.ensures) c.in_ok-push.ensures.items
+    line_ends [] m2 c.push.new.self.items word words
+    (more_words [] m1 m2 word [] words (first_word [] m1 word e1) c.in_ok-put_words.ensures)
+    c.in_ok-push.ensures.items

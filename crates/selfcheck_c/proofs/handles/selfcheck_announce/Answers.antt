@@ -7,5 +7,6 @@ returns-then-announce-clause-when c = (λ _. c.announce.ensures.when.0 c.if-anno
 
 pub returns-then-announce-clause-begun : goal.returns-then-announce-clause-begun
 returns-then-announce-clause-begun c = λ _.
-    subst (λ (op : ℕ). Begins op (handle_in c.args.slot.now) (handle_in c.announce.new.slot)) c.join.ensures
+    subst (λ (op : ℕ). Begins op (handle_in c.args.slot.now) (handle_in c.announce.new.slot))
+    c.join.ensures
     (c.announce.ensures.begun c.if-announce.true)

@@ -7,8 +7,10 @@ returns-then-put-clause-text c = λ _.
     let text = rw c.in-Ok-Some.field-0-is at c.in-Ok-Some.ensures.text in
     let items = c.in-Ok-Some.text.items in
     let counted : c.len.result ≡ length items = omega (arith, c.len.ensures) in
-    let same : c.len.result ≡ length c.deref.result.now = counted ∙ ap (λ (l : List ℕ). length l) (sym c.deref.ensures.value) in
+    let same : c.len.result ≡ length c.deref.result.now =
+    counted ∙ ap (λ (l : List ℕ). length l) (sym c.deref.ensures.value) in
     let written : take c.len.result c.put.new.buffer ≡ items =
-    ap (λ (n : ℕ). take n c.put.new.buffer) same ∙ c.put.ensures.put c.if-put.true ∙ c.deref.ensures.value
+    ap (λ (n : ℕ). take n c.put.new.buffer) same ∙ c.put.ensures.put c.if-put.true
+    ∙ c.deref.ensures.value
     in
     subst (λ (bytes : List ℕ). Witnesses (handle_in c.args.slot.now) bytes) (sym written) text

@@ -7,9 +7,11 @@ returns-then-put-clause-smaller c = λ _.
     let found = rw c.in-Ok-Some.field-0-is at c.in-Ok-Some.ensures.smaller in
     let items = c.in-Ok-Some.smaller.items in
     let counted : c.len.result ≡ length items = omega (arith, c.len.ensures) in
-    let same : c.len.result ≡ length c.deref.result.now = counted ∙ ap (λ (l : List ℕ). length l) (sym c.deref.ensures.value) in
+    let same : c.len.result ≡ length c.deref.result.now =
+    counted ∙ ap (λ (l : List ℕ). length l) (sym c.deref.ensures.value) in
     let written : take c.len.result c.put.new.buffer ≡ items =
-    ap (λ (n : ℕ). take n c.put.new.buffer) same ∙ c.put.ensures.put c.if-put.true ∙ c.deref.ensures.value
+    ap (λ (n : ℕ). take n c.put.new.buffer) same ∙ c.put.ensures.put c.if-put.true
+    ∙ c.deref.ensures.value
     in
     subst (λ (bytes : List ℕ). IsSmallerWitness c.args.text.now bytes) (sym written) found
 

@@ -9,8 +9,10 @@ use Rattle.seq_objects.proofs.reply.named.Goals as goal
 pub returns : goal.returns
 unfolding named_reply
 returns c =
-    let found : option_copied c.find.result ≡ find (λ e. nat_eq c.args.reply e.word) c.all_named.result.now =
-    find_from_yields_List (λ e. nat_eq c.args.reply e.word) _ _ c.find.result c.find.ensures.ran (YieldsList-from_slice c.all_named.result.now cc) (λ x b q k. search (rules, tests)) in
+    let found : option_copied c.find.result
+    ≡ find (λ e. nat_eq c.args.reply e.word) c.all_named.result.now =
+    find_from_yields_List (λ e. nat_eq c.args.reply e.word) _ _ c.find.result c.find.ensures.ran
+    (YieldsList-from_slice c.all_named.result.now cc) (λ x b q k. search (rules, tests)) in
     ap (option_map shown) (c.copied.ensures ∙ found)
     ∙ sym (find-map shown (λ e. nat_eq c.args.reply e.word) c.all_named.result.now)
     ∙ ap (find (λ e. nat_eq c.args.reply e.word)) c.all_named.ensures

@@ -14,8 +14,12 @@ loop-caller-preserved c =
     let rest = picked (digits / 2) (drop (at + 1) callers) in
     elim c.if-digits-eq1.branch [
       | then-digits-eq1+in_ok-push w ↦
-          ap (λ v. v.items ++ rest) w.part-is ∙ (ap (λ (x : List ℕ). x ++ rest) w.in_ok-push.ensures.items
-          ∙ (picked-step_in part digits callers at (get_or callers at 0) c.loop-caller-test.true refl w.if-digits-eq1.true ∙ c.loop-caller.invariant))
+          ap (λ v. v.items ++ rest) w.part-is
+          ∙ (ap (λ (x : List ℕ). x ++ rest) w.in_ok-push.ensures.items
+          ∙ (picked-step_in part digits callers at (get_or callers at 0) c.loop-caller-test.true
+          refl w.if-digits-eq1.true ∙ c.loop-caller.invariant))
       | else-digits-eq1 w ↦
-          ap (λ v. v.items ++ rest) w.part-is ∙ (picked-step_out part digits callers at c.loop-caller-test.true (ne_eqb (digits % 2) 1 w.if-digits-eq1.false) ∙ c.loop-caller.invariant)
+          ap (λ v. v.items ++ rest) w.part-is
+          ∙ (picked-step_out part digits callers at c.loop-caller-test.true
+          (ne_eqb (digits % 2) 1 w.if-digits-eq1.false) ∙ c.loop-caller.invariant)
     ]

@@ -14,10 +14,14 @@ returns-in_err-op-clause-none c = rw c.from_residual.ensures (λ op small nothin
 pub returns-then-knows-clause-none : goal.returns-then-knows-clause-none
 returns-then-knows-clause-none c = λ op small nothing e.
     let low : IsOperationWord c.in_ok-op.op = omega arith in
-    let same = (Spells-once Counter (c.args.word.now ∷ []) op c.in_ok-op.op 0 c.in_ok-op._used small low (spells_other c.args.word.now op nothing e) c.in_ok-op.ensures.found).0 in
+    let same = (Spells-once Counter (c.args.word.now ∷ []) op c.in_ok-op.op 0 c.in_ok-op._used small
+    low (spells_other c.args.word.now op nothing e) c.in_ok-op.ensures.found).0 in
     both_ways (is_join op) nothing (ap is_join same ∙ (sym c.knows.ensures ∙ c.if-knows.true))
 
 pub returns-else-knows-clause-found : goal.returns-else-knows-clause-found
 returns-else-knows-clause-found c =
-    let nothing : is_join c.in_ok-op.op ≡ false = sym c.knows.ensures ∙ c.if-knows.false in
-    (omega arith, nothing, other_spelled c.args.word.now c.in_ok-op.op c.in_ok-op._used nothing c.in_ok-op.ensures.found)
+    let nothing : is_join c.in_ok-op.op ≡ false = sym c.knows.ensures ∙ c.if-knows.false in (
+      omega arith,
+      nothing,
+      other_spelled c.args.word.now c.in_ok-op.op c.in_ok-op._used nothing c.in_ok-op.ensures.found,
+    )

@@ -8,6 +8,8 @@ pub returns-else-within : goal.returns-else-within
 returns-else-within c =
     inr (
       refl,
-      earlier_second c.args.book.now c.requires.valid c.args.a c.args.b c.record.result c.record-2.result c.record.ensures.record c.record-2.ensures.record
-          (λ (within : IsWithin c.record.result.view c.record-2.result.view). false≢true (sym c.if-within.false ∙ c.within.ensures.1 within)),
+      earlier_second c.args.book.now c.requires.valid c.args.a c.args.b c.record.result
+          c.record-2.result c.record.ensures.record c.record-2.ensures.record
+          (λ (within : IsWithin c.record.result.view c.record-2.result.view).
+          false≢true (sym c.if-within.false ∙ c.within.ensures.1 within)),
     )

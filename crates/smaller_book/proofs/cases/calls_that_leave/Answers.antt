@@ -13,4 +13,5 @@ pub returns-clause-takes : goal.returns-clause-takes
 returns-clause-takes c = λ (leaves : Leaves line_next 0 6). one_is_not_none 6 (leaves (6 ∷ []) refl)
 
 pub returns-clause-takes_none : goal.returns-clause-takes_none
-returns-clause-takes_none c = λ (leaves : Leaves line_next 0 0). one_is_not_none 0 (leaves (0 ∷ []) refl)
+returns-clause-takes_none c =
+    λ (leaves : Leaves line_next 0 0). one_is_not_none 0 (leaves (0 ∷ []) refl)

@@ -14,14 +14,17 @@ few_counts zero = omega arith
 few_counts (suc zero) = omega arith
 few_counts (suc (suc i)) = omega arith
 
-few : (caller number : ℕ) (r : Record) (i : ℕ) → slice_get (page_of one_open caller).records number ≡ Some r → get_or r.view i 0 ≤ answers_of one_open i + 1
+few : (caller number : ℕ) (r : Record) (i : ℕ) → slice_get (page_of one_open caller).records number
+    ≡ Some r → get_or r.view i 0 ≤ answers_of one_open i + 1
 few zero number r i e = let none = slice_get_within [] number r e in absurd (omega (arith, none))
 few (suc zero) zero r i e =
     let it : Record = answer (reply_value 7) (1 ∷ 1 ∷ []) in
     let same : it ≡ r = same_Some it r e in
     subst (λ (s : Record). get_or s.view i 0 ≤ answers_of one_open i + 1) same (few_counts i)
-few (suc zero) (suc number) r i e = let none = slice_get_within [] number r e in absurd (omega (arith, none))
-few (suc (suc caller)) number r i e = let none = slice_get_within [] number r e in absurd (omega (arith, none))
+few (suc zero) (suc number) r i e = let none = slice_get_within [] number r e in
+    absurd (omega (arith, none))
+few (suc (suc caller)) number r i e = let none = slice_get_within [] number r e in
+    absurd (omega (arith, none))
 
 pub returns-clause-two : goal.returns-clause-two
 returns-clause-two c = λ holds.

@@ -7,4 +7,6 @@ use Rattle.smaller_book.proofs.composing.numbers_through.Given as goal
 
 abbrev pub invariant-loop-caller : goal.invariant-loop-caller
 invariant-loop-caller l =
-    numbers_in l.rows.items ≡ map (λ (i : ℕ). picked (numbers_of (numbers_in l.first) i) (numbers_of (numbers_in l.second) i)) (range_with_len 0 l.caller)
+    numbers_in l.rows.items ≡ map
+    (λ (i : ℕ). picked (numbers_of (numbers_in l.first) i) (numbers_of (numbers_in l.second) i))
+    (range_with_len 0 l.caller)

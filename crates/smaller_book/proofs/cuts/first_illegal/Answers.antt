@@ -6,5 +6,7 @@ use Rattle.smaller_book.proofs.cuts.first_illegal.Goals as goal
 
 pub loop-low-init : goal.loop-low-init
 loop-low-init c =
-    subst (IsIllegalCut (kind_init c.args.kind) (kind_next c.args.kind) c.args.book.now) (sym c.all_records-cut.ensures)
-    (illegal_at_all (kind_init c.args.kind) (kind_next c.args.kind) c.args.book.now c.callers-callers.ensures.valid c.requires)
+    subst (IsIllegalCut (kind_init c.args.kind) (kind_next c.args.kind) c.args.book.now)
+    (sym c.all_records-cut.ensures)
+    (illegal_at_all (kind_init c.args.kind)
+    (kind_next c.args.kind) c.args.book.now c.callers-callers.ensures.valid c.requires)

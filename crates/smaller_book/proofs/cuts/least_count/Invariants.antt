@@ -9,7 +9,8 @@ abbrev pub invariant-loop-low : goal.invariant-loop-low
 invariant-loop-low l =
     (l.low ≤ l.high) × (l.high ≤ get_or l.cut l.caller 0)
     × IsIllegalCut (kind_init l.kind) (kind_next l.kind) l.book (set l.cut l.caller l.high)
-    × ((l.low ≡ 0) ⊎ HasLegalOrder (kind_init l.kind) (kind_next l.kind) (book_at (set l.cut l.caller (l.low - 1)) l.book))
+    × ((l.low ≡ 0) ⊎ HasLegalOrder (kind_init l.kind) (kind_next l.kind)
+    (book_at (set l.cut l.caller (l.low - 1)) l.book))
 
 abbrev pub decreases-loop-low : goal.decreases-loop-low
 decreases-loop-low l = l.high - l.low

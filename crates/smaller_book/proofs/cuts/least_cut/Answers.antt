@@ -13,13 +13,16 @@ loop-caller-preserved c =
     let cut = c.loop-caller.least in
     let i = c.loop-caller.caller in
     let count = c.in_ok-count.count in
-    let P : List ℕ → Type 0 = λ new. IsIllegalCut init next book new × ((j : ℕ) → j < i + 1 → IsLeastAt init next book new j) in
+    let P : List ℕ → Type 0 = λ new. IsIllegalCut init next book new
+    × ((j : ℕ) → j < i + 1 → IsLeastAt init next book new j) in
     let whole : P (set cut i count) = (
       c.in_ok-count.ensures.illegal,
       λ (j : ℕ) (less : j < i + 1). elim (cases_eq j i) [
-        | inl e ↦ subst (λ (k : ℕ). IsLeastAt init next book (set cut i count) k) (sym e) c.in_ok-count.ensures.least
+        | inl e ↦ subst (λ (k : ℕ). IsLeastAt init next book (set cut i count) k)
+            (sym e) c.in_ok-count.ensures.least
         | inr other ↦
-            least_stays init next book cut i j count c.callers-caller-end.ensures.valid other c.in_ok-count.ensures.few
+            least_stays init next book cut i j count c.callers-caller-end.ensures.valid other
+            c.in_ok-count.ensures.few
             (c.loop-caller.invariant.1 j (omega (arith, less, other)))
       ],
     ) in

@@ -23,8 +23,10 @@ returns c =
     let whole : IsSmaller kind book (all_numbers part) part = record {
       is_part = is;
       wide = length-map-range_with_len kept_by 0 (length part) ∙ is.callers;
-      evidence = evidence_from_all kind book part (carried_to_cut (kind_next kind) book cut part valid c.in_ok-cut.ensures.within c.in_ok-part.ensures);
-      illegal = illegal_from_cut (kind_init kind) (kind_next kind) book cut part valid c.in_ok-cut.ensures c.in_ok-part.ensures;
+      evidence = evidence_from_all kind book part (carried_to_cut (kind_next kind) book cut part
+          valid c.in_ok-cut.ensures.within c.in_ok-part.ensures);
+      illegal = illegal_from_cut (kind_init kind)
+          (kind_next kind) book cut part valid c.in_ok-cut.ensures c.in_ok-part.ensures;
       fewer = size-less_at book (all_numbers part) part fewer.0 is fewer.1;
     } in
     subst (λ names. IsSmaller kind book names part) (sym c.in_ok-numbers.ensures) whole

@@ -10,8 +10,11 @@ loop-number-preserved c =
     let i = c.args.caller in
     let n = c.loop-number.number in
     let keys : ℕ → Bool = keys_from_to c.args.first c.args.last in
-    let stays : ℕ → Bool = λ number. not (is_among keys (key_of_call c.args.kind book (record { caller = i; number = number }))) in
+    let stays : ℕ → Bool = λ number.
+    not (is_among keys (key_of_call c.args.kind book (record { caller = i; number = number }))) in
     c.in_ok-push_if.ensures
-    ∙ (ap (λ (xs : List ℕ). xs ++ (if not c.is_from_to-out.result then n ∷ [] else [])) c.loop-number.invariant
-    ∙ (ap (λ (b : Bool). filter stays (range_with_len 0 n) ++ (if not b then n ∷ [] else [])) (c.is_from_to-out.ensures ∙ ap (is_among keys) c.key_of-key.ensures)
+    ∙ (ap (λ (xs : List ℕ). xs ++ (if not c.is_from_to-out.result then n ∷ [] else []))
+    c.loop-number.invariant
+    ∙ (ap (λ (b : Bool). filter stays (range_with_len 0 n) ++ (if not b then n ∷ [] else []))
+    (c.is_from_to-out.ensures ∙ ap (is_among keys) c.key_of-key.ensures)
     ∙ sym (filter_range-more stays n)))

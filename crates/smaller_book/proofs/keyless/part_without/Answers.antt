@@ -9,18 +9,21 @@ pub part-requires : goal.part-requires
 part-requires c =
     let book = c.args.book.now in
     subst (λ rows. AreNumbersOf book (numbers_in rows)) (sym c.deref.ensures.value)
-    (subst (AreNumbersOf book) (sym c.in_ok-numbers.ensures) (all_without_are_numbers c.args.kind (keys_from_to c.args.first c.args.last) book))
+    (subst (AreNumbersOf book) (sym c.in_ok-numbers.ensures)
+    (all_without_are_numbers c.args.kind (keys_from_to c.args.first c.args.last) book))
 
 pub returns-clause-part : goal.returns-clause-part
 returns-clause-part c =
     let book = c.args.book.now in
     let small = c.in_ok-smaller.smaller in
     subst (λ names. IsPart book names small) c.in_ok-numbers.ensures
-    (subst (λ rows. IsPart book (numbers_in rows) small) c.deref.ensures.value c.in_ok-smaller.ensures.part)
+    (subst (λ rows. IsPart book (numbers_in rows) small) c.deref.ensures.value
+    c.in_ok-smaller.ensures.part)
 
 pub returns-clause-answers : goal.returns-clause-answers
 returns-clause-answers c =
     let book = c.args.book.now in
     let small = c.in_ok-smaller.smaller in
     subst (λ names. KeepsAnswers book names small) c.in_ok-numbers.ensures
-    (subst (λ rows. KeepsAnswers book (numbers_in rows) small) c.deref.ensures.value c.in_ok-smaller.ensures.answers)
+    (subst (λ rows. KeepsAnswers book (numbers_in rows) small) c.deref.ensures.value
+    c.in_ok-smaller.ensures.answers)

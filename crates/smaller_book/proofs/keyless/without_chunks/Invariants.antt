@@ -4,4 +4,5 @@ use Rattle.smaller_book.specs.Minimal.{IsSmaller}
 use Rattle.smaller_book.proofs.keyless.without_chunks.Given as goal
 
 abbrev pub invariant-loop-chunk : goal.invariant-loop-chunk
-invariant-loop-chunk l = IfSome l.fewest (λ smaller. IsSmaller l.kind l.book (numbers_in smaller.numbers.items) smaller.book)
+invariant-loop-chunk l = IfSome l.fewest
+    (λ smaller. IsSmaller l.kind l.book (numbers_in smaller.numbers.items) smaller.book)

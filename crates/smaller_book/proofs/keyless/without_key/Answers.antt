@@ -12,16 +12,28 @@ returns-then-branch-clause-smaller c =
     let kind = c.args.kind in
     let key = c.args.key in
     let smaller = c.in_ok-smaller.smaller in
-    let is : IsPart book (all_without kind (keys_from_to key key) book) smaller.book = c.in_ok-smaller.ensures.part in
-    let goes : is_among (keys_from_to key key) (key_of_call kind book c.args.call) ≡ true = ap (is_among (keys_from_to key key)) c.requires.key ∙ own_key key in
+    let is : IsPart book (all_without kind (keys_from_to key key) book) smaller.book =
+    c.in_ok-smaller.ensures.part in
+    let goes : is_among (keys_from_to key key) (key_of_call kind book c.args.call) ≡ true =
+    ap (is_among (keys_from_to key key)) c.requires.key ∙ own_key key in
     record {
-      is_part = subst (λ names. IsPart book names smaller.book) (sym c.in_ok-smaller.ensures.numbers) is;
-      wide = ap length c.in_ok-smaller.ensures.numbers ∙ (all_without_are_numbers kind (keys_from_to key key) book).wide;
-      evidence = (keys_from_to key key, has_one_without_keys kind (keys_from_to key key) book smaller.book c.requires.open is);
+      is_part =
+          subst (λ names. IsPart book names smaller.book) (sym c.in_ok-smaller.ensures.numbers) is;
+      wide = ap length c.in_ok-smaller.ensures.numbers
+          ∙ (all_without_are_numbers kind (keys_from_to key key) book).wide;
+      evidence = (
+        keys_from_to key key,
+        has_one_without_keys kind (keys_from_to key key) book smaller.book c.requires.open is,
+      );
       illegal = c.in_ok-is_illegal.ensures.illegal c.if-branch.true;
-      fewer = size-less_without kind (keys_from_to key key) book c.args.call smaller.book c.requires.call goes is;
+      fewer = size-less_without kind
+          (keys_from_to key key) book c.args.call smaller.book c.requires.call goes is;
     }
 
 pub returns-else-branch-clause-none : goal.returns-else-branch-clause-none
-returns-else-branch-clause-none c =
-    (c.in_ok-smaller.smaller.book, c.in_ok-smaller.ensures.part, c.in_ok-smaller.ensures.answers, c.in_ok-is_illegal.ensures.legal c.if-branch.false)
+returns-else-branch-clause-none c = (
+  c.in_ok-smaller.smaller.book,
+  c.in_ok-smaller.ensures.part,
+  c.in_ok-smaller.ensures.answers,
+  c.in_ok-is_illegal.ensures.legal c.if-branch.false,
+)

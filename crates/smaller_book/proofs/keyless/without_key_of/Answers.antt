@@ -5,7 +5,8 @@ use Rattle.smaller_book.specs.Minimal.{IsKeyNeeded}
 use Rattle.smaller_book.proofs.keyless.without_key_of.Goals as goal
 
 -- what is so where none is found, is so where more follows from it
-none_then : {X E : Type 0} (r : Result (Option X) E) (P Q : Type 0) → (P → Q) → IfOk r (λ o. IfNone o P) → IfOk r (λ o. IfNone o Q)
+none_then : {X E : Type 0} (r : Result (Option X) E) (P Q : Type 0) → (P → Q)
+    → IfOk r (λ o. IfNone o P) → IfOk r (λ o. IfNone o Q)
 none_then (Ok (Some x)) P Q f h = h
 none_then (Ok None) P Q f h = f h
 none_then (Err e) P Q f h = h
@@ -15,6 +16,8 @@ returns-in-Some-clause-none c =
     let kind = c.args.kind in
     let book = c.args.book.now in
     let key = c.in-Some.key in
-    let All : Type 0 = (k : ℕ) → key_of_call kind book c.args.call ≡ Some k → IsKeyNeeded kind book k in
+    let All : Type 0 = (k : ℕ) → key_of_call kind book c.args.call ≡ Some k
+    → IsKeyNeeded kind book k in
     none_then c.without_key.result (IsKeyNeeded kind book key) All
-    (λ needed k known. subst (λ (j : ℕ). IsKeyNeeded kind book j) (same_Some key k (sym c.in-Some.is ∙ (c.key_of.ensures ∙ known))) needed) c.without_key.ensures.none
+    (λ needed k known. subst (λ (j : ℕ). IsKeyNeeded kind book j) (same_Some key k
+    (sym c.in-Some.is ∙ (c.key_of.ensures ∙ known))) needed) c.without_key.ensures.none

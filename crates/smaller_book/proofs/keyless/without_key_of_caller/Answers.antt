@@ -13,9 +13,13 @@ loop-number-preserved c number key below known =
     let n = c.loop-number.number in
     elim (cases_eq number n) [
       | inl e ↦
-          let all : (k : ℕ) → key_of_call kind book (record { caller = i; number = n }) ≡ Some k → IsKeyNeeded kind book k
-          = subst (λ o. IfNone o ((k : ℕ) → key_of_call kind book (record { caller = i; number = n }) ≡ Some k → IsKeyNeeded kind book k)) c.in-None.is c.in_ok-found.ensures.none in
-          let P : ℕ → Type 0 = λ m. key_of_call kind book (record { caller = i; number = m }) ≡ Some key → IsKeyNeeded kind book key in
+          let all : (k : ℕ) → key_of_call kind book (record { caller = i; number = n }) ≡ Some k
+          → IsKeyNeeded kind book k
+          = subst
+          (λ o. IfNone o ((k : ℕ) → key_of_call kind book (record { caller = i; number = n })
+          ≡ Some k → IsKeyNeeded kind book k)) c.in-None.is c.in_ok-found.ensures.none in
+          let P : ℕ → Type 0 = λ m. key_of_call kind book (record { caller = i; number = m })
+          ≡ Some key → IsKeyNeeded kind book key in
           subst P (sym e) (all key) known
       | inr other ↦ c.loop-number.invariant number key (omega (arith, below, other)) known
     ]

@@ -14,9 +14,12 @@ loop-caller-preserved c call key below inside known =
     let i = c.loop-caller.caller in
     elim (cases_eq call.caller i) [
       | inl e ↦
-          let All : Type 0 = (number k : ℕ) → number < calls_of book i → key_of_call kind book (record { caller = i; number = number }) ≡ Some k → IsKeyNeeded kind book k in
+          let All : Type 0 = (number k : ℕ) → number < calls_of book i
+          → key_of_call kind book (record { caller = i; number = number }) ≡ Some k
+          → IsKeyNeeded kind book k in
           let all : All = subst (λ o. IfNone o All) c.in-None.is c.in_ok-found.ensures.none in
-          let P : ℕ → Type 0 = λ j. call.number < calls_of book j → key_of_call kind book (record { caller = j; number = call.number }) ≡ Some key → IsKeyNeeded kind book key in
+          let P : ℕ → Type 0 = λ j. call.number < calls_of book j → key_of_call kind book
+          (record { caller = j; number = call.number }) ≡ Some key → IsKeyNeeded kind book key in
           subst P (sym e) (all call.number key) inside known
       | inr other ↦ c.loop-caller.invariant call key (omega (arith, below, other)) inside known
     ]
@@ -24,4 +27,5 @@ loop-caller-preserved c call key below inside known =
 pub returns-clause-none : goal.returns-clause-none
 returns-clause-none c one_open call key inside known =
     let here = caller_from_call c.args.book.now call.caller call.number inside in
-    c.loop-caller.invariant call key (omega (arith, here, c.callers-caller-end.ensures.count)) inside known
+    c.loop-caller.invariant call key
+    (omega (arith, here, c.callers-caller-end.ensures.count)) inside known

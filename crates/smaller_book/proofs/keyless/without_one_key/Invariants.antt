@@ -6,4 +6,5 @@ use Rattle.smaller_book.specs.Minimal.{IsKeyNeeded}
 use Rattle.smaller_book.proofs.keyless.without_one_key.Given as goal
 
 abbrev pub invariant-loop-caller : goal.invariant-loop-caller
-invariant-loop-caller l = (call : Call) (key : ℕ) → call.caller < l.caller → IsCall l.book call → key_of_call l.kind l.book call ≡ Some key → IsKeyNeeded l.kind l.book key
+invariant-loop-caller l = (call : Call) (key : ℕ) → call.caller < l.caller → IsCall l.book call
+    → key_of_call l.kind l.book call ≡ Some key → IsKeyNeeded l.kind l.book key

@@ -15,9 +15,15 @@ returns-then-branch c =
     let is : IsPart book (all_without kind keys book) smaller.book = c.in_ok-smaller.ensures.part in
     let fewer = c.has_fewer.ensures c.if-not-has_fewer.false in
     record {
-      is_part = subst (λ names. IsPart book names smaller.book) (sym c.in_ok-smaller.ensures.numbers) is;
-      wide = ap length c.in_ok-smaller.ensures.numbers ∙ (all_without_are_numbers kind keys book).wide;
-      evidence = (keys, has_one_without_keys kind keys book smaller.book (c.has_one_open.ensures.one c.if-not-has_one_open.false) is);
+      is_part =
+          subst (λ names. IsPart book names smaller.book) (sym c.in_ok-smaller.ensures.numbers) is;
+      wide =
+          ap length c.in_ok-smaller.ensures.numbers ∙ (all_without_are_numbers kind keys book).wide;
+      evidence = (
+        keys,
+        has_one_without_keys kind keys book smaller.book
+            (c.has_one_open.ensures.one c.if-not-has_one_open.false) is,
+      );
       illegal = c.in_ok-is_illegal.ensures.illegal c.if-branch.true;
       fewer = size-less_at book (all_without kind keys book) smaller.book fewer.0 is fewer.1;
     }

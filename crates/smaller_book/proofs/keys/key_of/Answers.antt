@@ -8,5 +8,7 @@ returns c =
     let kind = c.args.kind in
     let book = c.args.book.now in
     c.key_of_step.ensures
-    ∙ (ap (λ (o : Option ℕ). key_of_step kind (unwrap_or o 0) c.reply_of-reply.result) (sym c.op-op.ensures)
-    ∙ ap (λ (r : Option ℕ). key_of_step kind (unwrap_or (operation_of book c.args.call) 0) r) c.reply_of-reply.ensures)
+    ∙ (ap (λ (o : Option ℕ). key_of_step kind (unwrap_or o 0) c.reply_of-reply.result)
+    (sym c.op-op.ensures)
+    ∙ ap (λ (r : Option ℕ). key_of_step kind (unwrap_or (operation_of book c.args.call) 0) r)
+    c.reply_of-reply.ensures)

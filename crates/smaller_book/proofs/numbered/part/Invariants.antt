@@ -10,10 +10,12 @@ invariant-loop-caller l =
     (length l.part ≡ length l.book)
     × ((i : ℕ) → calls_of l.part i ≡ length (numbers_of (numbers_in l.numbers) i))
     × ((i : ℕ) → answers_of l.part i ≡ 0)
-    × ((call : Call) → call.caller < l.caller → IsCall l.part call → operation_of l.part call ≡ operation_of l.book (original (numbers_in l.numbers) call))
+    × ((call : Call) → call.caller < l.caller → IsCall l.part call
+    → operation_of l.part call ≡ operation_of l.book (original (numbers_in l.numbers) call))
 
 abbrev pub invariant-loop-answering : goal.invariant-loop-answering
 invariant-loop-answering l =
     IsPart l.book (numbers_in l.numbers) l.part
     × ((i : ℕ) → l.answering ≤ i → answers_of l.part i ≡ 0)
-    × ((call : Call) → call.caller < l.answering → IsCall l.part call → IsAnswered l.book (original (numbers_in l.numbers) call) → IsAnswered l.part call)
+    × ((call : Call) → call.caller < l.answering → IsCall l.part call
+    → IsAnswered l.book (original (numbers_in l.numbers) call) → IsAnswered l.part call)

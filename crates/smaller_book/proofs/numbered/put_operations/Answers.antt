@@ -11,7 +11,9 @@ loop-k-preserved c =
     let i = c.args.caller in
     let k = c.loop-k.k in
     let part = c.loop-k.part in
-    let inside : k < calls_of part i = omega (arith, c.loop-k.invariant.calls i, c.requires.calls) in
+    let inside : k < calls_of part i =
+    omega (arith, c.loop-k.invariant.calls i, c.requires.calls) in
     let P : List Page → Type 0 = PutsTo book numbers i (k + 1) c.args.part.now in
     subst P (sym c.set_op.ensures)
-    (puts_more book numbers i k c.op-op.result c.args.part.now part c.loop-k.invariant (caller_from_call part i k inside) inside c.op-op.ensures)
+    (puts_more book numbers i k c.op-op.result c.args.part.now part c.loop-k.invariant
+    (caller_from_call part i k inside) inside c.op-op.ensures)

@@ -6,6 +6,7 @@ use Rattle.smaller_book.proofs.one_open.holds_one_open.Goals as goal
 pub returns-clause-one : goal.returns-clause-one
 returns-clause-one c _ i =
     elim (cases_lt i (length c.args.book.now)) [
-      | inl below ↦ c.loop-caller.invariant i (omega (arith, below, c.callers-caller-end.ensures.count))
+      | inl below ↦
+          c.loop-caller.invariant i (omega (arith, below, c.callers-caller-end.ensures.count))
       | inr past ↦ omega (arith, get_or_past c.args.view.now i 0 (omega (arith, past, c.requires)))
     ]

@@ -7,9 +7,11 @@ use Rattle.smaller_book.proofs.read_only_calls.numbers_of_caller.Goals as goal
 pub loop-number-init : goal.loop-number-init
 loop-number-init c =
     let none : c.new-numbers.result.items ≡ [] = search rules in
-    subst (LacksReadOnlyOf (kind_next c.args.kind) c.args.book.now c.args.caller 0) (sym none) (lacks_none (kind_next c.args.kind) c.args.book.now c.args.caller)
+    subst (LacksReadOnlyOf (kind_next c.args.kind) c.args.book.now c.args.caller 0) (sym none)
+    (lacks_none (kind_next c.args.kind) c.args.book.now c.args.caller)
 
 pub loop-number-preserved : goal.loop-number-preserved
 loop-number-preserved c =
-    lacks_by (kind_next c.args.kind) c.args.book.now c.args.caller c.loop-number.number c.loop-number.numbers.items _ c.is_read_only_of-out.result c.loop-number.invariant
+    lacks_by (kind_next c.args.kind) c.args.book.now c.args.caller c.loop-number.number
+    c.loop-number.numbers.items _ c.is_read_only_of-out.result c.loop-number.invariant
     c.in_ok-push_if.ensures c.is_read_only_of-out.ensures

@@ -3,4 +3,5 @@ use Rattle.smaller_book.specs.ReadOnly.{LacksReadOnlyOf}
 use Rattle.smaller_book.proofs.read_only_calls.numbers_of_caller.Given as goal
 
 abbrev pub invariant-loop-number : goal.invariant-loop-number
-invariant-loop-number l = LacksReadOnlyOf (kind_next l.kind) l.book l.caller l.number l.numbers.items
+invariant-loop-number l =
+    LacksReadOnlyOf (kind_next l.kind) l.book l.caller l.number l.numbers.items

@@ -4,4 +4,5 @@ use Rattle.smaller_book.specs.Minimal.{IsSmaller}
 use Rattle.smaller_book.proofs.read_only_calls.without_singles.Given as goal
 
 abbrev pub invariant-loop-caller : goal.invariant-loop-caller
-invariant-loop-caller l = IfSome l.found (λ smaller. IsSmaller l.kind l.book (numbers_in smaller.numbers.items) smaller.book)
+invariant-loop-caller l = IfSome l.found
+    (λ smaller. IsSmaller l.kind l.book (numbers_in smaller.numbers.items) smaller.book)

@@ -4,4 +4,5 @@ use Rattle.smaller_book.specs.Minimal.{IsSmaller}
 use Rattle.smaller_book.proofs.read_only_calls.without_singles_of.Given as goal
 
 abbrev pub invariant-loop-tried : goal.invariant-loop-tried
-invariant-loop-tried l = IfSome l.fewest (λ smaller. IsSmaller l.kind l.book (numbers_in smaller.numbers.items) smaller.book)
+invariant-loop-tried l = IfSome l.fewest
+    (λ smaller. IsSmaller l.kind l.book (numbers_in smaller.numbers.items) smaller.book)

@@ -10,20 +10,24 @@ use Rattle.smaller_book.proofs.read_only_calls.without_slice.Goals as goal
 pub part-requires : goal.part-requires
 part-requires c =
     let book = c.args.book.now in
-    subst (λ rows. AreNumbersOf book (numbers_in rows)) (sym c.deref.ensures.value) c.in_ok-numbers.ensures.numbers
+    subst (λ rows. AreNumbersOf book (numbers_in rows))
+    (sym c.deref.ensures.value) c.in_ok-numbers.ensures.numbers
 
 pub returns-then-branch : goal.returns-then-branch
 returns-then-branch c =
     let book = c.args.book.now in
     let kind = c.args.kind in
     let small = c.in_ok-smaller.smaller in
-    let is : IsPart book (numbers_in c.in_ok-numbers.numbers.items) small = subst (λ rows. IsPart book (numbers_in rows) small) c.deref.ensures.value c.in_ok-smaller.ensures.part in
+    let is : IsPart book (numbers_in c.in_ok-numbers.numbers.items) small =
+    subst (λ rows. IsPart book (numbers_in rows) small) c.deref.ensures.value
+    c.in_ok-smaller.ensures.part in
     let fewer = c.has_fewer.ensures c.if-not-has_fewer.false in
     record {
       is_part = is;
       wide = c.in_ok-numbers.ensures.numbers.wide;
       evidence = evidence_from_all kind book small
-          (has_one_without_read_only (kind_next kind) book (numbers_in c.in_ok-numbers.numbers.items) small is c.in_ok-numbers.ensures.lacks);
+          (has_one_without_read_only (kind_next kind) book
+          (numbers_in c.in_ok-numbers.numbers.items) small is c.in_ok-numbers.ensures.lacks);
       illegal = c.in_ok-is_illegal.ensures.illegal c.if-branch.true;
       fewer = size-less_at book (numbers_in c.in_ok-numbers.numbers.items) small fewer.0 is fewer.1;
     }

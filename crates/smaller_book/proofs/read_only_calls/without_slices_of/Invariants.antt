@@ -4,4 +4,5 @@ use Rattle.smaller_book.specs.Minimal.{IsSmaller}
 use Rattle.smaller_book.proofs.read_only_calls.without_slices_of.Given as goal
 
 abbrev pub invariant-loop-slice : goal.invariant-loop-slice
-invariant-loop-slice l = IfSome l.fewest (λ smaller. IsSmaller l.kind l.book (numbers_in smaller.numbers.items) smaller.book)
+invariant-loop-slice l = IfSome l.fewest
+    (λ smaller. IsSmaller l.kind l.book (numbers_in smaller.numbers.items) smaller.book)

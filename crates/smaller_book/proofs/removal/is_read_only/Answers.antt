@@ -9,6 +9,8 @@ use Rattle.smaller_book.proofs.removal.is_read_only.Goals as goal
 pub returns : goal.returns
 returns c =
     let next = kind_next c.args.kind in
-    let P : Option ℕ → Option Record → Type 0 = λ op known. IsTrue c.leaves.result ↔ IsSomeAnd known (λ r. Leaves next (unwrap_or op 0) r.reply) in
-    subst (λ known. P (operation_of c.args.book.now c.args.call) known) (sym c.record-record.ensures.record)
+    let P : Option ℕ → Option Record → Type 0 = λ op known. IsTrue c.leaves.result
+    ↔ IsSomeAnd known (λ r. Leaves next (unwrap_or op 0) r.reply) in
+    subst (λ known. P (operation_of c.args.book.now c.args.call) known)
+    (sym c.record-record.ensures.record)
     (subst (λ op. P op (Some c.record-record.result)) (sym c.op-op.ensures) c.leaves.ensures)

@@ -6,7 +6,8 @@ use Rattle.smaller_book.proofs.removal.numbers_without.Goals as goal
 pub loop-before-preserved : goal.loop-before-preserved
 loop-before-preserved c =
     let n = c.loop-before.before in
-    c.in_ok-push.ensures.items ∙ (ap (λ (xs : List ℕ). xs ++ n ∷ []) c.loop-before.invariant ∙ sym (range_with_len-more 0 n n (zero-add n)))
+    c.in_ok-push.ensures.items ∙ (ap (λ (xs : List ℕ). xs ++ n ∷ []) c.loop-before.invariant
+    ∙ sym (range_with_len-more 0 n n (zero-add n)))
 
 pub loop-after-preserved : goal.loop-after-preserved
 loop-after-preserved c =
@@ -17,4 +18,6 @@ loop-after-preserved c =
     c.in_ok-push-2.ensures.items
     ∙ (ap (λ (xs : List ℕ). xs ++ n ∷ []) c.loop-after.invariant
     ∙ (append_assoc (range_with_len 0 k) (range_with_len (k + 1) (n - (k + 1))) (n ∷ [])
-    ∙ ap (λ (xs : List ℕ). range_with_len 0 k ++ xs) (sym (range_with_len-more (k + 1) (n - (k + 1)) n (omega arith)) ∙ ap (range_with_len (k + 1)) next)))
+    ∙ ap (λ (xs : List ℕ). range_with_len 0 k ++ xs)
+    (sym (range_with_len-more (k + 1) (n - (k + 1)) n (omega arith))
+    ∙ ap (range_with_len (k + 1)) next)))

@@ -10,28 +10,36 @@ use Rattle.smaller_book.proofs.Removing.{all_but_are_numbers, lacks_one_alone, r
 use Rattle.smaller_book.proofs.removal.without.Goals as goal
 
 pub all_numbers_but-requires : goal.all_numbers_but-requires
-all_numbers_but-requires c = read_only_is_call (kind_next c.args.kind) c.args.book.now c.args.call c.callers-callers.ensures.valid c.requires
+all_numbers_but-requires c = read_only_is_call
+    (kind_next c.args.kind) c.args.book.now c.args.call c.callers-callers.ensures.valid c.requires
 
 pub part-requires : goal.part-requires
 part-requires c =
     let book = c.args.book.now in
-    let inside : IsCall book c.args.call = read_only_is_call (kind_next c.args.kind) book c.args.call c.callers-callers.ensures.valid c.requires in
+    let inside : IsCall book c.args.call = read_only_is_call
+    (kind_next c.args.kind) book c.args.call c.callers-callers.ensures.valid c.requires in
     subst (λ rows. AreNumbersOf book (numbers_in rows)) (sym c.deref.ensures.value)
-    (subst (AreNumbersOf book) (sym c.in_ok-numbers.ensures) (all_but_are_numbers book c.args.call inside))
+    (subst (AreNumbersOf book) (sym c.in_ok-numbers.ensures)
+    (all_but_are_numbers book c.args.call inside))
 
 pub returns-then-branch-clause-smaller : goal.returns-then-branch-clause-smaller
 returns-then-branch-clause-smaller c =
     let book = c.args.book.now in
     let call = c.args.call in
     let small : List Page = c.in_ok-smaller.smaller in
-    let inside : IsCall book call = read_only_is_call (kind_next c.args.kind) book call c.callers-callers.ensures.valid c.requires in
-    let is : IsPart book (numbers_in c.in_ok-numbers.numbers.items) small = subst (λ rows. IsPart book (numbers_in rows) small) c.deref.ensures.value c.in_ok-smaller.ensures.part in
-    let but : IsPart book (all_but book call) small = subst (λ names. IsPart book names small) c.in_ok-numbers.ensures is in
+    let inside : IsCall book call = read_only_is_call
+    (kind_next c.args.kind) book call c.callers-callers.ensures.valid c.requires in
+    let is : IsPart book (numbers_in c.in_ok-numbers.numbers.items) small =
+    subst (λ rows. IsPart book (numbers_in rows) small) c.deref.ensures.value
+    c.in_ok-smaller.ensures.part in
+    let but : IsPart book (all_but book call) small =
+    subst (λ names. IsPart book names small) c.in_ok-numbers.ensures is in
     record {
       is_part = is;
       wide = ap length c.in_ok-numbers.ensures ∙ (all_but_are_numbers book call inside).wide;
       evidence = evidence_from_all c.args.kind book small
-          (has_one_without_read_only (kind_next c.args.kind) book (all_but book call) small but (lacks_one_alone (kind_next c.args.kind) book call inside c.requires));
+          (has_one_without_read_only (kind_next c.args.kind) book (all_but book call) small but
+          (lacks_one_alone (kind_next c.args.kind) book call inside c.requires));
       illegal = c.in_ok-is_illegal.ensures.illegal c.if-branch.true;
       fewer = size-less book call small inside but;
     }

@@ -14,10 +14,15 @@ loop-caller-preserved c call late below leaves =
     let i = c.loop-caller.caller in
     elim (cases_eq call.caller i) [
       | inl e ↦
-          let all : (number : ℕ) → IsReadOnly next book (record { caller = i; number = number }) → IsNeeded kind book (record { caller = i; number = number })
-          = subst (λ o. IfNone o ((number : ℕ) → IsReadOnly next book (record { caller = i; number = number }) → IsNeeded kind book (record { caller = i; number = number })))
+          let all : (number : ℕ) → IsReadOnly next book (record { caller = i; number = number })
+          → IsNeeded kind book (record { caller = i; number = number })
+          = subst (λ o.
+          IfNone o ((number : ℕ) → IsReadOnly next book (record { caller = i; number = number })
+          → IsNeeded kind book (record { caller = i; number = number })))
           c.in-None.is c.in_ok-found.ensures.none in
-          let P : ℕ → Type 0 = λ j. IsReadOnly next book (record { caller = j; number = call.number }) → IsNeeded kind book (record { caller = j; number = call.number }) in
+          let P : ℕ → Type 0 =
+          λ j. IsReadOnly next book (record { caller = j; number = call.number })
+          → IsNeeded kind book (record { caller = j; number = call.number }) in
           subst P (sym e) (all call.number) leaves
       | inr other ↦ c.loop-caller.invariant call late (omega (arith, below, other)) leaves
     ]

@@ -7,4 +7,5 @@ use Rattle.smaller_book.proofs.removal.without_one.Given as goal
 
 abbrev pub invariant-loop-caller : goal.invariant-loop-caller
 invariant-loop-caller l =
-    (call : Call) → l.from ≤ call.caller → call.caller < l.caller → IsReadOnly (kind_next l.kind) l.book call → IsNeeded l.kind l.book call
+    (call : Call) → l.from ≤ call.caller → call.caller < l.caller
+    → IsReadOnly (kind_next l.kind) l.book call → IsNeeded l.kind l.book call

@@ -8,5 +8,6 @@ use Rattle.smaller_book.proofs.removal.without_one_of.Goals as goal
 pub returns-clause-none : goal.returns-clause-none
 returns-clause-none c number leaves =
     let call : Call = record { caller = c.args.caller; number = number } in
-    let inside : number < answers_of c.args.book.now c.args.caller = read_only_is_answered (kind_next c.args.kind) c.args.book.now call leaves in
+    let inside : number < answers_of c.args.book.now c.args.caller =
+    read_only_is_answered (kind_next c.args.kind) c.args.book.now call leaves in
     c.loop-number.invariant number (omega (arith, inside)) leaves

@@ -11,8 +11,10 @@ returns c =
     let part : List Page = c.in_ok-part.part in
     let kept_by : ℕ → List ℕ = λ i. range_with_len 0 (calls_of part i) in
     record {
-      is_part = subst (λ names. IsPart c.args.book.now names part) (sym c.in_ok-numbers.ensures) c.in_ok-part.ensures.part;
-      wide = ap length c.in_ok-numbers.ensures ∙ (length-map-range_with_len kept_by 0 (length part) ∙ c.in_ok-part.ensures.part.callers);
+      is_part = subst (λ names. IsPart c.args.book.now names part)
+          (sym c.in_ok-numbers.ensures) c.in_ok-part.ensures.part;
+      wide = ap length c.in_ok-numbers.ensures
+          ∙ (length-map-range_with_len kept_by 0 (length part) ∙ c.in_ok-part.ensures.part.callers);
       evidence = evidence_from_all c.args.kind c.args.book.now part c.in_ok-part.ensures.evidence;
       illegal = c.in_ok-part.ensures.illegal;
       earliest = c.in_ok-part.ensures.earliest;

@@ -10,10 +10,16 @@ pub numbers_through-requires-clause-inside : goal.numbers_through-requires-claus
 numbers_through-requires-clause-inside c =
     let without = c.args.without in
     let part = c.in_ok-part.part in
-    let all = places_inside c.args.book.now without.book part.book (numbers_in without.numbers.items) (numbers_in part.numbers.items) c.requires.is_part c.in_ok-part.ensures.is_part in
-    let P : List (List ℕ) → List (List ℕ) → Type 0 = λ first second. (i k : ℕ) → k < length (numbers_of second i) → get_or (numbers_of second i) k 0 < length (numbers_of first i) in
-    subst (λ rows. P (numbers_in rows) (numbers_in c.deref-2.result.now)) (sym c.deref.ensures.value)
-    (subst (λ rows. P (numbers_in without.numbers.items) (numbers_in rows)) (sym c.deref-2.ensures.value) all)
+    let all =
+    places_inside c.args.book.now without.book part.book (numbers_in without.numbers.items)
+    (numbers_in part.numbers.items) c.requires.is_part c.in_ok-part.ensures.is_part in
+    let P : List (List ℕ) → List (List ℕ) → Type 0 =
+    λ first second. (i k : ℕ) → k < length (numbers_of second i)
+    → get_or (numbers_of second i) k 0 < length (numbers_of first i) in
+    subst (λ rows. P (numbers_in rows) (numbers_in c.deref-2.result.now))
+    (sym c.deref.ensures.value)
+    (subst (λ rows. P (numbers_in without.numbers.items) (numbers_in rows))
+    (sym c.deref-2.ensures.value) all)
 
 pub returns-clause-shrunk : goal.returns-clause-shrunk
 returns-clause-shrunk c =
@@ -24,10 +30,12 @@ returns-clause-shrunk c =
     let first : List (List ℕ) = numbers_in without.numbers.items in
     let second : List (List ℕ) = numbers_in part.numbers.items in
     let whole : IsShrunk kind book (composed first second) part.book
-    = shrunk_twice kind book without.book part.book first second c.requires.is_part c.requires.evidence c.in_ok-part.ensures in
+    = shrunk_twice kind book without.book part.book first second c.requires.is_part
+    c.requires.evidence c.in_ok-part.ensures in
     let same : numbers_in c.in_ok-numbers.numbers.items ≡ composed first second
     = c.in_ok-numbers.ensures
-    ∙ (ap (λ rows. composed (numbers_in rows) (numbers_in c.deref-2.result.now)) c.deref.ensures.value
+    ∙ (ap (λ rows. composed (numbers_in rows) (numbers_in c.deref-2.result.now))
+    c.deref.ensures.value
     ∙ ap (λ rows. composed first (numbers_in rows)) c.deref-2.ensures.value) in
     subst (λ names. IsShrunk kind book names part.book) (sym same) whole
 
@@ -35,4 +43,9 @@ pub returns-clause-fewer : goal.returns-clause-fewer
 returns-clause-fewer c =
     let without = c.args.without in
     let part = c.in_ok-part.part in
-    omega (arith, size-within without.book (numbers_in part.numbers.items) part.book c.in_ok-part.ensures.is_part, c.requires.fewer)
+    omega (
+      arith,
+      size-within without.book
+          (numbers_in part.numbers.items) part.book c.in_ok-part.ensures.is_part,
+      c.requires.fewer,
+    )

@@ -9,11 +9,18 @@ pub numbers_through-requires-clause-inside : goal.numbers_through-requires-claus
 numbers_through-requires-clause-inside c =
     let smaller = c.shrinking.smaller in
     let found = c.in-Some.next in
-    let shrunk : IsShrunk c.args.kind smaller.book (numbers_in found.numbers.items) found.book = search rules in
-    let all = places_inside c.args.book.now smaller.book found.book (numbers_in smaller.numbers.items) (numbers_in found.numbers.items) c.shrinking.invariant.is_part shrunk.is_part in
-    let P : List (List ℕ) → List (List ℕ) → Type 0 = λ first second. (i k : ℕ) → k < length (numbers_of second i) → get_or (numbers_of second i) k 0 < length (numbers_of first i) in
-    subst (λ rows. P (numbers_in rows) (numbers_in c.deref-in-Some.result.now)) (sym c.deref.ensures.value)
-    (subst (λ rows. P (numbers_in smaller.numbers.items) (numbers_in rows)) (sym c.deref-in-Some.ensures.value) all)
+    let shrunk : IsShrunk c.args.kind smaller.book (numbers_in found.numbers.items) found.book =
+    search rules in
+    let all =
+    places_inside c.args.book.now smaller.book found.book (numbers_in smaller.numbers.items)
+    (numbers_in found.numbers.items) c.shrinking.invariant.is_part shrunk.is_part in
+    let P : List (List ℕ) → List (List ℕ) → Type 0 =
+    λ first second. (i k : ℕ) → k < length (numbers_of second i)
+    → get_or (numbers_of second i) k 0 < length (numbers_of first i) in
+    subst (λ rows. P (numbers_in rows) (numbers_in c.deref-in-Some.result.now))
+    (sym c.deref.ensures.value)
+    (subst (λ rows. P (numbers_in smaller.numbers.items) (numbers_in rows))
+    (sym c.deref-in-Some.ensures.value) all)
 
 pub shrinking-preserved : goal.shrinking-preserved
 shrinking-preserved c =
@@ -25,9 +32,11 @@ shrinking-preserved c =
     let second : List (List ℕ) = numbers_in found.numbers.items in
     let shrunk : IsShrunk kind smaller.book second found.book = search rules in
     let whole : IsShrunk kind book (composed first second) found.book
-    = shrunk_twice kind book smaller.book found.book first second c.shrinking.invariant.is_part c.shrinking.invariant.evidence shrunk in
+    = shrunk_twice kind book smaller.book found.book first second c.shrinking.invariant.is_part
+    c.shrinking.invariant.evidence shrunk in
     let same : numbers_in c.in_ok-numbers-in-Some.numbers.items ≡ composed first second
     = c.in_ok-numbers-in-Some.ensures
-    ∙ (ap (λ rows. composed (numbers_in rows) (numbers_in c.deref-in-Some.result.now)) c.deref.ensures.value
+    ∙ (ap (λ rows. composed (numbers_in rows) (numbers_in c.deref-in-Some.result.now))
+    c.deref.ensures.value
     ∙ ap (λ rows. composed first (numbers_in rows)) c.deref-in-Some.ensures.value) in
     subst (λ names. IsShrunk kind book names found.book) (sym same) whole

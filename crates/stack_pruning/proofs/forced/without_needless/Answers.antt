@@ -14,6 +14,9 @@ loop-caller-preserved g c =
     elim c.if-has.branch [
       | then-has+then-puts_needless w ↦
           subst (λ (m : Marks). AreLeft reading book cut words shown c.args.marks m) (sym w.left-is)
-          (one_less_left reading book cut words shown c.loop-caller.caller c.args.marks c.loop-caller.left _ w.without-left.ensures (w.puts_needless.ensures w.if-puts_needless.true) c.loop-caller.invariant)
-      | else-has w ↦ subst (λ (m : Marks). AreLeft reading book cut words shown c.args.marks m) (sym w.left-is) c.loop-caller.invariant
+          (one_less_left reading book cut words shown c.loop-caller.caller c.args.marks
+          c.loop-caller.left _ w.without-left.ensures
+          (w.puts_needless.ensures w.if-puts_needless.true) c.loop-caller.invariant)
+      | else-has w ↦ subst (λ (m : Marks). AreLeft reading book cut words shown c.args.marks m)
+          (sym w.left-is) c.loop-caller.invariant
     ]

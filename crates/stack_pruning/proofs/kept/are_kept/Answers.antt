@@ -13,11 +13,14 @@ loop-k-preserved g c j below read =
       | inl early ↦ c.loop-k.invariant j early read
       | inr here ↦
           let same : j ≡ k = omega (arith, below, here) in
-          let now = c.is_read.ensures.1 (subst (λ (v : ℕ). IsRead reading c.args.book.now c.args.cut.now v) (ap (λ (n : ℕ). get_or c.args.words.now n 0) same) read) in
+          let now =
+          c.is_read.ensures.1 (subst (λ (v : ℕ). IsRead reading c.args.book.now c.args.cut.now v)
+          (ap (λ (n : ℕ). get_or c.args.words.now n 0) same) read) in
           absurd (let untrue = c.if-is_read.false in cc)
     ]
 
 pub returns : goal.returns
 returns g c _ =
-    all_by_index (IsKept (g.R.Reader.reading c.args.reader.now) c.args.book.now c.args.cut.now) c.args.words.now
+    all_by_index (IsKept (g.R.Reader.reading c.args.reader.now) c.args.book.now c.args.cut.now)
+    c.args.words.now
     (λ (j : ℕ) below. c.loop-k.invariant j (omega (arith, below, c.loop-k-test.false)))

@@ -14,10 +14,13 @@ loop-number-preserved g c n low below finds =
       | inr here ↦
           let same : n ≡ number = omega (arith, below, here) in
           c.finds_nothing.ensures c.if-finds_nothing.false
-          (subst (λ (m : ℕ). FindsNothing reading c.args.book.now (record { caller = c.args.caller; number = m })) same finds)
+          (subst (λ (m : ℕ). FindsNothing reading c.args.book.now
+          (record { caller = c.args.caller; number = m })) same finds)
     ]
 
 pub returns : goal.returns
 returns g c _ number low finds =
-    let answered : number < answers_of c.args.book.now c.args.caller = slice_get_within _ number finds.1 finds.3 in
-    c.loop-number.invariant number low (omega (arith, answered, c.loop-number-test.false, c.answers-number-end.ensures)) finds
+    let answered : number < answers_of c.args.book.now c.args.caller =
+    slice_get_within _ number finds.1 finds.3 in
+    c.loop-number.invariant number low
+    (omega (arith, answered, c.loop-number-test.false, c.answers-number-end.ensures)) finds

@@ -8,5 +8,6 @@ returns-clause-suffice g c init next bound is small reached =
     let book = c.args.book.now in
     let cut = c.args.cut.now in
     let words = c.args.words.now in
-    c.narrow_by.ensures.suffice next bound words is (small_reached reading init next bound book cut words is small reached)
+    c.narrow_by.ensures.suffice next bound words is
+    (small_reached reading init next bound book cut words is small reached)
     (stand_for_itself reading book cut words)

@@ -8,6 +8,8 @@ pub returns-then-not-has_kind-clause-none : goal.returns-then-not-has_kind-claus
 returns-then-not-has_kind-clause-none c = λ kind has text.
     let suffix = same_first _ _ _ _ (sym c.in_ok-next.ensures ∙ text) in
     let name = same_first _ _ _ _ (sym c.in_ok-next-2.ensures ∙ suffix.1) in
-    let same = kind_name-once kind c.in_ok-kind.kind (sym name.0 ∙ sym c.in_ok-kind.ensures.found) in
-    let known : has_kind c.args.version c.in_ok-kind.kind ≡ true = ap (has_kind c.args.version) (sym same) ∙ has in
+    let same =
+    kind_name-once kind c.in_ok-kind.kind (sym name.0 ∙ sym c.in_ok-kind.ensures.found) in
+    let known : has_kind c.args.version c.in_ok-kind.kind ≡ true =
+    ap (has_kind c.args.version) (sym same) ∙ has in
     absurd (cc (known, c.has_kind.ensures, c.if-not-has_kind.true))

@@ -9,13 +9,26 @@ use Rattle.text_fields.proofs.head.read_calls_line.Goals as goal
 pub returns-in_err-line-clause-refused : goal.returns-in_err-line-clause-refused
 returns-in_err-line-clause-refused c =
     let p = err_from_is_err_and c.from_residual.result c.from_residual.ensures.1 in
-    rw (p.1, p.2) (stops_cut (head_rules c.args.version c.args.title.now) (CountsDue c.args.kind c.args.n) c.args.lines.now c.in_err-line.field-0.0 refl c.in_err-line.ensures.cut.0)
+    rw (p.1, p.2)
+    (stops_cut (head_rules c.args.version c.args.title.now) (CountsDue c.args.kind c.args.n)
+    c.args.lines.now c.in_err-line.field-0.0 refl c.in_err-line.ensures.cut.0)
 
 pub returns-in-Some-clause-found : goal.returns-in-Some-clause-found
 returns-in-Some-clause-found c =
-    goes_line (head_rules c.args.version c.args.title.now) (CountsDue c.args.kind c.args.n) (HeadRead c.args.kind c.in-Some.calls) c.args.lines.now c.line.new.self c.in_ok-line.field-0.now c.in_ok-line.ensures.line (c.in-Some.calls, c.in-Some.ensures.found.0, sym c.new-words.ensures ∙ c.in-Some.ensures.found.1, refl)
+    goes_line (head_rules c.args.version c.args.title.now) (CountsDue c.args.kind c.args.n)
+    (HeadRead c.args.kind c.in-Some.calls) c.args.lines.now c.line.new.self c.in_ok-line.field-0.now
+    c.in_ok-line.ensures.line (
+      c.in-Some.calls,
+      c.in-Some.ensures.found.0,
+      sym c.new-words.ensures ∙ c.in-Some.ensures.found.1,
+      refl,
+    )
 
 pub returns-in-None-clause-refused : goal.returns-in-None-clause-refused
 returns-in-None-clause-refused c =
-    rw c.number-line.ensures (stops_line (head_rules c.args.version c.args.title.now) (CountsDue c.args.kind c.args.n) c.args.lines.now c.line.new.self c.in_ok-line.field-0.now Calls refl c.in_ok-line.ensures.line
-    (only_test ((head_rules c.args.version c.args.title.now).Fails (CountsDue c.args.kind c.args.n) (words_of c.in_ok-line.field-0.now)) Calls (refl, λ calls h e. c.in-None.ensures.none calls h (c.new-words.ensures ∙ e)) (λ other h. h.0)))
+    rw c.number-line.ensures
+    (stops_line (head_rules c.args.version c.args.title.now) (CountsDue c.args.kind c.args.n)
+    c.args.lines.now c.line.new.self c.in_ok-line.field-0.now Calls refl c.in_ok-line.ensures.line
+    (only_test ((head_rules c.args.version c.args.title.now).Fails (CountsDue c.args.kind c.args.n)
+    (words_of c.in_ok-line.field-0.now)) Calls
+    (refl, λ calls h e. c.in-None.ensures.none calls h (c.new-words.ensures ∙ e)) (λ other h. h.0)))

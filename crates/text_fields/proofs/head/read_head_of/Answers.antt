@@ -5,20 +5,24 @@ use Rattle.text_fields.proofs.head.read_head_of.Goals as goal
 pub returns-in_err-head-clause-only : goal.returns-in_err-head-clause-only
 returns-in_err-head-clause-only c = λ kind calls left word read.
     let refused = rw c.copy-ahead.ensures at c.in_err-head.ensures.refused in
-    absurd (no_head_fault c.args.version c.args.title.now word c.args.lines.now kind calls left c.in_err-head.field-0.0 read refused)
+    absurd (no_head_fault c.args.version c.args.title.now word c.args.lines.now kind calls left
+    c.in_err-head.field-0.0 read refused)
 
 pub returns-in_err-head-clause-first : goal.returns-in_err-head-clause-first
 returns-in_err-head-clause-first c = λ fault word first.
     let p = err_from_is_err_and c.from_residual.result c.from_residual.ensures.1 in
     let refused = rw c.copy-ahead.ensures at c.in_err-head.ensures.refused in
-    rw (p.1, p.2) (one_head_fault c.args.version c.args.title.now word c.args.lines.now c.in_err-head.field-0.0 fault refused first)
+    rw (p.1, p.2) (one_head_fault c.args.version c.args.title.now word c.args.lines.now
+    c.in_err-head.field-0.0 fault refused first)
 
 pub returns-clause-only : goal.returns-clause-only
 returns-clause-only c = λ kind calls left word read.
     let found = rw c.copy-ahead.ensures at c.in_ok-head.ensures.found in
-    one_head c.args.version c.args.title.now word c.args.lines.now c.in_ok-head.head.kind kind c.in_ok-head.head.calls calls c.read_lines.new.lines left found read
+    one_head c.args.version c.args.title.now word c.args.lines.now c.in_ok-head.head.kind kind
+    c.in_ok-head.head.calls calls c.read_lines.new.lines left found read
 
 pub returns-clause-first : goal.returns-clause-first
 returns-clause-first c = λ fault word first.
     let found = rw c.copy-ahead.ensures at c.in_ok-head.ensures.found in
-    no_head_fault c.args.version c.args.title.now word c.args.lines.now c.in_ok-head.head.kind c.in_ok-head.head.calls c.read_lines.new.lines fault found first
+    no_head_fault c.args.version c.args.title.now word c.args.lines.now c.in_ok-head.head.kind
+    c.in_ok-head.head.calls c.read_lines.new.lines fault found first

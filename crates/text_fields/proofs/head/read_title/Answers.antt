@@ -5,4 +5,9 @@ use Rattle.text_fields.proofs.head.read_title.Goals as goal
 
 pub returns-then-are_words-clause-found : goal.returns-then-are_words-clause-found
 returns-then-are_words-clause-found c =
-    goes_line (head_rules c.args.version c.args.title.now) TitleDue ObjectDue c.args.lines.now c.line.new.self c.in_ok-line.field-0.now c.in_ok-line.ensures.line (sym c.new-words.ensures ∙ c.are_words.ensures.0 c.if-are_words.true ∙ ap (λ (w : List ℕ). c.args.title.now ∷ w ∷ []) c.word.ensures, refl)
+    goes_line (head_rules c.args.version c.args.title.now) TitleDue ObjectDue c.args.lines.now
+    c.line.new.self c.in_ok-line.field-0.now c.in_ok-line.ensures.line (
+      sym c.new-words.ensures ∙ c.are_words.ensures.0 c.if-are_words.true
+          ∙ ap (λ (w : List ℕ). c.args.title.now ∷ w ∷ []) c.word.ensures,
+      refl,
+    )

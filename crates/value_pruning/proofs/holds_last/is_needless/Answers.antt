@@ -8,7 +8,9 @@ returns-then-writes_another g c is =
     let caller : ℕ = c.args.caller in
     inl (
       c.requires.irreplaceable c.if-irreplaceable.true,
-      subst (λ (n : ℕ). WritesAnother reading c.args.book.now (record { caller = caller; number = n }) c.args.held) c.get-number.ensures (c.writes_another.ensures c.if-writes_another.true),
+      subst (λ (n : ℕ). WritesAnother reading c.args.book.now
+          (record { caller = caller; number = n }) c.args.held) c.get-number.ensures
+          (c.writes_another.ensures c.if-writes_another.true),
     )
 
 pub returns : goal.returns
@@ -17,6 +19,9 @@ returns g c is =
     let book = c.args.book.now in
     let caller : ℕ = c.args.caller in
     inr (
-      λ answered. omega (arith, answered, c.get-number.ensures, c.answers.ensures, c.if-number-answers.false),
-      subst (λ (n : ℕ). IsUnreadWrite reading book c.args.cut.now (record { caller = caller; number = n })) c.get-number.ensures (c.is_unread_write.ensures is),
+      λ answered. omega
+          (arith, answered, c.get-number.ensures, c.answers.ensures, c.if-number-answers.false),
+      subst (λ (n : ℕ). IsUnreadWrite reading book c.args.cut.now
+          (record { caller = caller; number = n })) c.get-number.ensures
+          (c.is_unread_write.ensures is),
     )

@@ -13,6 +13,9 @@ loop-caller-preserved g c =
     elim c.if-has.branch [
       | then-has+then-is_needless w ↦
           subst (λ (m : Marks). AreNeeded reading book cut held c.args.marks m) (sym w.left-is)
-          (one_less_needed reading book cut held c.loop-caller.caller c.args.marks c.loop-caller.left _ w.without-left.ensures (w.is_needless.ensures w.if-is_needless.true) c.loop-caller.invariant)
-      | else-has w ↦ subst (λ (m : Marks). AreNeeded reading book cut held c.args.marks m) (sym w.left-is) c.loop-caller.invariant
+          (one_less_needed reading book cut held c.loop-caller.caller c.args.marks
+          c.loop-caller.left _ w.without-left.ensures
+          (w.is_needless.ensures w.if-is_needless.true) c.loop-caller.invariant)
+      | else-has w ↦ subst (λ (m : Marks). AreNeeded reading book cut held c.args.marks m)
+          (sym w.left-is) c.loop-caller.invariant
     ]

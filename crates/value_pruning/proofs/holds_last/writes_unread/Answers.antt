@@ -6,6 +6,8 @@ pub returns : goal.returns
 returns g c is =
     let reading = g.R.Reader.reading c.args.reader.now in
     let caller : ℕ = c.args.caller in (
-      subst (λ (n : ℕ). IsUnreadWrite reading c.args.book.now c.args.cut.now (record { caller = caller; number = n })) c.get-number.ensures (c.is_unread_write.ensures is),
+      subst (λ (n : ℕ). IsUnreadWrite reading c.args.book.now c.args.cut.now
+          (record { caller = caller; number = n })) c.get-number.ensures
+          (c.is_unread_write.ensures is),
       omega (arith, c.get-number.ensures, c.answers.ensures, c.if-number-answers.false),
     )

@@ -12,8 +12,12 @@ returns-in-Some-clause-suffice g c init next bound is rising reached =
     let cut = c.args.cut.now in
     let words = c.args.words.now in
     let caller = c.in-Some.caller in
-    first_take_suffices reading next bound is book cut words caller c.only.result (rising-reached reading init next bound book cut words is rising reached) c.callers-callers.ensures.valid
-    c.requires.open (omega (arith, c.requires.wide)) ((c.requires.marks caller).0 c.in-Some.ensures.marked) c.in-Some.ensures.take ((c.only.ensures caller).1 refl)
+    first_take_suffices reading next bound is book cut words caller c.only.result
+    (rising-reached reading init next bound book cut words is rising reached)
+    c.callers-callers.ensures.valid
+    c.requires.open (omega (arith, c.requires.wide))
+    ((c.requires.marks caller).0 c.in-Some.ensures.marked) c.in-Some.ensures.take
+    ((c.only.ensures caller).1 refl)
 
 pub returns-in-Some-least_put-clause-suffice : goal.returns-in-Some-least_put-clause-suffice
 returns-in-Some-least_put-clause-suffice g c init next bound is rising reached =
@@ -22,10 +26,13 @@ returns-in-Some-least_put-clause-suffice g c init next bound is rising reached =
     let cut = c.args.cut.now in
     let words = c.args.words.now in
     let caller = c.in-Some-least_put.caller in
-    put_suffices reading next bound is book cut words caller c.only-in-Some-least_put.result (rising-reached reading init next bound book cut words is rising reached)
-    c.callers-callers.ensures.valid c.requires.open (omega (arith, c.requires.wide)) ((c.requires.marks caller).0 c.in-Some-least_put.ensures.marked) c.in-Some-least_put.ensures.put
+    put_suffices reading next bound is book cut words caller c.only-in-Some-least_put.result
+    (rising-reached reading init next bound book cut words is rising reached)
+    c.callers-callers.ensures.valid c.requires.open (omega (arith, c.requires.wide))
+    ((c.requires.marks caller).0 c.in-Some-least_put.ensures.marked) c.in-Some-least_put.ensures.put
     ((c.only-in-Some-least_put.ensures caller).1 refl)
 
 pub returns-clause-suffice : goal.returns-clause-suffice
 returns-clause-suffice g c init next bound is rising reached =
-    all_next_suffice c.args.book.now next c.args.cut.now c.args.words.now c.args.forced c.args.marks c.requires.forced c.requires.marks
+    all_next_suffice c.args.book.now next c.args.cut.now c.args.words.now c.args.forced c.args.marks
+    c.requires.forced c.requires.marks

@@ -13,9 +13,12 @@ returns-clause-take g c =
     let cut = c.args.cut.now in
     let value : ℕ = c.args.value in
     let take : Call = c.in_ok-take.take in
-    let same : take ≡ next_call cut take.caller = same_call take (next_call cut take.caller) refl (omega (arith, c.get.ensures, c.if-get-take.false)) in
+    let same : take ≡ next_call cut take.caller = same_call take (next_call cut take.caller) refl
+    (omega (arith, c.get.ensures, c.if-get-take.false)) in
     record {
       takes = subst (λ (x : Call). TakesOut reading book x value) same
-          (subst (λ (v : ℕ). TakesOut reading book take v) (omega (arith, c.if-branch-value.false)) c.in_ok-value_taken.ensures.some);
-      least = λ other takes out. subst (λ (x : Call). ViewsAreWithin book x other) same (c.in_ok-take.ensures.least other (c.requires.sight.takes other value takes) out);
+          (subst (λ (v : ℕ). TakesOut reading book take v)
+          (omega (arith, c.if-branch-value.false)) c.in_ok-value_taken.ensures.some);
+      least = λ other takes out. subst (λ (x : Call). ViewsAreWithin book x other) same
+          (c.in_ok-take.ensures.least other (c.requires.sight.takes other value takes) out);
     }

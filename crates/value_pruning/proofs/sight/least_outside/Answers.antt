@@ -14,16 +14,24 @@ loop-k-preserved c =
     elim c.if-is_outside.branch [
       | then-is_outside+then-is_before w ↦
           subst (λ (o : Option Call). LeastOf book cut calls (k + 1) o) (sym w.least-is)
-          (least_of-new book cut calls k c.loop-k.least _ (slice_get-get_or calls k _ c.loop-k-test.true) (c.is_outside.ensures.0 w.if-is_outside.true)
+          (least_of-new book cut calls k c.loop-k.least _
+          (slice_get-get_or calls k _ c.loop-k-test.true)
+          (c.is_outside.ensures.0 w.if-is_outside.true)
           (w.is_before.ensures.0 w.if-is_before.true) c.loop-k.invariant)
       | else-is_outside w ↦
-          subst (λ (o : Option Call). LeastOf book cut calls (k + 1) o) (sym w.least-is) (elim w.else-is_outside.branch [
+          subst (λ (o : Option Call). LeastOf book cut calls (k + 1) o) (sym w.least-is)
+          (elim w.else-is_outside.branch [
             | else-is_outside-via-then-is_outside+else-is_before v ↦
-                least_of-old book cut calls k c.loop-k.least _ c.callers-callers.ensures.valid (slice_get-get_or calls k _ c.loop-k-test.true) (λ before. absurd (let e = v.is_before.ensures.1 before in cc)) c.loop-k.invariant
+                least_of-old book cut calls k c.loop-k.least _ c.callers-callers.ensures.valid
+                (slice_get-get_or calls k _ c.loop-k-test.true)
+                (λ before. absurd (let e = v.is_before.ensures.1 before in cc)) c.loop-k.invariant
             | else-is_outside-via-else-is_outside v ↦
-                least_of-in book cut calls k c.loop-k.least _ (slice_get-get_or calls k _ c.loop-k-test.true) (λ out. absurd (let e = c.is_outside.ensures.1 out in cc)) c.loop-k.invariant
+                least_of-in book cut calls k c.loop-k.least _
+                (slice_get-get_or calls k _ c.loop-k-test.true)
+                (λ out. absurd (let e = c.is_outside.ensures.1 out in cc)) c.loop-k.invariant
           ])
     ]
 
 pub returns-clause-least : goal.returns-clause-least
-returns-clause-least c = least_of-all c.args.book.now c.args.cut.now c.args.calls.now c.loop-k.k c.loop-k.least (omega (arith, c.loop-k-test.false)) c.loop-k.invariant
+returns-clause-least c = least_of-all c.args.book.now c.args.cut.now c.args.calls.now c.loop-k.k
+    c.loop-k.least (omega (arith, c.loop-k-test.false)) c.loop-k.invariant

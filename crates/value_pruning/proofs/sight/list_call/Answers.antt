@@ -7,7 +7,8 @@ returns-in-Some g c =
     let reading = g.R.Reader.reading c.args.reader.now in
     record {
       read = on_ok_weaker c.list_put.result
-          (λ has. lists_put reading c.args.book.now c.args.call c.in-Some.value c.args.sight.now c.list_put.new.sight c.in-Some.ensures.some c.requires.read has) c.list_put.ensures;
+          (λ has. lists_put reading c.args.book.now c.args.call c.in-Some.value c.args.sight.now
+          c.list_put.new.sight c.in-Some.ensures.some c.requires.read has) c.list_put.ensures;
     }
 
 pub returns-in-Some-value_taken : goal.returns-in-Some-value_taken
@@ -15,11 +16,16 @@ returns-in-Some-value_taken g c =
     let reading = g.R.Reader.reading c.args.reader.now in
     record {
       read = on_ok_weaker c.list_take.result
-          (λ has. lists_take reading c.args.book.now c.args.call c.in-Some-value_taken.value c.args.sight.now c.list_take.new.sight c.in-Some-value_taken.ensures.some c.requires.read has)
+          (λ has. lists_take reading c.args.book.now c.args.call c.in-Some-value_taken.value
+          c.args.sight.now c.list_take.new.sight c.in-Some-value_taken.ensures.some
+          c.requires.read has)
           c.list_take.ensures;
     }
 
 pub returns-in-None : goal.returns-in-None
 returns-in-None g c =
     let reading = g.R.Reader.reading c.args.reader.now in
-    record { read = lists_neither reading c.args.book.now c.args.call c.args.sight.now c.in_default.ensures.none c.in-None.ensures.none c.requires.read }
+    record {
+      read = lists_neither reading c.args.book.now c.args.call c.args.sight.now
+          c.in_default.ensures.none c.in-None.ensures.none c.requires.read;
+    }

@@ -3,5 +3,8 @@ use Rattle.world_core.specs.Local.{fresh}
 use Rattle.whole_calls.proofs.two_calls.open_rows.Goals as goal
 
 pub part-b-requires-clause-held : goal.part-b-requires-clause-held
-part-b-requires-clause-held c =
-    (fresh, (c.part-a.ensures.others 1 (λ e. absurd (omega (arith, e)))).0 ∙ (c.in_ok-rows.ensures.fresh 1 (omega arith)).0)
+part-b-requires-clause-held c = (
+  fresh,
+  (c.part-a.ensures.others 1 (λ e. absurd (omega (arith, e)))).0
+      ∙ (c.in_ok-rows.ensures.fresh 1 (omega arith)).0,
+)

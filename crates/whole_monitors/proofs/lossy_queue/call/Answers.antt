@@ -12,10 +12,13 @@ returns-clause-caller g c =
       record {
         caller = same.rows _ c.args.rows.now c.seen.ensures.caller.0;
         idle = record {
-          announcing = announcing_is _ (ap (λ (l : Local). is_announcing l.phase) same.local ∙ saw.announcing);
-          unstaged = unstaged_is _ (ap (λ (l : Local). is_unstaged l.staged) same.local ∙ saw.unstaged);
+          announcing = announcing_is _
+              (ap (λ (l : Local). is_announcing l.phase) same.local ∙ saw.announcing);
+          unstaged =
+              unstaged_is _ (ap (λ (l : Local). is_unstaged l.staged) same.local ∙ saw.unstaged);
         };
         stance = c.defer.ensures.stance ∙ c.seen.result.stands;
       },
-      same.who ∙ c.seen.ensures.caller.1 ∙ c.publish-published.ensures.caller.1 ∙ c.apply-viewed.ensures.caller.1 ∙ c.requires.caller.1,
+      same.who ∙ c.seen.ensures.caller.1 ∙ c.publish-published.ensures.caller.1
+          ∙ c.apply-viewed.ensures.caller.1 ∙ c.requires.caller.1,
     )

@@ -4,5 +4,7 @@ use Rattle.whole_runs.proofs.meetings.meet_in_rows.Goals as goal
 
 pub run_in_rows-requires-clause-passes : goal.run_in_rows-requires-clause-passes
 run_in_rows-requires-clause-passes g c κs within =
-    opened_passes _ _ _ _ _ _ c.args.script.now (omega (arith, c.callers.ensures.count)) c.in_ok-object.ensures.callers c.in_ok-object.ensures.own
-    (λ k d low. let new = c.in_ok-object.ensures.fresh k d low in (new.made, new.cap)) c.callers.ensures.plan
+    opened_passes _ _ _ _ _ _ c.args.script.now (omega (arith, c.callers.ensures.count))
+    c.in_ok-object.ensures.callers c.in_ok-object.ensures.own
+    (λ k d low. let new = c.in_ok-object.ensures.fresh k d low in (new.made, new.cap))
+    c.callers.ensures.plan

@@ -9,8 +9,10 @@ use Rattle.witness_texts.proofs.marking.marks_for.Goals as goal
 pub marks_of-requires : goal.marks_of-requires
 marks_of-requires c =
     let kind = c.args.kind in
-    subst (λ (v : Verdict). IsRight (kind_init kind) (kind_next kind) c.args.book.now v) c.in-Illegal.is c.requires
+    subst (λ (v : Verdict). IsRight (kind_init kind) (kind_next kind) c.args.book.now v)
+    c.in-Illegal.is c.requires
 
 pub returns-in-Illegal : goal.returns-in-Illegal
 returns-in-Illegal c =
-    subst (λ (v : Verdict). AreMarksFor c.args.kind c.args.book.now (is_legal v) c.marks_of.result) (sym c.in-Illegal.is) c.marks_of.ensures
+    subst (λ (v : Verdict). AreMarksFor c.args.kind c.args.book.now (is_legal v) c.marks_of.result)
+    (sym c.in-Illegal.is) c.marks_of.ensures

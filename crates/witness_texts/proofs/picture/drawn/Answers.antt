@@ -19,7 +19,8 @@ returns-clause-shown c =
       marks = c.marks_for-marks.result;
       marked = c.marks_for-marks.ensures;
       error = c.in_ok-error.error;
-      first = told_by c.args.bytes.now c.in_ok-error.error c.in_ok-error.ensures.found c.in_ok-error.ensures.none;
+      first = told_by c.args.bytes.now c.in_ok-error.error c.in_ok-error.ensures.found
+          c.in_ok-error.ensures.none;
       shown = c.in_ok-draw_book.ensures.calls;
       says = c.in_ok-draw_book.ensures.says;
     }

@@ -5,4 +5,5 @@ pub returns-clause-drawn : goal.returns-clause-drawn
 returns-clause-drawn c = always_drawn c.args.bytes.now c.drawn.result c.drawn.ensures.refused
 
 pub returns-clause-first : goal.returns-clause-first
-returns-clause-first c = first_of_picture c.args.bytes.now c.drawn.result c.drawn.ensures.shown c.drawn.ensures.refused
+returns-clause-first c =
+    first_of_picture c.args.bytes.now c.drawn.result c.drawn.ensures.shown c.drawn.ensures.refused

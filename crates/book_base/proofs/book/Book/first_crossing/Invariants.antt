@@ -6,4 +6,5 @@ use Rattle.book_base.specs.Book.{record_of}
 use Rattle.book_base.proofs.book.Book.first_crossing.Given as goal
 
 abbrev pub invariant-loop-caller : goal.invariant-loop-caller
-invariant-loop-caller l = (call : Call) (r : Record) → call.caller < l.caller → record_of l.self call ≡ Some r → AreComparable l.view r.view
+invariant-loop-caller l = (call : Call) (r : Record) → call.caller < l.caller
+    → record_of l.self call ≡ Some r → AreComparable l.view r.view

@@ -10,13 +10,19 @@ use Rattle.book_base.proofs.book.Book.first_crossing_of.Goals as goal
 pub returns-then-number-answers-clause-none : goal.returns-then-number-answers-clause-none
 returns-then-number-answers-clause-none c k r e =
     let there : k < answers_of c.args.self.now c.args.caller = slice_get_within _ k r e in
-    inr (c.views_within-number.ensures.count.below k r (omega (arith, there, c.answers.ensures, c.if-number-answers.true)) e)
+    inr (c.views_within-number.ensures.count.below k r
+    (omega (arith, there, c.answers.ensures, c.if-number-answers.true)) e)
 
 pub returns-then-within-clause-none : goal.returns-then-within-clause-none
 returns-then-within-clause-none c =
     let number : ℕ = c.views_within-number.result in
     let says : Record → Type 0 = λ r. c.view.result.now ≡ r.view in
-    let known = some_from_is_some_and (record_of c.args.self.now (record { caller = c.args.caller; number = number })) says c.view.ensures.view in
-    let is : says known.0 = subst (λ (o : Option Record). IsSomeAnd o says) known.1 c.view.ensures.view in
-    let within : IsWithin c.args.view.now known.0.view = subst (IsWithin c.args.view.now) is (c.within.ensures.0 c.if-within.true) in
-    comparable_with_all c.args.self.now c.args.caller number c.args.view.now c.requires.valid c.views_within-number.ensures.count known.0 known.1 within
+    let known = some_from_is_some_and
+    (record_of c.args.self.now (record { caller = c.args.caller; number = number })) says
+    c.view.ensures.view in
+    let is : says known.0 =
+    subst (λ (o : Option Record). IsSomeAnd o says) known.1 c.view.ensures.view in
+    let within : IsWithin c.args.view.now known.0.view =
+    subst (IsWithin c.args.view.now) is (c.within.ensures.0 c.if-within.true) in
+    comparable_with_all c.args.self.now c.args.caller number c.args.view.now c.requires.valid
+    c.views_within-number.ensures.count known.0 known.1 within

@@ -3,4 +3,5 @@ use Rattle.book_base.specs.Foresight.{rank_of}
 use Rattle.book_base.proofs.foresight.Foresight.has_early.Given as goal
 
 abbrev pub invariant-loop-word : goal.invariant-loop-word
-invariant-loop-word l = (k : ℕ) → k < l.word-index → IsSomeAnd (rank_of l.self.ranks (get_or l.words k 0)) (λ rank. rank < l.limit) → ⊥
+invariant-loop-word l = (k : ℕ) → k < l.word-index
+    → IsSomeAnd (rank_of l.self.ranks (get_or l.words k 0)) (λ rank. rank < l.limit) → ⊥

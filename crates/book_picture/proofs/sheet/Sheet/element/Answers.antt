@@ -13,6 +13,8 @@ returns c =
       has_no_group inside c.in_ok-inside.ensures.plain,
       c.in_ok-inside.ensures.parts,
       c.in_ok-text.ensures.ok
-          ∙ ap (λ (t : List ℕ). codes "<g id=\"call-" ++ (decimal call.caller ++ (codes "-" ++ (decimal call.number ++ (codes "\" class=\"" ++ (t ++ (codes "\">\n" ++ (inside ++ codes "</g>\n"))))))))
+          ∙ ap (λ (t : List ℕ).
+          codes "<g id=\"call-" ++ (decimal call.caller ++ (codes "-" ++ (decimal call.number
+          ++ (codes "\" class=\"" ++ (t ++ (codes "\">\n" ++ (inside ++ codes "</g>\n"))))))))
           c.in_ok-class.ensures,
     )

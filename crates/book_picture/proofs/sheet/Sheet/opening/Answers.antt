@@ -7,5 +7,11 @@ returns c = (
   c.args.height,
   omega arith,
   omega arith,
-  simp (c.in_ok-push_str-2.ensures.bytes, c.in_ok-push_str.ensures.bytes, c.in_ok-write.ensures.bytes, c.new-out.ensures.bytes, append_assoc),
+  simp (
+    c.in_ok-push_str-2.ensures.bytes,
+    c.in_ok-push_str.ensures.bytes,
+    c.in_ok-write.ensures.bytes,
+    c.new-out.ensures.bytes,
+    append_assoc,
+  ),
 )

@@ -13,4 +13,5 @@ returns-in-None c =
 pub returns-in-Some : goal.returns-in-Some
 returns-in-Some c =
     let before = string_bytes c.args.out.now in
-    on_ok c.put_error_line.result _ _ c.put_error_line.ensures (λ grown. grown ∙ ap (λ (o : Option Call). before ++ error_line o) (sym c.in-Some.is))
+    on_ok c.put_error_line.result _ _ c.put_error_line.ensures
+    (λ grown. grown ∙ ap (λ (o : Option Call). before ++ error_line o) (sym c.in-Some.is))

@@ -8,6 +8,8 @@ returns c =
     let before = string_bytes c.args.out.now in
     let said = title (is_some c.args.self.now.order) c.args.self.now.marks.now in
     on_ok c.put_notes.result _ _ c.put_notes.ensures (λ grows.
-    by_lines (line_text (codes "title") 12 24 said) (error_line c.args.self.now.error) before (string_bytes c.put_line.new.out) _ _
-    (c.in_ok-put_line.ensures ∙ ap (λ (t : List ℕ). before ++ line_text (codes "title") 12 24 t) (c.as_bytes.ensures.value ∙ c.in_ok-title.ensures))
+    by_lines (line_text (codes "title") 12 24 said) (error_line c.args.self.now.error) before
+    (string_bytes c.put_line.new.out) _ _
+    (c.in_ok-put_line.ensures ∙ ap (λ (t : List ℕ). before ++ line_text (codes "title") 12 24 t)
+    (c.as_bytes.ensures.value ∙ c.in_ok-title.ensures))
     c.in_ok-put_error.ensures grows)

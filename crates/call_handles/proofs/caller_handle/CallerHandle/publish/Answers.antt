@@ -13,10 +13,20 @@ returns-in-Announced-clause-sound c =
     let self = c.args.self in
     let call = c.in-Announced.call in
     let caller = c.publish_alone.result in
-    let stands = subst (λ (s : Stage). IsSoundAt (rows_of self) self.kept.kind self.kept.gathered s) c.in-Announced.is c.requires.sound.0 in
+    let stands = subst (λ (s : Stage). IsSoundAt (rows_of self) self.kept.kind self.kept.gathered s)
+    c.in-Announced.is c.requires.sound.0 in
     let (told, seen, at) = c.publish_alone.ensures.published in
-    let published = subst (λ (r : Rows _). IsPublishedBy every_reply r call c.args.reply caller told seen) c.deref.ensures at in
-    ((published.still.0, c.publish_alone.ensures.free, gathered_by_stays (announced_local call) (local_with caller) self.kept.gathered published.grows.peeked stands.1), c.requires.sound.1)
+    let published =
+    subst (λ (r : Rows _). IsPublishedBy every_reply r call c.args.reply caller told seen)
+    c.deref.ensures at in (
+      (
+        published.still.0,
+        c.publish_alone.ensures.free,
+        gathered_by_stays (announced_local call)
+            (local_with caller) self.kept.gathered published.grows.peeked stands.1,
+      ),
+      c.requires.sound.1,
+    )
 
 pub returns-in-Announced-clause-when : goal.returns-in-Announced-clause-when
 returns-in-Announced-clause-when c = (λ _. (c.in-Announced.call, c.in-Announced.is), λ _. refl)
@@ -26,5 +36,7 @@ returns-in-Announced-clause-published c = λ _.
     let call = c.in-Announced.call in
     let caller = c.publish_alone.result in
     let (told, seen, at) = c.publish_alone.ensures.published in
-    let published = subst (λ (r : Rows _). IsPublishedBy every_reply r call c.args.reply caller told seen) c.deref.ensures at in
+    let published =
+    subst (λ (r : Rows _). IsPublishedBy every_reply r call c.args.reply caller told seen)
+    c.deref.ensures at in
     (call, caller, told, seen, c.in-Announced.is, refl, published)

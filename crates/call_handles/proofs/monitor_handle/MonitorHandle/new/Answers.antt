@@ -14,5 +14,6 @@ returns-clause-sound c =
       of = monitor.ensures.monitor every_reply (arc_value c.args.rows) c.requires.caller;
       on = monitor.ensures.board;
       stands = tt;
-      none = has_none (λ w. ¬ HasLegalOrder (kind_init kind) (kind_next kind) w.book) (own_of monitor.result) monitor.ensures.nothing.0;
+      none = has_none (λ w. ¬ HasLegalOrder (kind_init kind) (kind_next kind) w.book)
+          (own_of monitor.result) monitor.ensures.nothing.0;
     }

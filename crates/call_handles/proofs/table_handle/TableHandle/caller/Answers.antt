@@ -4,12 +4,24 @@ use Rattle.call_handles.proofs.table_handle.TableHandle.caller.Goals as goal
 
 pub take_next-caller-requires-clause-left : goal.take_next-caller-requires-clause-left
 take_next-caller-requires-clause-left c =
-    omega (arith, c.requires.sound.few, c.if-self-callers.false, c.callers.ensures, ap (λ (r : Rows _). r.callers) c.deref.ensures)
+    omega (
+      arith,
+      c.requires.sound.few,
+      c.if-self-callers.false,
+      c.callers.ensures,
+      ap (λ (r : Rows _). r.callers) c.deref.ensures,
+    )
 
 pub returns-clause-given : goal.returns-clause-given
 returns-clause-given c =
     let taken = c.take_next-caller in (
       c.new.ensures.table.0 ∙ c.in_ok-rows.ensures,
       c.new.ensures.table.1 ∙ taken.ensures.next.1,
-      (taken.result, c.new.ensures.idle, taken.ensures.who, taken.ensures.fresh.0, taken.ensures.fresh.1),
+      (
+        taken.result,
+        c.new.ensures.idle,
+        taken.ensures.who,
+        taken.ensures.fresh.0,
+        taken.ensures.fresh.1,
+      ),
     )

@@ -7,7 +7,13 @@ use Rattle.call_handles.proofs.table_handle.TableHandle.monitor.Goals as goal
 
 pub take_next-caller-requires-clause-left : goal.take_next-caller-requires-clause-left
 take_next-caller-requires-clause-left c =
-    omega (arith, c.requires.sound.few, c.if-self-callers.false, c.callers.ensures, ap (λ (r : Rows _). r.callers) c.deref.ensures)
+    omega (
+      arith,
+      c.requires.sound.few,
+      c.if-self-callers.false,
+      c.callers.ensures,
+      ap (λ (r : Rows _). r.callers) c.deref.ensures,
+    )
 
 pub returns-clause-given : goal.returns-clause-given
 returns-clause-given c =

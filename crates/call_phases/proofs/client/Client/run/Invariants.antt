@@ -7,7 +7,8 @@ abbrev pub invariant-loop-i : goal.invariant-loop-i
 invariant-loop-i g l =
     record {
       spent : HasSpent (phases_by l.fn.self + l._i) l.client;
-      course : IsUnderWay g.P.Program.meaning l.shared.rows.now (g.E.Ending.says (g.E.Ending.object l.client.sheet.ending)) l.client;
+      course : IsUnderWay g.P.Program.meaning l.shared.rows.now
+          (g.E.Ending.says (g.E.Ending.object l.client.sheet.ending)) l.client;
       pass : HasPass (g.A.Asks.fits l.shared.asks.now) g.A.Asks.count l.client;
       room : HasRoom l.shared.rows.now l.client;
       standing : KeepsStanding (g.E.Ending.object l.client.sheet.ending) l.client.sheet;

@@ -4,7 +4,11 @@ use Rattle.row_gather.specs.Gathered.{IsGatheredBy}
 use Rattle.call_phases.proofs.deferring.DeferringEnding.end.Goals as goal
 
 pub returns-clause-caller : goal.returns-clause-caller
-returns-clause-caller g c = (c.defer.ensures.caller.rows g.P.Program.meaning c.args._rows.now c.requires.rows, c.defer.ensures.caller.who)
+returns-clause-caller g c = (
+  c.defer.ensures.caller.rows g.P.Program.meaning c.args._rows.now c.requires.rows,
+  c.defer.ensures.caller.who,
+)
 
 pub returns-clause-kept : goal.returns-clause-kept
-returns-clause-kept g c = subst (λ (l : Local). IsGatheredBy l c.args._gathered.now) (sym c.defer.ensures.caller.local) c.requires.gathered
+returns-clause-kept g c = subst (λ (l : Local). IsGatheredBy l c.args._gathered.now)
+    (sym c.defer.ensures.caller.local) c.requires.gathered

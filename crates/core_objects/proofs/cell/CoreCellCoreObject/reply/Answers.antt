@@ -19,10 +19,12 @@ returns-then-op-eq-READ c =
     let read = read_is a.op (sym c.op-op.ensures ∙ c.if-op-eq-READ.true) in
     record {
       made = (
-        replies_by_step (λ (p : CellProgram). cell) c.args.rows.now a c.requires.caller c.requires.first c.object_load-found.new.self _
+        replies_by_step (λ (p : CellProgram). cell) c.args.rows.now a c.requires.caller
+            c.requires.first c.object_load-found.new.self _
             c.value_reply.result c.object_load-found.ensures
             (ap (λ b. b || is_operation_of a.op words.read) read.0 ∙ read.1)
-            (c.value_reply.ensures ∙ sym (cond-false (is_operation_of a.op words.write) reply_done (reply_value found) read.0)),
+            (c.value_reply.ensures ∙ sym
+            (cond-false (is_operation_of a.op words.write) reply_done (reply_value found) read.0)),
         c.requires.fits,
       );
     }
@@ -31,8 +33,15 @@ pub returns-then-not-known : goal.returns-then-not-known
 returns-then-not-known c =
     let a = c.args.announced.now in
     let none : cell.makes_step a.op ≡ false =
-    ap cell.makes_step (sym c.op-op.ensures) ∙ sym (known_is c.op-op.result) ∙ sym c.known.ensures ∙ c.if-not-known.true in
-    record { made = (replies_bad (λ (p : CellProgram). cell) c.args.rows.now a c.requires.caller c.requires.first none, c.requires.fits) }
+    ap cell.makes_step (sym c.op-op.ensures) ∙ sym (known_is c.op-op.result) ∙ sym c.known.ensures
+    ∙ c.if-not-known.true in
+    record {
+      made = (
+        replies_bad (λ (p : CellProgram). cell) c.args.rows.now a c.requires.caller
+            c.requires.first none,
+        c.requires.fits,
+      );
+    }
 
 pub overflow_sub-op : goal.overflow_sub-op
 overflow_sub-op c =
@@ -40,7 +49,8 @@ overflow_sub-op c =
 
 pub overflow_cast-op : goal.overflow_cast-op
 overflow_cast-op c =
-    let small = (writes c.op-op.result c.if-op-eq-READ.false (sym c.known.ensures ∙ c.if-not-known.false)).small in
+    let small = (writes c.op-op.result c.if-op-eq-READ.false
+    (sym c.known.ensures ∙ c.if-not-known.false)).small in
     omega (arith, small)
 
 pub object_store-requires-clause-program : goal.object_store-requires-clause-program
@@ -48,7 +58,8 @@ object_store-requires-clause-program c =
     let a = c.args.announced.now in
     let l : Local = local_with a.caller in
     let op : ℕ = c.op-op.result in
-    let w : IsWrite op = writes op c.if-op-eq-READ.false (sym c.known.ensures ∙ c.if-not-known.false) in
+    let w : IsWrite op =
+    writes op c.if-op-eq-READ.false (sym c.known.ensures ∙ c.if-not-known.false) in
     λ x low.
     allows_step cell l op x (op - 2 ^ 32) (a.asked.operation ∙ sym c.op-op.ensures) c.requires.first
     (ap (λ b. b || is_operation_of op words.read) w.write)
@@ -58,16 +69,20 @@ pub returns : goal.returns
 returns c =
     let a = c.args.announced.now in
     let op : ℕ = c.op-op.result in
-    let w : IsWrite op = writes op c.if-op-eq-READ.false (sym c.known.ensures ∙ c.if-not-known.false) in
-    let write : is_operation_of a.op words.write ≡ true = ap (λ (x : ℕ). is_operation_of x words.write) (sym c.op-op.ensures) ∙ w.write in
+    let w : IsWrite op =
+    writes op c.if-op-eq-READ.false (sym c.known.ensures ∙ c.if-not-known.false) in
+    let write : is_operation_of a.op words.write ≡ true =
+    ap (λ (x : ℕ). is_operation_of x words.write) (sym c.op-op.ensures) ∙ w.write in
     let found : ℕ = c.object_store.ensures.0 in
     let step : Object_step = record { place = 0; old = found; new = op - 2 ^ 32 } in
     record {
       made = (
-        replies_by_step (λ (p : CellProgram). cell) c.args.rows.now a c.requires.caller c.requires.first c.object_store.new.self step
+        replies_by_step (λ (p : CellProgram). cell) c.args.rows.now a c.requires.caller
+            c.requires.first c.object_store.new.self step
             reply_done c.object_store.ensures.2
             (ap (λ b. b || is_operation_of a.op words.read) write)
-            (sym (cond-true (is_operation_of a.op words.write) reply_done (reply_value found) write)),
+            (sym
+            (cond-true (is_operation_of a.op words.write) reply_done (reply_value found) write)),
         c.requires.fits,
       );
     }

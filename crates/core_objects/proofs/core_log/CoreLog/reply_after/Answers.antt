@@ -11,7 +11,8 @@ loop-place-init g c =
     let log : List ℕ = c.args.log.now in
     let made : ℕ = c.args.made in
     let begins = g.met.S.SeqObject.begins_small object in
-    let few = length-list_of (g.S.SeqObject.next object) (g.met.S.SeqObject.grows_by_one object) (g.S.SeqObject.init object) (take made log) in
+    let few = length-list_of (g.S.SeqObject.next object) (g.met.S.SeqObject.grows_by_one object)
+    (g.S.SeqObject.init object) (take made log) in
     let taken = length-take-le made log c.requires.made in
     record {
       words = c.requires.state;
@@ -29,7 +30,8 @@ loop-place-preserved g c =
     let inv = c.loop-place.invariant in
     let low : i < length log = c.loop-place-test.true in
     let one_more : i + 1 ≡ suc i = omega arith in
-    let taken : take (i + 1) log ≡ take i log ++ op ∷ [] = ap (λ (k : ℕ). take k log) one_more ∙ take-suc log i 0 low in
+    let taken : take (i + 1) log ≡ take i log ++ op ∷ [] =
+    ap (λ (k : ℕ). take k log) one_more ∙ take-suc log i 0 low in
     let words = ap (λ (s : Contents). s.words) c.step.ensures.list in
     let longer = g.met.S.SeqObject.grows_by_one object c.loop-place.state.words op in
     record {
@@ -50,7 +52,9 @@ returns-clause-state g c =
     let log : List ℕ = c.args.log.now in
     let inv = c.loop-place.invariant in
     let end = c.loop-place-test.false in
-    let all : take c.loop-place.place log ≡ log = take_all c.loop-place.place log (omega (arith, end, inv.within)) in
+    let all : take c.loop-place.place log ≡ log =
+    take_all c.loop-place.place log (omega (arith, end, inv.within)) in
     ap (λ (s : Contents). s.words) c.step-2.ensures.list
-    ∙ ap (λ (xs : List ℕ). (g.S.SeqObject.next object xs c.args.op).0) (inv.words ∙ ap (list_of (g.S.SeqObject.next object) (g.S.SeqObject.init object)) all)
+    ∙ ap (λ (xs : List ℕ). (g.S.SeqObject.next object xs c.args.op).0)
+    (inv.words ∙ ap (list_of (g.S.SeqObject.next object) (g.S.SeqObject.init object)) all)
     ∙ sym (list_of-append (g.S.SeqObject.next object) (g.S.SeqObject.init object) log c.args.op)

@@ -18,14 +18,21 @@ overflow_add-number g c =
     ∙ ap (λ (k : ℕ). who_announced a * k + c.number.result) c.requires.fits.cap_is
     ∙ ap (λ (m : ℕ). who_announced a * r.cap + m) c.number.ensures in
     let low = (number_is_low g.S.SeqObject.init g.S.SeqObject.next r a c.requires.caller).1 in
-    omega (arith, same, low, places_few g.S.SeqObject.init g.S.SeqObject.next r c.requires.program.objects)
+    omega (
+      arith,
+      same,
+      low,
+      places_few g.S.SeqObject.init g.S.SeqObject.next r c.requires.program.objects,
+    )
 
 pub load_operations-requires-clause-log : goal.load_operations-requires-clause-log
 load_operations-requires-clause-log g c =
     let r = c.args.rows.now in
     let log : List ℕ = c.args.pass.now.log.items in
-    log_kept g.S.SeqObject.init g.S.SeqObject.next r c.store_operation.new.announced c.place_ticket.new.announced log c.place_ticket.ensures.made
-    (log_kept g.S.SeqObject.init g.S.SeqObject.next r c.args.announced.now c.store_operation.new.announced log c.store_operation.ensures.made c.requires.fits.log_known)
+    log_kept g.S.SeqObject.init g.S.SeqObject.next r c.store_operation.new.announced
+    c.place_ticket.new.announced log c.place_ticket.ensures.made
+    (log_kept g.S.SeqObject.init g.S.SeqObject.next r c.args.announced.now
+    c.store_operation.new.announced log c.store_operation.ensures.made c.requires.fits.log_known)
 
 pub reply_after-reply-requires-clause-made : goal.reply_after-reply-requires-clause-made
 reply_after-reply-requires-clause-made g c =
@@ -37,7 +44,8 @@ pub reply_after-reply-requires-clause-state : goal.reply_after-reply-requires-cl
 reply_after-reply-requires-clause-state g c =
     let object = c.args.self.now.object in
     let log : List ℕ = c.load_operations.new.log.items in
-    let count : length c.args.pass.now.log.items ≡ c.len-made.result = omega (arith, c.len-made.ensures, c.args.pass.now.log.ok) in
+    let count : length c.args.pass.now.log.items ≡ c.len-made.result =
+    omega (arith, c.len-made.ensures, c.args.pass.now.log.ok) in
     c.requires.fits.state_is
     ∙ ap (list_of (g.S.SeqObject.next object) (g.S.SeqObject.init object))
     (sym c.load_operations.ensures.before
@@ -58,38 +66,52 @@ returns g c =
     let op : ℕ = c.op-op.result in
     let reply : ℕ = c.reply_after-reply.result in
     let placing : HasMade (meaning g.S.SeqObject.init g.S.SeqObject.next) r a d =
-    made_both g.S.SeqObject.init g.S.SeqObject.next r a b d c.requires.caller c.store_operation.ensures.made c.place_ticket.ensures.made in
+    made_both g.S.SeqObject.init g.S.SeqObject.next r a b d c.requires.caller
+    c.store_operation.ensures.made c.place_ticket.ensures.made in
     let made : HasMade (meaning g.S.SeqObject.init g.S.SeqObject.next) r a e =
-    made_both g.S.SeqObject.init g.S.SeqObject.next r a d e c.requires.caller placing c.load_operations.ensures.made in
+    made_both g.S.SeqObject.init g.S.SeqObject.next r a d e c.requires.caller placing
+    c.load_operations.ensures.made in
     let here = c.place_ticket.ensures.made.still.0 in
     let stored : HasStored r e =
-    stored_kept g.S.SeqObject.init g.S.SeqObject.next r d e here c.load_operations.ensures.made c.place_ticket.ensures.stored in
+    stored_kept g.S.SeqObject.init g.S.SeqObject.next r d e here c.load_operations.ensures.made
+    c.place_ticket.ensures.stored in
     let placed : HasPlaced r e tickets =
-    placed_kept g.S.SeqObject.init g.S.SeqObject.next r d e tickets here c.load_operations.ensures.made c.place_ticket.ensures.placed in
-    let tickets_known : KnowsPlaces r e tickets = subst (KnowsPlaces r e) c.deref.ensures.value c.load_operations.ensures.tickets in
+    placed_kept g.S.SeqObject.init g.S.SeqObject.next r d e tickets here
+    c.load_operations.ensures.made c.place_ticket.ensures.placed in
+    let tickets_known : KnowsPlaces r e tickets =
+    subst (KnowsPlaces r e) c.deref.ensures.value c.load_operations.ensures.tickets in
     let log_known : KnowsLog r e log = c.load_operations.ensures.log in
-    let count : length log + 1 ≡ length tickets = c.load_operations.ensures.whole ∙ ap (λ (xs : List ℕ). length xs) c.deref.ensures.value in
+    let count : length log + 1 ≡ length tickets =
+    c.load_operations.ensures.whole ∙ ap (λ (xs : List ℕ). length xs) c.deref.ensures.value in
     let operation : op_announced e ≡ op = made.operation ∙ sym c.op-op.ensures in
-    let reply_is : reply ≡ (g.S.SeqObject.next object (list_of (g.S.SeqObject.next object) (g.S.SeqObject.init object) log) op).1 =
+    let reply_is : reply ≡ (g.S.SeqObject.next object
+    (list_of (g.S.SeqObject.next object) (g.S.SeqObject.init object) log) op).1 =
     c.reply_after-reply.ensures.reply
-    ∙ ap (λ (xs : List ℕ). (g.S.SeqObject.next object (list_of (g.S.SeqObject.next object) (g.S.SeqObject.init object) xs) op).1) c.deref-2.ensures.value in
+    ∙ ap (λ (xs : List ℕ). (g.S.SeqObject.next object
+    (list_of (g.S.SeqObject.next object) (g.S.SeqObject.init object) xs) op).1)
+    c.deref-2.ensures.value in
     let grown : c.push.new.self.items ≡ log ++ op ∷ [] =
-    c.push.ensures.items ∙ ap (λ (b : Bool). if b then log ++ op ∷ [] else log) (ap is_ok c.unwrap.ensures) in
-    let longer : length c.push.new.self.items ≡ length log + 1 = ap (λ (xs : List ℕ). length xs) grown ∙ length-append log (op ∷ []) in
+    c.push.ensures.items ∙ ap (λ (b : Bool). if b then log ++ op ∷ [] else log)
+    (ap is_ok c.unwrap.ensures) in
+    let longer : length c.push.new.self.items ≡ length log + 1 =
+    ap (λ (xs : List ℕ). length xs) grown ∙ length-append log (op ∷ []) in
     let all_known : KnowsLog r e (log ++ op ∷ []) =
-    own_log_known g.S.SeqObject.init g.S.SeqObject.next r e op log tickets stored (sym operation) placed tickets_known count log_known in
+    own_log_known g.S.SeqObject.init g.S.SeqObject.next r e op log tickets stored
+    (sym operation) placed tickets_known count log_known in
     let steps : all_steps_of (announced_local e) ≡ all_steps_of (announced_local a) ++ made.steps =
     made_all g.S.SeqObject.init g.S.SeqObject.next r a e made in
     record {
       made = (
-        has_replied g.S.SeqObject.init g.S.SeqObject.next r a e object log tickets op reply c.requires.first made c.requires.program.program_is operation placed
+        has_replied g.S.SeqObject.init g.S.SeqObject.next r a e object log tickets op reply
+            c.requires.first made c.requires.program.program_is operation placed
             count log_known reply_is,
         record {
           caller_is = fits.caller_is;
           callers_are = fits.callers_are;
           cap_is = fits.cap_is;
           tickets_fit = omega (arith, fits.tickets_fit, c.place_ticket.ensures.capacity);
-          log_fits = omega (arith, fits.log_fits, c.load_operations.ensures.capacity, c.push.ensures.capacity);
+          log_fits = omega
+              (arith, fits.log_fits, c.load_operations.ensures.capacity, c.push.ensures.capacity);
           state_fits = c.reply_after-reply.ensures.room ∙ fits.state_fits;
           state_is =
               c.reply_after-reply.ensures.state
@@ -97,7 +119,8 @@ returns g c =
               (ap (λ (xs : List ℕ). xs ++ op ∷ []) c.deref-2.ensures.value ∙ sym grown);
           tickets_known = subst (KnowsTickets (places_on r) tickets) steps tickets_known;
           log_known =
-              subst (λ (xs : List ℕ). KnowsOperations (places_on r) xs (all_steps_of (announced_local a) ++ made.steps)) (sym grown)
+              subst (λ (xs : List ℕ). KnowsOperations (places_on r) xs
+              (all_steps_of (announced_local a) ++ made.steps)) (sym grown)
               (subst (KnowsOperations (places_on r) (log ++ op ∷ [])) steps all_known);
           whole = omega (arith, longer, count);
         },

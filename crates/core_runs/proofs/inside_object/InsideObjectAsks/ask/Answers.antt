@@ -8,25 +8,33 @@ use Rattle.core_runs.proofs.inside_object.InsideObjectAsks.ask.Goals as goal
 
 pub ask-requires-clause-caller : goal.ask-requires-clause-caller
 ask-requires-clause-caller g c =
-    subst (λ (x : Rows _). IsCallerOf g.O.P.Program.meaning x (caller_announced c.args.announced)) (sym c.requires.table.1.0) c.requires.table.2
+    subst (λ (x : Rows _). IsCallerOf g.O.P.Program.meaning x (caller_announced c.args.announced))
+    (sym c.requires.table.1.0) c.requires.table.2
 
 pub ask-requires-clause-fits : goal.ask-requires-clause-fits
 ask-requires-clause-fits g c =
-    fits_rows g.O.P.Program.meaning c.args.self.now.rows.now (g.O.CoreObject.fits c.args.self.now.object.now) _ (caller_announced c.args.announced)
-    (subst (λ (x : Rows _). IsCallerOf g.O.P.Program.meaning x (caller_announced c.args.announced)) (sym c.requires.table.1.0) c.requires.table.2) c.requires.fits
+    fits_rows g.O.P.Program.meaning c.args.self.now.rows.now
+    (g.O.CoreObject.fits c.args.self.now.object.now) _ (caller_announced c.args.announced)
+    (subst (λ (x : Rows _). IsCallerOf g.O.P.Program.meaning x (caller_announced c.args.announced))
+    (sym c.requires.table.1.0) c.requires.table.2) c.requires.fits
 
 pub returns-clause-rows : goal.returns-clause-rows
 returns-clause-rows g c r served h =
-    subst (λ (x : Rows _). IsCallerOf g.O.P.Program.meaning x (caller_answered c.ask.result)) served.0 c.ask.ensures.caller.0
+    subst (λ (x : Rows _). IsCallerOf g.O.P.Program.meaning x (caller_answered c.ask.result))
+    served.0 c.ask.ensures.caller.0
 
 pub returns-clause-calls : goal.returns-clause-calls
-returns-clause-calls g c = let made = c.ask.ensures.made in comes_no_further (announced_local c.args.announced) (answered_local c.ask.result) made.0 made.2
+returns-clause-calls g c = let made = c.ask.ensures.made in
+    comes_no_further (announced_local c.args.announced) (answered_local c.ask.result) made.0 made.2
 
 pub returns-clause-grows : goal.returns-clause-grows
-returns-clause-grows g c = let made = c.ask.ensures.made in grows_by_steps (announced_local c.args.announced) (answered_local c.ask.result) made.0 made.1
+returns-clause-grows g c = let made = c.ask.ensures.made in
+    grows_by_steps (announced_local c.args.announced) (answered_local c.ask.result) made.0 made.1
 
 pub returns-clause-fits : goal.returns-clause-fits
 returns-clause-fits g c =
     let made = c.ask.ensures.made in
-    fits_caller g.O.P.Program.meaning c.args.self.now.rows.now (g.O.CoreObject.fits c.args.self.now.object.now) _ (caller_answered c.ask.result) c.ask.ensures.caller.0 _ _ c.ask.ensures.caller.1
+    fits_caller g.O.P.Program.meaning c.args.self.now.rows.now
+    (g.O.CoreObject.fits c.args.self.now.object.now) _
+    (caller_answered c.ask.result) c.ask.ensures.caller.0 _ _ c.ask.ensures.caller.1
     (ap (λ (p : Progress). p.steps) made.2) made.3

@@ -3,4 +3,5 @@ use Rattle.drv_wrapper.proofs.Stepping.{has_stepped}
 use Rattle.drv_wrapper.proofs.announced.Announced.object_load.Goals as goal
 
 pub returns : goal.returns
-returns g c = has_stepped g.P.Program.meaning c.args.rows.now c.args.self.now _ _ c.requires.rows c.object_load.ensures.caller refl c.object_load.ensures.event
+returns g c = has_stepped g.P.Program.meaning c.args.rows.now c.args.self.now _ _ c.requires.rows
+    c.object_load.ensures.caller refl c.object_load.ensures.event

@@ -15,8 +15,14 @@ loop-entry-preserved g c =
     let long = k.room.waiting in
     let turn = c.turn.ensures in
     record {
-      list = list_more next old.state.words waiting log i _ low c.loop-entry.scratch.state.words _ k.list (k.waiting _ here) turn.list;
-      waiting = λ j within. waiting_more next old.state.words waiting log i _ low _ j turn.waiting (omega (arith, c.loop-entry.scratch.waiting.ok.0)) (k.waiting j within);
+      list = list_more next old.state.words waiting log i _ low c.loop-entry.scratch.state.words _
+          k.list (k.waiting _ here) turn.list;
+      waiting = λ j within. waiting_more next old.state.words waiting log i _ low _ j turn.waiting
+          (omega (arith, c.loop-entry.scratch.waiting.ok.0)) (k.waiting j within);
       count = let most = turn.count in let before = k.count in omega arith;
-      room = record { state = turn.room.state ∙ k.room.state; other = turn.room.other ∙ k.room.other; waiting = turn.room.waiting ∙ k.room.waiting };
+      room = record {
+        state = turn.room.state ∙ k.room.state;
+        other = turn.room.other ∙ k.room.other;
+        waiting = turn.room.waiting ∙ k.room.waiting;
+      };
     }

@@ -10,4 +10,5 @@ returns-then-is_put-clause-waiting g c =
     let op = c.args.entry.now.op in
     ap (λ (l : List (Option _)). set l i (Some op)) c.make_waiting.ensures.waiting
     ∙ set-set c.args.scratch.now.waiting.items i None (Some op)
-    ∙ ap (set c.args.scratch.now.waiting.items i) (sym (cond-true (is_put op) (Some op) None (sym c.is_put.ensures ∙ c.if-is_put.true)))
+    ∙ ap (set c.args.scratch.now.waiting.items i)
+    (sym (cond-true (is_put op) (Some op) None (sym c.is_put.ensures ∙ c.if-is_put.true)))

@@ -8,7 +8,8 @@ use Rattle.faulty_objects.proofs.behaviour.Behaviour.from_name.Goals as goal
 found : (c : goal.After-copied) → c.copied.result ≡ first_named c.args.name.now all_behaviours
 found c =
     c.copied.ensures
-    ∙ find_from_yields_List (λ b. bytes_eq (behaviour_name b) c.args.name.now) _ _ c.find.result c.find.ensures.ran (YieldsList-from_slice all_behaviours cc) (λ x b q k. search (rules, tests))
+    ∙ find_from_yields_List (λ b. bytes_eq (behaviour_name b) c.args.name.now) _ _ c.find.result
+    c.find.ensures.ran (YieldsList-from_slice all_behaviours cc) (λ x b q k. search (rules, tests))
 
 pub returns-clause-found : goal.returns-clause-found
 returns-clause-found c = behaviour_found c.args.name.now c.copied.result (found c)

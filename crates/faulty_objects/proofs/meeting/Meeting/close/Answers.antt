@@ -4,9 +4,17 @@ use Rattle.faulty_objects.proofs.Together.{one_meeting}
 use Rattle.faulty_objects.proofs.meeting.Meeting.close.Goals as goal
 
 pub close-requires-clause-seats : goal.close-requires-clause-seats
-close-requires-clause-seats c = seats_of meeting_may (λ caller _. IsMeeting caller) c.args.self.words c.args.passes.items c.requires.own
+close-requires-clause-seats c = seats_of meeting_may
+    (λ caller _. IsMeeting caller) c.args.self.words c.args.passes.items c.requires.own
 
 pub returns : goal.returns
 returns c =
     let known = c.close.ensures.history in
-    record { history = (known.0, one_meeting _ known.0 c.args.passes.items (of_one_history meeting_may (λ caller _. IsMeeting caller) c.args.self.words _ known.0 c.args.passes.items c.requires.own known.1)) }
+    record {
+      history = (
+        known.0,
+        one_meeting _ known.0 c.args.passes.items
+            (of_one_history meeting_may (λ caller _. IsMeeting caller) c.args.self.words _ known.0
+            c.args.passes.items c.requires.own known.1),
+      );
+    }

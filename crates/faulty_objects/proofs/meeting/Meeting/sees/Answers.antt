@@ -5,7 +5,12 @@ use Rattle.faulty_objects.proofs.Raising.{found_up, loads_may}
 use Rattle.faulty_objects.proofs.meeting.Meeting.sees.Goals as goal
 
 pub loop-turn-init : goal.loop-turn-init
-loop-turn-init c = record { seat = c.requires.seat; caller = refl; missed = none_missed _ _; history = prefix_itself _ }
+loop-turn-init c = record {
+  seat = c.requires.seat;
+  caller = refl;
+  missed = none_missed _ _;
+  history = prefix_itself _;
+}
 
 pub load-found-requires-clause-may : goal.load-found-requires-clause-may
 load-found-requires-clause-may c found = loads_may _ _ found
@@ -15,9 +20,12 @@ loop-turn-preserved c =
     record {
       seat = c.load-found.ensures.seat;
       caller = c.load-found.ensures.caller ∙ c.loop-turn.invariant.caller;
-      missed = one_missed _ _ _ _ _ _ c.loop-turn.invariant.missed c.load-found.ensures.step c.if-found-eq-UP.false;
-      history = prefix_through _ _ _ c.loop-turn.invariant.history (prefix_after _ _ _ _ c.load-found.ensures.history);
+      missed = one_missed _ _ _ _ _ _ c.loop-turn.invariant.missed c.load-found.ensures.step
+          c.if-found-eq-UP.false;
+      history = prefix_through _ _ _ c.loop-turn.invariant.history
+          (prefix_after _ _ _ _ c.load-found.ensures.history);
     }
 
 pub returns-then-found-eq-UP-clause-raised : goal.returns-then-found-eq-UP-clause-raised
-returns-then-found-eq-UP-clause-raised c = found_up _ _ _ _ _ c.load-found.ensures.seat.lawful c.load-found.ensures.history c.if-found-eq-UP.true
+returns-then-found-eq-UP-clause-raised c = found_up _ _ _ _ _ c.load-found.ensures.seat.lawful
+    c.load-found.ensures.history c.if-found-eq-UP.true

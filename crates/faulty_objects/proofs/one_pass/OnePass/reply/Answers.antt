@@ -7,4 +7,5 @@ use Rattle.faulty_objects.proofs.one_pass.OnePass.reply.Goals as goal
 pub returns-clause-call : goal.returns-clause-call
 returns-clause-call c =
     let w = c.args.self.now.words in
-    enqueued_is_made (callers_of w * cap_of w) c.args.op _ _ _ (omega arith) c.if-op-eq-DEQUEUE.false (omega arith) refl c.enqueue.ensures.call
+    enqueued_is_made (callers_of w * cap_of w) c.args.op _ _ _
+    (omega arith) c.if-op-eq-DEQUEUE.false (omega arith) refl c.enqueue.ensures.call

@@ -5,9 +5,16 @@ use Rattle.faulty_objects.proofs.Together.{one_split}
 use Rattle.faulty_objects.proofs.split_tally.SplitTally.close.Goals as goal
 
 pub close-requires-clause-seats : goal.close-requires-clause-seats
-close-requires-clause-seats c = seats_of cell_may (λ _. IsSplit) c.args.self.words c.args.passes.items c.requires.own
+close-requires-clause-seats c =
+    seats_of cell_may (λ _. IsSplit) c.args.self.words c.args.passes.items c.requires.own
 
 pub returns : goal.returns
 returns c =
     let known = c.close.ensures.history in
-    record { history = (known.0, one_split _ known.0 c.args.passes.items (of_one_history cell_may (λ _. IsSplit) c.args.self.words _ known.0 c.args.passes.items c.requires.own known.1)) }
+    record {
+      history = (
+        known.0,
+        one_split _ known.0 c.args.passes.items (of_one_history cell_may
+            (λ _. IsSplit) c.args.self.words _ known.0 c.args.passes.items c.requires.own known.1),
+      );
+    }

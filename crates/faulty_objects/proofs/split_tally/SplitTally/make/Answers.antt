@@ -18,17 +18,23 @@ note-requires c =
 pub returns-clause-own : goal.returns-clause-own
 returns-clause-own c =
     let noted = c.note.ensures in
-    called cell_may (λ _. IsSplit) c.args.self.now.words c.args.pass.now c.note.new.self c.reply-reply.new.seat c.args.op c.reply-reply.result c.requires.own
-    c.reply-reply.ensures.seat c.reply-reply.ensures.caller c.reply-reply.ensures.call noted.pairs noted.seat noted.same.0 noted.same.1
+    called cell_may (λ _. IsSplit) c.args.self.now.words c.args.pass.now c.note.new.self
+    c.reply-reply.new.seat c.args.op c.reply-reply.result c.requires.own
+    c.reply-reply.ensures.seat c.reply-reply.ensures.caller c.reply-reply.ensures.call noted.pairs
+    noted.seat noted.same.0 noted.same.1
 
 pub returns-clause-same : goal.returns-clause-same
-returns-clause-same c = (ap (λ s. s.who) c.note.ensures.seat ∙ c.reply-reply.ensures.caller, c.note.ensures.same.0)
+returns-clause-same c =
+    (ap (λ s. s.who) c.note.ensures.seat ∙ c.reply-reply.ensures.caller, c.note.ensures.same.0)
 
 pub returns-clause-history : goal.returns-clause-history
-returns-clause-history c = subst (λ s. IsPrefix (history_of c.args.pass.now.seat) (history_of s)) (sym c.note.ensures.seat) c.reply-reply.ensures.history
+returns-clause-history c = subst (λ s. IsPrefix (history_of c.args.pass.now.seat) (history_of s))
+    (sym c.note.ensures.seat) c.reply-reply.ensures.history
 
 pub returns-clause-form : goal.returns-clause-form
 returns-clause-form c = split_form _ _ _ _ c.reply-reply.ensures.call
 
 pub returns-clause-torn : goal.returns-clause-torn
-returns-clause-torn c is = subst (λ s. IsTorn c.args.pass.now.seat.who c.reply-reply.result (history_of s)) (sym c.note.ensures.seat) (c.reply-reply.ensures.torn is)
+returns-clause-torn c is =
+    subst (λ s. IsTorn c.args.pass.now.seat.who c.reply-reply.result (history_of s))
+    (sym c.note.ensures.seat) (c.reply-reply.ensures.torn is)

@@ -10,11 +10,14 @@ pub store-requires-clause-may : goal.store-requires-clause-may
 store-requires-clause-may c = inl (_, refl)
 
 pub returns-clause-call : goal.returns-clause-call
-returns-clause-call c = loaded_and_stored c.args.op _ _ _ _ _ _ c.if-op-ne-INCREMENT.false c.load-found.ensures.step c.store.ensures.step refl c.value_reply.ensures
+returns-clause-call c = loaded_and_stored c.args.op _ _ _ _ _ _ c.if-op-ne-INCREMENT.false
+    c.load-found.ensures.step c.store.ensures.step refl c.value_reply.ensures
 
 pub returns-clause-history : goal.returns-clause-history
-returns-clause-history c = prefix_through _ _ _ (prefix_after _ _ _ _ c.load-found.ensures.history) (prefix_after _ _ _ _ c.store.ensures.history)
+returns-clause-history c = prefix_through _ _ _ (prefix_after _ _ _ _ c.load-found.ensures.history)
+    (prefix_after _ _ _ _ c.store.ensures.history)
 
 pub returns-clause-torn : goal.returns-clause-torn
 returns-clause-torn c is =
-    torn_reply _ _ _ _ _ _ _ _ c.load-found.ensures.seat.lawful c.load-found.ensures.history c.load-found.ensures.caller c.store.ensures.history refl c.value_reply.ensures
+    torn_reply _ _ _ _ _ _ _ _ c.load-found.ensures.seat.lawful c.load-found.ensures.history
+    c.load-found.ensures.caller c.store.ensures.history refl c.value_reply.ensures

@@ -7,7 +7,13 @@ use Rattle.frontier_check.proofs.memo.Memo.add.Goals as goal
 pub returns-clause-memo : goal.returns-clause-memo
 returns-clause-memo c =
     let entry : Entry = record { from = c.len.result; len = length c.args.words.now } in
-    let new : Memo = record { callers = c.args.self.now.callers; counts = c.extend_from_slice.new.self; words = c.extend_from_slice-2.new.self; entries = c.push.new.self; slots = c.args.self.now.slots } in
+    let new : Memo = record {
+      callers = c.args.self.now.callers;
+      counts = c.extend_from_slice.new.self;
+      words = c.extend_from_slice-2.new.self;
+      entries = c.push.new.self;
+      slots = c.args.self.now.slots;
+    } in
     let is : IsAdded c.args.self.now new c.args.counts.now c.args.words.now entry = record {
       callers = search rules;
       counts = c.in_ok-extend_from_slice.ensures.items;
@@ -17,12 +23,19 @@ returns-clause-memo c =
       from = search rules;
       len = search rules;
     } in
-    memo-added c.args.self.now new c.args.counts.now c.args.words.now entry c.requires.memo is (omega arith)
+    memo-added c.args.self.now new c.args.counts.now c.args.words.now entry c.requires.memo is
+    (omega arith)
 
 pub returns-clause-only : goal.returns-clause-only
 returns-clause-only c =
     let entry : Entry = record { from = c.len.result; len = length c.args.words.now } in
-    let new : Memo = record { callers = c.args.self.now.callers; counts = c.extend_from_slice.new.self; words = c.extend_from_slice-2.new.self; entries = c.push.new.self; slots = c.args.self.now.slots } in
+    let new : Memo = record {
+      callers = c.args.self.now.callers;
+      counts = c.extend_from_slice.new.self;
+      words = c.extend_from_slice-2.new.self;
+      entries = c.push.new.self;
+      slots = c.args.self.now.slots;
+    } in
     let is : IsAdded c.args.self.now new c.args.counts.now c.args.words.now entry = record {
       callers = search rules;
       counts = c.in_ok-extend_from_slice.ensures.items;

@@ -10,7 +10,12 @@ returns-then-eq c = λ yes.
     elim (slice_get_cases c.args.self.now.entries.items c.args.index).1 [
       | inl here ↦
           let counts = (slice_eq-Decides Decides-eqb _ _ _ c.eq.ensures).0 c.if-eq.true in
-          let words = (slice_eq-Decides Decides-eqb _ _ _ c.eq-then-eq.ensures).0 yes in
-          (c.args.index, here.0, here.2, sym counts ∙ c.counts_of.ensures, sym words ∙ c.words_of.ensures here.0 here.2)
+          let words = (slice_eq-Decides Decides-eqb _ _ _ c.eq-then-eq.ensures).0 yes in (
+            c.args.index,
+            here.0,
+            here.2,
+            sym counts ∙ c.counts_of.ensures,
+            sym words ∙ c.words_of.ensures here.0 here.2,
+          )
       | inr past ↦ absurd (omega (arith, past.0))
     ]

@@ -8,5 +8,6 @@ abbrev pub invariant-loop-place : goal.invariant-loop-place
 invariant-loop-place g l = record {
   put : IsPut (g.S.SeqObject.init l.object) (g.S.SeqObject.next l.object) l.book l.self;
   room : l.self.here.room ≡ ROOM;
-  marks : AreMarks (g.S.SeqObject.init l.object) (g.S.SeqObject.next l.object) l.book l.self.places.items 0 l.marks.items;
+  marks : AreMarks (g.S.SeqObject.init l.object)
+      (g.S.SeqObject.next l.object) l.book l.self.places.items 0 l.marks.items;
 }

@@ -12,15 +12,26 @@ pub enter-requires-clause-walk : goal.enter-requires-clause-walk
 enter-requires-clause-walk g c =
     let object = c.args.self.now.object.now in
     let old = c.args.walk.now in
-    let new : Walk = record { levels = old.levels; counts = old.counts; here = old.here; choices = c.pop.new.self; memo = old.memo } in
-    (walk-choose c.args.self.now.book.now c.args.self.now.prefix.now (g.S.SeqObject.init object) (g.S.SeqObject.next object) old new c.in-Some.choice c.requires.walk c.in-Some.ensures.items refl refl refl refl).0
+    let new : Walk = record {
+      levels = old.levels;
+      counts = old.counts;
+      here = old.here;
+      choices = c.pop.new.self;
+      memo = old.memo;
+    } in
+    (walk-choose c.args.self.now.book.now c.args.self.now.prefix.now (g.S.SeqObject.init object)
+    (g.S.SeqObject.next object) old new c.in-Some.choice c.requires.walk c.in-Some.ensures.items
+    refl refl refl refl).0
 
 pub remember-requires-clause-wide : goal.remember-requires-clause-wide
 remember-requires-clause-wide g c =
     let object = c.args.self.now.object.now in
     let w = c.requires.walk in
-    ap length c.deref.ensures.value ∙ (leads-wide c.args.self.now.book.now c.args.self.now.prefix.now (g.S.SeqObject.init object) (g.S.SeqObject.next object) c.args.walk.now.levels.items c.args.walk.now.counts.items
-    c.args.walk.now.here.words w.begins (g.met.S.SeqObject.grows_by_one object) w.leads ∙ sym w.callers)
+    ap length c.deref.ensures.value
+    ∙ (leads-wide c.args.self.now.book.now c.args.self.now.prefix.now (g.S.SeqObject.init object)
+    (g.S.SeqObject.next object) c.args.walk.now.levels.items c.args.walk.now.counts.items
+    c.args.walk.now.here.words w.begins (g.met.S.SeqObject.grows_by_one object) w.leads
+    ∙ sym w.callers)
 
 pub retreat-requires : goal.retreat-requires
 retreat-requires g c =
@@ -29,13 +40,24 @@ retreat-requires g c =
     let init = g.S.SeqObject.init object in
     let next = g.S.SeqObject.next object in
     let old = c.args.walk.now in
-    let new : Walk = record { levels = old.levels; counts = old.counts; here = old.here; choices = c.pop.new.self; memo = c.remember.new.self } in
-    let none : old.choices.items ≡ [] = nil_from_length old.choices.items (let e = c.in-None.ensures.cases.0 in search rules) in
-    let walk : IsWalk book c.args.self.now.prefix.now init next old [] = subst (λ (cs : List Choice). IsWalk book c.args.self.now.prefix.now init next old (places_of cs)) none c.requires.walk in
+    let new : Walk = record {
+      levels = old.levels;
+      counts = old.counts;
+      here = old.here;
+      choices = c.pop.new.self;
+      memo = c.remember.new.self;
+    } in
+    let none : old.choices.items ≡ [] =
+    nil_from_length old.choices.items (let e = c.in-None.ensures.cases.0 in search rules) in
+    let walk : IsWalk book c.args.self.now.prefix.now init next old [] = subst
+    (λ (cs : List Choice). IsWalk book c.args.self.now.prefix.now init next old (places_of cs)) none
+    c.requires.walk in
     let made = c.in_ok-remember-in-None.ensures in
     record {
-      walk = walk-remember book c.args.self.now.prefix.now init next old new walk refl refl refl made.memo made.callers
-          (λ (cut list : List ℕ) (there : Remembers new.memo cut list). elim (made.only cut list there) [
+      walk = walk-remember book c.args.self.now.prefix.now init next old new walk refl refl refl
+          made.memo made.callers
+          (λ (cut list : List ℕ) (there : Remembers new.memo cut list).
+          elim (made.only cut list there) [
             | inl before ↦ inl before
             | inr now ↦ inr (now.0 ∙ c.deref.ensures.value, now.1 ∙ c.words.ensures)
           ]);

@@ -4,5 +4,6 @@ use Rattle.frontier_check.proofs.search.Search.at_once.Goals as goal
 
 pub read_only-place-requires-clause-may : goal.read_only-place-requires-clause-may
 read_only-place-requires-clause-may g c =
-    may_come-from_least c.args.self.now.book.now c.args.counts.now c.args.first c.loop-caller.caller c.args.view.now c.callers-caller-end.ensures.valid c.requires.first c.requires.view
+    may_come-from_least c.args.self.now.book.now c.args.counts.now c.args.first c.loop-caller.caller
+    c.args.view.now c.callers-caller-end.ensures.valid c.requires.first c.requires.view
     (omega (arith, c.from.ensures, c.get.ensures))

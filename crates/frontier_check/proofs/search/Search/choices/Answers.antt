@@ -16,16 +16,19 @@ returns-in-Some-clause-open g c =
     let cut = c.args.counts.now in
     let list = c.args.here.now.words in
     let one : Choice = record { turn = 0; place = c.in-Some.place } in
-    let items : c.push.new.self.items ≡ one ∷ [] = c.in_ok-push.ensures.items ∙ ap (λ (cs : List Choice). cs ++ one ∷ []) c.new-choices.ensures.items in
+    let items : c.push.new.self.items ≡ one ∷ [] = c.in_ok-push.ensures.items
+    ∙ ap (λ (cs : List Choice). cs ++ one ∷ []) c.new-choices.ensures.items in
     subst (λ (ps : List Place). IsOpen book next cut list ps) (sym (ap places_of items))
-    (open-from_once book next cut list c.args.first c.in-Some.place c.requires.first c.in-Some.ensures.some)
+    (open-from_once book next cut list c.args.first c.in-Some.place c.requires.first
+    c.in-Some.ensures.some)
 
 pub consider-requires-clause-may : goal.consider-requires-clause-may
 consider-requires-clause-may g c =
     let book = c.args.self.now.book.now in
     let caller = c.loop-caller.caller in
     let marked : IsMarked c.to_try-marks.result caller = c.has.ensures.0 c.if-has.true in
-    subst (λ (cut : List ℕ). MayComeNext book cut (next_call cut caller)) c.cut_of-cut.ensures (c.to_try-marks.ensures.may caller marked)
+    subst (λ (cut : List ℕ). MayComeNext book cut (next_call cut caller)) c.cut_of-cut.ensures
+    (c.to_try-marks.ensures.may caller marked)
 
 pub loop-caller-preserved : goal.loop-caller-preserved
 loop-caller-preserved g c =
@@ -42,7 +45,8 @@ loop-caller-preserved g c =
     elim c.if-has.branch [
       | then-has+then-not-is_infeasible+in_ok-consider w ↦ record {
         room = rw w.spare-is w.consider.ensures.room;
-        chosen = rw w.choices-is (chosen-next book next cut list marks caller before (places_of w.consider.new.choices.items) i.chosen w.in_ok-consider.ensures.more);
+        chosen = rw w.choices-is (chosen-next book next cut list marks caller before
+            (places_of w.consider.new.choices.items) i.chosen w.in_ok-consider.ensures.more);
         few = rw w.choices-is (omega (arith, i.few, w.consider.ensures.few));
       }
       | else-has w ↦ record {
@@ -50,11 +54,15 @@ loop-caller-preserved g c =
         chosen = rw w.choices-is (elim w.else-has.branch [
           | else-has-via-then-has+else-not-is_infeasible v ↦
               let infeasible : IsInfeasible init next book cut list (next_call cut caller) =
-              subst (λ (counts : List ℕ). IsInfeasible init next book counts list (next_call counts caller)) c.cut_of-cut.ensures (v.is_infeasible.ensures v.if-not-is_infeasible.false) in
-              infeasible-skip init next book cut list marks before caller c.requires.reached i.chosen infeasible
+              subst (λ (counts : List ℕ). IsInfeasible init next book counts list
+              (next_call counts caller)) c.cut_of-cut.ensures
+              (v.is_infeasible.ensures v.if-not-is_infeasible.false) in
+              infeasible-skip init next book cut list marks before caller c.requires.reached
+              i.chosen infeasible
           | else-has-via-else-has v ↦
               unmarked-skip book next cut list marks before caller i.chosen
-              (λ (marked : IsMarked marks caller). absurd (let yes = c.has.ensures.1 marked in let untrue = v.if-has.false in cc))
+              (λ (marked : IsMarked marks caller).
+              absurd (let yes = c.has.ensures.1 marked in let untrue = v.if-has.false in cc))
         ]);
         few = rw w.choices-is (omega (arith, i.few));
       }
@@ -68,7 +76,11 @@ returns-clause-open g c =
     let list = c.args.here.now.words in
     let marks = c.to_try-marks.result in
     let places = places_of c.loop-caller.choices.items in
-    let end : c.loop-caller.caller ≡ length book = omega (arith, c.callers-caller-end.ensures.count) in
-    let suffice : MarksSuffice book next cut list marks = subst (λ (counts : List ℕ). MarksSuffice book next counts list marks) c.cut_of-cut.ensures c.to_try-marks.ensures.suffice in
+    let end : c.loop-caller.caller ≡ length book =
+    omega (arith, c.callers-caller-end.ensures.count) in
+    let suffice : MarksSuffice book next cut list marks =
+    subst (λ (counts : List ℕ). MarksSuffice book next counts list marks) c.cut_of-cut.ensures
+    c.to_try-marks.ensures.suffice in
     open-from_chosen book next cut list marks c.args.first places c.requires.first suffice
-    (subst (λ (n : ℕ). AreChosen book next cut list marks n places) end c.loop-caller.invariant.chosen)
+    (subst (λ (n : ℕ). AreChosen book next cut list marks n places) end
+    c.loop-caller.invariant.chosen)

@@ -10,8 +10,14 @@ loop-word-preserved g c =
     let here = c.args.here.now.words in
     let words = c.words-word-items.result.now in
     elim c.match-rank.branch [
-      | in-Some+in-Some-least w ↦ rw w.least-is (subst (λ (least : Option ℕ). IfSome least (IsRankIn ranks here)) w.in-Some-least.is c.loop-word.invariant)
-      | in-Some+in_default-least-2 w ↦ rw w.least-is (rank_in ranks here words c.loop-word.word-index w.in-Some.rank c.words-word-items.ensures c.loop-word-test.true (sym c.rank.ensures ∙ w.in-Some.is))
-      | in-Some+in_default-least w ↦ rw w.least-is (rank_in ranks here words c.loop-word.word-index w.in-Some.rank c.words-word-items.ensures c.loop-word-test.true (sym c.rank.ensures ∙ w.in-Some.is))
+      | in-Some+in-Some-least w ↦
+          rw w.least-is (subst (λ (least : Option ℕ). IfSome least (IsRankIn ranks here))
+          w.in-Some-least.is c.loop-word.invariant)
+      | in-Some+in_default-least-2 w ↦
+          rw w.least-is (rank_in ranks here words c.loop-word.word-index w.in-Some.rank
+          c.words-word-items.ensures c.loop-word-test.true (sym c.rank.ensures ∙ w.in-Some.is))
+      | in-Some+in_default-least w ↦
+          rw w.least-is (rank_in ranks here words c.loop-word.word-index w.in-Some.rank
+          c.words-word-items.ensures c.loop-word-test.true (sym c.rank.ensures ∙ w.in-Some.is))
       | in_default w ↦ rw w.least-is c.loop-word.invariant
     ]

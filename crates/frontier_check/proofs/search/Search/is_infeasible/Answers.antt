@@ -14,8 +14,10 @@ returns-then-lacks g c _ =
     let list = c.args.here.now.words in
     let made : ℕ → Call = λ n. record { caller = c.args.caller; number = n } in
     let below : IsBelow cut (bar_of known (made c.get.result)).floor =
-    subst (λ (counts : List ℕ). IsBelow counts (bar_of known (made c.get.result)).floor) c.counts.ensures (c.lacks.ensures.0 c.if-lacks.true) in
-    subst (λ (n : ℕ). IsInfeasible (g.S.SeqObject.init object) (g.S.SeqObject.next object) book cut list (made n)) c.get.ensures
+    subst (λ (counts : List ℕ). IsBelow counts (bar_of known (made c.get.result)).floor)
+    c.counts.ensures (c.lacks.ensures.0 c.if-lacks.true) in
+    subst (λ (n : ℕ). IsInfeasible (g.S.SeqObject.init object)
+    (g.S.SeqObject.next object) book cut list (made n)) c.get.ensures
     (c.requires.foresight cut list (made c.get.result) (inl below))
 
 pub returns-in-Some : goal.returns-in-Some
@@ -26,8 +28,12 @@ returns-in-Some g c low =
     let cut = c.args.cut.now in
     let list = c.args.here.now.words in
     let made : ℕ → Call = λ n. record { caller = c.args.caller; number = n } in
-    let there : IsRankIn known.ranks list c.in-Some.rank = subst (λ (o : Option ℕ). IfSome o (IsRankIn known.ranks list)) c.in-Some.is c.requires.earliest in
-    let below : c.in-Some.rank < (bar_of known (made c.get.result)).limit = omega (arith, ltb-true c.in-Some.rank c.limit.result low, c.limit.ensures) in
-    let early : HasEarly known.ranks list (bar_of known (made c.get.result)).limit = there (bar_of known (made c.get.result)).limit below in
-    subst (λ (n : ℕ). IsInfeasible (g.S.SeqObject.init object) (g.S.SeqObject.next object) book cut list (made n)) c.get.ensures
+    let there : IsRankIn known.ranks list c.in-Some.rank = subst
+    (λ (o : Option ℕ). IfSome o (IsRankIn known.ranks list)) c.in-Some.is c.requires.earliest in
+    let below : c.in-Some.rank < (bar_of known (made c.get.result)).limit =
+    omega (arith, ltb-true c.in-Some.rank c.limit.result low, c.limit.ensures) in
+    let early : HasEarly known.ranks list (bar_of known (made c.get.result)).limit =
+    there (bar_of known (made c.get.result)).limit below in
+    subst (λ (n : ℕ). IsInfeasible (g.S.SeqObject.init object)
+    (g.S.SeqObject.next object) book cut list (made n)) c.get.ensures
     (c.requires.foresight cut list (made c.get.result) (inr early))

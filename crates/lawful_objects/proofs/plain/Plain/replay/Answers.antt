@@ -8,7 +8,9 @@ step-reply-requires g c =
     let object = c.args.self.now.object in
     let k = c.loop-entry.invariant in
     let low : c.loop-entry.entry-index < length c.args.log.now = c.loop-entry-test.true in
-    let most = length-replayed (g.S.SeqObject.next object) c.args.state.now.words c.args.log.now c.loop-entry.entry-index (record { caller = 0; op = 0 }) _ k.list low (g.met.S.SeqObject.grows_by_one object) in
+    let most = length-replayed
+    (g.S.SeqObject.next object) c.args.state.now.words c.args.log.now c.loop-entry.entry-index
+    (record { caller = 0; op = 0 }) _ k.list low (g.met.S.SeqObject.grows_by_one object) in
     let room = c.requires in
     let same = k.room in
     omega arith
@@ -21,6 +23,8 @@ loop-entry-preserved g c =
     let e = c.step-reply.ensures in
     record {
       room = ap (λ (s : Contents). s.room) e.list ∙ k.room;
-      list = ap (λ (s : Contents). s.words) e.list ∙ sym (list_more (g.S.SeqObject.next object) c.args.state.now.words c.args.log.now c.loop-entry.entry-index _ _ k.list low);
-      reply = e.reply ∙ sym (reply_more (g.S.SeqObject.next object) c.args.state.now.words c.args.log.now c.loop-entry.entry-index _ _ k.list low);
+      list = ap (λ (s : Contents). s.words) e.list ∙ sym (list_more (g.S.SeqObject.next object)
+          c.args.state.now.words c.args.log.now c.loop-entry.entry-index _ _ k.list low);
+      reply = e.reply ∙ sym (reply_more (g.S.SeqObject.next object) c.args.state.now.words
+          c.args.log.now c.loop-entry.entry-index _ _ k.list low);
     }

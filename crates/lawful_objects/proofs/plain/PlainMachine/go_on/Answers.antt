@@ -10,9 +10,14 @@ replay-requires g c =
     let object = c.args.self.now.object in
     let log = c.args.log.now in
     let seen = c.requires.seen (omega arith) in
-    let room = room_beyond (g.S.SeqObject.next object) (g.S.SeqObject.init object) log c.args.known _ seen c.args.scratch.now.state.room
-    (g.met.S.SeqObject.begins_small object) (g.met.S.SeqObject.grows_by_one object) c.requires.more c.requires.room.state in
-    record { room = subst (λ (rest : List Entry). length c.args.scratch.now.state.words + length rest ≤ c.args.scratch.now.state.room) (sym (tail_is log c.args.known)) room }
+    let room = room_beyond (g.S.SeqObject.next object)
+    (g.S.SeqObject.init object) log c.args.known _ seen c.args.scratch.now.state.room
+    (g.met.S.SeqObject.begins_small object)
+    (g.met.S.SeqObject.grows_by_one object) c.requires.more c.requires.room.state in
+    record {
+      room = subst (λ (rest : List Entry). length c.args.scratch.now.state.words + length rest
+          ≤ c.args.scratch.now.state.room) (sym (tail_is log c.args.known)) room;
+    }
 
 pub returns-clause-reply : goal.returns-clause-reply
 returns-clause-reply g c =
@@ -20,8 +25,10 @@ returns-clause-reply g c =
     let log = c.args.log.now in
     let seen = c.requires.seen (omega arith) in
     c.replay.ensures.reply
-    ∙ ap (last_reply (g.S.SeqObject.next object) c.args.scratch.now.state.words) (tail_is log c.args.known)
-    ∙ reply_beyond (g.S.SeqObject.next object) (g.S.SeqObject.init object) log c.args.known _ seen c.requires.more
+    ∙ ap (last_reply (g.S.SeqObject.next object) c.args.scratch.now.state.words)
+    (tail_is log c.args.known)
+    ∙ reply_beyond (g.S.SeqObject.next object)
+    (g.S.SeqObject.init object) log c.args.known _ seen c.requires.more
 
 pub returns-clause-seen : goal.returns-clause-seen
 returns-clause-seen g c =
@@ -29,5 +36,6 @@ returns-clause-seen g c =
     let log = c.args.log.now in
     let seen = c.requires.seen (omega arith) in
     ap (λ (s : Contents). s.words) c.replay.ensures.list
-    ∙ ap (list_after (g.S.SeqObject.next object) c.args.scratch.now.state.words) (tail_is log c.args.known)
+    ∙ ap (list_after (g.S.SeqObject.next object) c.args.scratch.now.state.words)
+    (tail_is log c.args.known)
     ∙ list_beyond (g.S.SeqObject.next object) (g.S.SeqObject.init object) log c.args.known _ seen

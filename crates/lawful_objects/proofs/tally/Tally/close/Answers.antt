@@ -4,9 +4,16 @@ use Rattle.lawful_objects.proofs.Together.{one_tally}
 use Rattle.lawful_objects.proofs.tally.Tally.close.Goals as goal
 
 pub close-requires-clause-seats : goal.close-requires-clause-seats
-close-requires-clause-seats c = seats_of tally_may (λ _. IsTallied) c.args.self.word c.args.passes.items c.requires.own
+close-requires-clause-seats c =
+    seats_of tally_may (λ _. IsTallied) c.args.self.word c.args.passes.items c.requires.own
 
 pub returns : goal.returns
 returns c =
     let known = c.close.ensures.history in
-    record { history = (known.0, one_tally _ known.0 c.args.passes.items c.requires.callers (of_one_history tally_may (λ _. IsTallied) c.args.self.word _ known.0 c.args.passes.items c.requires.own known.1)) }
+    record {
+      history = (
+        known.0,
+        one_tally _ known.0 c.args.passes.items c.requires.callers (of_one_history tally_may
+            (λ _. IsTallied) c.args.self.word _ known.0 c.args.passes.items c.requires.own known.1),
+      );
+    }

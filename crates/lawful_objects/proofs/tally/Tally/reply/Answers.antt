@@ -10,4 +10,5 @@ pub returns-clause-history : goal.returns-clause-history
 returns-clause-history c = prefix_after _ _ _ _ c.add.ensures.history
 
 pub returns-clause-counted : goal.returns-clause-counted
-returns-clause-counted c is = counted_reply _ _ _ _ _ c.add.ensures.seat.lawful c.add.ensures.history c.value_reply.ensures
+returns-clause-counted c is =
+    counted_reply _ _ _ _ _ c.add.ensures.seat.lawful c.add.ensures.history c.value_reply.ensures

@@ -4,9 +4,16 @@ use Rattle.lawful_objects.proofs.Together.{one_cell}
 use Rattle.lawful_objects.proofs.word_cell.WordCell.close.Goals as goal
 
 pub close-requires-clause-seats : goal.close-requires-clause-seats
-close-requires-clause-seats c = seats_of cell_may (λ _. IsKept) c.args.self.word c.args.passes.items c.requires.own
+close-requires-clause-seats c =
+    seats_of cell_may (λ _. IsKept) c.args.self.word c.args.passes.items c.requires.own
 
 pub returns : goal.returns
 returns c =
     let known = c.close.ensures.history in
-    record { history = (known.0, one_cell _ known.0 c.args.passes.items (of_one_history cell_may (λ _. IsKept) c.args.self.word _ known.0 c.args.passes.items c.requires.own known.1)) }
+    record {
+      history = (
+        known.0,
+        one_cell _ known.0 c.args.passes.items (of_one_history cell_may
+            (λ _. IsKept) c.args.self.word _ known.0 c.args.passes.items c.requires.own known.1),
+      );
+    }

@@ -11,7 +11,9 @@ pub store-requires-clause-may : goal.store-requires-clause-may
 store-requires-clause-may c = inl (_, refl)
 
 pub returns-clause-call : goal.returns-clause-call
-returns-clause-call c = stored_is_kept c.args.op _ _ _ (omega arith) c.if-op-eq-READ.false (omega arith) refl c.store.ensures.step
+returns-clause-call c = stored_is_kept c.args.op _ _ _ (omega arith) c.if-op-eq-READ.false
+    (omega arith) refl c.store.ensures.step
 
 pub returns-then-op-eq-READ-clause-last : goal.returns-then-op-eq-READ-clause-last
-returns-then-op-eq-READ-clause-last c is = read_reply _ _ _ _ _ c.load.ensures.seat.lawful c.load.ensures.history c.value_reply.ensures
+returns-then-op-eq-READ-clause-last c is =
+    read_reply _ _ _ _ _ c.load.ensures.seat.lawful c.load.ensures.history c.value_reply.ensures

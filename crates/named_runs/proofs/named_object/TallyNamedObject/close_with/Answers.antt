@@ -4,4 +4,5 @@ use Rattle.named_runs.proofs.ToldCalls.{words_are_formed}
 use Rattle.named_runs.proofs.named_object.TallyNamedObject.close_with.Goals as goal
 
 pub returns : goal.returns
-returns c kind n phases calls opened own told = words_are_formed _ _ IsTallyReply tallies_are_formed _ _ _ own phases calls told
+returns c kind n phases calls opened own told =
+    words_are_formed _ _ IsTallyReply tallies_are_formed _ _ _ own phases calls told

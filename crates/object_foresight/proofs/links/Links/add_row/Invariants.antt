@@ -5,6 +5,7 @@ use Rattle.object_foresight.proofs.links.Links.add_row.Given as goal
 abbrev pub invariant-loop-number : goal.invariant-loop-number
 invariant-loop-number g l = record {
   size : length l.row.items ≡ l.number;
-  row : (k : ℕ) → IsLink (g.R.Reader.reading l.reader) l.book l.discipline (record { caller = l.caller; number = k }) (get_or l.row.items k no_link);
+  row : (k : ℕ) → IsLink (g.R.Reader.reading l.reader) l.book l.discipline
+      (record { caller = l.caller; number = k }) (get_or l.row.items k no_link);
   links : AreLinksTo (g.R.Reader.reading l.reader) l.book l.discipline l.caller l.self;
 }

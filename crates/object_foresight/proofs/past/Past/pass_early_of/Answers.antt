@@ -9,7 +9,9 @@ use Rattle.object_foresight.proofs.past.Past.pass_early_of.Goals.{then-is_early,
 
 pub pass-requires : goal.pass-requires
 pass-requires c =
-    may_pass c.args.book.now c.args.links.now (call_of c.args.caller c.loop-number.number) c.at.result c.loop-number.self.floor c.requires.small c.requires.links c.at.ensures c.loop-number.invariant.wide
+    may_pass c.args.book.now c.args.links.now
+    (call_of c.args.caller c.loop-number.number) c.at.result c.loop-number.self.floor
+    c.requires.small c.requires.links c.at.ensures c.loop-number.invariant.wide
 
 pub loop-number-preserved : goal.loop-number-preserved
 loop-number-preserved c =
@@ -18,7 +20,10 @@ loop-number-preserved c =
     elim c.if-is_early.branch [
       | then-is_early w ↦
           subst (λ (past : Past). IsPast P c.args.book.now c.args.links.now past) (sym w.self-is)
-          (past_more P c.args.book.now c.args.links.now c.loop-number.self w.pass.new.self call w.at.result c.requires.small c.requires.links c.loop-number.invariant (c.is_early.ensures w.if-is_early.true)
+          (past_more P c.args.book.now c.args.links.now c.loop-number.self w.pass.new.self call
+          w.at.result c.requires.small c.requires.links c.loop-number.invariant
+          (c.is_early.ensures w.if-is_early.true)
           w.at.ensures w.pass.ensures.floor w.pass.ensures.limit (ap length w.pass.ensures.passed))
-      | else-is_early w ↦ subst (λ (past : Past). IsPast P c.args.book.now c.args.links.now past) (sym w.self-is) c.loop-number.invariant
+      | else-is_early w ↦ subst (λ (past : Past). IsPast P c.args.book.now c.args.links.now past)
+          (sym w.self-is) c.loop-number.invariant
     ]

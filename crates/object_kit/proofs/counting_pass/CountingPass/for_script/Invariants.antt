@@ -6,4 +6,5 @@ use Rattle.object_kit.proofs.counting_pass.CountingPass.for_script.Given as goal
 
 abbrev pub invariant-loop-caller : goal.invariant-loop-caller
 invariant-loop-caller l =
-    (vec_len l.passes ≡ l.caller) × AreInOrder (IsUnusedPass any_pass caller_of made_with cap_of l.script.operations) l.passes.items
+    (vec_len l.passes ≡ l.caller) × AreInOrder
+    (IsUnusedPass any_pass caller_of made_with cap_of l.script.operations) l.passes.items

@@ -4,7 +4,11 @@ use Rattle.object_kit.proofs.Calling.{stack_put, stack_take}
 use Rattle.object_kit.proofs.stack_call.StackCall.from_word.Goals as goal
 
 pub returns-then-code_of-eq1-clause-found : goal.returns-then-code_of-eq1-clause-found
-returns-then-code_of-eq1-clause-found c = subst (λ a. word_of 1 a 0 ≡ c.args.word) (sym c.argument_of.ensures) (stack_put c.args.word (sym c.known.ensures ∙ c.if-not-known.false) (sym c.code_of.ensures ∙ c.if-code_of-eq1.true))
+returns-then-code_of-eq1-clause-found c =
+    subst (λ a. word_of 1 a 0 ≡ c.args.word) (sym c.argument_of.ensures) (stack_put c.args.word
+    (sym c.known.ensures ∙ c.if-not-known.false) (sym c.code_of.ensures ∙ c.if-code_of-eq1.true))
 
 pub returns-else-code_of-eq1-clause-found : goal.returns-else-code_of-eq1-clause-found
-returns-else-code_of-eq1-clause-found c = stack_take c.args.word (sym c.known.ensures ∙ c.if-not-known.false) (λ one. c.if-code_of-eq1.false (c.code_of.ensures ∙ one))
+returns-else-code_of-eq1-clause-found c =
+    stack_take c.args.word (sym c.known.ensures ∙ c.if-not-known.false)
+    (λ one. c.if-code_of-eq1.false (c.code_of.ensures ∙ one))

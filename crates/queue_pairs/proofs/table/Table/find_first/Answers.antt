@@ -5,16 +5,19 @@ use Rattle.queue_pairs.proofs.Tabling.{least-none, least-more}
 use Rattle.queue_pairs.proofs.table.Table.find_first.Goals as goal
 
 pub loop-k-init : goal.loop-k-init
-loop-k-init c = least-none (λ (k : ℕ). first_after c.args.found (slice_get c.args.self.now.finds.items k))
+loop-k-init c =
+    least-none (λ (k : ℕ). first_after c.args.found (slice_get c.args.self.now.finds.items k))
 
 pub loop-k-preserved : goal.loop-k-preserved
 loop-k-preserved c =
     let values = λ (k : ℕ). first_after c.args.found (slice_get c.args.self.now.finds.items k) in
     subst (IsLeastOf values (c.loop-k.k + 1)) (sym c.min-least.ensures)
-    (least-more values c.loop-k.k c.loop-k.least c.first_after.result c.loop-k.invariant c.first_after.ensures)
+    (least-more values c.loop-k.k c.loop-k.least c.first_after.result c.loop-k.invariant
+    c.first_after.ensures)
 
 pub returns : goal.returns
 returns c =
     let values = λ (k : ℕ). first_after c.args.found (slice_get c.args.self.now.finds.items k) in
-    let all : c.loop-k.k ≡ length c.args.self.now.finds.items = omega (arith, c.len-k-end.ensures, c.loop-k-test.false) in
+    let all : c.loop-k.k ≡ length c.args.self.now.finds.items =
+    omega (arith, c.len-k-end.ensures, c.loop-k-test.false) in
     subst (λ (n : ℕ). IsLeastOf values n c.loop-k.least) all c.loop-k.invariant

@@ -4,4 +4,5 @@ use Rattle.queue_pairs.specs.NextEntries.{last_after, IsLeastOf}
 use Rattle.queue_pairs.proofs.table.Table.find_limit.Given as goal
 
 abbrev pub invariant-loop-k : goal.invariant-loop-k
-invariant-loop-k l = IsLeastOf (λ (k : ℕ). last_after l.found (slice_get l.self.finds.items k)) l.k l.least
+invariant-loop-k l =
+    IsLeastOf (λ (k : ℕ). last_after l.found (slice_get l.self.finds.items k)) l.k l.least

@@ -6,21 +6,29 @@ use Rattle.queue_pairs.specs.Tables.{put_at, IsFirstFrom}
 use Rattle.queue_pairs.proofs.table.Table.next_puts.Goals as goal
 
 pub loop-caller-init : goal.loop-caller-init
-loop-caller-init c = record { size = length-replicate {A = Option TimedCall} MAX_CALLERS None; first = λ k lt. absurd (omega arith) }
+loop-caller-init c = record {
+  size = length-replicate {A = Option TimedCall} MAX_CALLERS None;
+  first = λ k lt. absurd (omega arith);
+}
 
 pub loop-caller-preserved : goal.loop-caller-preserved
 loop-caller-preserved c =
     let i : ℕ = c.loop-caller.caller in
     let h = c.loop-caller.invariant in
-    let first = λ (k : ℕ) (o : Option TimedCall). IsFirstFrom (λ n. put_at c.args.self.now k n) (get_or c.args.from.now k 0) o in
+    let first = λ (k : ℕ) (o : Option TimedCall).
+    IsFirstFrom (λ n. put_at c.args.self.now k n) (get_or c.args.from.now k 0) o in
     let inside : i < length c.loop-caller.puts = omega (arith, h.size, c.loop-caller-test.true) in
     record {
       size = length-set c.loop-caller.puts i c.next_put.result ∙ h.size;
       first = below_more _ _
           (λ k lt.
           let apart : k ≢ i = omega arith in
-          subst (first k) (sym (get_or-set_other c.loop-caller.puts i k c.next_put.result None apart)) (h.first k lt))
-          (subst (first i) (sym (get_or-set_same c.loop-caller.puts i c.next_put.result None inside)) c.next_put.ensures);
+          subst (first k)
+          (sym (get_or-set_other c.loop-caller.puts i k c.next_put.result None apart))
+          (h.first k lt))
+          (subst (first i)
+          (sym (get_or-set_same c.loop-caller.puts i c.next_put.result None inside))
+          c.next_put.ensures);
     }
 
 pub returns : goal.returns

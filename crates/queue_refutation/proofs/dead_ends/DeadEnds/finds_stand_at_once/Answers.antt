@@ -7,5 +7,7 @@ use Rattle.queue_refutation.proofs.dead_ends.DeadEnds.finds_stand_at_once.Goals 
 pub returns : goal.returns
 returns c told reading book is =
     let keys = c.args.self.now.standings.now.keys in
-    finds-at-once reading book c.args.self.now.table.now c.args.standing.now c.args.next_entries.now (listed keys) is c.requires.next_entries c.requires.few
-    (omega arith) (omega arith) (subst (IsOneOf (listed keys)) c.with_finds.ensures (c.has.ensures told))
+    finds-at-once reading book c.args.self.now.table.now c.args.standing.now c.args.next_entries.now
+    (listed keys) is c.requires.next_entries c.requires.few
+    (omega arith) (omega arith)
+    (subst (IsOneOf (listed keys)) c.with_finds.ensures (c.has.ensures told))

@@ -9,7 +9,9 @@ pub overflow_add-counts : goal.overflow_add-counts
 overflow_add-counts c =
     omega (
       arith,
-      counted_fits length (λ own. omega arith) c.args.self.now c.loop-caller.caller c.loop-caller.counts.calls c.lines_of-lines.result.now c.callers-caller-end.ensures.report (omega arith)
+      counted_fits length (λ own. omega arith) c.args.self.now c.loop-caller.caller
+          c.loop-caller.counts.calls c.lines_of-lines.result.now c.callers-caller-end.ensures.report
+          (omega arith)
           c.loop-caller.invariant.calls c.lines_of-lines.ensures,
     )
 
@@ -18,8 +20,10 @@ overflow_add-counts-in-loop-caller c =
     omega (
       arith,
       c.delivered_among.ensures,
-      counted_fits (count_by is_delivered) (count_by-le-length is_delivered) c.args.self.now c.loop-caller.caller c.loop-caller.counts.delivered c.lines_of-lines.result.now
-          c.callers-caller-end.ensures.report (omega arith) c.loop-caller.invariant.delivered c.lines_of-lines.ensures,
+      counted_fits (count_by is_delivered) (count_by-le-length is_delivered) c.args.self.now
+          c.loop-caller.caller c.loop-caller.counts.delivered c.lines_of-lines.result.now
+          c.callers-caller-end.ensures.report (omega arith) c.loop-caller.invariant.delivered
+          c.lines_of-lines.ensures,
     )
 
 pub overflow_add-counts-in-loop-caller-2 : goal.overflow_add-counts-in-loop-caller-2
@@ -27,6 +31,8 @@ overflow_add-counts-in-loop-caller-2 c =
     omega (
       arith,
       c.errors_among.ensures,
-      counted_fits (count_by is_error) (count_by-le-length is_error) c.args.self.now c.loop-caller.caller c.loop-caller.counts.errors c.lines_of-lines.result.now
-          c.callers-caller-end.ensures.report (omega arith) c.loop-caller.invariant.errors c.lines_of-lines.ensures,
+      counted_fits (count_by is_error) (count_by-le-length is_error) c.args.self.now
+          c.loop-caller.caller c.loop-caller.counts.errors c.lines_of-lines.result.now
+          c.callers-caller-end.ensures.report (omega arith) c.loop-caller.invariant.errors
+          c.lines_of-lines.ensures,
     )

@@ -8,7 +8,13 @@ use Rattle.row_table.proofs.notes.Notes.peek.Goals as goal
 pub returns-then-wants_peek : goal.returns-then-wants_peek
 returns-then-wants_peek c me l is =
     let a = c.args in
-    let saw : Local = with_peek l (record { region = c.args.region; caller = c.args.j; row = c.args.row; place = c.args.place; word = c.args.word }) in
+    let saw : Local = with_peek l (record {
+      region = c.args.region;
+      caller = c.args.j;
+      row = c.args.row;
+      place = c.args.place;
+      word = c.args.word;
+    }) in
     let is_it = is_peek_wanted c.args.n c.args.region c.args.j c.args.row c.args.place in
     let taken = sym (c.wants_peek.ensures.wanted me l is) ∙ c.if-wants_peek.true in
     let fed = fed_taken c.args.n saw l.scan c.args.region is_it c.args.word taken in
@@ -16,6 +22,13 @@ returns-then-wants_peek c me l is =
 
 pub returns-else-wants_peek : goal.returns-else-wants_peek
 returns-else-wants_peek c me l is =
-    let saw : Local = with_peek l (record { region = c.args.region; caller = c.args.j; row = c.args.row; place = c.args.place; word = c.args.word }) in
+    let saw : Local = with_peek l (record {
+      region = c.args.region;
+      caller = c.args.j;
+      row = c.args.row;
+      place = c.args.place;
+      word = c.args.word;
+    }) in
     let left = sym (c.wants_peek.ensures.wanted me l is) ∙ c.if-wants_peek.false in
-    is ∙ sym (ap (notes_of c.args.n me) (fed_left c.args.n saw l.scan c.args.region (is_peek_wanted c.args.n c.args.region c.args.j c.args.row c.args.place) c.args.word left))
+    is ∙ sym (ap (notes_of c.args.n me) (fed_left c.args.n saw l.scan c.args.region
+    (is_peek_wanted c.args.n c.args.region c.args.j c.args.row c.args.place) c.args.word left))

@@ -5,5 +5,9 @@ use Rattle.row_table.proofs.rows.Rows.leave_as.Goals as goal
 
 pub split_seat-seat-requires : goal.split_seat-seat-requires
 split_seat-seat-requires g c =
-    let v = c.args.seat.now.me.0 in
-    (search rules, search rules, leaves _ _ _ _ _ _ (subst (λ (k : ℕ). has v k ≡ Some (the (has v k))) (sym c.requires.who) c.requires.here))
+    let v = c.args.seat.now.me.0 in (
+      search rules,
+      search rules,
+      leaves _ _ _ _ _ _
+          (subst (λ (k : ℕ). has v k ≡ Some (the (has v k))) (sym c.requires.who) c.requires.here),
+    )

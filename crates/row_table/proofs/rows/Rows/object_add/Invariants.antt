@@ -3,4 +3,8 @@ use Rattle.row_table.specs.Callers.{shape_of}
 use Rattle.row_table.proofs.rows.Rows.object_add.Given as goal
 
 abbrev pub ghosts-add_as : goal.ghosts-add_as
-ghosts-add_as g a = record { shape = shape_of g.P.Program.meaning a.self.now; who = a.seat.now.who; event = event_of a.action }
+ghosts-add_as g a = record {
+  shape = shape_of g.P.Program.meaning a.self.now;
+  who = a.seat.now.who;
+  event = event_of a.action;
+}

@@ -11,9 +11,11 @@ use Rattle.row_table.proofs.rows.Rows.open.Goals as goal
 
 pub of_words-requires : goal.of_words-requires
 of_words-requires g c =
-    let filled : c.in_ok-words.words.items ≡ replicate (c.row_words.result + c.object_words-objects.result) 0 = search rules in
+    let filled : c.in_ok-words.words.items
+    ≡ replicate (c.row_words.result + c.object_words-objects.result) 0 = search rules in
     opens _ _ _ c.object_words-objects.ensures.count
-    (c.as_slice.ensures.value ∙ filled ∙ (λ i. replicate (c.row_words.ensures.count i + c.object_words-objects.ensures.count i) 0))
+    (c.as_slice.ensures.value ∙ filled
+    ∙ (λ i. replicate (c.row_words.ensures.count i + c.object_words-objects.ensures.count i) 0))
 
 pub invariant_of-bench : goal.invariant_of-bench
 invariant_of-bench g c =
@@ -35,6 +37,10 @@ returns-clause-bench g c =
       cap = refl;
       wide = ap (λ (v : View). length v) view ∙ length-replicate c.args.n (Some fresh);
       together =
-          subst (λ (v : View). Together (record { callers = c.args.n; cap = c.args.cap; program = g.P.Program.meaning c.args.program c.args.n c.args.cap }) v)
+          subst (λ (v : View). Together (record {
+            callers = c.args.n;
+            cap = c.args.cap;
+            program = g.P.Program.meaning c.args.program c.args.n c.args.cap;
+          }) v)
           (sym view) (together_at_start _);
     }

@@ -10,6 +10,8 @@ only_increment Increment = refl
 
 pub returns-in-Some-Increment : goal.returns-in-Some-Increment
 returns-in-Some-Increment c =
-    let asked : counter_operation c.args.op ≡ Some Increment = sym c.from_word.ensures ∙ (c.in-Some-Increment.is ∙ ap Some (only_increment c.in-Some-Increment.field-0)) in
+    let asked : counter_operation c.args.op ≡ Some Increment = sym c.from_word.ensures
+    ∙ (c.in-Some-Increment.is ∙ ap Some (only_increment c.in-Some-Increment.field-0)) in
     let step : Option CounterOperation → List ℕ → List ℕ × ℕ = λ o list. counter_after list o in
-    subst (λ o. IsTrue (not c.is_value.result) ↔ LeavesBy (step o) c.args.reply) (sym asked) (counted_leaves c.args.reply c.is_value.result c.is_value.ensures)
+    subst (λ o. IsTrue (not c.is_value.result) ↔ LeavesBy (step o) c.args.reply) (sym asked)
+    (counted_leaves c.args.reply c.is_value.result c.is_value.ensures)

@@ -13,5 +13,8 @@ returns-clause-err c =
     let new : List ℕ = c.put_arguments.new.out.items in
     let name : List ℕ = c.args.self.now.name.now in
     let arguments : List ℕ = spaced_arguments c.args.self.now.arity c.args.word in
-    let whole : mid ≡ old ++ name = c.in_ok-extend_from_slice.ensures.items ∙ ap (λ t. old ++ t) c.as_bytes.ensures.value in
-    OnErr_then c.put_arguments.result c.put_arguments.ensures.err (λ prefix. subst (AppendsPrefix old new) (sym (text_of-spaced (shown c.args.self.now) c.args.word)) (AppendsPrefix-after old mid new name arguments whole prefix))
+    let whole : mid ≡ old ++ name =
+    c.in_ok-extend_from_slice.ensures.items ∙ ap (λ t. old ++ t) c.as_bytes.ensures.value in
+    OnErr_then c.put_arguments.result c.put_arguments.ensures.err (λ prefix.
+    subst (AppendsPrefix old new) (sym (text_of-spaced (shown c.args.self.now) c.args.word))
+    (AppendsPrefix-after old mid new name arguments whole prefix))

@@ -5,9 +5,12 @@ use Rattle.seq_objects.specs.Words.{kind_name, all_kinds}
 use Rattle.seq_objects.proofs.Tables.{kind_found, no_kind_found}
 use Rattle.seq_objects.proofs.kind.Kind.from_name.Goals as goal
 
-found : (c : goal.After-copied) → c.copied.result ≡ find (λ kind. bytes_eq (kind_name kind) c.args.name.now) all_kinds
+found : (c : goal.After-copied)
+    → c.copied.result ≡ find (λ kind. bytes_eq (kind_name kind) c.args.name.now) all_kinds
 found c =
-    c.copied.ensures ∙ find_from_yields_List (λ kind. bytes_eq (kind_name kind) c.args.name.now) _ _ c.find.result c.find.ensures.ran (YieldsList-from_slice all_kinds cc) (λ x b q k. search (rules, tests))
+    c.copied.ensures ∙ find_from_yields_List
+    (λ kind. bytes_eq (kind_name kind) c.args.name.now) _ _ c.find.result c.find.ensures.ran
+    (YieldsList-from_slice all_kinds cc) (λ x b q k. search (rules, tests))
 
 pub returns-clause-found : goal.returns-clause-found
 returns-clause-found c = kind_found c.args.name.now c.copied.result (found c)

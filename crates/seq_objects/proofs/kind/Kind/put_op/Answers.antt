@@ -5,11 +5,13 @@ use Rattle.seq_objects.proofs.kind.Kind.put_op.Goals as goal
 
 pub returns-in-Some-clause-ok : goal.returns-in-Some-clause-ok
 returns-in-Some-clause-ok c =
-    rw (operation_text-known c.args.self c.args.op (shown c.in-Some.entry) (sym c.in-Some.ensures)) c.put.ensures.ok
+    rw (operation_text-known c.args.self c.args.op (shown c.in-Some.entry) (sym c.in-Some.ensures))
+    c.put.ensures.ok
 
 pub returns-in-Some-clause-err : goal.returns-in-Some-clause-err
 returns-in-Some-clause-err c =
-    rw (operation_text-known c.args.self c.args.op (shown c.in-Some.entry) (sym c.in-Some.ensures)) c.put.ensures.err
+    rw (operation_text-known c.args.self c.args.op (shown c.in-Some.entry) (sym c.in-Some.ensures))
+    c.put.ensures.err
 
 pub returns-in-None-clause-ok : goal.returns-in-None-clause-ok
 returns-in-None-clause-ok c =
@@ -17,4 +19,5 @@ returns-in-None-clause-ok c =
 
 pub returns-in-None-clause-err : goal.returns-in-None-clause-err
 returns-in-None-clause-err c =
-    rw (operation_text-unknown c.args.self c.args.op (sym c.in-None.ensures)) c.put_whole.ensures.err
+    rw (operation_text-unknown c.args.self c.args.op (sym c.in-None.ensures))
+    c.put_whole.ensures.err

@@ -13,7 +13,9 @@ decide_queue-requires-clause-empty c = refl
 
 pub returns-in-Queue : goal.returns-in-Queue
 unfolding kind_next
-returns-in-Queue c = subst (λ kind. IfOk c.decide_queue.result (IsRightDecision (kind_init kind) (kind_next kind) c.args.book.now)) (sym c.in-Queue.is) c.decide_queue.ensures
+returns-in-Queue c = subst (λ kind.
+    IfOk c.decide_queue.result (IsRightDecision (kind_init kind) (kind_next kind) c.args.book.now))
+    (sym c.in-Queue.is) c.decide_queue.ensures
 
 pub decide_stack-requires-clause-stack : goal.decide_stack-requires-clause-stack
 decide_stack-requires-clause-stack c = (2 ^ 32, stack_gives_last_first)
@@ -23,4 +25,6 @@ decide_stack-requires-clause-empty c = refl
 
 pub returns-in-Stack : goal.returns-in-Stack
 unfolding kind_next
-returns-in-Stack c = subst (λ kind. IfOk c.decide_stack.result (IsRightDecision (kind_init kind) (kind_next kind) c.args.book.now)) (sym c.in-Stack.is) c.decide_stack.ensures
+returns-in-Stack c = subst (λ kind.
+    IfOk c.decide_stack.result (IsRightDecision (kind_init kind) (kind_next kind) c.args.book.now))
+    (sym c.in-Stack.is) c.decide_stack.ensures

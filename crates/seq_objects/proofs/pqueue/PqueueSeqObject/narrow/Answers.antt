@@ -5,4 +5,5 @@ use Rattle.seq_objects.proofs.pqueue.PqueueSeqObject.narrow.Goals as goal
 
 pub returns-clause-suffice : goal.returns-clause-suffice
 returns-clause-suffice c =
-    c.narrow_least_first.ensures.suffice [] (λ list op. pqueue_after list (pqueue_operation op)) (2 ^ 32) pqueue_gives_least_first tt c.requires.reached
+    c.narrow_least_first.ensures.suffice [] (λ list op. pqueue_after list (pqueue_operation op))
+    (2 ^ 32) pqueue_gives_least_first tt c.requires.reached

@@ -6,4 +6,6 @@ use Rattle.seq_objects.proofs.queue.QueueSeqObject.foresee.Goals as goal
 
 pub returns : goal.returns
 returns c =
-    IfOk-weaker c.foresee_queue.result _ _ (λ known right. right [] (λ list op. queue_after list (queue_operation op)) queue_is_read refl) c.foresee_queue.ensures
+    IfOk-weaker c.foresee_queue.result _ _
+    (λ known right. right [] (λ list op. queue_after list (queue_operation op)) queue_is_read refl)
+    c.foresee_queue.ensures

@@ -6,4 +6,6 @@ use Rattle.seq_objects.proofs.register.RegisterSeqObject.narrow.Goals as goal
 
 pub returns-clause-suffice : goal.returns-clause-suffice
 returns-clause-suffice c =
-    c.narrow_holds_last.ensures.suffice held_in (λ list op. register_after list (register_operation op)) c.args.words.now register_holds_last (sym c.held_in.ensures)
+    c.narrow_holds_last.ensures.suffice held_in
+    (λ list op. register_after list (register_operation op)) c.args.words.now register_holds_last
+    (sym c.held_in.ensures)

@@ -6,4 +6,6 @@ use Rattle.seq_objects.proofs.stack.StackSeqObject.foresee.Goals as goal
 
 pub returns : goal.returns
 returns c =
-    IfOk-weaker c.foresee_stack.result _ _ (λ known right. right [] (λ list op. stack_after list (stack_operation op)) stack_is_read stack_holds_its_words refl) c.foresee_stack.ensures
+    IfOk-weaker c.foresee_stack.result _ _
+    (λ known right. right [] (λ list op. stack_after list (stack_operation op)) stack_is_read
+    stack_holds_its_words refl) c.foresee_stack.ensures

@@ -8,13 +8,18 @@ use Rattle.seq_objects.proofs.stack.StackSeqObject.leaves.Goals as goal
 
 pub returns-in-Some-Push : goal.returns-in-Some-Push
 returns-in-Some-Push c =
-    let asked : stack_operation c.args.op ≡ Some (Push c.in-Some-Push.field-0-0) = sym c.from_word.ensures ∙ (c.in-Some-Push.is ∙ ap Some c.in-Some-Push.field-0-is) in
+    let asked : stack_operation c.args.op ≡ Some (Push c.in-Some-Push.field-0-0) =
+    sym c.from_word.ensures ∙ (c.in-Some-Push.is ∙ ap Some c.in-Some-Push.field-0-is) in
     let step : Option StackOperation → List ℕ → List ℕ × ℕ = λ o list. stack_after list o in
-    subst (λ o. IsTrue (not (c.args.reply == reply_done)) ↔ LeavesBy (step o) c.args.reply) (sym asked)
-    (leaves_but_with (step (Some (Push c.in-Some-Push.field-0-0))) reply_done c.args.reply (λ list. inl refl) ([], refl, λ same. omega (arith, ap length same)))
+    subst (λ o. IsTrue (not (c.args.reply == reply_done)) ↔ LeavesBy (step o) c.args.reply)
+    (sym asked)
+    (leaves_but_with (step (Some (Push c.in-Some-Push.field-0-0))) reply_done c.args.reply
+    (λ list. inl refl) ([], refl, λ same. omega (arith, ap length same)))
 
 pub returns-in-Some-Pop : goal.returns-in-Some-Pop
 returns-in-Some-Pop c =
-    let asked : stack_operation c.args.op ≡ Some Pop = sym c.from_word.ensures ∙ (c.in-Some-Pop.is ∙ ap Some c.in-Some-Pop.field-0-is) in
+    let asked : stack_operation c.args.op ≡ Some Pop =
+    sym c.from_word.ensures ∙ (c.in-Some-Pop.is ∙ ap Some c.in-Some-Pop.field-0-is) in
     let step : Option StackOperation → List ℕ → List ℕ × ℕ = λ o list. stack_after list o in
-    subst (λ o. IsTrue (not c.is_value.result) ↔ LeavesBy (step o) c.args.reply) (sym asked) (last_taken_leaves c.args.reply c.is_value.result c.is_value.ensures)
+    subst (λ o. IsTrue (not c.is_value.result) ↔ LeavesBy (step o) c.args.reply) (sym asked)
+    (last_taken_leaves c.args.reply c.is_value.result c.is_value.ensures)

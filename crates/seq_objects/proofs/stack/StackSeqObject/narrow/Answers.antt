@@ -5,4 +5,5 @@ use Rattle.seq_objects.proofs.stack.StackSeqObject.narrow.Goals as goal
 
 pub returns-clause-suffice : goal.returns-clause-suffice
 returns-clause-suffice c =
-    c.narrow_last_first.ensures.suffice [] (λ list op. stack_after list (stack_operation op)) (2 ^ 32) stack_gives_last_first tt c.requires.reached
+    c.narrow_last_first.ensures.suffice [] (λ list op. stack_after list (stack_operation op))
+    (2 ^ 32) stack_gives_last_first tt c.requires.reached

@@ -10,15 +10,21 @@ returns-clause-served c _ =
     let list : List ℕ = c.args.state.now.words in
     let ops : List ℕ = c.args.ops.now in
     let mask : ℕ = c.with_joins-mask.result in
-    let mask_is : mask ≡ with_joins (mask_of list) ops = c.with_joins-mask.ensures ∙ ap (λ (n : ℕ). with_joins n ops) c.mask.ensures in
+    let mask_is : mask ≡ with_joins (mask_of list) ops =
+    c.with_joins-mask.ensures ∙ ap (λ (n : ℕ). with_joins n ops) c.mask.ensures in
     let made : c.loop-op.replies.words ≡ map (join_reply mask) ops =
-    c.loop-op.invariant.made ∙ ap (map (join_reply mask)) (take_all c.loop-op.op-index ops c.loop-op-test.false) in
-    let words : c.if-joins_some.state.words ≡ list_joined (joins_some ops) mask list = elim c.if-joins_some.branch [
+    c.loop-op.invariant.made ∙ ap (map (join_reply mask))
+    (take_all c.loop-op.op-index ops c.loop-op-test.false) in
+    let words : c.if-joins_some.state.words ≡ list_joined (joins_some ops) mask list =
+    elim c.if-joins_some.branch [
       | then-joins_some w ↦
           ap (λ (s : Contents). s.words) w.state-is ∙ (ap (λ (s : Contents). s.words) w.push.ensures
-          ∙ (ap (λ (s : Contents). s.words ++ mask ∷ []) w.clear.ensures ∙ ap (λ (b : Bool). list_joined b mask list) (sym w.if-joins_some.true ∙ c.joins_some.ensures)))
+          ∙ (ap (λ (s : Contents). s.words ++ mask ∷ []) w.clear.ensures ∙ ap (λ (b : Bool).
+          list_joined b mask list) (sym w.if-joins_some.true ∙ c.joins_some.ensures)))
       | else-joins_some w ↦
-          ap (λ (s : Contents). s.words) w.state-is ∙ ap (λ (b : Bool). list_joined b mask list) (sym w.if-joins_some.false ∙ c.joins_some.ensures)
+          ap (λ (s : Contents). s.words) w.state-is ∙ ap (λ (b : Bool). list_joined b mask list)
+          (sym w.if-joins_some.false ∙ c.joins_some.ensures)
     ] in
     ap (λ (n : ℕ). Some (list_joined (joins_some ops) n list, map (join_reply n) ops)) (sym mask_is)
-    ∙ (ap (λ (l : List ℕ). Some (l, map (join_reply mask) ops)) (sym words) ∙ ap (λ (r : List ℕ). Some (c.if-joins_some.state.words, r)) (sym made))
+    ∙ (ap (λ (l : List ℕ). Some (l, map (join_reply mask) ops)) (sym words)
+    ∙ ap (λ (r : List ℕ). Some (c.if-joins_some.state.words, r)) (sym made))

@@ -12,18 +12,29 @@ pub remember-requires-clause-wide : goal.remember-requires-clause-wide
 remember-requires-clause-wide g c =
     let object = c.args.self.now.object.now in
     let old = c.args.walk.now in
-    let s = standing (g.O.SetObject.init object) (g.O.SetObject.served object) c.args.self.now.book.now old.levels.items old.counts.items old.here.words c.requires.small
-    (g.met.O.SetObject.begins_small object) (g.met.O.SetObject.grows_by_each object) c.requires.walk.leads in
+    let s = standing (g.O.SetObject.init object) (g.O.SetObject.served object)
+    c.args.self.now.book.now old.levels.items old.counts.items old.here.words c.requires.small
+    (g.met.O.SetObject.begins_small object)
+    (g.met.O.SetObject.grows_by_each object) c.requires.walk.leads in
     ap length c.deref.ensures.value ∙ (s.wide ∙ sym c.requires.walk.callers)
 
 pub retreat-requires-clause-walk : goal.retreat-requires-clause-walk
 retreat-requires-clause-walk g c =
     let object = c.args.self.now.object.now in
     let old = c.args.walk.now in
-    let new : Walk = record { levels = old.levels; counts = old.counts; here = old.here; callers = old.callers; left = old.left; memo = c.remember.new.self } in
+    let new : Walk = record {
+      levels = old.levels;
+      counts = old.counts;
+      here = old.here;
+      callers = old.callers;
+      left = old.left;
+      memo = c.remember.new.self;
+    } in
     let made = c.in_ok-remember.ensures in
-    (walk-remember (g.O.SetObject.init object) (g.O.SetObject.served object) c.args.self.now.book.now old new c.requires.walk c.if-walk-eq0.true
-    (record { levels = refl; counts = refl; here = refl; callers = refl }) refl made.memo made.callers
+    (walk-remember (g.O.SetObject.init object) (g.O.SetObject.served object)
+    c.args.self.now.book.now old new c.requires.walk c.if-walk-eq0.true
+    (record { levels = refl; counts = refl; here = refl; callers = refl }) refl made.memo
+    made.callers
     (λ (cut list : List ℕ) (there : Remembers new.memo cut list). elim (made.only cut list there) [
       | inl before ↦ inl before
       | inr now ↦ inr (now.0 ∙ c.deref.ensures.value, now.1 ∙ c.words.ensures)
@@ -36,8 +47,19 @@ returns-in-None-clause-outcome g c =
     let init = g.O.SetObject.init object in
     let served = g.O.SetObject.served object in
     let old = c.args.walk.now in
-    let new : Walk = record { levels = old.levels; counts = old.counts; here = old.here; callers = old.callers; left = old.left - 1; memo = old.memo } in
-    let cannot : CannotStand served book old.counts.items old.here.words (picked old.left old.callers.items) =
-    subst (λ o. IfNone o (CannotStand served book old.counts.items old.here.words (picked old.left old.callers.items))) c.in-None.is c.in_ok-next_set.ensures.none in
-    walk-skip init served book old new c.requires.walk (nowhere-from_cannot served book old.counts.items old.here.words (picked old.left old.callers.items) cannot)
-    (record { levels = refl; counts = refl; here = refl; callers = refl }) refl (omega (arith, c.if-walk-eq0.false))
+    let new : Walk = record {
+      levels = old.levels;
+      counts = old.counts;
+      here = old.here;
+      callers = old.callers;
+      left = old.left - 1;
+      memo = old.memo;
+    } in
+    let cannot : CannotStand served book old.counts.items old.here.words
+    (picked old.left old.callers.items) =
+    subst (λ o. IfNone o (CannotStand served book old.counts.items old.here.words
+    (picked old.left old.callers.items))) c.in-None.is c.in_ok-next_set.ensures.none in
+    walk-skip init served book old new c.requires.walk (nowhere-from_cannot served book
+    old.counts.items old.here.words (picked old.left old.callers.items) cannot)
+    (record { levels = refl; counts = refl; here = refl; callers = refl }) refl
+    (omega (arith, c.if-walk-eq0.false))

@@ -14,13 +14,16 @@ loop-caller-preserved g c =
     elim c.if-may_come.branch [
       | then-may_come+in_ok-push w ↦
           subst So (sym (ap (λ v. v.items) w.candidates-is ∙ w.in_ok-push.ensures.items))
-          (candidates-more book counts caller callers c.loop-caller.invariant (c.may_come.ensures.0 w.if-may_come.true))
+          (candidates-more book counts caller callers c.loop-caller.invariant
+          (c.may_come.ensures.0 w.if-may_come.true))
       | else-may_come w ↦
           subst So (sym (ap (λ v. v.items) w.candidates-is))
-          (candidates-skip book counts caller callers c.loop-caller.invariant (λ may. both_ways c.may_come.result w.if-may_come.false (c.may_come.ensures.1 may)))
+          (candidates-skip book counts caller callers c.loop-caller.invariant
+          (λ may. both_ways c.may_come.result w.if-may_come.false (c.may_come.ensures.1 may)))
     ]
 
 pub returns-clause-candidates : goal.returns-clause-candidates
 returns-clause-candidates g c =
-    candidates-all c.args.self.now.book.now c.args.counts.now c.loop-caller.caller c.loop-caller.candidates.items
+    candidates-all c.args.self.now.book.now c.args.counts.now c.loop-caller.caller
+    c.loop-caller.candidates.items
     (omega (arith, c.callers-caller-end.ensures.count)) c.loop-caller.invariant

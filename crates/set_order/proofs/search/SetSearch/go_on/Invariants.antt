@@ -8,7 +8,8 @@ abbrev pub invariant-steps : goal.invariant-steps
 invariant-steps g l = record {
   spare : l.spare.room ≡ ROOM;
   replies : l.replies.room ≡ MAX_CALLERS;
-  walk : IsWalk (g.O.SetObject.init l.self.object.now) (g.O.SetObject.served l.self.object.now) l.self.book.now l.walk;
+  walk : IsWalk (g.O.SetObject.init l.self.object.now)
+      (g.O.SetObject.served l.self.object.now) l.self.book.now l.walk;
 }
 
 abbrev pub decreases-steps : goal.decreases-steps

@@ -11,6 +11,7 @@ returns-then-from-answers g c = (
       let counts = c.args.counts.now in
       let caller = c.loop-caller.caller in
       let call : Call = record { caller = caller; number = get_or counts caller 0 } in
-      let held : get_or counts caller 0 < get_or counts caller 0 = all call (omega (arith, c.from.ensures, c.answers.ensures)) in
+      let held : get_or counts caller 0 < get_or counts caller 0 =
+      all call (omega (arith, c.from.ensures, c.answers.ensures)) in
       absurd (omega arith),
 )

@@ -18,9 +18,13 @@ returns-then-holds_answered-clause-found g c =
     let init = g.O.SetObject.init object in
     let served = g.O.SetObject.served object in
     let zeros : c.in_ok-counts.counts.items ≡ replicate c.callers-callers.result 0 = search rules in
-    let start : c.deref.result.now ≡ no_calls book = c.deref.ensures.value ∙ (zeros ∙ ap (λ (n : ℕ). replicate n 0) c.callers-callers.ensures.count) in
-    let all : HoldsAnswered book (no_calls book) = subst (λ (cut : List ℕ). HoldsAnswered book cut) start (c.holds_answered.ensures.0 c.if-holds_answered.true) in
-    subst (λ (order : List (List Place)). IsLegalSetOrder init served book order) (sym c.new.ensures.items) (legal-from_leads init served book [] (no_calls book) init (refl, refl) all)
+    let start : c.deref.result.now ≡ no_calls book = c.deref.ensures.value
+    ∙ (zeros ∙ ap (λ (n : ℕ). replicate n 0) c.callers-callers.ensures.count) in
+    let all : HoldsAnswered book (no_calls book) = subst (λ (cut : List ℕ). HoldsAnswered book cut)
+    start (c.holds_answered.ensures.0 c.if-holds_answered.true) in
+    subst (λ (order : List (List Place)). IsLegalSetOrder init served book order)
+    (sym c.new.ensures.items)
+    (legal-from_leads init served book [] (no_calls book) init (refl, refl) all)
 
 pub go_on-requires-clause-walk : goal.go_on-requires-clause-walk
 go_on-requires-clause-walk g c =
@@ -30,14 +34,29 @@ go_on-requires-clause-walk g c =
     let served = g.O.SetObject.served object in
     let counts : List ℕ = c.in_ok-counts.counts.items in
     let zeros : counts ≡ replicate c.callers-callers.result 0 = search rules in
-    let start : counts ≡ no_calls book = zeros ∙ ap (λ (n : ℕ). replicate n 0) c.callers-callers.ensures.count in
-    let walk : Walk = record { levels = c.new-2.result; counts = c.in_ok-counts.counts; here = c.reset.new.state; callers = c.in_ok-candidates.candidates; left = c.greatest-left.result; memo = c.new-3.result } in
-    let whole : walk.left + 1 ≡ 2 ^ length walk.callers.items = c.greatest-left.ensures.whole ∙ ap (λ (x : List ℕ). 2 ^ length x) c.deref-3.ensures.value in
+    let start : counts ≡ no_calls book =
+    zeros ∙ ap (λ (n : ℕ). replicate n 0) c.callers-callers.ensures.count in
+    let walk : Walk = record {
+      levels = c.new-2.result;
+      counts = c.in_ok-counts.counts;
+      here = c.reset.new.state;
+      callers = c.in_ok-candidates.candidates;
+      left = c.greatest-left.result;
+      memo = c.new-3.result;
+    } in
+    let whole : walk.left + 1 ≡ 2 ^ length walk.callers.items =
+    c.greatest-left.ensures.whole ∙ ap (λ (x : List ℕ). 2 ^ length x) c.deref-3.ensures.value in
     let unended : HoldsAnswered book counts → ⊥ = λ (all : HoldsAnswered book counts).
-    both_ways c.holds_answered.result c.if-holds_answered.false (c.holds_answered.ensures.1 (subst (λ (cut : List ℕ). HoldsAnswered book cut) (sym c.deref.ensures.value) all)) in
+    both_ways c.holds_answered.result c.if-holds_answered.false (c.holds_answered.ensures.1
+    (subst (λ (cut : List ℕ). HoldsAnswered book cut) (sym c.deref.ensures.value) all)) in
     let candidates : AreCandidates book counts walk.callers.items =
-    subst (λ (cut : List ℕ). AreCandidates book cut walk.callers.items) c.deref-2.ensures.value c.in_ok-candidates.ensures.candidates in
-    let here : IsOpen served book counts walk.here.words walk.callers.items walk.left = open-start served book counts walk.here.words walk.callers.items walk.left whole unended candidates in
-    walk-start init served book walk c.new-2.ensures.items start (ap (λ (s : Contents). s.words) c.reset.ensures)
-    (ap (λ (s : Contents). s.room) c.reset.ensures ∙ ap (λ (s : Contents). s.room) c.in_ok-here.ensures) c.new-3.ensures.memo (c.new-3.ensures.callers ∙ c.callers-callers.ensures.count)
+    subst (λ (cut : List ℕ). AreCandidates book cut walk.callers.items) c.deref-2.ensures.value
+    c.in_ok-candidates.ensures.candidates in
+    let here : IsOpen served book counts walk.here.words walk.callers.items walk.left = open-start
+    served book counts walk.here.words walk.callers.items walk.left whole unended candidates in
+    walk-start init served book walk c.new-2.ensures.items start
+    (ap (λ (s : Contents). s.words) c.reset.ensures)
+    (ap (λ (s : Contents). s.room) c.reset.ensures
+    ∙ ap (λ (s : Contents). s.room) c.in_ok-here.ensures) c.new-3.ensures.memo
+    (c.new-3.ensures.callers ∙ c.callers-callers.ensures.count)
     (nothing_remembered c.new-3.result c.new-3.ensures.empty) here

@@ -14,7 +14,8 @@ invariant-loop-who l =
       table : l.seat.table_id ≡ l.self.table.shared.table_id;
       left : (i : ℕ) → l.who ≤ i → i < l.self.callers → has l.seat.me.0 i ≡ Some empty;
       logs : vec_len l.logs + l.who ≡ l.self.callers;
-      clear : All (λ log. (log.items ≡ []) × (l.self.callers * l.self.cap ≤ vec_capacity log)) l.logs.items;
+      clear : All
+          (λ log. (log.items ≡ []) × (l.self.callers * l.self.cap ≤ vec_capacity log)) l.logs.items;
       count : vec_len l.seats ≡ l.who;
       callers : map caller_of l.seats.items ≡ range_with_len 0 l.who;
       each : All (IsSeatOf l.self) l.seats.items;

@@ -4,5 +4,7 @@ use Rattle.shared_log.proofs.shared_log.SharedLog.open.Goals as goal
 
 pub of_words-requires : goal.of_words-requires
 of_words-requires c =
-    let filled : c.in_ok-words.words.items ≡ replicate (3 * c.place_count-places.result) 0 = search rules in
-    opens _ _ _ (c.as_slice.ensures.value ∙ filled ∙ ap (λ k. replicate (3 * k) 0) c.place_count-places.ensures.count)
+    let filled : c.in_ok-words.words.items ≡ replicate (3 * c.place_count-places.result) 0 =
+    search rules in
+    opens _ _ _ (c.as_slice.ensures.value ∙ filled
+    ∙ ap (λ k. replicate (3 * k) 0) c.place_count-places.ensures.count)

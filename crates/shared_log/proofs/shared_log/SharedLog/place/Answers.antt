@@ -11,8 +11,11 @@ pub returns-in-None-clause-tries : goal.returns-in-None-clause-tries
 returns-in-None-clause-tries c =
     let l = c.args.self.now in
     let k = c.loop-place.invariant in
-    let is : c.push.new.self.items ≡ c.loop-place.log.items ++ entry c.next_entry.new.seat.who c.args.op ∷ [] = search rules in
-    placed_more l.callers l.cap _ c.args.op c.loop-place.place c.args.log.now.items c.loop-place.log.items c.push.new.self.items _ (hand_with c.args.seat.now).tried (hand_with c.loop-place.seat)
+    let is : c.push.new.self.items
+    ≡ c.loop-place.log.items ++ entry c.next_entry.new.seat.who c.args.op ∷ [] = search rules in
+    placed_more l.callers l.cap _ c.args.op c.loop-place.place c.args.log.now.items
+    c.loop-place.log.items c.push.new.self.items _ (hand_with c.args.seat.now).tried
+    (hand_with c.loop-place.seat)
     (hand_with c.next_entry.new.seat) k.begins k.place is k.tries c.in-None.ensures.hand
 
 pub loop-place-preserved : goal.loop-place-preserved
@@ -26,8 +29,10 @@ loop-place-preserved c =
     let next = hand_with c.next_entry.new.seat in
     let found = c.in-Some.ensures.hand in
     let is : c.push-in-Some.new.self.items ≡ log ++ e ∷ [] = search rules in
-    let known : next.log ≡ c.push-in-Some.new.self.items = ap (λ (g : Hand). g.log) found.2 ∙ ap (λ (xs : List Entry). xs ++ e ∷ []) k.known ∙ sym is in
-    let other : calls_by who next.log ≡ calls_by who h.log = subst (λ (i : ℕ). calls_by i next.log ≡ calls_by i h.log) k.who found.3 in
+    let known : next.log ≡ c.push-in-Some.new.self.items =
+    ap (λ (g : Hand). g.log) found.2 ∙ ap (λ (xs : List Entry). xs ++ e ∷ []) k.known ∙ sym is in
+    let other : calls_by who next.log ≡ calls_by who h.log =
+    subst (λ (i : ℕ). calls_by i next.log ≡ calls_by i h.log) k.who found.3 in
     let long = ap (λ (xs : List Entry). length xs) is in
     let at = k.place in
     let room = k.room in
@@ -38,12 +43,18 @@ loop-place-preserved c =
       known = known;
       staged = ap (λ (g : Hand). g.staged) found.2 ∙ k.staged;
       place = omega (arith, length-append log (e ∷ []));
-      begins = (k.begins.0 ++ e ∷ [], is ∙ ap (λ (xs : List Entry). xs ++ e ∷ []) k.begins.1 ∙ append_assoc c.args.log.now.items k.begins.0 (e ∷ []));
+      begins = (
+        k.begins.0 ++ e ∷ [],
+        is ∙ ap (λ (xs : List Entry). xs ++ e ∷ []) k.begins.1
+            ∙ append_assoc c.args.log.now.items k.begins.0 (e ∷ []),
+      );
       own = ap (calls_by who) (sym known) ∙ other ∙ ap (calls_by who) k.known ∙ k.own;
       room = omega arith;
       within = subst (λ (xs : List Entry). IsWithin l.callers l.cap xs) known found.4;
       tries =
-          found_more l.callers l.cap _ c.args.op c.loop-place.place c.args.log.now.items log c.push-in-Some.new.self.items e (hand_with c.args.seat.now).tried h next k.begins k.place is k.tries
+          found_more l.callers l.cap _ c.args.op c.loop-place.place c.args.log.now.items log
+          c.push-in-Some.new.self.items e
+          (hand_with c.args.seat.now).tried h next k.begins k.place is k.tries
           found;
     }
 
@@ -54,7 +65,8 @@ unreachable-requires c =
     let own = ap (λ (calls : List ℕ). length calls) kept.own in
     let call = c.requires.call in
     let left : length (calls_by c.args.seat.now.who c.loop-place.log.items) < l.cap = omega arith in
-    let low = length-left l.callers l.cap c.args.seat.now.who c.loop-place.log.items kept.within c.requires.seat.caller left in
+    let low = length-left l.callers l.cap c.args.seat.now.who c.loop-place.log.items kept.within
+    c.requires.seat.caller left in
     let at = kept.place in
     let end = c.place_count-place-end.ensures.count in
     absurd (omega arith)

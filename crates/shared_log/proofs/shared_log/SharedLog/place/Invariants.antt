@@ -17,5 +17,6 @@ invariant-loop-place l =
       own : calls_by l.fn.seat.who l.log.items ≡ calls_by l.fn.seat.who l.fn.log.items;
       room : vec_capacity l.fn.log ≤ vec_capacity l.log;
       within : IsWithin l.self.callers l.self.cap l.log.items;
-      tries : HasTried l.self.callers l.self.cap (length l.fn.log.items) (length l.log.items) (hand_with l.fn.seat).tried (hand_with l.seat).tried;
+      tries : HasTried l.self.callers l.self.cap (length l.fn.log.items) (length l.log.items)
+          (hand_with l.fn.seat).tried (hand_with l.seat).tried;
     }

@@ -12,5 +12,7 @@ compare_exchange-requires g c =
     let all = l.sized.0 in (
       c.requires.seat.table,
       omega arith,
-      place_asks l.callers l.cap c.args.seat.now.who _ _ _ _ _ l.sized.2 l.sized.3 p.0 p.1 p.2 _ _ _ (hand_with c.args.seat.now) c.args.seat.now.alone _ _ _ c.requires.call c.requires.staged room is c.requires.ticket,
+      place_asks l.callers l.cap c.args.seat.now.who _ _ _ _ _ l.sized.2 l.sized.3 p.0 p.1 p.2 _ _ _
+          (hand_with c.args.seat.now) c.args.seat.now.alone _ _ _ c.requires.call c.requires.staged
+          room is c.requires.ticket,
     )

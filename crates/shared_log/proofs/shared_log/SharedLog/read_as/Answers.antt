@@ -11,5 +11,6 @@ load-requires g c =
     let all = l.sized.0 in (
       c.requires.seat.table,
       omega arith,
-      read_asks l.callers l.cap c.args.seat.now.who _ _ _ _ _ l.sized.2 l.sized.3 p.0 p.1 p.2 _ _ _ (hand_with c.args.seat.now) c.args.seat.now.alone _,
+      read_asks l.callers l.cap c.args.seat.now.who _ _ _ _ _ l.sized.2 l.sized.3 p.0 p.1 p.2 _ _ _
+          (hand_with c.args.seat.now) c.args.seat.now.alone _,
     )

@@ -17,5 +17,6 @@ pub returns-clause-keeper : goal.returns-clause-keeper
 returns-clause-keeper c =
     let s = c.args.seat.seat in (
       c.join_seat.ensures.0,
-      returned s.who _ s.seat.me c.join_seat.new.seat.me _ s.alone refl c.requires.gone c.requires.wide (ap (λ m. m.0) c.join_seat.ensures.2),
+      returned s.who _ s.seat.me c.join_seat.new.seat.me _ s.alone refl c.requires.gone
+          c.requires.wide (ap (λ m. m.0) c.join_seat.ensures.2),
     )

@@ -9,26 +9,39 @@ fetch_add-requires g c =
     let s = c.args.seat.now in (
       c.requires.seat.table,
       c.requires.place,
-      access_asks g.U.Usage.may _ _ _ _ _ s.who s.seat.me (history_of s) c.args.self.now.sized.3 s.alone c.args.place (λ x. (x + c.args.amount) % 2 ^ 64) (λ x. Added c.args.place c.args.amount x)
+      access_asks g.U.Usage.may _ _ _ _ _ s.who s.seat.me
+          (history_of s) c.args.self.now.sized.3 s.alone c.args.place
+          (λ x. (x + c.args.amount) % 2 ^ 64) (λ x. Added c.args.place c.args.amount x)
           c.requires.place (λ x. refl) (λ x. refl) (λ x. refl) c.requires.may,
     )
 
 pub invariant_of-seat : goal.invariant_of-seat
 invariant_of-seat g c =
     let s = c.args.seat.now in
-    record { alone = (turned g.U.Usage.may s.who s.seat.me c.fetch_add.new.seat.me (history_of s) (Added c.args.place c.args.amount c.fetch_add.result) s.alone c.fetch_add.ensures.2).alone }
+    record {
+      alone = (turned g.U.Usage.may s.who s.seat.me c.fetch_add.new.seat.me (history_of s)
+          (Added c.args.place c.args.amount c.fetch_add.result) s.alone
+          c.fetch_add.ensures.2).alone;
+    }
 
 pub returns-clause-seat : goal.returns-clause-seat
 returns-clause-seat g c =
     let s = c.args.seat.now in
-    record { table = c.fetch_add.ensures.0 ∙ c.requires.seat.table; caller = c.requires.seat.caller; lawful = (turned g.U.Usage.may s.who s.seat.me c.fetch_add.new.seat.me (history_of s) (Added c.args.place c.args.amount c.fetch_add.result) s.alone c.fetch_add.ensures.2).lawful }
+    record {
+      table = c.fetch_add.ensures.0 ∙ c.requires.seat.table;
+      caller = c.requires.seat.caller;
+      lawful = (turned g.U.Usage.may s.who s.seat.me c.fetch_add.new.seat.me (history_of s) (Added
+          c.args.place c.args.amount c.fetch_add.result) s.alone c.fetch_add.ensures.2).lawful;
+    }
 
 pub returns-clause-step : goal.returns-clause-step
 returns-clause-step g c =
     let s = c.args.seat.now in
-    (turned g.U.Usage.may s.who s.seat.me c.fetch_add.new.seat.me (history_of s) (Added c.args.place c.args.amount c.fetch_add.result) s.alone c.fetch_add.ensures.2).made.own
+    (turned g.U.Usage.may s.who s.seat.me c.fetch_add.new.seat.me (history_of s)
+    (Added c.args.place c.args.amount c.fetch_add.result) s.alone c.fetch_add.ensures.2).made.own
 
 pub returns-clause-history : goal.returns-clause-history
 returns-clause-history g c =
     let s = c.args.seat.now in
-    (turned g.U.Usage.may s.who s.seat.me c.fetch_add.new.seat.me (history_of s) (Added c.args.place c.args.amount c.fetch_add.result) s.alone c.fetch_add.ensures.2).made
+    (turned g.U.Usage.may s.who s.seat.me c.fetch_add.new.seat.me (history_of s)
+    (Added c.args.place c.args.amount c.fetch_add.result) s.alone c.fetch_add.ensures.2).made

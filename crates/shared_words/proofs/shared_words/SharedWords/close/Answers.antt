@@ -10,28 +10,33 @@ returns-in_default g c =
 pub loop-pass-init : goal.loop-pass-init
 loop-pass-init g c =
     record {
-      table = (seat_among g.U.Usage.may c.args.self _ [] c.pop.new.self.items c.in-Some.last c.requires.seats [] c.in-Some.ensures.items).table;
+      table = (seat_among g.U.Usage.may c.args.self _ [] c.pop.new.self.items c.in-Some.last
+          c.requires.seats [] c.in-Some.ensures.items).table;
       closing = starts_closing _ _ _ c.in-Some.last c.in-Some.ensures.items c.requires.callers;
     }
 
 pub take_in-requires-clause-seat : goal.take_in-requires-clause-seat
 take_in-requires-clause-seat g c =
-    next_seat g.U.Usage.may c.args.self _ _ _ c.in-Some-pop.pass c.requires.seats _ c.requires.callers c.loop-pass.invariant.closing c.in-Some-pop.ensures.items
+    next_seat g.U.Usage.may c.args.self _ _ _ c.in-Some-pop.pass c.requires.seats _
+    c.requires.callers c.loop-pass.invariant.closing c.in-Some-pop.ensures.items
 
 pub take_in-requires-clause-gone : goal.take_in-requires-clause-gone
 take_in-requires-clause-gone g c =
-    is_gone g.U.Usage.may c.args.self _ _ _ c.in-Some-pop.pass c.requires.seats _ c.requires.callers c.loop-pass.invariant.closing c.in-Some-pop.ensures.items
+    is_gone g.U.Usage.may c.args.self _ _ _ c.in-Some-pop.pass c.requires.seats _ c.requires.callers
+    c.loop-pass.invariant.closing c.in-Some-pop.ensures.items
 
 pub take_in-requires-clause-wide : goal.take_in-requires-clause-wide
 take_in-requires-clause-wide g c =
-    is_inside g.U.Usage.may c.args.self _ _ _ c.in-Some-pop.pass c.requires.seats _ c.requires.callers c.loop-pass.invariant.closing c.in-Some-pop.ensures.items
+    is_inside g.U.Usage.may c.args.self _ _ _ c.in-Some-pop.pass c.requires.seats _
+    c.requires.callers c.loop-pass.invariant.closing c.in-Some-pop.ensures.items
 
 pub loop-pass-preserved : goal.loop-pass-preserved
 loop-pass-preserved g c =
     record {
       table = c.take_in.ensures.table ∙ c.loop-pass.invariant.table;
       closing =
-          more_closing g.U.Usage.may c.args.self _ _ _ c.in-Some-pop.pass c.requires.seats _ c.requires.callers c.loop-pass.invariant.closing c.in-Some-pop.ensures.items _
+          more_closing g.U.Usage.may c.args.self _ _ _ c.in-Some-pop.pass c.requires.seats _
+          c.requires.callers c.loop-pass.invariant.closing c.in-Some-pop.ensures.items _
           c.take_in.ensures.keeper;
     }
 
@@ -39,4 +44,7 @@ pub returns : goal.returns
 returns g c =
     let none = c.in_default-pop.ensures.cases.0 in
     let gone : length c.loop-pass.passes.items ≡ 0 = omega arith in
-    record { history = closed g.U.Usage.may c.args.self _ _ _ _ _ _ c.loop-pass.invariant.closing gone c.close_with.ensures.values.2 }
+    record {
+      history = closed g.U.Usage.may c.args.self _ _ _ _ _ _ c.loop-pass.invariant.closing gone
+          c.close_with.ensures.values.2;
+    }

@@ -16,11 +16,15 @@ loop-caller-preserved g c =
     let room = k.room in
     let ok = c.push.ensures.succeeds (omega arith) in
     let caller_low : c.loop-caller.caller < w.callers = omega arith in
-    let left : vec_len c.pop.new.self + (c.loop-caller.caller + 1) ≡ w.callers = omega (arith, k.rooms) in
-    let one_more : vec_len c.push.new.self ≡ vec_len c.loop-caller.passes + 1 = c.push.ensures.len ∙ cond-true _ _ _ ok in
+    let left : vec_len c.pop.new.self + (c.loop-caller.caller + 1) ≡ w.callers =
+    omega (arith, k.rooms) in
+    let one_more : vec_len c.push.new.self ≡ vec_len c.loop-caller.passes + 1 =
+    c.push.ensures.len ∙ cond-true _ _ _ ok in
     let count' : vec_len c.push.new.self ≡ c.loop-caller.caller + 1 = omega arith in
     let room' : w.callers ≤ vec_capacity c.push.new.self = omega arith in
-    let rooms = All-pop (λ pairs. (pairs.items ≡ []) × (w.cap ≤ vec_capacity pairs)) c.loop-caller.rooms.items c.pop.new.self.items (Some c.in-Some.pairs) c.in-Some.ensures.items k.clear in
+    let rooms =
+    All-pop (λ pairs. (pairs.items ≡ []) × (w.cap ≤ vec_capacity pairs)) c.loop-caller.rooms.items
+    c.pop.new.self.items (Some c.in-Some.pairs) c.in-Some.ensures.items k.clear in
     let own = c.leave_as-own.ensures.caller in
     record {
       table = c.leave_as-own.ensures.seat.0 ∙ k.table;
@@ -29,7 +33,15 @@ loop-caller-preserved g c =
       clear = rooms.0;
       count = count';
       dealt =
-          one_dealt w c.loop-caller.caller c.loop-caller.passes.items c.push.new.self.items _ _ k.dealt c.push.ensures.items ok own.0
-          (record { table = own.1 ∙ k.table; caller = subst (λ i. i < w.callers) (sym own.0) caller_low; cap = refl; room = rooms.1.1; pairs = rooms.1.0; history = own.2 });
+          one_dealt w c.loop-caller.caller c.loop-caller.passes.items c.push.new.self.items _ _
+          k.dealt c.push.ensures.items ok own.0
+          (record {
+            table = own.1 ∙ k.table;
+            caller = subst (λ i. i < w.callers) (sym own.0) caller_low;
+            cap = refl;
+            room = rooms.1.1;
+            pairs = rooms.1.0;
+            history = own.2;
+          });
       room = room';
     }

@@ -9,26 +9,37 @@ load-requires g c =
     let s = c.args.seat.now in (
       c.requires.seat.table,
       c.requires.place,
-      access_asks g.U.Usage.may _ _ _ _ _ s.who s.seat.me (history_of s) c.args.self.now.sized.3 s.alone c.args.place (λ x. x) (λ x. Loaded c.args.place x)
+      access_asks g.U.Usage.may _ _ _ _ _ s.who s.seat.me (history_of s) c.args.self.now.sized.3
+          s.alone c.args.place (λ x. x) (λ x. Loaded c.args.place x)
           c.requires.place (λ x. refl) (λ x. refl) (λ x. refl) c.requires.may,
     )
 
 pub invariant_of-seat : goal.invariant_of-seat
 invariant_of-seat g c =
     let s = c.args.seat.now in
-    record { alone = (turned g.U.Usage.may s.who s.seat.me c.load.new.seat.me (history_of s) (Loaded c.args.place c.load.result) s.alone c.load.ensures.2).alone }
+    record {
+      alone = (turned g.U.Usage.may s.who s.seat.me c.load.new.seat.me (history_of s)
+          (Loaded c.args.place c.load.result) s.alone c.load.ensures.2).alone;
+    }
 
 pub returns-clause-seat : goal.returns-clause-seat
 returns-clause-seat g c =
     let s = c.args.seat.now in
-    record { table = c.load.ensures.0 ∙ c.requires.seat.table; caller = c.requires.seat.caller; lawful = (turned g.U.Usage.may s.who s.seat.me c.load.new.seat.me (history_of s) (Loaded c.args.place c.load.result) s.alone c.load.ensures.2).lawful }
+    record {
+      table = c.load.ensures.0 ∙ c.requires.seat.table;
+      caller = c.requires.seat.caller;
+      lawful = (turned g.U.Usage.may s.who s.seat.me c.load.new.seat.me (history_of s)
+          (Loaded c.args.place c.load.result) s.alone c.load.ensures.2).lawful;
+    }
 
 pub returns-clause-step : goal.returns-clause-step
 returns-clause-step g c =
     let s = c.args.seat.now in
-    (turned g.U.Usage.may s.who s.seat.me c.load.new.seat.me (history_of s) (Loaded c.args.place c.load.result) s.alone c.load.ensures.2).made.own
+    (turned g.U.Usage.may s.who s.seat.me c.load.new.seat.me (history_of s)
+    (Loaded c.args.place c.load.result) s.alone c.load.ensures.2).made.own
 
 pub returns-clause-history : goal.returns-clause-history
 returns-clause-history g c =
     let s = c.args.seat.now in
-    (turned g.U.Usage.may s.who s.seat.me c.load.new.seat.me (history_of s) (Loaded c.args.place c.load.result) s.alone c.load.ensures.2).made
+    (turned g.U.Usage.may s.who s.seat.me c.load.new.seat.me (history_of s)
+    (Loaded c.args.place c.load.result) s.alone c.load.ensures.2).made

@@ -9,26 +9,37 @@ swap-requires g c =
     let s = c.args.seat.now in (
       c.requires.seat.table,
       c.requires.place,
-      access_asks g.U.Usage.may _ _ _ _ _ s.who s.seat.me (history_of s) c.args.self.now.sized.3 s.alone c.args.place (λ x. c.args.word) (λ x. Swapped c.args.place c.args.word x)
+      access_asks g.U.Usage.may _ _ _ _ _ s.who s.seat.me (history_of s) c.args.self.now.sized.3
+          s.alone c.args.place (λ x. c.args.word) (λ x. Swapped c.args.place c.args.word x)
           c.requires.place (λ x. refl) (λ x. refl) (λ x. refl) c.requires.may,
     )
 
 pub invariant_of-seat : goal.invariant_of-seat
 invariant_of-seat g c =
     let s = c.args.seat.now in
-    record { alone = (turned g.U.Usage.may s.who s.seat.me c.swap.new.seat.me (history_of s) (Swapped c.args.place c.args.word c.swap.result) s.alone c.swap.ensures.2).alone }
+    record {
+      alone = (turned g.U.Usage.may s.who s.seat.me c.swap.new.seat.me (history_of s)
+          (Swapped c.args.place c.args.word c.swap.result) s.alone c.swap.ensures.2).alone;
+    }
 
 pub returns-clause-seat : goal.returns-clause-seat
 returns-clause-seat g c =
     let s = c.args.seat.now in
-    record { table = c.swap.ensures.0 ∙ c.requires.seat.table; caller = c.requires.seat.caller; lawful = (turned g.U.Usage.may s.who s.seat.me c.swap.new.seat.me (history_of s) (Swapped c.args.place c.args.word c.swap.result) s.alone c.swap.ensures.2).lawful }
+    record {
+      table = c.swap.ensures.0 ∙ c.requires.seat.table;
+      caller = c.requires.seat.caller;
+      lawful = (turned g.U.Usage.may s.who s.seat.me c.swap.new.seat.me (history_of s)
+          (Swapped c.args.place c.args.word c.swap.result) s.alone c.swap.ensures.2).lawful;
+    }
 
 pub returns-clause-step : goal.returns-clause-step
 returns-clause-step g c =
     let s = c.args.seat.now in
-    (turned g.U.Usage.may s.who s.seat.me c.swap.new.seat.me (history_of s) (Swapped c.args.place c.args.word c.swap.result) s.alone c.swap.ensures.2).made.own
+    (turned g.U.Usage.may s.who s.seat.me c.swap.new.seat.me (history_of s)
+    (Swapped c.args.place c.args.word c.swap.result) s.alone c.swap.ensures.2).made.own
 
 pub returns-clause-history : goal.returns-clause-history
 returns-clause-history g c =
     let s = c.args.seat.now in
-    (turned g.U.Usage.may s.who s.seat.me c.swap.new.seat.me (history_of s) (Swapped c.args.place c.args.word c.swap.result) s.alone c.swap.ensures.2).made
+    (turned g.U.Usage.may s.who s.seat.me c.swap.new.seat.me (history_of s)
+    (Swapped c.args.place c.args.word c.swap.result) s.alone c.swap.ensures.2).made

@@ -12,10 +12,12 @@ join_seat-requires g c =
       c.requires.seat.table,
       ap (λ (m : Me (Unit {0}) View). m.1) s.alone,
       c.args.self.now.sized.0,
-      return_asks g.U.Usage.may _ _ _ _ s.who _ s.seat.me (history_in c.args.pass) s.alone c.requires.gone c.requires.wide,
+      return_asks g.U.Usage.may _ _ _ _ s.who _ s.seat.me
+          (history_in c.args.pass) s.alone c.requires.gone c.requires.wide,
     )
 
 pub returns-clause-keeper : goal.returns-clause-keeper
 returns-clause-keeper g c =
     let s = c.args.pass.seat in
-    returned s.who _ s.seat.me c.join_seat.new.seat.me (history_in c.args.pass) s.alone c.requires.gone c.requires.wide (ap (λ (m : Me (Unit {0}) View). m.0) c.join_seat.ensures.2)
+    returned s.who _ s.seat.me c.join_seat.new.seat.me (history_in c.args.pass) s.alone
+    c.requires.gone c.requires.wide (ap (λ (m : Me (Unit {0}) View). m.0) c.join_seat.ensures.2)

@@ -4,7 +4,8 @@ use Rattle.stack_levels.proofs.Closing.{each_one}
 use Rattle.stack_levels.proofs.closure.Closure.are_said_kept.Goals as goal
 
 pub loop-k-preserved : goal.loop-k-preserved
-loop-k-preserved g c = below_more _ _ c.loop-k.invariant (c.is_said_kept.ensures c.if-not-is_said_kept.false)
+loop-k-preserved g c =
+    below_more _ _ c.loop-k.invariant (c.is_said_kept.ensures c.if-not-is_said_kept.false)
 
 pub returns : goal.returns
 returns g c told =

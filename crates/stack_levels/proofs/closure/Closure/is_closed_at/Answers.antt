@@ -13,8 +13,10 @@ returns-in-Some g c told node at =
     let levels = c.args.self.now.table.now.levels.items in
     let keys = c.args.self.now.table.now.nodes.keys in
     let same : c.in-Some.node.now ≡ node
-    = same_Some c.in-Some.node.now node (sym (ap option_copied c.in-Some.is) ∙ (c.get_index.ensures.key ∙ at)) in
-    subst (λ (n : Node). IsClosedAt reading book (layers_of levels) (nodes_of book keys) n.level (cut_at book n)) same (c.is_closed.ensures told)
+    = same_Some c.in-Some.node.now node
+    (sym (ap option_copied c.in-Some.is) ∙ (c.get_index.ensures.key ∙ at)) in
+    subst (λ (n : Node). IsClosedAt reading book (layers_of levels) (nodes_of book keys) n.level
+    (cut_at book n)) same (c.is_closed.ensures told)
 
 pub returns-in-None : goal.returns-in-None
 returns-in-None g c told node at =

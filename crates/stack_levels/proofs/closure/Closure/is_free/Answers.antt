@@ -6,5 +6,7 @@ use Rattle.stack_levels.proofs.closure.Closure.is_free.Goals as goal
 
 pub returns-in-Some : goal.returns-in-Some
 returns-in-Some g c told =
-    subst (λ (o : Option ℕ). IfSome o (IsNeverTaken (g.R.Reader.reading c.args.self.now.on.now.reader.now) c.args.self.now.on.now.book.now)) (sym c.in-Some.is)
+    subst (λ (o : Option ℕ). IfSome o (IsNeverTaken
+    (g.R.Reader.reading c.args.self.now.on.now.reader.now) c.args.self.now.on.now.book.now))
+    (sym c.in-Some.is)
     (c.is_taken.ensures (not_true c.is_taken.result told))

@@ -21,21 +21,32 @@ pub returns-in-Put : goal.returns-in-Put
 returns-in-Put g c told =
     let book = c.args.self.now.on.now.book.now in
     let by = c.put_leads.ensures told in
-    call_leads (g.R.Reader.reading c.args.self.now.on.now.reader.now) book (layers_of c.args.self.now.table.now.levels.items) (nodes_of book c.args.self.now.table.now.nodes.keys)
-    c.args.node.now (layer_of c.args.level.now) c.args.look.now.cut c.raised-counts.result c.args.call c.op.result c.role.result (roles.Put c.in-Put.value)
+    call_leads (g.R.Reader.reading c.args.self.now.on.now.reader.now) book
+    (layers_of c.args.self.now.table.now.levels.items)
+    (nodes_of book c.args.self.now.table.now.nodes.keys)
+    c.args.node.now (layer_of c.args.level.now) c.args.look.now.cut c.raised-counts.result
+    c.args.call c.op.result c.role.result (roles.Put c.in-Put.value)
     c.op.ensures c.role.ensures c.in-Put.is c.requires.cut c.requires.caller c.raised-counts.ensures
     (by.0, by.1.0, by.1.1, by.1.2, by.1.3, by.2)
 
 pub returns-in-Take : goal.returns-in-Take
 returns-in-Take g c told =
     let book = c.args.self.now.on.now.book.now in
-    call_leads (g.R.Reader.reading c.args.self.now.on.now.reader.now) book (layers_of c.args.self.now.table.now.levels.items) (nodes_of book c.args.self.now.table.now.nodes.keys)
-    c.args.node.now (layer_of c.args.level.now) c.args.look.now.cut c.raised-counts.result c.args.call c.op.result c.role.result roles.Take
-    c.op.ensures c.role.ensures c.in-Take.is c.requires.cut c.requires.caller c.raised-counts.ensures (c.take_leads.ensures told)
+    call_leads (g.R.Reader.reading c.args.self.now.on.now.reader.now) book
+    (layers_of c.args.self.now.table.now.levels.items)
+    (nodes_of book c.args.self.now.table.now.nodes.keys)
+    c.args.node.now (layer_of c.args.level.now) c.args.look.now.cut c.raised-counts.result
+    c.args.call c.op.result c.role.result roles.Take
+    c.op.ensures c.role.ensures c.in-Take.is c.requires.cut c.requires.caller
+    c.raised-counts.ensures (c.take_leads.ensures told)
 
 pub returns-in-Other : goal.returns-in-Other
 returns-in-Other g c told =
     let book = c.args.self.now.on.now.book.now in
-    call_leads (g.R.Reader.reading c.args.self.now.on.now.reader.now) book (layers_of c.args.self.now.table.now.levels.items) (nodes_of book c.args.self.now.table.now.nodes.keys)
-    c.args.node.now (layer_of c.args.level.now) c.args.look.now.cut c.raised-counts.result c.args.call c.op.result c.role.result roles.Other
-    c.op.ensures c.role.ensures c.in-Other.is c.requires.cut c.requires.caller c.raised-counts.ensures (c.has.ensures told)
+    call_leads (g.R.Reader.reading c.args.self.now.on.now.reader.now) book
+    (layers_of c.args.self.now.table.now.levels.items)
+    (nodes_of book c.args.self.now.table.now.nodes.keys)
+    c.args.node.now (layer_of c.args.level.now) c.args.look.now.cut c.raised-counts.result
+    c.args.call c.op.result c.role.result roles.Other
+    c.op.ensures c.role.ensures c.in-Other.is c.requires.cut c.requires.caller
+    c.raised-counts.ensures (c.has.ensures told)

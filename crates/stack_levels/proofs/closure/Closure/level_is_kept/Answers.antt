@@ -5,5 +5,6 @@ use Rattle.stack_levels.proofs.closure.Closure.level_is_kept.Goals as goal
 pub returns : goal.returns
 returns g c told kept = record {
   word = c.is_free.ensures c.if-not-is_free.false;
-  below = λ p one. c.are_said_kept.ensures told p (subst (λ (xs : List ℕ). IsOneOf xs p) (sym c.deref.ensures.value) one);
+  below = λ p one. c.are_said_kept.ensures told p
+      (subst (λ (xs : List ℕ). IsOneOf xs p) (sym c.deref.ensures.value) one);
 }

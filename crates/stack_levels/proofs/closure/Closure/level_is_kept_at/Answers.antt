@@ -11,5 +11,8 @@ returns-in-Some g c told level at =
     let reading = g.R.Reader.reading c.args.self.now.on.now.reader.now in
     let book = c.args.self.now.on.now.book.now in
     let levels = c.args.self.now.table.now.levels.items in
-    let same : c.in-Some.level.now ≡ level = same_Some c.in-Some.level.now level (sym c.in-Some.ensures ∙ at) in
-    subst (λ (x : Level). IsTrue x.top.kept → IsKeptLayer reading book (layers_of levels) (layer_of x)) same (c.level_is_kept.ensures told)
+    let same : c.in-Some.level.now ≡ level =
+    same_Some c.in-Some.level.now level (sym c.in-Some.ensures ∙ at) in
+    subst
+    (λ (x : Level). IsTrue x.top.kept → IsKeptLayer reading book (layers_of levels) (layer_of x))
+    same (c.level_is_kept.ensures told)

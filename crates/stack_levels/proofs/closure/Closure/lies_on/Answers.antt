@@ -7,7 +7,8 @@ use Rattle.stack_levels.proofs.closure.Closure.lies_on.Goals as goal
 pub returns : goal.returns
 returns g c told = (
   layer_of c.in-Some.upper.now,
-  layer_at c.args.self.now.table.now.levels.items c.args.above c.in-Some.upper.now c.in-Some.ensures,
+  layer_at c.args.self.now.table.now.levels.items c.args.above c.in-Some.upper.now
+      c.in-Some.ensures,
   c.is_last.ensures c.if-not-is_last.false,
   subst (λ (xs : List ℕ). IsOneOf xs c.args.level) c.deref.ensures.value (c.is_among.ensures told),
 )

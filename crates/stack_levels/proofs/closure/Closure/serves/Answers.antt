@@ -21,7 +21,10 @@ returns g c told =
     let made : ℕ → Call = λ n. record { caller = c.args.caller; number = n } in (
       c.args.caller,
       (c.requires.all c.args.caller).0 (c.has.ensures.0 c.if-not-has.false),
-      subst (λ (n : ℕ). ServesFor reading book c.args.level.now.top.last (made n) c.args.call) c.get-number.ensures (c.serves.ensures c.if-not-serves.false),
-      subst (λ (n : ℕ). CallLeads reading book (layers_of c.args.self.now.table.now.levels.items) (nodes_of book c.args.self.now.table.now.nodes.keys)
-          c.args.node.now.level (layer_of c.args.level.now) c.args.look.now.cut (made n)) c.get-number.ensures (c.leads.ensures told),
+      subst (λ (n : ℕ). ServesFor reading book c.args.level.now.top.last (made n) c.args.call)
+          c.get-number.ensures (c.serves.ensures c.if-not-serves.false),
+      subst (λ (n : ℕ). CallLeads reading book (layers_of c.args.self.now.table.now.levels.items)
+          (nodes_of book c.args.self.now.table.now.nodes.keys)
+          c.args.node.now.level (layer_of c.args.level.now) c.args.look.now.cut (made n))
+          c.get-number.ensures (c.leads.ensures told),
     )

@@ -9,5 +9,6 @@ returns g c untold =
     let book = c.args.self.now.book.now in
     never_taken reading book c.callers.result c.args.value
     (λ (read : IsRead reading book (replicate c.callers.result 0) c.args.value).
-    let told = c.is_read.ensures.1 (subst (λ (cut : List ℕ). IsRead reading book cut c.args.value) (sym c.zero-none.ensures) read) in
+    let told = c.is_read.ensures.1 (subst (λ (cut : List ℕ). IsRead reading book cut c.args.value)
+    (sym c.zero-none.ensures) read) in
     absurd (cc (told, untold)))

@@ -9,18 +9,23 @@ use Rattle.world_core.proofs.scan_core.ScanCore.take.Goals as goal
 
 pub returns-then-self-n-clause-taken : goal.returns-then-self-n-clause-taken
 returns-then-self-n-clause-taken c n me region taken stood =
-    let kept = ap length c.set.ensures ∙ length-set c.self.inside.current c.self.inside.taken c.args.word in
+    let kept =
+    ap length c.set.ensures ∙ length-set c.self.inside.current c.self.inside.taken c.args.word in
     rw (c.course_on-self-inside.ensures.course, c.unwrap_or-first.ensures, c.set.ensures)
-    (stands_whole c.self.inside c.args.word n me region taken (c.self.view_is ∙ stood) c.self.invariant.lacks (c.if-self-n.true ∙ (c.n.ensures.count ∙ kept)))
+    (stands_whole c.self.inside c.args.word n me region taken
+    (c.self.view_is ∙ stood) c.self.invariant.lacks (c.if-self-n.true ∙ (c.n.ensures.count ∙ kept)))
 
 pub returns-else-self-n-clause-taken : goal.returns-else-self-n-clause-taken
 returns-else-self-n-clause-taken c n me region taken stood =
-    let kept = ap length c.set.ensures ∙ length-set c.self.inside.current c.self.inside.taken c.args.word in
+    let kept =
+    ap length c.set.ensures ∙ length-set c.self.inside.current c.self.inside.taken c.args.word in
     rw c.set.ensures
-    (stands_more c.self.inside c.args.word n me region taken (c.self.view_is ∙ stood) c.self.invariant.lacks (λ whole. c.if-self-n.false (whole ∙ sym (c.n.ensures.count ∙ kept))))
+    (stands_more c.self.inside c.args.word n me region taken (c.self.view_is ∙ stood)
+    c.self.invariant.lacks (λ whole. c.if-self-n.false (whole ∙ sym (c.n.ensures.count ∙ kept))))
 
 -- the scan's own caller is one of its callers
-scans : (c : Inside) (n me : ℕ) (region : Region) (taken : List ℕ) → c.me < length c.current → standing_of c ≡ standing n me region taken → me < n
+scans : (c : Inside) (n me : ℕ) (region : Region) (taken : List ℕ) → c.me < length c.current
+    → standing_of c ≡ standing n me region taken → me < n
 scans c n me region taken low stood =
     let caller : c.me ≡ me = ap (λ (s : Standing). s.me) stood in
     let callers : length c.current ≡ n = ap (λ (s : Standing). s.callers) stood in
@@ -28,8 +33,10 @@ scans c n me region taken low stood =
 
 pub returns-then-self-n-clause-short : goal.returns-then-self-n-clause-short
 returns-then-self-n-clause-short c n me region taken stood steady =
-    scan_is_short n me _ (scans c.self.inside n me region taken c.self.invariant.me (c.self.view_is ∙ stood)) steady
+    scan_is_short n me _
+    (scans c.self.inside n me region taken c.self.invariant.me (c.self.view_is ∙ stood)) steady
 
 pub returns-else-self-n-clause-short : goal.returns-else-self-n-clause-short
 returns-else-self-n-clause-short c n me region taken stood steady =
-    scan_is_short n me _ (scans c.self.inside n me region taken c.self.invariant.me (c.self.view_is ∙ stood)) steady
+    scan_is_short n me _
+    (scans c.self.inside n me region taken c.self.invariant.me (c.self.view_is ∙ stood)) steady

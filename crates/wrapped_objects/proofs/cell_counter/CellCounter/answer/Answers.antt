@@ -5,7 +5,8 @@ use Rattle.wrapped_objects.proofs.Possible.{unknown-possible, increment-possible
 use Rattle.wrapped_objects.proofs.cell_counter.CellCounter.answer.Goals as goal
 
 pub returns-then-not-known : goal.returns-then-not-known
-returns-then-not-known c = unknown-possible Counter c.args.op (sym c.known.ensures ∙ c.if-not-known.true)
+returns-then-not-known c =
+    unknown-possible Counter c.args.op (sym c.known.ensures ∙ c.if-not-known.true)
 
 pub returns : goal.returns
 returns c =
