@@ -4,6 +4,8 @@
 #[cfg(test)]
 mod books;
 #[cfg(test)]
+mod decisions;
+#[cfg(test)]
 mod foresights;
 #[cfg(test)]
 mod lanes;

@@ -1,0 +1,60 @@
+//! What stacks say of whole books, without a search of orders.
+use book_base::{Decision, SeqObject};
+use book_text::read_book;
+use std::alloc::Global;
+use std::test::Fail;
+
+// One value is put in twice, and taken as often.
+const TWICE: &[u8] =
+    b"book 2\nobject stack\ncallers 3\ncalls 1 1 2\n0 0 push 1 done view 0:1 1:1 2:1\n1 0 push 1 done view 0:1 1:1 2:1\n2 0 pop =1 view 0:1 1:1 2:1\n2 1 pop =1 view 0:1 1:1 2:2\nend\n";
+
+// It is taken once more.
+const ONCE_MORE: &[u8] =
+    b"book 2\nobject stack\ncallers 3\ncalls 1 1 3\n0 0 push 1 done view 0:1 1:1 2:1\n1 0 push 1 done view 0:1 1:1 2:1\n2 0 pop =1 view 0:1 1:1 2:1\n2 1 pop =1 view 0:1 1:1 2:2\n2 2 pop =1 view 0:1 1:1 2:3\nend\n";
+
+// A value is put in, and then another one twice, and then the first one is taken.
+const LOWER: &[u8] =
+    b"book 2\nobject stack\ncallers 2\ncalls 3 1\n0 0 push 1 done view 0:1\n0 1 push 2 done view 0:2\n0 2 push 2 done view 0:3\n1 0 pop =1 view 0:3 1:1\nend\n";
+
+// A value is put in twice and taken once, and then a take finds nothing.
+const LOST: &[u8] =
+    b"book 2\nobject stack\ncallers 2\ncalls 2 2\n0 0 push 1 done view 0:1\n0 1 push 1 done view 0:2\n1 0 pop =1 view 0:2 1:1\n1 1 pop none view 0:2 1:2\nend\n";
+
+// An unanswered call may have taken the other one.
+const TAKEN: &[u8] =
+    b"book 2\nobject stack\ncallers 3\ncalls 2 2 1\n0 0 push 1 done view 0:1\n0 1 push 1 done view 0:2\n1 0 pop =1 view 0:2 1:1\n1 1 pop none view 0:2 1:2 2:1\n2 0 pop\nend\n";
+
+// No value is put in twice.
+const APART: &[u8] = b"book 2\nobject stack\ncallers 1\ncalls 1\n0 0 push 1 done view 0:1\nend\n";
+
+// What the object says of the book with this text.
+fn decision(alloc: Global, text: &[u8]) -> Result<Decision, Fail> {
+    let (kind, book) = read_book(alloc, text)?;
+    Ok(kind.decide(alloc, &book)?)
+}
+
+#[test]
+fn a_stack_with_equal_values_is_decided(rt: HostRuntime) -> Result<(), Fail> {
+    assert!(rt; matches!(decision(rt.alloc(), TWICE)?, Decision::Order(_)));
+    assert!(rt; matches!(decision(rt.alloc(), ONCE_MORE)?, Decision::NoOrder));
+    Ok(())
+}
+
+#[test]
+fn a_stack_that_gives_the_lower_item_first_is_decided(rt: HostRuntime) -> Result<(), Fail> {
+    assert!(rt; matches!(decision(rt.alloc(), LOWER)?, Decision::NoOrder));
+    Ok(())
+}
+
+#[test]
+fn a_stack_that_finds_nothing_is_decided(rt: HostRuntime) -> Result<(), Fail> {
+    assert!(rt; matches!(decision(rt.alloc(), LOST)?, Decision::NoOrder));
+    assert!(rt; matches!(decision(rt.alloc(), TAKEN)?, Decision::Order(_)));
+    Ok(())
+}
+
+#[test]
+fn a_stack_whose_values_differ_is_left_to_the_search(rt: HostRuntime) -> Result<(), Fail> {
+    assert!(rt; matches!(decision(rt.alloc(), APART)?, Decision::Unsaid));
+    Ok(())
+}
