@@ -33,25 +33,25 @@ pub struct Case {
 
 /// How a case went: whether it passed, and what is said where it didn't.
 #[derive(Drop)]
-pub struct Outcome {
+pub struct CaseOutcome {
     pub passed: bool,
     pub report: String,
 }
 
-impl Outcome {
+impl CaseOutcome {
     // The outcome of a trial all of whose attempts passed.
-    fn good(alloc: Global) -> Result<Outcome> {
-        Ok(Outcome {
+    fn good(alloc: Global) -> Result<CaseOutcome> {
+        Ok(CaseOutcome {
             passed: true,
             report: String::new(alloc),
         })
     }
 
     // The outcome of a case that is known by its name, with the fault that was found.
-    fn of(alloc: Global, name: &str, found: Result<()>) -> Result<Outcome> {
+    fn of(alloc: Global, name: &str, found: Result<()>) -> Result<CaseOutcome> {
         match found {
-            Ok(()) => Outcome::good(alloc),
-            Err(fault) => Ok(Outcome {
+            Ok(()) => CaseOutcome::good(alloc),
+            Err(fault) => Ok(CaseOutcome {
                 passed: false,
                 report: format!(in alloc; "{name}: {fault}")?,
             }),
@@ -60,9 +60,9 @@ impl Outcome {
 
     // The outcome of a trial, with the number of the call that failed in the attempt that didn't
     // pass.
-    fn at(self, alloc: Global, call: &str, number: u64) -> Result<Outcome> {
+    fn at(self, alloc: Global, call: &str, number: u64) -> Result<CaseOutcome> {
         let report = format!(in alloc; "{}, where {call} {number} fails", self.report)?;
-        Ok(Outcome {
+        Ok(CaseOutcome {
             passed: self.passed,
             report,
         })
@@ -92,7 +92,7 @@ impl Case {
     /// Runs the case, and tries its book in two further ways: by sets of calls that stand alone,
     /// which give the same verdict, and, where it is to be called legal, at each of its smaller
     /// cuts too.
-    pub fn run_with_cuts<R: AllocGlobal + Threads + Sync>(&self, rt: &R) -> Result<Outcome> {
+    pub fn run_with_cuts<R: AllocGlobal + Threads + Sync>(&self, rt: &R) -> Result<CaseOutcome> {
         let outcome = self.run(rt)?;
         if !outcome.passed || self.trial != Trial::Once {
             return Ok(outcome);
@@ -100,7 +100,7 @@ impl Case {
         let Some(is_legal) = self.wanted_verdict() else {
             return Ok(outcome);
         };
-        Outcome::of(
+        CaseOutcome::of(
             rt.alloc(),
             &self.name,
             self.try_further(rt.alloc(), is_legal),
@@ -136,13 +136,13 @@ impl Case {
     }
 
     /// Runs the top call on the case: as it stands, or in each of the ways of its trial.
-    pub fn run<R: AllocGlobal + Threads + Sync>(&self, rt: &R) -> Result<Outcome> {
+    pub fn run<R: AllocGlobal + Threads + Sync>(&self, rt: &R) -> Result<CaseOutcome> {
         match self.trial {
             Trial::Once => self.run_once(rt),
             Trial::Prefixes => self.run_prefixes(rt),
             Trial::Reads => self.run_failing_reads(rt),
             Trial::Writes => self.run_failing_writes(rt),
-            Trial::AnySchedule(told) => Outcome::of(
+            Trial::AnySchedule(told) => CaseOutcome::of(
                 rt.alloc(),
                 &self.name,
                 self.run_any_schedule(rt, told),
@@ -161,7 +161,7 @@ impl Case {
         try_told(rt, told, sink.bytes())
     }
 
-    fn run_once<R: AllocGlobal + Threads + Sync>(&self, rt: &R) -> Result<Outcome> {
+    fn run_once<R: AllocGlobal + Threads + Sync>(&self, rt: &R) -> Result<CaseOutcome> {
         let attempt = Attempt {
             input: &self.input,
             source_fails: &self.source_fails,
@@ -175,7 +175,7 @@ impl Case {
     }
 
     // Each prefix of the input that isn't whole is refused as a text that is cut.
-    fn run_prefixes<R: AllocGlobal + Threads + Sync>(&self, rt: &R) -> Result<Outcome> {
+    fn run_prefixes<R: AllocGlobal + Threads + Sync>(&self, rt: &R) -> Result<CaseOutcome> {
         for count in 0..self.input.len() {
             let prefix = &self.input[..count];
             let wanted = refusal_of_prefix(rt.alloc(), prefix)?;
@@ -193,12 +193,12 @@ impl Case {
                 return Ok(outcome);
             }
         }
-        Outcome::good(rt.alloc())
+        CaseOutcome::good(rt.alloc())
     }
 
     // The source gives one byte a read, and the last read finds the end: each of these reads fails
     // in turn, and then the read after the last, which isn't made.
-    fn run_failing_reads<R: AllocGlobal + Threads + Sync>(&self, rt: &R) -> Result<Outcome> {
+    fn run_failing_reads<R: AllocGlobal + Threads + Sync>(&self, rt: &R) -> Result<CaseOutcome> {
         let last = (self.input.len() as u64).saturating_add(1);
         for failing in 1..=last.saturating_add(1) {
             let is_made = failing <= last;
@@ -216,12 +216,12 @@ impl Case {
                 return outcome.at(rt.alloc(), "read", failing);
             }
         }
-        Outcome::good(rt.alloc())
+        CaseOutcome::good(rt.alloc())
     }
 
     // The sink takes one byte a write: each write of the wanted output fails in turn, and then the
     // write after the last, which isn't made.
-    fn run_failing_writes<R: AllocGlobal + Threads + Sync>(&self, rt: &R) -> Result<Outcome> {
+    fn run_failing_writes<R: AllocGlobal + Threads + Sync>(&self, rt: &R) -> Result<CaseOutcome> {
         for taken in 0..=self.wanted.len() {
             let failing = (taken as u64).saturating_add(1);
             let attempt = Attempt {
@@ -242,7 +242,7 @@ impl Case {
                 return outcome.at(rt.alloc(), "write", failing);
             }
         }
-        Outcome::good(rt.alloc())
+        CaseOutcome::good(rt.alloc())
     }
 
     // A sink with the case's room, in which these writes fail.
@@ -257,7 +257,7 @@ impl Case {
         &self,
         rt: &R,
         attempt: &Attempt,
-    ) -> Result<Outcome> {
+    ) -> Result<CaseOutcome> {
         let alloc = rt.alloc();
         let input = attempt.input.to_vec(alloc)?;
         let mut sink = self.sink(alloc, attempt.sink_fails, attempt.sink_most)?;
@@ -276,7 +276,7 @@ impl Case {
             "{}: status {status} for {}, {left:?} bytes left for {:?}, and wrote {text:?}",
             self.name, attempt.status, self.left
         )?;
-        Ok(Outcome { passed, report })
+        Ok(CaseOutcome { passed, report })
     }
 
     // The status, and how many bytes the source has left, where that is wanted.

@@ -56,12 +56,12 @@ use std::process::ExitCode;
 use std::thread::Threads;
 
 #[derive(Drop)]
-struct Tally {
+struct CaseCounts {
     passed: u64,
     failed: u64,
 }
 
-impl Tally {
+impl CaseCounts {
     fn count(&mut self, passed: bool) {
         if passed {
             self.passed = self.passed.saturating_add(1);
@@ -74,7 +74,7 @@ impl Tally {
 fn try_case<R: Print + AllocGlobal + Threads + Sync>(
     rt: &R,
     case: Case,
-    tally: &mut Tally,
+    tally: &mut CaseCounts,
 ) -> Result<()> {
     let outcome = case.run_with_cuts(rt)?;
     if !outcome.passed {
@@ -84,8 +84,8 @@ fn try_case<R: Print + AllocGlobal + Threads + Sync>(
     Ok(())
 }
 
-fn run<R: Print + Input + AllocGlobal + Threads + Sync>(rt: &R) -> Result<Tally> {
-    let mut tally = Tally {
+fn run<R: Print + Input + AllocGlobal + Threads + Sync>(rt: &R) -> Result<CaseCounts> {
+    let mut tally = CaseCounts {
         passed: 0,
         failed: 0,
     };

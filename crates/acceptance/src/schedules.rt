@@ -4,14 +4,14 @@
 use crate::trial::Told;
 use anyhow::{Context, Result, anyhow};
 use book_base::{Call, Cut};
-use call_lines::LineEnd;
+use report_lines::LineEnd;
 use report_text::{Report, read_report};
 use selfcheck::{MemorySink, SteadySource, selfcheck};
 use std::alloc::Global;
 use std::thread::Threads;
 
 /// The room of a sink for the answer to a certificate or its book.
-const ROOM: usize = 1 << 20;
+const CAPACITY: usize = 1 << 20;
 
 /// What an output doesn't tell, though it should, is an error.
 pub fn try_told<R: AllocGlobal + Threads + Sync>(rt: &R, told: Told, output: &[u8]) -> Result<()> {
@@ -91,7 +91,7 @@ fn try_command<R: AllocGlobal + Threads + Sync>(rt: &R, command: &str, input: &[
     let alloc = rt.alloc();
     let words = vec![in alloc; String::from_str(alloc, command)?]?;
     let mut source = SteadySource::new(input.to_vec(alloc)?);
-    let sink = MemorySink::new(alloc, ROOM, Vec::new(alloc), usize::MAX);
+    let sink = MemorySink::new(alloc, CAPACITY, Vec::new(alloc), usize::MAX);
     let mut sink = sink.map_err(|_| anyhow!("no memory for a sink"))?;
     let status = selfcheck(rt, alloc, &words, &mut source, &mut sink).code();
     if status != 0 {

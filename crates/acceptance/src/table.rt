@@ -161,7 +161,7 @@ fn take_rounds(bytes: &mut Vec<u8>, value: &str) -> Result<()> {
     Ok(())
 }
 
-// So many turns of each caller, one caller after the other.
+// This many turns of each caller, one caller after the other.
 fn take_round(bytes: &mut Vec<u8>, callers: u64, turns: u64) -> Result<()> {
     for caller in 0..callers {
         for _ in 0..turns {

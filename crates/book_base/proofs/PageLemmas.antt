@@ -6,7 +6,7 @@ use Rattle.std.proofs.Math.Seq.{map-set_same}
 use Rattle.std.proofs.lemmas.Option.{slice_get_read}
 use Rattle.book_base.specs.declared.call.Call.{Call}
 use Rattle.book_base.specs.declared.call.Record.{Record}
-use Rattle.book_base.specs.declared.book.Rows.{Rows}
+use Rattle.book_base.specs.declared.book.CallerPage.{CallerPage}
 use Rattle.book_base.specs.Book.{Page, page_of, calls_of, answers_of, operation_of, record_of, with_call, with_operation, with_answer}
 use Rattle.book_base.specs.BookLayout.{page, pages}
 
@@ -35,7 +35,8 @@ caller_from_answer book i k h =
     ]
 
 -- the page of a caller is what its rows hold
-pub page_of-pages : (rows : List Rows) (book : List Page) (i : ℕ) (r : Rows) → pages rows ≡ book
+pub page_of-pages : (rows : List CallerPage) (book : List Page) (i : ℕ) (r : CallerPage)
+    → pages rows ≡ book
     → i < length book → r ≡ get_or rows i r → page_of book i ≡ page r
 page_of-pages rows book i r e h is =
     let inside : i < length rows = omega (arith, length-map rows page, ap length e) in
@@ -43,7 +44,8 @@ page_of-pages rows book i r e h is =
     ∙ (get_or-map page rows i r empty inside ∙ ap page (sym is))
 
 -- the operation that the rows hold is the call's
-pub operation_from_rows : (rows : List Rows) (book : List Page) (call : Call) (r : Rows) (op : ℕ)
+pub operation_from_rows : (rows : List CallerPage) (book : List Page) (call : Call)
+    (r : CallerPage) (op : ℕ)
     → pages rows ≡ book → call.number < calls_of book call.caller → r ≡ get_or rows call.caller r
     → op ≡ get_or r.operations.items call.number op → operation_of book call ≡ Some op
 operation_from_rows rows book call r op e h is there =
@@ -55,7 +57,7 @@ operation_from_rows rows book call r op e h is there =
     ∙ slice_get_read r.operations.items (length r.operations.items) call.number op refl below there
 
 -- the record that the rows hold is the call's
-pub record_from_rows : (rows : List Rows) (book : List Page) (call : Call) (r : Rows)
+pub record_from_rows : (rows : List CallerPage) (book : List Page) (call : Call) (r : CallerPage)
     (found : Record) → pages rows ≡ book → call.number < answers_of book call.caller
     → r ≡ get_or rows call.caller r → found ≡ get_or r.records.items call.number found
     → record_of book call ≡ Some found
@@ -68,12 +70,13 @@ record_from_rows rows book call r found e h is there =
     ∙ slice_get_read r.records.items (length r.records.items) call.number found refl below there
 
 -- rows that hold the same page leave the book as it was
-pub pages-set_same : (rows : List Rows) (book : List Page) (i : ℕ) (r s : Rows) → pages rows ≡ book
+pub pages-set_same : (rows : List CallerPage) (book : List Page) (i : ℕ) (r s : CallerPage)
+    → pages rows ≡ book
     → r ≡ get_or rows i r → page s ≡ page r → pages (set rows i s) ≡ book
 pages-set_same rows book i r s e is same = map-set_same page rows i s r (same ∙ ap page is) ∙ e
 
 -- rows with one more operation hold the book with one more call
-pub pages-with_call : (rows : List Rows) (book : List Page) (i op : ℕ) (r s : Rows)
+pub pages-with_call : (rows : List CallerPage) (book : List Page) (i op : ℕ) (r s : CallerPage)
     → pages rows ≡ book → i < length book → r ≡ get_or rows i r
     → s.operations.items ≡ r.operations.items ++ op ∷ [] → s.records.items ≡ r.records.items
     → pages (set rows i s) ≡ with_call book i op
@@ -88,7 +91,8 @@ pages-with_call rows book i op r s e h is pushed same =
     map-set page rows i s ∙ (ap (λ (b : List Page). set b i (page s)) e ∙ ap (set book i) one)
 
 -- rows with another operation hold the book with it
-pub pages-with_operation : (rows : List Rows) (book : List Page) (call : Call) (op : ℕ) (r s : Rows)
+pub pages-with_operation : (rows : List CallerPage) (book : List Page) (call : Call) (op : ℕ)
+    (r s : CallerPage)
     → pages rows ≡ book → call.caller < length book → r ≡ get_or rows call.caller r
     → s.operations.items ≡ set r.operations.items call.number op → s.records.items ≡ r.records.items
     → pages (set rows call.caller s) ≡ with_operation book call op
@@ -104,7 +108,8 @@ pages-with_operation rows book call op r s e h is put same =
     ∙ (ap (λ (b : List Page). set b call.caller (page s)) e ∙ ap (set book call.caller) one)
 
 -- rows with one more record hold the book with one more answer
-pub pages-with_answer : (rows : List Rows) (book : List Page) (i : ℕ) (a : Record) (r s : Rows)
+pub pages-with_answer : (rows : List CallerPage) (book : List Page) (i : ℕ) (a : Record)
+    (r s : CallerPage)
     → pages rows ≡ book → i < length book → r ≡ get_or rows i r
     → s.operations.items ≡ r.operations.items
     → s.records.items ≡ r.records.items ++ a ∷ [] → pages (set rows i s) ≡ with_answer book i a

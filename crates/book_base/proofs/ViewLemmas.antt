@@ -126,7 +126,7 @@ answered_at book i =
           ∙ sym (ap (λ (p : Page). length p.records) (page_past book i past))
     ]
 
--- So many calls of a caller are held by the views of the records of the first callers that a cut
+-- This many calls of a caller are held by the views of the records of the first callers that a cut
 -- holds.
 pub record IsHeldTo (book : List Page) (cut : List ℕ) (caller other held : ℕ) : Type 0 where
   pub held_by : (number : ℕ) → number < held

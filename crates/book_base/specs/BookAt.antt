@@ -15,7 +15,7 @@ IsHeldBySomeView book cut call = (answered : Call) × (r : Record) × Holds cut 
 pub record IsBookAt (book : List Page) (cut : List ℕ) (part : List Page) : Type 0 where
   -- it has the same callers
   pub callers : length part ≡ length book
-  -- its records are the first so many of each caller
+  -- its records are as many first ones of each caller as the cut counts
   pub records : (i : ℕ)
       → (page_of part i).records ≡ take (slice_index cut i) (page_of book i).records
   -- its calls are exactly those that some of these views hold

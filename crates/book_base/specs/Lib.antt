@@ -10,7 +10,7 @@ pub mod Sequential
 pub mod Order
 pub mod Next
 pub mod Refusal
-pub mod Foresight
-pub mod ForesightLaws
+pub mod PruningRules
+pub mod PruningRuleLaws
 pub mod Pruning
 pub mod Decision

@@ -8,7 +8,7 @@ use Rattle.book_base.specs.Cut.{IsWithin}
 use Rattle.book_base.specs.Book.{Page, answers_of, IsAnswered, record_of}
 use Rattle.book_base.specs.Order.{IsLegalOrder}
 use Rattle.book_base.specs.Next.{next_call, MayComeNext, MayStandNext, Continues}
-use Rattle.book_base.specs.Foresight.{Reaches}
+use Rattle.book_base.specs.PruningRules.{Reaches}
 
 -- Each view of a book holds at most one unanswered call of each caller: of each caller at most one
 -- unanswered call is in some view.

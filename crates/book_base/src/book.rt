@@ -19,7 +19,7 @@ use std::marker::Model;
 
 /// What one caller did.
 #[derive(Debug, Drop)]
-struct Rows {
+struct CallerPage {
     operations: Vec<OpWord>,
     records: Vec<Record>,
 }
@@ -32,23 +32,23 @@ struct Rows {
 /// 2023).
 #[derive(Debug, Drop)]
 pub struct Book {
-    rows: Vec<Rows>,
+    rows: Vec<CallerPage>,
 }
 
-impl Rows {
-    // So many calls without answers. Room for the answers is taken with them.
-    fn unanswered(alloc: Global, calls: u64) -> Result<Rows, NoMemory>
+impl CallerPage {
+    // This many calls without answers, with capacity for the answers.
+    fn unanswered(alloc: Global, calls: u64) -> Result<CallerPage, NoMemory>
         requires { calls ≤ MAX_CALLS }
         ensures { IfOk result (λ rows. page rows ≡ unanswered_page calls) }
     {
-        Ok(Rows {
+        Ok(CallerPage {
             operations: vec![in alloc; 0; calls as usize]?,
             records: Vec::with_capacity(alloc, calls as usize)?,
         })
     }
 
-    // The first so many calls and records.
-    fn prefix(&self, alloc: Global, calls: u64, answers: u64) -> Result<Rows, NoMemory>
+    // The first of the calls and of the records, this many of each.
+    fn prefix(&self, alloc: Global, calls: u64, answers: u64) -> Result<CallerPage, NoMemory>
         requires calls { calls ≤ length self.now.operations.items }
         requires answers { answers ≤ length self.now.records.items }
         ensures { IfOk result (λ rows. page rows ≡ record {
@@ -56,7 +56,7 @@ impl Rows {
           records = take answers self.now.records.items;
         }) }
     {
-        Ok(Rows {
+        Ok(CallerPage {
             operations: Vec::from_slice(alloc, &self.operations[..calls as usize])?,
             records: Vec::from_slice(alloc, &self.records[..answers as usize])?,
         })
@@ -88,7 +88,7 @@ impl Book {
     {
         let mut rows = Vec::new(alloc);
         for _ in 0..n {
-            rows.push(Rows {
+            rows.push(CallerPage {
                 operations: Vec::new(alloc),
                 records: Vec::new(alloc),
             })?;
@@ -107,7 +107,7 @@ impl Book {
     {
         let mut rows = Vec::new(alloc);
         for i in 0..calls.n() {
-            rows.push(Rows::unanswered(alloc, calls.get(i))?)?;
+            rows.push(CallerPage::unanswered(alloc, calls.get(i))?)?;
         }
         Ok(Book { rows })
     }
@@ -332,8 +332,8 @@ impl Book {
         low
     }
 
-    /// The book at a cut: the first so many records of each caller, and the calls that some of
-    /// their views hold (Castañeda and Rodríguez 2023).
+    /// The book at a cut: of each caller as many first records as the cut counts, and the calls
+    /// that some of their views hold (Castañeda and Rodríguez 2023).
     pub fn at(&self, alloc: Global, cut: &Cut) -> Result<Book, NoMemory>
         // The cut has a count for each caller of the book.
         requires wide { length cut.now ≡ length self.now }

@@ -7,10 +7,10 @@ mod call;
 mod cut;
 mod decision;
 mod fault;
-mod foresight;
 pub mod laws;
 mod marks;
 mod op_word;
+mod pruning_rules;
 mod seq_object;
 mod sight;
 mod state;
@@ -20,9 +20,9 @@ pub use call::{Call, Place, Record};
 pub use cut::Cut;
 pub use decision::Decision;
 pub use fault::{BookFault, NoMemory, ReadFault, TextFault, What};
-pub use foresight::Foresight;
 pub use marks::Marks;
 pub use op_word::{OpWord, high, join, low};
+pub use pruning_rules::PruningRules;
 pub use seq_object::SeqObject;
 pub use sight::{Labelled, Sight, Span};
 pub use state::State;
@@ -33,7 +33,7 @@ pub const MAX_CALLERS: usize = 16;
 /// The greatest number of calls that one caller makes.
 pub const MAX_CALLS: u64 = 256;
 
-/// The greatest room of a [`State`], in words.
+/// The greatest capacity of a [`State`], in words.
 pub const MAX_ROOM: u64 = 8192;
 
 /// The reply word `bad`, which answers an operation that the object doesn't know.

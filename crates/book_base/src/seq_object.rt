@@ -3,7 +3,7 @@ ghost use Rattle.book_base.specs.declared.TheConstants.{BAD};
 ghost use Rattle.book_base.specs.declared.sight.Sight.{Sight};
 ghost use Rattle.book_base.specs.Book.{Page};
 ghost use Rattle.book_base.specs.Decision.{IsRightDecision};
-ghost use Rattle.book_base.specs.Foresight.{IsForesight, Leaves};
+ghost use Rattle.book_base.specs.PruningRules.{ArePruningRules, Leaves};
 ghost use Rattle.book_base.specs.Pruning.{HasOneOpen, IsForced, IsReached, IsMarkedWithin, MarksAllNext, MarksSuffice};
 
 use crate::OpWord;
@@ -11,8 +11,8 @@ use crate::book::Book;
 use crate::cut::Cut;
 use crate::decision::Decision;
 use crate::fault::NoMemory;
-use crate::foresight::Foresight;
 use crate::marks::Marks;
+use crate::pruning_rules::PruningRules;
 use crate::sight::Sight;
 use crate::state::State;
 use std::alloc::Global;
@@ -36,7 +36,7 @@ pub trait SeqObject {
     fn known(&self, op: OpWord) -> bool
         ensures { result ≡ is_known self.now op };
 
-    /// Makes the list the one that the object begins with. The room stays.
+    /// Makes the list the one that the object begins with. The capacity stays.
     fn reset(&self, state: &mut State)
         // The state has room for one word.
         requires { 1 ≤ state.old.room }
@@ -47,7 +47,7 @@ pub trait SeqObject {
     fn step(&self, state: &mut State, op: OpWord) -> u64
         // The state has room for one word more.
         requires { length state.old.words < state.old.room }
-        // The list becomes the one that follows it by the operation, and the room stays.
+        // The list becomes the one that follows it by the operation, and the capacity stays.
         ensures list { state.new
             ≡ record state.old { words = (next self.now state.old.words op).0 } }
         // The answer is the object's reply to the operation at the list before.
@@ -55,12 +55,12 @@ pub trait SeqObject {
 
     /// What the object knows of a book before a search: each call that it forbids next, after a cut
     /// and at a list, stands so in no legal order. An object that leaves this out forbids nothing.
-    fn foresee(&self, alloc: Global, book: &Book) -> Result<Foresight, NoMemory>
+    fn find_pruning_rules(&self, alloc: Global, book: &Book) -> Result<PruningRules, NoMemory>
         // What is answered is right: each call that it forbids next, after a cut and at a list, is
         // infeasible there.
-        ensures { IfOk result (IsForesight (init self.now) (next self.now) book.now) }
+        ensures { IfOk result (ArePruningRules (init self.now) (next self.now) book.now) }
     {
-        Ok(Foresight::none(alloc))
+        Ok(PruningRules::none(alloc))
     }
 
     /// Whether an operation with this reply is known to leave every list as it is. An object that

@@ -6,9 +6,9 @@ use crate::fault::NoMemory;
 use std::alloc::Global;
 use std::marker::Model;
 
-/// The state of a sequential object: a list of words with a fixed room.
+/// The state of a sequential object: a list of words with a fixed capacity, its room.
 ///
-/// The list is never longer than the room. The room is taken when the state is made, so that no
+/// The list is never longer than its capacity, which is taken when the state is made, so that no
 /// later call but [`State::copy`] takes memory.
 #[derive(Debug, Drop)]
 pub struct State {
@@ -29,9 +29,9 @@ impl Model for State {
 }
 
 impl State {
-    /// An empty list with this room.
+    /// An empty list with this capacity.
     pub fn with_room(alloc: Global, room: u64) -> Result<State, NoMemory>
-        // The room is at most `MAX_ROOM`.
+        // The capacity is at most `MAX_ROOM`.
         requires { room ≤ MAX_ROOM }
         ensures { IfOk result (λ state. state ≡ record { words = []; room = room }) }
     {
@@ -43,7 +43,7 @@ impl State {
     pub fn len(&self) -> u64
         // The answer is how many words the list has.
         ensures count { result ≡ length self.now.words }
-        // The list has no more words than its room.
+        // The list has no more words than its capacity.
         ensures fits { length self.now.words ≤ self.now.room }
     {
         self.words.len() as u64
@@ -58,9 +58,9 @@ impl State {
 
     /// The greatest length of the list.
     pub fn room(&self) -> u64
-        // The answer is the room of the list.
+        // The answer is the capacity of the list.
         ensures room { result ≡ self.now.room }
-        // The room is at most `MAX_ROOM`.
+        // The capacity is at most `MAX_ROOM`.
         ensures few { self.now.room ≤ MAX_ROOM }
     {
         self.room
@@ -84,7 +84,7 @@ impl State {
 
     /// Adds a word at the end.
     pub fn push(&mut self, word: u64)
-        // The list has fewer words than its room.
+        // The list has fewer words than its capacity.
         requires { length self.old.words < self.old.room }
         ensures { self.new ≡ record self.old { words = self.old.words ++ word ∷ [] } }
     {
@@ -95,7 +95,7 @@ impl State {
     pub fn insert(&mut self, i: u64, word: u64)
         // The place is one of the list's, or that after its last word.
         requires place { i ≤ length self.old.words }
-        // The list has fewer words than its room.
+        // The list has fewer words than its capacity.
         requires room { length self.old.words < self.old.room }
         ensures { self.new ≡ record self.old { words = insert self.old.words i word } }
     {
@@ -108,7 +108,7 @@ impl State {
         requires { i < length self.old.words }
         // The answer is the word that was at this place.
         ensures word { slice_get self.old.words i ≡ Some result }
-        // The list has the other words in their order, and the room stays.
+        // The list has the other words in their order, and the capacity stays.
         ensures rest { self.new ≡ record self.old { words = remove self.old.words i } }
     {
         self.words.remove(i as usize)
@@ -121,9 +121,9 @@ impl State {
         self.words.clear();
     }
 
-    /// Takes over another state's list. The room stays.
+    /// Takes over another state's list. The capacity stays.
     pub fn copy_from(&mut self, other: &State)
-        // The other list has no more words than this state's room.
+        // The other list has no more words than this state's capacity.
         requires { length other.now.words ≤ self.old.room }
         ensures { self.new ≡ record self.old { words = other.now.words } }
     {
@@ -131,7 +131,7 @@ impl State {
         self.words.extend_from_slice(&other.words).unwrap();
     }
 
-    /// A state with the same list and the same room.
+    /// A state with the same list and the same capacity.
     pub fn copy(&self, alloc: Global) -> Result<State, NoMemory>
         ensures { IfOk result (λ state. state ≡ self.now) }
     {

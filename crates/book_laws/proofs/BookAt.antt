@@ -105,8 +105,8 @@ page_of-book_at cut book i =
           ∙ (sym none ∙ ap made (sym (page_past book i past)))
     ]
 
--- the records of the book at a cut are the first so many of the book's, and its calls the first so
--- many
+-- the records of the book at a cut are first records of the book, and its calls are first calls of
+-- it
 pub records-book_at : (cut : List ℕ) (book : List Page) (i : ℕ)
     → (page_of (book_at cut book) i).records ≡ take (get_or cut i 0) (page_of book i).records
 records-book_at cut book i = ap (λ (p : Page). p.records) (page_of-book_at cut book i)

@@ -10,7 +10,7 @@ use Rattle.book_picture.specs.Rows.{IsRow, AreFolded, has_part}
 use Rattle.book_picture.specs.Elements.{IsBar, IsPartIn, ArePartsIn, GrowsByBar, GrowsByPart, GrowsByParts}
 use Rattle.book_picture.proofs.PlainTexts.{plain-append}
 
--- this many places as a dozen calls have stay on one row
+-- at most 24 places, as many as a dozen calls have, stay on one row
 pub one_row : (places : ℕ) (rows : List Row) → places ≤ 24 → AreFolded places rows → length rows ≡ 1
 one_row places rows few folded = elim (cases_lt 1 (length rows)) [
   | inl more ↦

@@ -21,7 +21,7 @@ pub record AreFolded (places : ℕ) (rows : List Row) : Type 0 where
   pub needed : 1 < length rows → length rows * ROW_PLACES < places + ROW_PLACES
   pub each : (k : ℕ) (row : Row) → slice_get rows k ≡ Some row → IsRow places k row
 
--- So many places as a dozen calls have at most stay on one row.
+-- At most 24 places, as many as a dozen calls have, stay on one row.
 abbrev pub ADozenStayOnOneRow : Type 0
 ADozenStayOnOneRow = (places : ℕ) (rows : List Row) → places ≤ 12 * 2 → AreFolded places rows
     → length rows ≡ 1

@@ -14,7 +14,7 @@ pub fn sizes()
     ensures colours { COLOURS ≡ 8 }
 {}
 
-/// So many places as the sketch of a dozen calls has at most stay on one row.
+/// At most 24 places, as many as the sketch of a dozen calls has, stay on one row.
 pub fn a_dozen_calls_stay_on_one_row()
     ensures { ADozenStayOnOneRow }
 {}

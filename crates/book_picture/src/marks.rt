@@ -9,7 +9,8 @@ use book_base::Call;
 pub enum Marks {
     /// None are, and the picture says nothing of marks.
     Unasked,
-    /// Those of a smaller book that no order explains either: for each caller, their numbers.
+    /// The calls of a smaller book that has no legal order either are marked: for each caller,
+    /// their numbers.
     Smaller(Vec<Vec<u64>>),
     /// None are, since no smaller book is sought of a book with this many calls.
     TooLarge,

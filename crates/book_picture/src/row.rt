@@ -40,14 +40,14 @@ impl Stretch {
         ensures place { IfSome result (λ part. (part.begin < part.end) × (part.end ≤ self.places)) }
     {
         let begin = interval.begin.saturating_sub(self.first);
-        let suffix = interval.end.saturating_sub(self.first);
-        let end = suffix.min(self.places);
+        let until = interval.end.saturating_sub(self.first);
+        let end = until.min(self.places);
         if begin < end {
             Some(Part {
                 begin,
                 end,
                 begins: self.first <= interval.begin,
-                ends: suffix <= self.places,
+                ends: until <= self.places,
             })
         } else {
             None

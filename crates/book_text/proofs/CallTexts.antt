@@ -203,10 +203,10 @@ module _ (version : Version) (operations : Operations) (book : List Page) (call 
 
   -- ---- first tests
 
-  abbrev Entry : What → Type 0
-  Entry name = EntryFails version operations (length book) (is_gap book call) call words name
+  abbrev EntryTest : What → Type 0
+  EntryTest name = EntryFails version operations (length book) (is_gap book call) call words name
 
-  entry_early : (name : What) → Entry name → turn_of name ≤ 10
+  entry_early : (name : What) → EntryTest name → turn_of name ≤ 10
   entry_early what.Place h = omega arith
   entry_early what.Op h = omega arith
   entry_early what.Gap h = omega arith
@@ -215,7 +215,7 @@ module _ (version : Version) (operations : Operations) (book : List Page) (call 
   entry_early _ h = absurd h
 
   -- the first test of the line by itself is the line's first test
-  pub entry_first : (more : List Call) (name : What) → IsFirstTest Entry name
+  pub entry_first : (more : List Call) (name : What) → IsFirstTest EntryTest name
       → IsFirstTest (CallFails version operations book (call ∷ more) words) name
   entry_first more name h = record {
     fails = inl h.fails;

@@ -59,15 +59,15 @@ with_line-middle done page later k op (Some r) =
     ap (λ (b : List Page). with_operation b call op) (with_answer-middle done page later r)
     ∙ with_operation-middle done answered later k op
 
--- ---- a page of which the first so many calls are read
+-- ---- a page of which the first calls are read, up to a number
 
--- the first so many operations, and the word 0 for each other call
+-- the first operations, up to a number, and the word 0 for each other call
 abbrev pub operations_to : ℕ → List ℕ → List ℕ
 operations_to zero ops = replicate (length ops) 0
 operations_to (suc k) [] = []
 operations_to (suc k) (op ∷ ops) = op ∷ operations_to k ops
 
--- the page when the lines of the first so many calls are read
+-- the page when the lines of the first calls are read, up to a number
 abbrev pub page_to : ℕ → Page → Page
 page_to k page =
     record { operations = operations_to k page.operations; records = take k page.records }
@@ -162,7 +162,7 @@ slice_get-set_cases (y ∷ xs) zero x (suc m) z e = inl e
 slice_get-set_cases (y ∷ xs) (suc k) x zero z e = inl e
 slice_get-set_cases (y ∷ xs) (suc k) x (suc m) z e = slice_get-set_cases xs k x m z e
 
--- Of two pages the first so many calls are the same, and so is the number of all.
+-- Two pages have the same first calls, up to a number, and the same number of all calls.
 pub record AreSameTo (k : ℕ) (a b : Page) : Type 0 where
   pub size : length b.operations ≡ length a.operations
   pub operations : (m : ℕ) → m < k → slice_get b.operations m ≡ slice_get a.operations m

@@ -10,7 +10,7 @@ ghost use Rattle.book_base.specs.Refusal.{MayAnswer, IsFirstFault};
 ghost use Rattle.text_fields.specs.declared.version.Version.TheVariants.{Second};
 ghost use Rattle.book_text.specs.CallLines.{AreCallLines, AreNoCallLines, IsFirstCallFault, AreRead, AreStopped, IsUnanswered, MayRefuse, calls_from, is_gap as is_gap_lem, view_test, with_line};
 
-use crate::entry::{Entry, read_entry};
+use crate::entry::{CallEntry, read_entry};
 use book_base::{Book, BookFault, Call, Cut, ReadFault, Record, TextFault, What};
 use std::alloc::Global;
 use text_fields::{Lines, OpText, Version};
@@ -146,7 +146,7 @@ fn is_gap(book: &Book, call: Call) -> bool
 }
 
 /// Puts what the line of this call says into the book.
-fn record_entry(book: &mut Book, call: Call, entry: Entry) -> Result<(), BookFault>
+fn record_entry(book: &mut Book, call: Call, entry: CallEntry) -> Result<(), BookFault>
     requires call { IsCall book.old call }
     requires unanswered { IsUnanswered book.old call }
     requires wide { IfSome entry.answer (λ r. length r.view ≡ length book.old) }
@@ -156,7 +156,7 @@ fn record_entry(book: &mut Book, call: Call, entry: Entry) -> Result<(), BookFau
         ⊎ IsSomeAnd entry.answer (λ r. IsFirstFault book.old call.caller r.view e)) }
     ensures causes { IfErr result MayRefuse }
 {
-    let Entry { op, answer } = entry;
+    let CallEntry { op, answer } = entry;
     match answer {
         None => book.set_op(call, op),
         Some(Record { reply, view }) => {

@@ -14,7 +14,7 @@ use text_fields::{OpText, Version, Words, next_number};
 
 /// What the line of a call says.
 #[derive(Clone, Copy)]
-pub(crate) struct Entry {
+pub(crate) struct CallEntry {
     pub(crate) op: OpWord,
     pub(crate) answer: Option<Record>,
 }
@@ -28,7 +28,7 @@ pub(crate) fn read_entry<T: OpText>(
     call: Call,
     n: u32,
     gap: bool,
-) -> Result<Entry, What>
+) -> Result<CallEntry, What>
     requires some { 1 ≤ n }
     requires few { n ≤ MAX_CALLERS }
     ensures found { IfOk result (λ entry. IsEntry version (T.operations operations.now)
@@ -44,7 +44,7 @@ pub(crate) fn read_entry<T: OpText>(
         return Err(What::Op);
     };
     match read_answer(version, &mut words, n, gap) {
-        Ok(answer) => Ok(Entry { op, answer }),
+        Ok(answer) => Ok(CallEntry { op, answer }),
         Err(what) => Err(what),
     }
 }

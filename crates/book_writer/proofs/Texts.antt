@@ -86,7 +86,7 @@ callers_more book i lt =
     ∙ ap (λ (n : ℕ). all_calls 0 (take i (announced book)) ++ calls_from i 0 n)
     (announced_at book i)
 
--- what is there is what stands in its place
+-- an option with this value is unwrapped to it, whatever the default
 pub value_is : {X : Type 0} (o : Option X) (x d : X) → o ≡ Some x → unwrap_or o d ≡ x
 value_is {X = X} o x d e = ap (λ (p : Option X). unwrap_or p d) e
 

@@ -1,21 +1,23 @@
--- The rules of counters: each count is given once, and counts go up.
-use Rattle.std.proofs.Common.{◌≡◌, ◌≢◌, ◌∙◌, ℕ, zero, suc, ◌+◌, ◌*◌, ◌<◌, ◌≤◌, Bool, true, cond, List, [], ◌∷◌, ◌++◌, length, take, drop, Some, None, is_some, sym, ap, subst, inl, inr, slice_get, arith}
-use Rattle.std.specs.Prelude.{count_by}
+-- The rules of counters: each count is given once, counts go up, and what is counted was seen.
+use Rattle.std.proofs.Common.{◌≡◌, ◌≢◌, ◌∙◌, ℕ, zero, suc, ◌+◌, ◌*◌, ◌<◌, ◌≤◌, Bool, true, cond, List, [], ◌∷◌, ◌++◌, length, take, drop, sum, Option, Some, None, is_some, sym, ap, subst, inl, inr, slice_get, arith}
+use Rattle.std.specs.Prelude.{count_by, IsSomeAnd}
 use Rattle.std.proofs.lemmas.Bool.{cases_Bool, cases_order, cond-true, cond-false, false≢true}
 use Rattle.std.proofs.lemmas.List.{length-take-le, length-map}
 use Rattle.std.proofs.lemmas.List.Sums.{count_by-le-length, sum_by-cons}
 use Rattle.std.proofs.lemmas.Option.{same_Some, none-some, slice_get_within}
+use Rattle.list_laws.proofs.Options.{some_from_is_some_and}
 use Rattle.book_base.specs.declared.call.Call.{Call}
 use Rattle.book_base.specs.declared.call.Place.{Place}
+use Rattle.book_base.specs.declared.call.Record.{Record}
 use Rattle.book_base.specs.declared.TheConstants.{MAX_CALLERS, MAX_CALLS}
-use Rattle.book_base.specs.Book.{Page, IsSmall, Precedes}
+use Rattle.book_base.specs.Book.{Page, record_of, IsSmall, Precedes}
 use Rattle.book_base.specs.Sequential.{IsRunFrom}
 use Rattle.book_base.specs.Order.{HasLegalOrder, IsLegalOrder, call_at, step_at}
 use Rattle.history_rules.specs.Container.{Takes, Neither}
 use Rattle.history_rules.proofs.Orders.{steps_of, answered_step}
-use Rattle.object_foresight.specs.declared.deal.Deal.TheVariants as deals
-use Rattle.object_foresight.specs.Deals.{deal_of}
-use Rattle.object_foresight.proofs.Dealing.{takes_by_deal}
+use Rattle.container_pruning.specs.declared.deal.Deal.TheVariants as deals
+use Rattle.container_pruning.specs.Deals.{deal_of}
+use Rattle.container_pruning.proofs.Dealing.{takes_by_deal}
 use Rattle.seq_objects.specs.declared.kind.Kind.TheVariants as kinds
 use Rattle.seq_objects.specs.Words as words
 use Rattle.seq_objects.specs.Words.{entries, entry_of, is_operation_of, is_known_word}
@@ -27,7 +29,9 @@ use Rattle.seq_objects.proofs.Lengths.{order_is_short}
 use Rattle.object_laws.specs.Runs.{does}
 use Rattle.object_laws.proofs.Counting.{increments_are_counted}
 use Rattle.broken_rules.specs.Deeds.{counter_reading}
+use Rattle.broken_rules.specs.Rules.{SeesAtMost}
 use Rattle.broken_rules.proofs.Least.{split_step}
+use Rattle.broken_rules.proofs.Seen.{sees_what_stands_before}
 
 -- what a counter knows is an increment
 known_is_inc : (word : ℕ) → is_known_word kinds.Counter word ≡ true
@@ -169,3 +173,28 @@ counted_twice book v w one other small same apart takes_v takes_w h =
         ))
       ]
     ]
+
+-- A count of more calls than the others in the call's view has no legal order.
+pub counted_unseen : (book : List Page) (v : ℕ) (one : Call) → IsSmall book
+    → deal_of counter_reading book one ≡ deals.Took v → SeesAtMost book one v
+    → ¬ HasLegalOrder (0 ∷ []) (kind_next kinds.Counter) book
+counted_unseen book v one small takes few h =
+    let next = kind_next kinds.Counter in
+    let order = h.0 in
+    let legal = h.1 in
+    let steps = steps_of book order in
+    let a = answered_step counter_reading (0 ∷ []) next book order legal one (Some v)
+    (takes_by_deal counter_reading book one v takes) in
+    let inside = slice_get_within steps a.0 a.1 a.3 in
+    let r = some_from_is_some_and (record_of book one) (λ s. sum s.view ≤ v) few in
+    let most : sum r.0.view ≤ v =
+    subst (λ (o : Option Record). IsSomeAnd o (λ s. sum s.view ≤ v)) r.1 few in
+    absurd (omega (
+      arith,
+      most,
+      sees_what_stands_before (0 ∷ []) next book order legal one r.0 r.1 a.0 a.2,
+      count_at steps a.0 a.1 v (steps_are_short book order small legal) legal.run a.3
+          (is_inc a.1.0 a.4) a.5,
+      count_by-le-length (does words.inc) (take a.0 steps),
+      length-take-le a.0 steps (omega (arith, inside)),
+    ))

@@ -10,9 +10,9 @@ use Rattle.history_rules.specs.Calls.{PutsInAlone}
 use Rattle.history_rules.proofs.Counting.{how_often, how_often-more, how_often-found}
 use Rattle.history_rules.proofs.Orders.{steps_of, answered_step, putting_step}
 use Rattle.history_rules.proofs.ContainerRules.{held_after, take_at, puts_by, takes_by, taken_once}
-use Rattle.object_foresight.specs.declared.deal.Deal.TheVariants as deals
-use Rattle.object_foresight.specs.Deals.{deal_of}
-use Rattle.object_foresight.proofs.Dealing.{puts_by_deal, deal_of_put, takes_by_deal, nothing_by_deal}
+use Rattle.container_pruning.specs.declared.deal.Deal.TheVariants as deals
+use Rattle.container_pruning.specs.Deals.{deal_of}
+use Rattle.container_pruning.proofs.Dealing.{puts_by_deal, deal_of_put, takes_by_deal, nothing_by_deal}
 use Rattle.broken_rules.proofs.Searching.{cases_call}
 use Rattle.broken_rules.proofs.Standing.{taker_of_step, putter_of_step}
 

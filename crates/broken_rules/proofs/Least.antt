@@ -7,13 +7,13 @@ use Rattle.book_base.specs.Book.{Page, IsCall, Precedes}
 use Rattle.book_base.specs.Sequential.{IsRunFrom}
 use Rattle.book_base.specs.Order.{HasLegalOrder}
 use Rattle.book_base.proofs.ReachingLemmas.{preceding_comes_first}
-use Rattle.history_rules.specs.Container.{Deed, Puts, Takes, Neither, value_put, value_taken, put_by, taken_by, times, GivesOne, IsContainer}
+use Rattle.history_rules.specs.Container.{Effect, Puts, Takes, Neither, value_put, value_taken, put_by, taken_by, times, GivesOne, IsContainer}
 use Rattle.history_rules.proofs.Counting.{is_once, how_often, how_often-more, how_often-found, times-shown}
 use Rattle.history_rules.proofs.Orders.{steps_of, answered_step, putting_step}
 use Rattle.history_rules.proofs.ContainerRules.{puts_by}
-use Rattle.object_foresight.specs.declared.deal.Deal.TheVariants as deals
-use Rattle.object_foresight.specs.Deals.{deal_of}
-use Rattle.object_foresight.proofs.Dealing.{puts_by_deal, takes_by_deal}
+use Rattle.container_pruning.specs.declared.deal.Deal.TheVariants as deals
+use Rattle.container_pruning.specs.Deals.{deal_of}
+use Rattle.container_pruning.proofs.Dealing.{puts_by_deal, takes_by_deal}
 use Rattle.seq_objects.specs.declared.kind.Kind.TheVariants as kinds
 use Rattle.seq_objects.specs.Words as words
 use Rattle.seq_objects.specs.Words.{is_operation_of, argument_of}
@@ -125,14 +125,15 @@ same_puts : (v : ℕ) (steps : List (ℕ × ℕ))
     → how_often (put_by removals.pqueue_reading) v steps ≡ how_often (put_by pqueue_reading) v steps
 same_puts v [] = refl
 same_puts v (step ∷ steps) =
-    omega (arith, ap (λ (d : Deed). is_once v (value_put d)) (same_deed step.0), same_puts v steps)
+    omega
+    (arith, ap (λ (d : Effect). is_once v (value_put d)) (same_deed step.0), same_puts v steps)
 
 same_takes : (v : ℕ) (steps : List (ℕ × ℕ)) → how_often (taken_by removals.pqueue_reading) v steps
     ≡ how_often (taken_by pqueue_reading) v steps
 same_takes v [] = refl
 same_takes v (step ∷ steps) = omega (
   arith,
-  ap (λ (d : Deed). is_once v (value_taken d (shown_value step.1))) (same_deed step.0),
+  ap (λ (d : Effect). is_once v (value_taken d (shown_value step.1))) (same_deed step.0),
   same_takes v steps,
 )
 

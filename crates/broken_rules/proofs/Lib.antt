@@ -5,6 +5,10 @@ pub mod Holding
 pub mod Queues
 pub mod Stacks
 pub mod Least
+pub mod Seen
 pub mod Counts
 pub mod Writes
+pub mod Codes
+pub mod KeyedObjects
+pub mod Keys
 pub mod Refuting

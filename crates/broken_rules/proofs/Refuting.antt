@@ -1,34 +1,38 @@
 -- A book that breaks a rule has no legal order.
-use Rattle.std.proofs.Common.{◌≡◌, ℕ, ◌==◌, ◌&&◌, not, nat_lt, true, List, [], ◌∷◌, refl, sym, subst}
-use Rattle.std.proofs.lemmas.Bool.{false≢true, and_parts, ltb-true, eqb-true, eqb-false, not-true}
+use Rattle.std.proofs.Common.{◌≡◌, ◌⊎◌, ◌∙◌, ℕ, ◌==◌, ◌&&◌, not, nat_lt, true, false, List, [], ◌∷◌, refl, sym, subst, inl, inr}
+use Rattle.std.proofs.lemmas.Bool.{false≢true, cond-false, and_parts, ltb-true, eqb-true, eqb-false, not-true}
 use Rattle.book_base.specs.declared.call.Call.{Call}
 use Rattle.book_base.specs.Book.{Page, IsCall, IsSmall}
 use Rattle.book_base.specs.Order.{HasLegalOrder}
 use Rattle.history_rules.specs.Container.{IsContainer, IsQueue, IsStack}
 use Rattle.history_rules.proofs.QueueRuns.{queue_is_container, stack_is_container}
 use Rattle.value_pruning.specs.HoldsLast.{HoldsLast}
-use Rattle.object_foresight.specs.declared.deal.Deal.{Deal}
-use Rattle.object_foresight.specs.declared.deal.Deal.TheVariants as deals
+use Rattle.container_pruning.specs.declared.deal.Deal.{Deal}
+use Rattle.container_pruning.specs.declared.deal.Deal.TheVariants as deals
+use Rattle.container_pruning.specs.Deals.{deal_of}
 use Rattle.seq_objects.specs.declared.kind.Kind.{Kind}
 use Rattle.seq_objects.specs.declared.kind.Kind.TheVariants as kinds
 use Rattle.seq_objects.specs.Readings.{queue_reading, stack_reading}
 use Rattle.seq_objects.specs.PqueueReading.{pqueue_reading}
 use Rattle.seq_objects.specs.RegisterReading.{held_in, register_reading}
+use Rattle.seq_objects.specs.Keys.{set_key, set_part, map_key, map_part}
 use Rattle.seq_objects.specs.Objects.{kind_init, kind_next}
 use Rattle.seq_objects.proofs.Reading.{queue_is_read, stack_is_read}
 use Rattle.seq_objects.proofs.HoldsLast.{register_holds_last}
 use Rattle.broken_rules.specs.declared.rule.BrokenRule.{BrokenRule}
 use Rattle.broken_rules.specs.declared.rule.Rule.{Rule}
 use Rattle.broken_rules.specs.declared.rule.Rule.TheVariants as named
-use Rattle.broken_rules.specs.Deeds.{reading_of, did, value_by, is_put, is_take, is_nothing}
+use Rattle.broken_rules.specs.Deeds.{is_keyed, reading_of, deal_by_key, did, value_by, is_put, is_take, is_nothing}
 use Rattle.broken_rules.specs.Rules.{holds_values, is_queue, is_stack, is_pqueue, is_counter, is_register, Breaks, WhatBreaksIsIllegal}
 use Rattle.broken_rules.proofs.Acts.{put_of, take_is, nothing_is}
 use Rattle.broken_rules.proofs.Holding.{taken_unput, taken_twice, found_nothing}
 use Rattle.broken_rules.proofs.Queues.{passed_over}
 use Rattle.broken_rules.proofs.Stacks.{taken_from_under}
 use Rattle.broken_rules.proofs.Least.{pqueue_is_container, lesser_left}
-use Rattle.broken_rules.proofs.Counts.{counted_down, counted_twice}
+use Rattle.broken_rules.proofs.Counts.{counted_unseen, counted_down, counted_twice}
 use Rattle.broken_rules.proofs.Writes.{read_unwritten, read_overwritten}
+use Rattle.broken_rules.proofs.KeyedObjects.{set_finds_what_is_put, map_finds_what_is_put}
+use Rattle.broken_rules.proofs.Keys.{found_unput}
 
 -- ---- the objects of the kinds
 
@@ -79,7 +83,24 @@ only_register : (kind : Kind) → is_register kind ≡ true → kind ≡ kinds.R
 only_register kinds.Register is = refl
 only_register _ is = absurd (false≢true is)
 
+set_or_map : (kind : Kind) → is_keyed kind ≡ true → (kind ≡ kinds.IntSet) ⊎ (kind ≡ kinds.Map)
+set_or_map kinds.IntSet is = inl refl
+set_or_map kinds.Map is = inr refl
+set_or_map _ is = absurd (false≢true is)
+
 -- ---- what the two calls did
+
+not_keyed : (kind : Kind) → holds_values kind ≡ true → is_keyed kind ≡ false
+not_keyed kinds.Queue is = refl
+not_keyed kinds.Stack is = refl
+not_keyed kinds.Pqueue is = refl
+not_keyed _ is = absurd (false≢true is)
+
+-- a call of a container did what is read of it
+did_by_reading : (kind : Kind) (book : List Page) → holds_values kind ≡ true → (call : Call)
+    → did kind book call ≡ deal_of (reading_of kind) book call
+did_by_reading kind book is call = cond-false (is_keyed kind) (deal_by_key kind book call)
+    (deal_of (reading_of kind) book call) (not_keyed kind is)
 
 two_parts : (d e : Deal) → (is_put d && is_take e) ≡ true → (d ≡ deals.Put (value_by d))
     × (e ≡ deals.Took (value_by e))
@@ -103,11 +124,14 @@ module _ (book : List Page) (small : IsSmall book) (first second : Call) where
       → ¬ HasLegalOrder (kind_init kind) (kind_next kind) book
   refuted named.TakenUnput kind breaks =
       let holds = containers kind breaks.kept in
+      let read = did_by_reading kind book breaks.kept in
       let d : Deal = did kind book first in
       taken_unput (reading_of kind) (kind_init kind) (kind_next kind) book holds.0 holds.1
-      (value_by d) first (take_is d breaks.fit) breaks.puts
+      (value_by d) first (sym (read first) ∙ take_is d breaks.fit)
+      (λ call made puts. breaks.puts call made (read call ∙ puts))
   refuted named.TakenTwice kind breaks =
       let holds = containers kind breaks.kept in
+      let read = did_by_reading kind book breaks.kept in
       let d : Deal = did kind book first in
       let e : Deal = did kind book second in
       let parts = and_parts (is_put d && is_take e) (value_by d == value_by e) breaks.fit in
@@ -115,17 +139,25 @@ module _ (book : List Page) (small : IsSmall book) (first second : Call) where
       let same : value_by d ≡ value_by e = eqb-true (value_by d) (value_by e) parts.1 in
       taken_twice (reading_of kind) (kind_init kind) (kind_next kind) book holds.0 holds.1
       (value_by e) first second
-      (subst (λ (v : ℕ). d ≡ deals.Put v) same two.0) two.1
-      (subst (λ (v : ℕ). (call : Call) → IsCall book call → did kind book call ≡ deals.Put v
-      → call ≡ first) same breaks.puts) breaks.related
+      (sym (read first) ∙ subst (λ (v : ℕ). d ≡ deals.Put v) same two.0)
+      (sym (read second) ∙ two.1)
+      (λ call made puts. subst (λ (v : ℕ). (other : Call) → IsCall book other
+      → did kind book other ≡ deals.Put v → other ≡ first) same breaks.puts call made
+      (read call ∙ puts))
+      (λ all. breaks.related (λ call made takes. all call made (sym (read call) ∙ takes)))
   refuted named.FoundNothing kind breaks =
       let holds = containers kind breaks.kept in
+      let read = did_by_reading kind book breaks.kept in
       let d : Deal = did kind book first in
       let e : Deal = did kind book second in
       let parts = and_parts (is_put d) (is_nothing e) breaks.fit in
       found_nothing (reading_of kind) (kind_init kind) (kind_next kind) book holds.0 holds.1
-      (value_by d) first second (put_of d parts.0)
-      (nothing_is e parts.1) breaks.related breaks.takes
+      (value_by d) first second (sym (read first) ∙ put_of d parts.0)
+      (sym (read second) ∙ nothing_is e parts.1) breaks.related
+      (λ call made takes. breaks.takes call made (elim takes [
+        | inl took ↦ inl (read call ∙ took)
+        | inr unanswered ↦ inr (read call ∙ unanswered)
+      ]))
   refuted named.PassedOver kind breaks =
       let is : kind ≡ kinds.Queue = only_queue kind breaks.kept in
       let here = moved kind kinds.Queue book
@@ -157,6 +189,13 @@ module _ (book : List Page) (small : IsSmall book) (first second : Call) where
       subst (λ (k : Kind). ¬ HasLegalOrder (kind_init k) (kind_next k) book) (sym is)
       (lesser_left book (value_by d) (value_by e) first second
       (ltb-true (value_by d) (value_by e) parts.1) two.0 two.1 here.related here.takes)
+  refuted named.CountedUnseen kind breaks =
+      let is : kind ≡ kinds.Counter = only_counter kind breaks.kept in
+      let here = moved kind kinds.Counter book
+      (record { rule = named.CountedUnseen; first = first; second = second }) is breaks in
+      let d : Deal = did kinds.Counter book first in
+      subst (λ (k : Kind). ¬ HasLegalOrder (kind_init k) (kind_next k) book) (sym is)
+      (counted_unseen book (value_by d) first small (take_is d here.fit) here.related.1)
   refuted named.CountedTwice kind breaks =
       let is : kind ≡ kinds.Counter = only_counter kind breaks.kept in
       let here = moved kind kinds.Counter book
@@ -199,6 +238,22 @@ module _ (book : List Page) (small : IsSmall book) (first second : Call) where
       subst (λ (k : Kind). ¬ HasLegalOrder (kind_init k) (kind_next k) book) (sym is)
       (read_overwritten register_reading held_in (0 ∷ []) (kind_next kinds.Register) book
       register_is (value_by d) (value_by e) first second two.0 two.1 here.related here.puts)
+  refuted named.FoundUnput kind breaks = elim (set_or_map kind breaks.kept) [
+    | inl is ↦
+        let here = moved kind kinds.IntSet book
+        (record { rule = named.FoundUnput; first = first; second = second }) is breaks in
+        let d : Deal = did kinds.IntSet book first in
+        subst (λ (k : Kind). ¬ HasLegalOrder (kind_init k) (kind_next k) book) (sym is)
+        (found_unput kinds.IntSet set_key set_part (kind_next kinds.IntSet) book
+        set_finds_what_is_put (value_by d) first (take_is d here.fit) here.puts)
+    | inr is ↦
+        let here = moved kind kinds.Map book
+        (record { rule = named.FoundUnput; first = first; second = second }) is breaks in
+        let d : Deal = did kinds.Map book first in
+        subst (λ (k : Kind). ¬ HasLegalOrder (kind_init k) (kind_next k) book) (sym is)
+        (found_unput kinds.Map map_key map_part (kind_next kinds.Map) book
+        map_finds_what_is_put (value_by d) first (take_is d here.fit) here.puts)
+  ]
 
 pub what_breaks_is_illegal : WhatBreaksIsIllegal
 what_breaks_is_illegal kind book broken small breaks =

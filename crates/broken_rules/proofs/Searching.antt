@@ -1,6 +1,6 @@
 -- Loops over the calls of a book.
-use Rattle.std.proofs.Common.{◌≡◌, ◌⊎◌, ℕ, ◌+◌, ◌<◌, List, Some, slice_get, refl, sym, ap, subst, inl, inr, arith}
-use Rattle.std.proofs.lemmas.Bool.{cases_eq}
+use Rattle.std.proofs.Common.{◌≡◌, ◌⊎◌, ℕ, ◌+◌, ◌<◌, true, List, Some, slice_get, refl, sym, ap, subst, inl, inr, arith}
+use Rattle.std.proofs.lemmas.Bool.{cases_eq, false≢true}
 use Rattle.book_base.specs.declared.call.Call.{Call}
 use Rattle.book_base.specs.Book.{Page}
 use Rattle.book_base.proofs.ViewLemmas.{same_call}
@@ -8,7 +8,7 @@ use Rattle.seq_objects.specs.declared.kind.Kind.{Kind}
 use Rattle.broken_rules.specs.declared.rule.BrokenRule.{BrokenRule}
 use Rattle.broken_rules.specs.declared.rule.Rule.{Rule}
 use Rattle.broken_rules.specs.declared.rule.Rule.TheVariants as named
-use Rattle.broken_rules.specs.Rules.{Breaks, all_rules}
+use Rattle.broken_rules.specs.Rules.{is_of_one_call, relation_of, Related, Breaks, all_rules}
 
 -- what holds of the calls of the callers below one, and of this one's calls, holds of the calls of
 -- all callers up to it
@@ -52,12 +52,24 @@ with_rule kind book broken rule same breaks =
 -- each rule is among those that are tried
 pub all_listed : (rule : Rule) → (k : ℕ) × (slice_get all_rules k ≡ Some rule)
 all_listed named.TakenUnput = (0, refl)
-all_listed named.TakenTwice = (1, refl)
-all_listed named.PassedOver = (2, refl)
-all_listed named.TakenFromUnder = (3, refl)
-all_listed named.LesserLeft = (4, refl)
-all_listed named.FoundNothing = (5, refl)
-all_listed named.CountedTwice = (6, refl)
-all_listed named.CountedDown = (7, refl)
-all_listed named.ReadUnwritten = (8, refl)
-all_listed named.ReadOverwritten = (9, refl)
+all_listed named.CountedUnseen = (1, refl)
+all_listed named.ReadUnwritten = (2, refl)
+all_listed named.FoundUnput = (3, refl)
+all_listed named.TakenTwice = (4, refl)
+all_listed named.PassedOver = (5, refl)
+all_listed named.TakenFromUnder = (6, refl)
+all_listed named.LesserLeft = (7, refl)
+all_listed named.FoundNothing = (8, refl)
+all_listed named.CountedTwice = (9, refl)
+all_listed named.CountedDown = (10, refl)
+all_listed named.ReadOverwritten = (11, refl)
+
+-- the two calls that break a rule of one call are one
+pub of_one_call : (rule : Rule) (kind : Kind) (book : List Page) (first second : Call)
+    → is_of_one_call rule ≡ true → Related kind book (relation_of rule) first second
+    → first ≡ second
+of_one_call named.TakenUnput kind book first second is related = related
+of_one_call named.CountedUnseen kind book first second is related = related.0
+of_one_call named.ReadUnwritten kind book first second is related = related
+of_one_call named.FoundUnput kind book first second is related = related
+of_one_call _ kind book first second is related = absurd (false≢true is)

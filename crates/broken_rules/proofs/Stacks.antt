@@ -6,16 +6,16 @@ use Rattle.book_base.specs.declared.call.Call.{Call}
 use Rattle.book_base.specs.Book.{Page, IsCall, Precedes}
 use Rattle.book_base.specs.Sequential.{IsRunFrom}
 use Rattle.book_base.specs.Order.{HasLegalOrder}
-use Rattle.book_base.specs.Foresight.{list_after_run}
+use Rattle.book_base.specs.PruningRules.{list_after_run}
 use Rattle.book_base.proofs.ReachingLemmas.{preceding_comes_first}
-use Rattle.history_rules.specs.Container.{Deed, Puts, Takes, Neither, Reading, value_put, value_taken, put_by, taken_by, one_if, times, GivesFirst, IsStack}
+use Rattle.history_rules.specs.Container.{Effect, Puts, Takes, Neither, Reading, value_put, value_taken, put_by, taken_by, one_if, times, GivesFirst, IsStack}
 use Rattle.history_rules.proofs.Counting.{times-apart}
 use Rattle.history_rules.proofs.Runs.{step_of_run}
 use Rattle.history_rules.proofs.Orders.{steps_of, answered_step, putting_step}
 use Rattle.history_rules.proofs.ContainerRules.{puts_by}
-use Rattle.object_foresight.specs.declared.deal.Deal.TheVariants as deals
-use Rattle.object_foresight.specs.Deals.{deal_of}
-use Rattle.object_foresight.proofs.Dealing.{puts_by_deal, takes_by_deal}
+use Rattle.container_pruning.specs.declared.deal.Deal.TheVariants as deals
+use Rattle.container_pruning.specs.Deals.{deal_of}
+use Rattle.container_pruning.proofs.Dealing.{puts_by_deal, takes_by_deal}
 use Rattle.broken_rules.proofs.Standing.{taker_of_step, putter_of_step}
 
 -- What a stack has from v on, it has still after a step that doesn't take v; and it has no w over
@@ -31,7 +31,7 @@ covered_by_take w v (u ∷ above) below (Some x) after none gives apart =
     let rest : above ++ v ∷ below ≡ after = cc in (above, sym rest, omega (arith, none))
 
 covered_by_step : (reading : Reading) (next : List ℕ → ℕ → List ℕ × ℕ) → IsStack reading next
-    → (list : List ℕ) (op w v : ℕ) (above below : List ℕ) (deed : Deed) → reading.deed op ≡ deed
+    → (list : List ℕ) (op w v : ℕ) (above below : List ℕ) (deed : Effect) → reading.deed op ≡ deed
     → reading.values list ≡ above ++ v ∷ below → times w above ≡ 0 → (value_put deed ≡ Some w → ⊥)
     → (value_taken deed (reading.shown (next list op).1) ≡ Some v → ⊥)
     → (now : List ℕ) × (reading.values (next list op).0 ≡ now ++ v ∷ below) × (times w now ≡ 0)

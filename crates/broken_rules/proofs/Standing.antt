@@ -4,20 +4,36 @@ use Rattle.std.proofs.lemmas.Option.{same_Some, none-some}
 use Rattle.list_laws.proofs.Options.{cases_Option}
 use Rattle.book_base.specs.declared.call.Call.{Call}
 use Rattle.book_base.specs.declared.call.Place.{Place}
+use Rattle.book_base.specs.declared.call.Record.{Record}
 use Rattle.book_base.specs.Book.{Page, IsCall, operation_of, record_of}
 use Rattle.book_base.specs.Order.{call_at, StandsAt, IsLegalOrder}
-use Rattle.history_rules.specs.Container.{Deed, Puts, Takes, Neither, Reading, value_taken, put_by, taken_by}
+use Rattle.history_rules.specs.Container.{Effect, Puts, Takes, Neither, Reading, value_taken, put_by, taken_by}
 use Rattle.history_rules.proofs.Orders.{steps_of, place_of_step, has_operation, call_of_put}
-use Rattle.object_foresight.specs.declared.deal.Deal.TheVariants as deals
-use Rattle.object_foresight.specs.Deals.{shown_deal, recorded_deal, deal_by_deed, deal_by_operation, deal_of}
-use Rattle.object_foresight.proofs.Dealing.{deal_of_put}
+use Rattle.container_pruning.specs.declared.deal.Deal.TheVariants as deals
+use Rattle.container_pruning.specs.Deals.{shown_deal, recorded_deal, deal_by_deed, deal_by_operation, deal_of}
+use Rattle.container_pruning.proofs.Dealing.{deal_of_put}
 
 -- the deed of a step that takes out a value, and what its reply shows
-taken_from_value : (deed : Deed) (shown : Option ℕ) (v : ℕ) → value_taken deed shown ≡ Some v
+taken_from_value : (deed : Effect) (shown : Option ℕ) (v : ℕ) → value_taken deed shown ≡ Some v
     → (deed ≡ Takes) × (shown ≡ Some v)
 taken_from_value (Puts w) shown v e = absurd (none-some v e)
 taken_from_value Takes shown v e = (refl, e)
 taken_from_value Neither shown v e = absurd (none-some v e)
+
+-- An answered call stands in a legal order with its recorded reply.
+pub reply_of_place : (init : List ℕ) (next : List ℕ → ℕ → List ℕ × ℕ) (book : List Page)
+    (order : List Place) → IsLegalOrder init next book order
+    → (k : ℕ) (place : Place) → slice_get order k ≡ Some place
+    → (r : Record) → record_of book (call_at place) ≡ Some r → r.reply ≡ place.reply
+reply_of_place init next book order legal k place at r answered =
+    let call : Call = call_at place in
+    let it : Place = record { caller = call.caller; number = call.number; reply = r.reply } in
+    let found = legal.answered call r answered in
+    let same_place : found.0 ≡ k =
+    legal.once found.0 k call (it, found.1, refl) (place, at, refl) in
+    let one : it ≡ place =
+    same_Some it place (sym found.1 ∙ (ap (slice_get order) same_place ∙ at)) in
+    ap (λ (p : Place). p.reply) one
 
 -- A step that takes out a value is of a call that takes it, or of a take without an answer.
 pub taker_of_step : (reading : Reading) (init : List ℕ) (next : List ℕ → ℕ → List ℕ × ℕ)
@@ -40,14 +56,9 @@ taker_of_step reading init next book order legal k v step e is =
     elim (cases_Option (record_of book call)) [
       | inl none ↦ (call, stands, made, inr (deal ∙ ap (recorded_deal reading) none))
       | inr answer ↦
-          let it : Place =
-          record { caller = call.caller; number = call.number; reply = answer.0.reply } in
-          let found = legal.answered call answer.0 answer.1 in
-          let same_place : found.0 ≡ k = legal.once found.0 k call (it, found.1, refl) stands in
-          let one : it ≡ place.0 =
-          same_Some it place.0 (sym found.1 ∙ (ap (slice_get order) same_place ∙ place.1)) in
           let reply : answer.0.reply ≡ step.1 =
-          ap (λ (p : Place). p.reply) one ∙ ap (λ (s : ℕ × ℕ). s.1) place.2 in
+          reply_of_place init next book order legal k place.0 place.1 answer.0 answer.1
+          ∙ ap (λ (s : ℕ × ℕ). s.1) place.2 in
           let shown : reading.shown answer.0.reply ≡ Some v = ap reading.shown reply ∙ parts.1 in (
             call,
             stands,

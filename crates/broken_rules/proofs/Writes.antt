@@ -7,15 +7,15 @@ use Rattle.book_base.specs.declared.call.Call.{Call}
 use Rattle.book_base.specs.Book.{Page, IsCall, Precedes}
 use Rattle.book_base.specs.Sequential.{IsRunFrom}
 use Rattle.book_base.specs.Order.{HasLegalOrder}
-use Rattle.book_base.specs.Foresight.{list_after_run}
+use Rattle.book_base.specs.PruningRules.{list_after_run}
 use Rattle.book_base.proofs.ReachingLemmas.{preceding_comes_first}
-use Rattle.history_rules.specs.Container.{Deed, Puts, Takes, Neither, Reading, value_put, put_by}
+use Rattle.history_rules.specs.Container.{Effect, Puts, Takes, Neither, Reading, value_put, put_by}
 use Rattle.history_rules.proofs.Runs.{step_of_run}
 use Rattle.history_rules.proofs.Orders.{steps_of, answered_step, putting_step}
 use Rattle.history_rules.proofs.ContainerRules.{puts_by}
-use Rattle.object_foresight.specs.declared.deal.Deal.TheVariants as deals
-use Rattle.object_foresight.specs.Deals.{deal_of}
-use Rattle.object_foresight.proofs.Dealing.{puts_by_deal, takes_by_deal}
+use Rattle.container_pruning.specs.declared.deal.Deal.TheVariants as deals
+use Rattle.container_pruning.specs.Deals.{deal_of}
+use Rattle.container_pruning.proofs.Dealing.{puts_by_deal, takes_by_deal}
 use Rattle.value_pruning.specs.HoldsLast.{HoldsLast}
 use Rattle.broken_rules.proofs.Standing.{putter_of_step}
 
@@ -49,7 +49,7 @@ none_more reading steps from n step at quiet none j other v low high there write
     ]
 
 -- the deed of a step that writes
-put_from_value : (deed : Deed) (v : ℕ) → value_put deed ≡ Some v → deed ≡ Puts v
+put_from_value : (deed : Effect) (v : ℕ) → value_put deed ≡ Some v → deed ≡ Puts v
 put_from_value (Puts w) v e = ap Puts (same_Some w v e)
 put_from_value Takes v e = absurd (none-some v e)
 put_from_value Neither v e = absurd (none-some v e)

@@ -1,14 +1,16 @@
 -- What the calls of a book did, by the kind of its object.
-use Rattle.std.specs.Prelude.{ℕ, Bool, true, false, List, [], if◌then◌else◌}
+use Rattle.std.specs.Prelude.{ℕ, ◌==◌, Bool, true, false, List, [], Option, Some, None, unwrap_or, if◌then◌else◌}
 use Rattle.book_base.specs.declared.call.Call.{Call}
-use Rattle.book_base.specs.Book.{Page}
+use Rattle.book_base.specs.declared.call.Record.{Record}
+use Rattle.book_base.specs.Book.{Page, operation_of, record_of}
 use Rattle.history_rules.specs.Container.{Takes, Neither, Reading}
-use Rattle.object_foresight.specs.declared.deal.Deal.{Deal}
-use Rattle.object_foresight.specs.declared.deal.Deal.TheVariants as deals
-use Rattle.object_foresight.specs.Deals.{deal_of}
+use Rattle.container_pruning.specs.declared.deal.Deal.{Deal}
+use Rattle.container_pruning.specs.declared.deal.Deal.TheVariants as deals
+use Rattle.container_pruning.specs.Deals.{deal_of}
 use Rattle.seq_objects.specs.declared.kind.Kind.{Kind}
 use Rattle.seq_objects.specs.declared.kind.Kind.TheVariants as kinds
-use Rattle.seq_objects.specs.Words.{is_known_word}
+use Rattle.seq_objects.specs.Words.{code_of, argument_of, is_known_word}
+use Rattle.seq_objects.specs.Replies.{reply_no, reply_yes, is_value}
 use Rattle.seq_objects.specs.Readings.{shown_value, queue_reading, stack_reading}
 use Rattle.seq_objects.specs.PqueueReading.{pqueue_reading}
 use Rattle.seq_objects.specs.RegisterReading.{register_reading}
@@ -36,9 +38,58 @@ reading_of kinds.Register = register_reading
 reading_of kinds.Counter = counter_reading
 reading_of _ = other_reading
 
+-- Whether a kind's objects are of keys: sets and maps.
+abbrev pub is_keyed : Kind → Bool
+is_keyed kinds.IntSet = true
+is_keyed kinds.Map = true
+is_keyed _ = false
+
+-- The key of an operation word of a set or a map, where the object knows the word.
+abbrev pub key_of_word : Kind → ℕ → Option ℕ
+key_of_word kind word = if is_known_word kind word then Some (argument_of word) else None
+
+-- Whether an operation word of a set or a map puts its key in: an `add` and a `put` have the
+-- code 1.
+abbrev pub puts_key : ℕ → Bool
+puts_key word = code_of word == 1
+
+-- Whether the reply to an operation of a set says that its key was there: `no` to an `add`, and
+-- `yes` to a `remove` and a `has`.
+abbrev pub set_finds : ℕ → ℕ → Bool
+set_finds word reply = if puts_key word then reply == reply_no else reply == reply_yes
+
+-- Whether the reply to an operation says that its key was there: the one of a map gives the value
+-- that the key had.
+abbrev pub finds_key : Kind → ℕ → ℕ → Bool
+finds_key kinds.IntSet word reply = set_finds word reply
+finds_key kinds.Map word reply = is_value reply
+finds_key _ word reply = false
+
+-- Whether an operation is answered, and found its key there.
+abbrev pub has_found : Kind → ℕ → Option Record → Bool
+has_found kind word None = false
+has_found kind word (Some r) = finds_key kind word r.reply
+
+-- What an operation did with its key: one that found the key is read as a take of it, and one that
+-- puts the key in and isn't known to have found it as a put.
+abbrev pub deal_on_key : Option ℕ → Bool → Bool → Deal
+deal_on_key None found puts = deals.Other
+deal_on_key (Some key) found puts =
+    if found then deals.Took key else if puts then deals.Put key else deals.Other
+
+-- What a call with this operation word did with its key.
+abbrev pub deal_by_word : Kind → List Page → Call → ℕ → Deal
+deal_by_word kind book call word =
+    deal_on_key (key_of_word kind word) (has_found kind word (record_of book call)) (puts_key word)
+
+-- What a call of a set or a map did with its key.
+abbrev pub deal_by_key : Kind → List Page → Call → Deal
+deal_by_key kind book call = deal_by_word kind book call (unwrap_or (operation_of book call) 0)
+
 -- What a call of a book did.
 abbrev pub did : Kind → List Page → Call → Deal
-did kind book call = deal_of (reading_of kind) book call
+did kind book call =
+    if is_keyed kind then deal_by_key kind book call else deal_of (reading_of kind) book call
 
 -- What an act is, in the words of the readings.
 abbrev pub deal_of_act : Act → Deal

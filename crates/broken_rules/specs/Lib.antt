@@ -2,3 +2,4 @@ pub mod Deeds
 pub mod Demands
 pub mod Rules
 pub mod Texts
+pub mod Worked

@@ -1,9 +1,9 @@
 -- The rules that objects keep, and how two calls of a book break them.
-use Rattle.std.specs.Prelude.{◌≡◌, ◌≢◌, ◌==◌, ◌&&◌, nat_lt, not, Bool, true, false, List, [], ◌∷◌}
+use Rattle.std.specs.Prelude.{◌≡◌, ◌≢◌, ℕ, ◌≤◌, ◌==◌, ◌&&◌, nat_lt, not, Bool, true, false, List, [], ◌∷◌, sum, IsSomeAnd}
 use Rattle.book_base.specs.declared.call.Call.{Call}
-use Rattle.book_base.specs.Book.{Page, IsCall, IsSmall, Precedes}
+use Rattle.book_base.specs.Book.{Page, record_of, IsCall, IsSmall, Precedes}
 use Rattle.book_base.specs.Order.{HasLegalOrder}
-use Rattle.object_foresight.specs.declared.deal.Deal.{Deal}
+use Rattle.container_pruning.specs.declared.deal.Deal.{Deal}
 use Rattle.seq_objects.specs.declared.kind.Kind.{Kind}
 use Rattle.seq_objects.specs.declared.kind.Kind.TheVariants as kinds
 use Rattle.seq_objects.specs.Objects.{kind_init, kind_next}
@@ -14,7 +14,7 @@ use Rattle.broken_rules.specs.declared.rule.Relation.TheVariants as relations
 use Rattle.broken_rules.specs.declared.rule.Rule.{Rule}
 use Rattle.broken_rules.specs.declared.rule.Rule.TheVariants as rules
 use Rattle.broken_rules.specs.declared.rule.BrokenRule.{BrokenRule}
-use Rattle.broken_rules.specs.Deeds.{did, value_by, is_put, is_take, is_nothing}
+use Rattle.broken_rules.specs.Deeds.{is_keyed, did, value_by, value_at, is_put, is_take, is_nothing}
 use Rattle.broken_rules.specs.Demands.{AllMeet}
 
 -- Whether a kind's objects hold what is put in until it is taken out.
@@ -57,10 +57,12 @@ keeps kind rules.FoundNothing = holds_values kind
 keeps kind rules.PassedOver = is_queue kind
 keeps kind rules.TakenFromUnder = is_stack kind
 keeps kind rules.LesserLeft = is_pqueue kind
+keeps kind rules.CountedUnseen = is_counter kind
 keeps kind rules.CountedTwice = is_counter kind
 keeps kind rules.CountedDown = is_counter kind
 keeps kind rules.ReadUnwritten = is_register kind
 keeps kind rules.ReadOverwritten = is_register kind
+keeps kind rules.FoundUnput = is_keyed kind
 
 -- Whether two calls with these deals may break a rule.
 abbrev pub fits : Rule → Deal → Deal → Bool
@@ -77,6 +79,8 @@ fits rules.TakenFromUnder first second = is_put first && is_take second
 -- the first one puts in a value that is less than the one that the second one takes
 fits rules.LesserLeft first second =
     is_put first && is_take second && nat_lt (value_by first) (value_by second)
+-- the first one replies a count
+fits rules.CountedUnseen first second = is_take first
 -- both reply one count
 fits rules.CountedTwice first second =
     is_take first && is_take second && (value_by first == value_by second)
@@ -87,6 +91,16 @@ fits rules.CountedDown first second =
 fits rules.ReadUnwritten first second = is_take first && not (value_by first == 0)
 -- the first one writes, and the second one reads
 fits rules.ReadOverwritten first second = is_put first && is_take second
+-- the first one finds its key
+fits rules.FoundUnput first second = is_take first
+
+-- Whether a rule is broken by one call, which is both its calls.
+abbrev pub is_of_one_call : Rule → Bool
+is_of_one_call rules.TakenUnput = true
+is_of_one_call rules.CountedUnseen = true
+is_of_one_call rules.ReadUnwritten = true
+is_of_one_call rules.FoundUnput = true
+is_of_one_call _ = false
 
 -- What a rule asks of all calls that put in.
 abbrev pub puts_demand : Rule → Demand
@@ -95,6 +109,7 @@ puts_demand rules.TakenTwice = demands.OnlyPut
 puts_demand rules.PassedOver = demands.OtherPutsFollow
 puts_demand rules.TakenFromUnder = demands.OtherPutsOutside
 puts_demand rules.ReadUnwritten = demands.OwnPutsFollow
+puts_demand rules.FoundUnput = demands.OwnPutsFollow
 puts_demand rules.ReadOverwritten = demands.OtherPutsOutside
 puts_demand _ = demands.Nothing
 
@@ -114,15 +129,24 @@ relation_of rules.FoundNothing = relations.Before
 relation_of rules.PassedOver = relations.Any
 relation_of rules.TakenFromUnder = relations.Before
 relation_of rules.LesserLeft = relations.Before
+relation_of rules.CountedUnseen = relations.Unseen
 relation_of rules.CountedTwice = relations.Apart
 relation_of rules.CountedDown = relations.Before
 relation_of rules.ReadUnwritten = relations.Same
 relation_of rules.ReadOverwritten = relations.Before
+relation_of rules.FoundUnput = relations.Same
+
+-- A call is answered, and its view holds at most this many calls, itself among them.
+abbrev pub SeesAtMost : List Page → Call → ℕ → Type 0
+SeesAtMost book call most = IsSomeAnd (record_of book call) (λ r. sum r.view ≤ most)
 
 -- Two calls are so related.
 abbrev pub Related : Kind → List Page → Relation → Call → Call → Type 0
 -- they are one call
 Related kind book relations.Same first second = first ≡ second
+-- they are one call, whose view holds no more calls than the count that it replies
+Related kind book relations.Unseen first second =
+    (first ≡ second) × SeesAtMost book first (value_at kind book first)
 -- they are two calls
 Related kind book relations.Apart first second = first ≢ second
 -- the first one precedes the second one
@@ -157,6 +181,6 @@ WhatBreaksIsIllegal = (kind : Kind) (book : List Page) (broken : BrokenRule) →
 -- All rules, in the order in which they are tried.
 abbrev pub all_rules : List Rule
 all_rules =
-    rules.TakenUnput ∷ rules.TakenTwice ∷ rules.PassedOver ∷ rules.TakenFromUnder ∷ rules.LesserLeft
-    ∷ rules.FoundNothing ∷ rules.CountedTwice
-    ∷ rules.CountedDown ∷ rules.ReadUnwritten ∷ rules.ReadOverwritten ∷ []
+    rules.TakenUnput ∷ rules.CountedUnseen ∷ rules.ReadUnwritten ∷ rules.FoundUnput
+    ∷ rules.TakenTwice ∷ rules.PassedOver ∷ rules.TakenFromUnder ∷ rules.LesserLeft
+    ∷ rules.FoundNothing ∷ rules.CountedTwice ∷ rules.CountedDown ∷ rules.ReadOverwritten ∷ []

@@ -45,6 +45,9 @@ rule_text rules.TakenFromUnder first value second other =
 rule_text rules.LesserLeft first value second other =
     both_text first (codes " put ") value (codes " in, yet ") second (codes " took ") other
     (codes ", which is greater, while it was there\n")
+rule_text rules.CountedUnseen first value second other =
+    one_text first (codes " counted ") value
+    (codes ", though fewer other calls had begun before its reply\n")
 rule_text rules.CountedTwice first value second other =
     two_text first (codes " counted ") value (codes ", and so did ") second (codes "\n")
 rule_text rules.CountedDown first value second other =
@@ -55,6 +58,8 @@ rule_text rules.ReadUnwritten first value second other =
 rule_text rules.ReadOverwritten first value second other =
     both_text first (codes " wrote ") value (codes ", and after it ") second (codes " read ") other
     (codes ", which was written over\n")
+rule_text rules.FoundUnput first value second other =
+    one_text first (codes " found ") value (codes ", which no call had put in before\n")
 
 -- the line of a rule that a book breaks
 abbrev pub broken_text : Kind → List Page → BrokenRule → List ℕ

@@ -1,17 +1,27 @@
 //! What a call of a book did.
 
 ghost use Rattle.std.specs.Prelude.{◌≡◌, ◌==◌, ◌&&◌, ◌||◌};
-ghost use Rattle.book_base.specs.Book.{IsCall};
-ghost use Rattle.object_foresight.specs.Deals.{deed_of, take_of};
+ghost use Rattle.book_base.specs.Book.{IsCall, record_of};
+ghost use Rattle.container_pruning.specs.Deals.{deed_of, deal_of, take_of};
 ghost use Rattle.seq_objects.specs.Readings.{queue_reading};
-ghost use Rattle.broken_rules.specs.Deeds.{reading_of, counter_reading, did, deal_of_act, value_by, is_put, is_take, is_nothing, is_open};
+ghost use Rattle.broken_rules.specs.Deeds as deeds;
+ghost use Rattle.broken_rules.specs.Deeds.{reading_of, counter_reading, did, deal_by_key, deal_on_key, deal_of_act, value_by, is_put, is_take, is_nothing, is_open};
 
-use book_base::{Book, Call, OpWord, SeqObject};
-use object_foresight::{Reader, Role};
-use seq_objects::{Kind, Pqueue, Queue, Register, Stack};
+use book_base::{Book, Call, OpWord, SeqObject, low};
+use container_pruning::{Reader, Role};
+use seq_objects::{Kind, NO, Pqueue, Queue, Register, Stack, YES};
 
-/// What a call of a book did. An increment takes the count that it replies, and a read takes the
-/// value that it shows.
+/// How many keys there are: a key is below this number.
+const KEYS: u64 = 1 << 32;
+
+/// The code of the operation that puts a key in.
+const PUT: u64 = 1;
+
+/// What the reply of a map has above the value of a key.
+const VALUE_TAG: u64 = 2;
+
+/// What a call of a book did. An increment takes the count that it replies, a read takes the value
+/// that it shows, and an operation of a set or a map takes its key where it found the key.
 #[derive(Clone, Copy, Debug)]
 pub(crate) enum Act {
     /// It puts a value in.
@@ -93,6 +103,111 @@ impl Act {
 pub(crate) fn act_of(kind: Kind, book: &Book, call: Call) -> Act
     requires { IsCall book.now call }
     ensures { deal_of_act result ≡ did kind book.now call }
+{
+    if is_keyed(kind) {
+        act_by_key(kind, book, call)
+    } else {
+        act_by_reading(kind, book, call)
+    }
+}
+
+/// Whether a kind's objects are of keys: sets and maps.
+pub(crate) fn is_keyed(kind: Kind) -> bool
+    ensures { result ≡ deeds.is_keyed kind }
+{
+    matches!(kind, Kind::IntSet | Kind::Map)
+}
+
+// What a call of a set or a map did with its key.
+fn act_by_key(kind: Kind, book: &Book, call: Call) -> Act
+    requires { IsCall book.now call }
+    ensures { deal_of_act result ≡ deal_by_key kind book.now call }
+{
+    let op = book.op(call);
+    let key = key_of_word(kind, op);
+    let found = has_found(kind, book, call, op);
+    let puts = puts_key(op);
+    act_on_key(key, found, puts)
+}
+
+// What an operation with this key did, by whether it found the key and whether it puts the key in.
+fn act_on_key(key: Option<u64>, found: bool, puts: bool) -> Act
+    ensures { deal_of_act result ≡ deal_on_key key found puts }
+{
+    match key {
+        None => Act::Other,
+        Some(key) => {
+            if found {
+                Act::Took(key)
+            } else if puts {
+                Act::Put(key)
+            } else {
+                Act::Other
+            }
+        }
+    }
+}
+
+// The key of an operation word of a set or a map, where the object knows the word.
+fn key_of_word(kind: Kind, op: OpWord) -> Option<u64>
+    ensures { result ≡ deeds.key_of_word kind op }
+{
+    if kind.known(op) {
+        Some(low(op) % KEYS)
+    } else {
+        None
+    }
+}
+
+// Whether an operation word of a set or a map puts its key in.
+fn puts_key(op: OpWord) -> bool
+    ensures { result ≡ deeds.puts_key op }
+{
+    low(op) / KEYS == PUT
+}
+
+// Whether a call with this operation word is answered, and found its key there.
+fn has_found(kind: Kind, book: &Book, call: Call, op: OpWord) -> bool
+    requires { IsCall book.now call }
+    ensures { result ≡ deeds.has_found kind op (record_of book.now call) }
+{
+    if call.number >= book.answers(call.caller) {
+        return false;
+    }
+    finds_key(kind, op, book.record(call).reply)
+}
+
+// Whether the reply to an operation says that its key was there.
+fn finds_key(kind: Kind, op: OpWord, reply: u64) -> bool
+    ensures { result ≡ deeds.finds_key kind op reply }
+{
+    match kind {
+        Kind::IntSet => set_finds(op, reply),
+        Kind::Map => reply / KEYS == VALUE_TAG,
+        Kind::Queue
+        | Kind::Stack
+        | Kind::Pqueue
+        | Kind::Register
+        | Kind::Counter
+        | Kind::CasRegister => false,
+    }
+}
+
+// Whether the reply to an operation of a set says that its key was there.
+fn set_finds(op: OpWord, reply: u64) -> bool
+    ensures { result ≡ deeds.set_finds op reply }
+{
+    if puts_key(op) {
+        reply == NO
+    } else {
+        reply == YES
+    }
+}
+
+// What a call did by the reading of its kind.
+fn act_by_reading(kind: Kind, book: &Book, call: Call) -> Act
+    requires { IsCall book.now call }
+    ensures { deal_of_act result ≡ deal_of (reading_of kind) book.now call }
 {
     match role_of(kind, book.op(call)) {
         Role::Put(value) => Act::Put(value),

@@ -1,13 +1,14 @@
 //! Whether two calls break a rule.
 
-ghost use Rattle.std.specs.Prelude.{◌↔◌, IsTrue};
+ghost use Rattle.std.specs.Prelude.{◌≡◌, ◌≤◌, ◌↔◌, sum, IsTrue};
 ghost use Rattle.book_base.specs.Book.{IsCall};
-ghost use Rattle.broken_rules.specs.Rules.{Related, Breaks};
+ghost use Rattle.broken_rules.specs.Deeds.{value_at};
+ghost use Rattle.broken_rules.specs.Rules.{SeesAtMost, Related, Breaks};
 
 use crate::act::act_of;
 use crate::demand::{Demand, all_meet, is_same};
 use crate::rule::{BrokenRule, Relation};
-use book_base::{Book, Call};
+use book_base::{Book, Call, Cut};
 use seq_objects::Kind;
 
 /// Whether a book breaks a rule by these calls.
@@ -42,9 +43,52 @@ fn are_related(kind: Kind, book: &Book, relation: Relation, first: Call, second:
 {
     match relation {
         Relation::Same => is_same(first, second),
+        Relation::Unseen => is_unseen(kind, book, first, second),
         Relation::Apart => !is_same(first, second),
         Relation::Before => book.precedes(first, second),
         Relation::TakenByAnother => !all_meet(kind, book, Demand::OnlyTake, first, second),
         Relation::Any => true,
     }
+}
+
+// Whether two calls are one, whose view holds no more calls than the count that it replies.
+fn is_unseen(kind: Kind, book: &Book, first: Call, second: Call) -> bool
+    requires first { IsCall book.now first }
+    requires second { IsCall book.now second }
+    ensures { IsTrue result
+        ↔ ((first ≡ second) × SeesAtMost book.now first (value_at kind book.now first)) }
+{
+    if is_same(first, second) {
+        let count = act_of(kind, book, first).value();
+        sees_at_most(book, first, count)
+    } else {
+        false
+    }
+}
+
+// Whether a call is answered, and its view holds at most this many calls.
+fn sees_at_most(book: &Book, call: Call, most: u64) -> bool
+    requires { IsCall book.now call }
+    ensures { IsTrue result ↔ SeesAtMost book.now call most }
+{
+    if call.number < book.answers(call.caller) {
+        let record = book.record(call);
+        holds_at_most(&record.view, most)
+    } else {
+        false
+    }
+}
+
+// Whether a view holds at most this many calls.
+fn holds_at_most(view: &Cut, most: u64) -> bool
+    ensures { IsTrue result ↔ (sum view.now ≤ most) }
+{
+    let mut more = most;
+    for count in view.counts() {
+        if *count > more {
+            return false;
+        }
+        more -= *count;
+    }
+    true
 }

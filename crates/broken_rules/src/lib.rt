@@ -3,6 +3,7 @@
 
 mod act;
 mod breaking;
+pub mod cases;
 mod demand;
 pub mod laws;
 mod line;

@@ -99,6 +99,13 @@ fn put_rule(out: &mut Vec<u8>, broken: BrokenRule, value: u64, other: u64) -> Re
             other,
             b", which is greater, while it was there\n",
         ),
+        Rule::CountedUnseen => put_one(
+            out,
+            first,
+            b" counted ",
+            value,
+            b", though fewer other calls had begun before its reply\n",
+        ),
         Rule::CountedTwice => put_two(
             out,
             first,
@@ -136,6 +143,13 @@ fn put_rule(out: &mut Vec<u8>, broken: BrokenRule, value: u64, other: u64) -> Re
             b" read ",
             other,
             b", which was written over\n",
+        ),
+        Rule::FoundUnput => put_one(
+            out,
+            first,
+            b" found ",
+            value,
+            b", which no call had put in before\n",
         ),
     }
 }

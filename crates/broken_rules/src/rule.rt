@@ -4,7 +4,7 @@ ghost use Rattle.std.specs.Prelude.{◌≡◌};
 ghost use Rattle.broken_rules.specs.Deeds.{deal_of_act};
 ghost use Rattle.broken_rules.specs.Rules as rules;
 
-use crate::act::Act;
+use crate::act::{Act, is_keyed};
 use crate::demand::Demand;
 use book_base::Call;
 use seq_objects::Kind;
@@ -31,6 +31,9 @@ pub enum Rule {
     /// A priority queue gives the least value: the second call takes a value while a lesser one is
     /// there, which the first call puts in.
     LesserLeft,
+    /// A counter counts what is there: the first call replies a count that is greater than the
+    /// number of other calls in its view.
+    CountedUnseen,
     /// A counter gives each count once: two calls reply the same one.
     CountedTwice,
     /// A counter goes up: the second call replies a lower count than the first one, which precedes
@@ -42,6 +45,9 @@ pub enum Rule {
     /// A register holds the value written last: the first call writes a value over the one that the
     /// second call reads.
     ReadOverwritten,
+    /// What is found in a set or a map was put in before: the first call finds a key that no call
+    /// puts in but after it.
+    FoundUnput,
 }
 
 /// A rule that a book breaks, and the two calls by which it does.
@@ -57,6 +63,8 @@ pub struct BrokenRule {
 pub(crate) enum Relation {
     /// They are one call.
     Same,
+    /// They are one call, whose view holds no more calls than the count that it replies.
+    Unseen,
     /// They are two calls.
     Apart,
     /// The first call precedes the second one.
@@ -79,10 +87,12 @@ impl Rule {
             Rule::PassedOver => matches!(kind, Kind::Queue),
             Rule::TakenFromUnder => matches!(kind, Kind::Stack),
             Rule::LesserLeft => matches!(kind, Kind::Pqueue),
+            Rule::CountedUnseen => matches!(kind, Kind::Counter),
             Rule::CountedTwice => matches!(kind, Kind::Counter),
             Rule::CountedDown => matches!(kind, Kind::Counter),
             Rule::ReadUnwritten => matches!(kind, Kind::Register),
             Rule::ReadOverwritten => matches!(kind, Kind::Register),
+            Rule::FoundUnput => is_keyed(kind),
         }
     }
 
@@ -101,6 +111,7 @@ impl Rule {
             Rule::LesserLeft => {
                 first.is_put() && second.is_take() && first.value() < second.value()
             }
+            Rule::CountedUnseen => first.is_take(),
             Rule::CountedTwice => {
                 first.is_take() && second.is_take() && first.value() == second.value()
             }
@@ -109,7 +120,18 @@ impl Rule {
             }
             Rule::ReadUnwritten => first.is_take() && first.value() != 0,
             Rule::ReadOverwritten => first.is_put() && second.is_take(),
+            Rule::FoundUnput => first.is_take(),
         }
+    }
+
+    /// Whether the rule is broken by one call, which is both its calls.
+    pub(crate) fn is_of_one_call(self) -> bool
+        ensures { result ≡ rules.is_of_one_call self }
+    {
+        matches!(
+            self,
+            Rule::TakenUnput | Rule::CountedUnseen | Rule::ReadUnwritten | Rule::FoundUnput
+        )
     }
 
     /// What the rule asks of all calls that put in.
@@ -117,13 +139,15 @@ impl Rule {
         ensures { result ≡ rules.puts_demand self }
     {
         match self {
-            Rule::TakenUnput | Rule::ReadUnwritten => Demand::OwnPutsFollow,
+            Rule::TakenUnput | Rule::ReadUnwritten | Rule::FoundUnput => Demand::OwnPutsFollow,
             Rule::TakenTwice => Demand::OnlyPut,
             Rule::PassedOver => Demand::OtherPutsFollow,
             Rule::TakenFromUnder | Rule::ReadOverwritten => Demand::OtherPutsOutside,
-            Rule::FoundNothing | Rule::LesserLeft | Rule::CountedTwice | Rule::CountedDown => {
-                Demand::Nothing
-            }
+            Rule::FoundNothing
+            | Rule::LesserLeft
+            | Rule::CountedUnseen
+            | Rule::CountedTwice
+            | Rule::CountedDown => Demand::Nothing,
         }
     }
 
@@ -137,10 +161,12 @@ impl Rule {
             }
             Rule::TakenUnput
             | Rule::TakenTwice
+            | Rule::CountedUnseen
             | Rule::CountedTwice
             | Rule::CountedDown
             | Rule::ReadUnwritten
-            | Rule::ReadOverwritten => Demand::Nothing,
+            | Rule::ReadOverwritten
+            | Rule::FoundUnput => Demand::Nothing,
         }
     }
 
@@ -149,9 +175,10 @@ impl Rule {
         ensures { result ≡ rules.relation_of self }
     {
         match self {
-            Rule::TakenUnput | Rule::ReadUnwritten => Relation::Same,
+            Rule::TakenUnput | Rule::ReadUnwritten | Rule::FoundUnput => Relation::Same,
             Rule::TakenTwice => Relation::TakenByAnother,
             Rule::PassedOver => Relation::Any,
+            Rule::CountedUnseen => Relation::Unseen,
             Rule::CountedTwice => Relation::Apart,
             Rule::FoundNothing
             | Rule::TakenFromUnder

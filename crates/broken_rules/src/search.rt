@@ -1,13 +1,13 @@
 //! A rule that a book breaks.
 
-ghost use Rattle.std.specs.Prelude.{◌≡◌, ℕ, ◌<◌, length, slice_get, Some, IfSome, IfNone};
+ghost use Rattle.std.specs.Prelude.{◌≡◌, ℕ, ◌<◌, true, length, slice_get, Some, IfSome, IfNone};
 ghost use Rattle.book_base.specs.declared.call.Call.{Call};
 ghost use Rattle.book_base.specs.Book.{calls_of, IsCall};
 ghost use Rattle.book_base.specs.Order.{HasLegalOrder};
 ghost use Rattle.seq_objects.specs.Objects.{kind_init, kind_next};
 ghost use Rattle.broken_rules.specs.declared.rule.BrokenRule.{BrokenRule};
 ghost use Rattle.broken_rules.specs.declared.rule.Rule.{Rule};
-ghost use Rattle.broken_rules.specs.Rules.{Breaks};
+ghost use Rattle.broken_rules.specs.Rules.{is_of_one_call, Breaks};
 
 use crate::breaking::is_broken;
 use crate::rule::{BrokenRule, Rule};
@@ -15,8 +15,11 @@ use book_base::{Book, Call};
 use seq_objects::Kind;
 
 /// The rules, in the order in which they are tried.
-const RULES: [Rule; 10] = [
+const RULES: [Rule; 12] = [
     Rule::TakenUnput,
+    Rule::CountedUnseen,
+    Rule::ReadUnwritten,
+    Rule::FoundUnput,
     Rule::TakenTwice,
     Rule::PassedOver,
     Rule::TakenFromUnder,
@@ -24,7 +27,6 @@ const RULES: [Rule; 10] = [
     Rule::FoundNothing,
     Rule::CountedTwice,
     Rule::CountedDown,
-    Rule::ReadUnwritten,
     Rule::ReadOverwritten,
 ];
 
@@ -32,7 +34,8 @@ const RULES: [Rule; 10] = [
 /// the rules of [`Rule`]. A book that breaks one has no legal order. One that breaks none may have
 /// one or not.
 ///
-/// All pairs of calls are tried, and for some of them all calls: it is made for small books.
+/// For a rule of two calls all pairs of calls are tried, and for some of them all calls: it is made
+/// for small books.
 pub fn broken_rule(kind: Kind, book: &Book) -> Option<BrokenRule>
     // The book breaks the rule that is answered, by the calls that are answered.
     ensures broken { IfSome result (λ broken. Breaks kind book.now broken) }
@@ -91,12 +94,47 @@ fn broken_by_caller(kind: Kind, book: &Book, rule: Rule, caller: u32) -> Option<
         }) → ⊥) }
 {
     for number in 0..book.calls(caller) {
-        match broken_with(kind, book, rule, Call { caller, number }) {
+        match broken_at(kind, book, rule, Call { caller, number }) {
             Some(broken) => return Some(broken),
             None => {}
         }
     }
     None
+}
+
+// A call by which and this one a book breaks a rule: this one itself, where the rule is of one
+// call.
+fn broken_at(kind: Kind, book: &Book, rule: Rule, first: Call) -> Option<BrokenRule>
+    requires { IsCall book.now first }
+    ensures broken { IfSome result (λ broken. Breaks kind book.now broken) }
+    ensures none { IfNone result ((second : Call) → Breaks kind book.now
+        (record { rule = rule; first = first; second = second }) → ⊥) }
+{
+    if rule.is_of_one_call() {
+        broken_alone(kind, book, rule, first)
+    } else {
+        broken_with(kind, book, rule, first)
+    }
+}
+
+// This call, where a book breaks a rule of one call by it.
+fn broken_alone(kind: Kind, book: &Book, rule: Rule, only: Call) -> Option<BrokenRule>
+    requires call { IsCall book.now only }
+    requires rule { is_of_one_call rule ≡ true }
+    ensures broken { IfSome result (λ broken. Breaks kind book.now broken) }
+    ensures none { IfNone result ((second : Call) → Breaks kind book.now
+        (record { rule = rule; first = only; second = second }) → ⊥) }
+{
+    let broken = BrokenRule {
+        rule,
+        first: only,
+        second: only,
+    };
+    if is_broken(kind, book, broken) {
+        Some(broken)
+    } else {
+        None
+    }
 }
 
 // A call by which and this one a book breaks a rule.

@@ -27,8 +27,8 @@ given_count s room = min (min room s.most) (length s.left)
 abbrev pub after_read : SourceState → ℕ → SourceState
 after_read s count = record s { left = drop count s.left; calls = next_count s.calls }
 
--- A sink in memory: the bytes that it has taken, the room for them, the numbers of the calls that
--- fail, the most bytes that a write takes, the number of the last call, and the faults so far.
+-- A sink in memory: the bytes that it has taken, the capacity for them, the numbers of the calls
+-- that fail, the most bytes that a write takes, the number of the last call, and the faults so far.
 pub record SinkState : Type 0 where
   pub taken : List ℕ
   pub room : ℕ
@@ -37,22 +37,23 @@ pub record SinkState : Type 0 where
   pub calls : ℕ
   pub faults : ℕ
 
--- the room that is left
-abbrev pub room_left : SinkState → ℕ
-room_left s = s.room - length s.taken
+-- the capacity that is left
+abbrev pub capacity_left : SinkState → ℕ
+capacity_left s = s.room - length s.taken
 
--- the sink's next call fails: its number says so, or no room is left for a piece that isn't empty
+-- the sink's next call fails: its number says so, or no capacity is left for a piece that isn't
+-- empty
 abbrev pub WriteFails : SinkState → List ℕ → Type 0
 WriteFails s piece = Contains s.fails (next_count s.calls)
-    ⊎ ((0 < length piece) × (room_left s ≡ 0))
+    ⊎ ((0 < length piece) × (capacity_left s ≡ 0))
 
 -- after a call that failed: nothing is taken
 abbrev pub after_failed_write : SinkState → SinkState
 after_failed_write s = record s { calls = next_count s.calls; faults = next_count s.faults }
 
--- how many bytes a write takes: as many as the piece, the most and the room left allow
+-- how many bytes a write takes: as many as the piece, the most and the capacity left allow
 abbrev pub taken_count : SinkState → ℕ → ℕ
-taken_count s offered = min (min offered s.most) (room_left s)
+taken_count s offered = min (min offered s.most) (capacity_left s)
 
 -- after a call that took these bytes
 abbrev pub after_write : SinkState → List ℕ → SinkState

@@ -12,7 +12,7 @@ use Rattle.byte_streams.specs.declared.status.Status.TheVariants.{Fine, Found, R
 use Rattle.byte_streams.specs.Told.{HasRead}
 use Rattle.byte_streams.specs.Writing.{EndsWriting}
 
--- An answer has a text of the first kind where it says that nothing was found, and else one of the
+-- The text of an answer is one of the first kind where its status is `Fine`, and else one of the
 -- second kind.
 abbrev pub IsAnswer : (List ℕ → Type 0) → (List ℕ → Type 0) → Answer → Type 0
 IsAnswer IsFine IsFound (answers.Fine text) = IsFine text.items
@@ -24,8 +24,8 @@ IsRefusedFor IsFault bytes fault =
     ((INPUT_LIMIT < length bytes) × (fault ≡ record { line = 0; what = Long }))
     ⊎ ((length bytes ≤ INPUT_LIMIT) × IsFault bytes fault)
 
--- The output of an input has this status and this text: nothing was found, something was found, or
--- the input is refused.
+-- The output of an input has this status and this text: an answer with the status `Fine` or `Found`
+-- to an input that isn't too long, or the fault that the input is refused for.
 abbrev pub IsOutput : (List ℕ → List ℕ → Type 0) → (List ℕ → List ℕ → Type 0)
     → (List ℕ → TextFault → Type 0) → List ℕ
     → Status → List ℕ → Type 0
@@ -35,8 +35,8 @@ IsOutput IsFine IsFound IsFault bytes Refused text =
     (fault : TextFault) × IsRefusedFor IsFault bytes fault × (text ≡ refusal_text fault)
 IsOutput IsFine IsFound IsFault bytes status text = ⊥
 
--- A program with these outputs has ended with a status: no input was read and nothing is written,
--- or the output of what was read is written.
+-- A program with these outputs has ended with a status: a read failed or memory was wanted, and
+-- nothing is written, or the output of what was read is written, or a prefix of it.
 abbrev pub Ends : (List ℕ → Status → List ℕ → Type 0) → Status → Option (List ℕ) → Option (List ℕ)
     → Option (List ℕ)
     → Option (List ℕ) → Type 0

@@ -10,9 +10,9 @@ use book_base::NoMemory;
 use std::alloc::Global;
 use std::marker::Model;
 
-/// A sink in memory with a fixed room, that fails at the calls that it is told, and takes a limited
-/// number of bytes at a time. The room is taken when the sink is made, so that no write takes
-/// memory.
+/// A sink in memory with a fixed capacity, that fails at the calls that it is told, and takes a
+/// limited number of bytes at a time. The capacity is taken when the sink is made, so that no write
+/// takes memory.
 #[derive(Debug, Drop)]
 pub struct MemorySink {
     bytes: Vec<u8>,
@@ -35,9 +35,9 @@ impl Model for MemorySink {
 }
 
 impl MemorySink {
-    /// A sink with this room. A write takes at most `most` bytes, and fails exactly where the
-    /// number of the call, counted from 1, is in `fails`, or where no room is left for a piece that
-    /// isn't empty.
+    /// A sink with this capacity. A write takes at most `most` bytes, and fails exactly where the
+    /// number of the call, counted from 1, is in `fails`, or where no capacity is left for a piece
+    /// that isn't empty.
     pub fn new(
         alloc: Global,
         room: usize,
@@ -46,7 +46,7 @@ impl MemorySink {
     ) -> Result<MemorySink, NoMemory>
         // A call may take or give at least one byte.
         requires { 1 ≤ most }
-        // The sink has taken nothing and counted no call and no fault, and has this room, these
+        // The sink has taken nothing and counted no call and no fault, and has this capacity, these
         // failing calls and this bound.
         ensures { IfOk result (λ sink. sink ≡ record {
           taken = [];
@@ -72,7 +72,7 @@ impl MemorySink {
     pub fn bytes(&self) -> &[u8]
         // The answer is the bytes that the sink has taken.
         ensures taken { result.now ≡ self.now.taken }
-        // The sink has taken no more bytes than its room.
+        // The sink has taken no more bytes than its capacity.
         ensures room { length self.now.taken ≤ self.now.room }
     {
         &self.bytes
@@ -98,13 +98,13 @@ impl Sink for MemorySink {
         // A write that wasn't refused left the count of faults.
         ensures calm { ¬ IsRefusal result piece.now → self.new.faults ≡ self.old.faults }
 
-        // A write fails exactly where the number of the call is one that fails, or where no room is
-        // left for a piece that isn't empty.
+        // A write fails exactly where the number of the call is one that fails, or where no
+        // capacity is left for a piece that isn't empty.
         ensures fails { IsErr result ↔ WriteFails self.old piece.now }
         // A failed write takes nothing, and counts as a call and as a fault.
         ensures failed { OnErr result (self.new ≡ after_failed_write self.old) }
 
-        // A write takes as many bytes as the piece, the bound and the room left allow.
+        // A write takes as many bytes as the piece, the bound and the capacity left allow.
         ensures count { IfOk result (λ count. count ≡ taken_count self.old (length piece.now)) }
         // A write takes the first bytes of the piece, as many as are answered, and counts as a
         // call.

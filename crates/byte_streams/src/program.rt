@@ -20,18 +20,18 @@ use text_fields::refusal;
 /// What a program answers to an input that it doesn't refuse.
 #[derive(Drop)]
 pub enum Answer {
-    /// A text which says that nothing was found.
+    /// A text for the status `Fine`: a picture, a certificate, or that nothing was found.
     Fine(Vec<u8>),
-    /// A text which says what was found.
+    /// A text for the status `Found`, which says what was found.
     Found(Vec<u8>),
 }
 
 /// A program that reads one input, and writes one output.
-pub trait Program {
-    /// This text says of this input that nothing was found.
+pub trait TextProgram {
+    /// This text is an answer to this input with the status `Fine`.
     ghost is_fine: { Self → List ℕ → List ℕ → Type 0 };
 
-    /// This text says of this input what was found.
+    /// This text is an answer to this input with the status `Found`.
     ghost is_found: { Self → List ℕ → List ℕ → Type 0 };
 
     /// This input is refused for this fault.
@@ -39,7 +39,7 @@ pub trait Program {
 
     /// What the program answers to an input.
     fn answer(&self, alloc: Global, bytes: &[u8]) -> Result<Answer, ReadFault>
-        // An answer has a text that says of the input what was found, or that nothing was.
+        // The text of an answer is one to this input with the answer's status.
         ensures told { IfOk result
             (IsAnswer (is_fine self.now bytes.now) (is_found self.now bytes.now)) }
         // A refusal has a fault that the input is refused for, or says want of memory.
@@ -48,14 +48,15 @@ pub trait Program {
 
 /// Reads a source, and writes a program's output: its answer with the status `Fine` or `Found`, or
 /// why the input is refused, as when it is longer than [`INPUT_LIMIT`].
-pub fn run_program<P: Program, S: Source, K: Sink>(
+pub fn run_program<P: TextProgram, S: Source, K: Sink>(
     program: &P,
     alloc: Global,
     source: &mut S,
     sink: &mut K,
 ) -> Status
-    // The output of what was read is written with its status, or a prefix of it; or nothing was
-    // read, and nothing is written.
+    // The output of what was read is written with its status, or a prefix of it after a failed
+    // write; or the status says that a read failed or that memory was wanted, and nothing is
+    // written.
     ensures ends { Ends
         (IsOutput (P.is_fine program.now) (P.is_found program.now) (P.is_fault program.now)) result
         (S.left source.old) (S.left source.new) (K.taken sink.old) (K.taken sink.new) }
@@ -78,7 +79,7 @@ pub fn run_program<P: Program, S: Source, K: Sink>(
 }
 
 // Writes the output for the bytes read, where there is memory for it.
-fn write_output<P: Program, K: Sink>(
+fn write_output<P: TextProgram, K: Sink>(
     program: &P,
     alloc: Global,
     bytes: &[u8],
@@ -105,7 +106,7 @@ struct Output {
 }
 
 // The output for the bytes read.
-fn output_for<P: Program>(program: &P, alloc: Global, bytes: &[u8]) -> Result<Output, NoMemory>
+fn output_for<P: TextProgram>(program: &P, alloc: Global, bytes: &[u8]) -> Result<Output, NoMemory>
     ensures { IfOk result (λ output.
         IsOutput (P.is_fine program.now) (P.is_found program.now) (P.is_fault program.now) bytes.now
         output.status output.text.items) }
@@ -128,7 +129,11 @@ fn output_for<P: Program>(program: &P, alloc: Global, bytes: &[u8]) -> Result<Ou
 }
 
 // The answer to an input that isn't too long.
-fn answer_within<P: Program>(program: &P, alloc: Global, bytes: &[u8]) -> Result<Answer, ReadFault>
+fn answer_within<P: TextProgram>(
+    program: &P,
+    alloc: Global,
+    bytes: &[u8],
+) -> Result<Answer, ReadFault>
     ensures short { IfOk result (λ _. length bytes.now ≤ INPUT_LIMIT) }
     ensures told { IfOk result
         (IsAnswer (P.is_fine program.now bytes.now) (P.is_found program.now bytes.now)) }

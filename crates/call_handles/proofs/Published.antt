@@ -8,8 +8,8 @@ use Rattle.row_table.specs.declared.caller.Caller.{Caller}
 use Rattle.row_table.specs.declared.rows.Rows.{Rows}
 use Rattle.row_table.specs.Callers.{local_with, stance_of, IsStill}
 use Rattle.row_gather.specs.Peeks.{HasOnlyPeeked}
-use Rattle.call_lines.specs.Phases.{progress_of}
-use Rattle.call_lines.specs.Progress.{after_viewing, after_publishing, after_seeing}
+use Rattle.report_lines.specs.Phases.{progress_of}
+use Rattle.report_lines.specs.Progress.{after_viewing, after_publishing, after_seeing}
 use Rattle.drv_wrapper.specs.declared.announced.Announced.{Announced}
 use Rattle.drv_wrapper.specs.declared.answered.Answered.{Answered}
 use Rattle.drv_wrapper.specs.declared.viewed.Viewed.{Viewed}
@@ -17,7 +17,7 @@ use Rattle.drv_wrapper.specs.Growth.{Grows}
 use Rattle.drv_wrapper.specs.Stands.{IsSame}
 use Rattle.drv_wrapper.specs.States.{caller_announced, announced_local, caller_answered, answered_local, reply_answered, caller_viewed, viewed_local, reply_viewed, view_viewed, record_viewed}
 use Rattle.drv_wrapper.proofs.Growing.{grows_on}
-use Rattle.frontier_check.specs.declared.mark.Standing.{Standing}
+use Rattle.frontier_check.specs.declared.mark.KeptOrder.{KeptOrder}
 use Rattle.enforcer.specs.declared.judged.Judged.{Judged}
 use Rattle.enforcer.specs.declared.judged.Judged.TheVariants.{Delivered, Illegal}
 use Rattle.enforcer.specs.declared.outcome.Outcome.{Outcome}
@@ -146,7 +146,7 @@ module _ {P : Type 0} (meaning : P → ℕ → ℕ → Meaning) (r : Rows P) (ca
 
   -- what a judgement says of the outcome that it is with the order of what stands
   judged_with : (init : List ℕ) (next : List ℕ → ℕ → List ℕ × ℕ) (before after : ℕ)
-      (standing : Option Standing) (c : Caller P) (judged : Judged)
+      (standing : Option KeptOrder) (c : Caller P) (judged : Judged)
       → IsStill meaning r (caller_seen s) c
       → HasOnlyPeeked (local_with (caller_seen s)) (local_with c) before after
       → record_judged judged ≡ record_seen s → cut_judged judged ≡ cut_seen s
@@ -178,7 +178,7 @@ module _ {P : Type 0} (meaning : P → ℕ → ℕ → Meaning) (r : Rows P) (ca
 
   -- what a judgement says, where there is one, and of the call's record, where it isn't judged
   pub judged_as : (init : List ℕ) (next : List ℕ → ℕ → List ℕ × ℕ) (before after : ℕ)
-      (standing : Option Standing) (result : Result (Caller P × Judged) (Unjudged P))
+      (standing : Option KeptOrder) (result : Result (Caller P × Judged) (Unjudged P))
       → IfOk result (λ x. IsStill meaning r (caller_seen s) x.0)
       → IfOk result (λ x. HasOnlyPeeked (local_with (caller_seen s)) (local_with x.0) before after)
       → IfOk result (λ x. record_judged x.1 ≡ record_seen s)
@@ -208,7 +208,7 @@ module _ {P : Type 0} (meaning : P → ℕ → ℕ → Meaning) (r : Rows P) (ca
       (λ i. record { reply = told.0 i; view = told.1 i }) told.2 own
 
 -- A reply that is delivered is, with the order of what stands, an outcome that is no error.
-pub delivered_with : (holds : Outcome → Type 0) (standing : Option Standing) (reply : ℕ)
+pub delivered_with : (holds : Outcome → Type 0) (standing : Option KeptOrder) (reply : ℕ)
     (view seen : List ℕ) → IsOutcome (Delivered reply view seen) standing holds
     → (found : Outcome) × (is_illegal found ≡ false) × holds found
 delivered_with holds None reply view seen is = absurd is

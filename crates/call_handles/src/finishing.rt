@@ -13,7 +13,7 @@ use crate::publishing::publish_reply;
 use book_base::SeqObject;
 use drv_wrapper::Announced;
 use enforcer::{Gathered, Judged, Unjudged, judge_after};
-use frontier_check::Standing;
+use frontier_check::KeptOrder;
 use row_table::{Caller, Rows, Steps};
 use seq_objects::Kind;
 use std::alloc::Global;
@@ -32,7 +32,7 @@ pub(crate) fn finish<L: Ledger>(
     kind: Kind,
     reply: u64,
     gathered: &mut Option<Gathered>,
-    standing: &mut Option<Standing>,
+    standing: &mut Option<KeptOrder>,
     steps: &mut Steps<L>,
 ) -> Result<(Caller, Judged), Unjudged>
     requires rows { IsCallerOf ⟦<Outside as Program>⟧.meaning rows.now

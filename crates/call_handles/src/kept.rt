@@ -1,5 +1,5 @@
 use enforcer::Gathered;
-use frontier_check::Standing;
+use frontier_check::KeptOrder;
 use row_table::Rows;
 use seq_objects::Kind;
 use std::alloc::Global;
@@ -13,5 +13,5 @@ pub struct Kept {
     pub rows: Arc<Rows, Global>,
     pub kind: Kind,
     pub gathered: Option<Gathered>,
-    pub standing: Option<Standing>,
+    pub standing: Option<KeptOrder>,
 }

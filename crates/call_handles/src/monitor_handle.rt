@@ -5,7 +5,7 @@ ghost use Rattle.row_table.specs.Callers.{IsCallerOf, IsFree};
 use crate::rounds::round_alone;
 use book_base::NoMemory;
 use book_writer::write_book;
-use frontier_check::Standing;
+use frontier_check::KeptOrder;
 use monitor::{Board, Monitor};
 use row_table::{Caller, Rows};
 use seq_objects::Kind;
@@ -23,7 +23,7 @@ pub struct MonitorHandle {
     pub(crate) kind: Kind,
     pub(crate) board: Board,
     pub(crate) monitor: Monitor,
-    pub(crate) standing: Option<Standing>,
+    pub(crate) standing: Option<KeptOrder>,
 }
 
 /// What a round of a monitor came to.

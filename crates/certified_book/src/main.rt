@@ -9,7 +9,7 @@ ghost use Rattle.text_fields.specs.declared.version.Version.TheVariants.{Second}
 
 use book_base::ReadFault;
 use book_verdicts::certify;
-use byte_streams::{Answer, Program, StdSink, StdSource, run_program};
+use byte_streams::{Answer, StdSink, StdSource, TextProgram, run_program};
 use std::alloc::Global;
 use std::process::ExitCode;
 
@@ -17,7 +17,7 @@ use std::process::ExitCode;
 #[derive(Clone, Copy)]
 struct Certifier;
 
-impl Program for Certifier {
+impl TextProgram for Certifier {
     ghost is_fine = { λ _ bytes text. Certifies bytes text };
 
     ghost is_found = { λ _ bytes text. SaysIllegal bytes text };

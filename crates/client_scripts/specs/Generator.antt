@@ -4,7 +4,7 @@ use Rattle.std.specs.List.{range_with_len}
 use Rattle.seq_objects.specs.declared.kind.Kind.{Kind}
 use Rattle.seq_objects.specs.declared.kind.Kind.TheVariants.{Queue, Stack, Register, Counter, IntSet, Pqueue, CasRegister, Map}
 use Rattle.seq_objects.specs.Words as words
-use Rattle.seq_objects.specs.Words.{Entry, word_of}
+use Rattle.seq_objects.specs.Words.{OperationEntry, word_of}
 use Rattle.client_scripts.specs.Plans.{Plan}
 
 -- the value of a caller's call, by the number of the script
@@ -12,7 +12,7 @@ abbrev pub value_of : ℕ → ℕ → ℕ → ℕ
 value_of number caller k = (number % 2 ^ 20) * 4096 + caller * 256 + k
 
 -- the operation of an entry with these arguments, of which those are 0 that the entry doesn't take
-abbrev pub operation : Entry → ℕ → ℕ → ℕ
+abbrev pub operation : OperationEntry → ℕ → ℕ → ℕ
 operation entry argument extra = word_of entry.code argument extra
 
 -- the first of two for even numbers, else the second

@@ -12,15 +12,16 @@ use Rattle.world_core.specs.Layout.{embedded_place}
 use Rattle.world_core.specs.Scan.{wanted, wanted_by, course_after}
 use Rattle.world_core.specs.Local.{Scan, Local}
 use Rattle.world_core.specs.Event.{Opening, Begins_none, Begins_scan, Begins_view, is_same_region, is_look_wanted, is_peek_wanted, opened, looked_at, peeked_at, with_look, with_peek, went_on}
-use Rattle.collect_scan.specs.Scanned.{Found, found_with, found_from, found_by, scan_with, local_in_scan, local_stood}
+use Rattle.collect_scan.specs.Scanned.{ScannedWords, found_with, found_from, found_by, scan_with, local_in_scan, local_stood}
 
-found_from_more : (n : ℕ) (region : Region) (before : List ℕ) (f : Found) (words : List ℕ) (x : ℕ)
+found_from_more : (n : ℕ) (region : Region) (before : List ℕ) (f : ScannedWords)
+    (words : List ℕ) (x : ℕ)
     → found_from n region before f (words ++ x ∷ [])
     ≡ found_with n region (wanted n (before ++ words)) x (found_from n region before f words)
 found_from_more n region before f [] x =
     ap (λ (ws : List ℕ). found_with n region (wanted n ws) x f) (sym (append-nil before))
 found_from_more n region before f (w ∷ words) x =
-    let g : Found = found_with n region (wanted n before) w f in
+    let g : ScannedWords = found_with n region (wanted n before) w f in
     found_from_more n region (before ++ w ∷ []) g words x
     ∙ ap (λ (ws : List ℕ). found_with n region (wanted n ws) x
     (found_from n region (before ++ w ∷ []) g words)) (append_assoc before (w ∷ []) words)
@@ -56,7 +57,7 @@ module _ (n : ℕ) (before : Local) (region : Region) (opening : Opening) (taken
   abbrev scan : Scan
   scan = scan_with before region opening more
 
-  abbrev with_found : Found → Local
+  abbrev with_found : ScannedWords → Local
   with_found f = record (opened before region opening)
       { scan = Some scan; looked = f.looks ++ before.looked; peeked = f.peeks ++ before.peeked }
 
@@ -64,7 +65,7 @@ module _ (n : ℕ) (before : Local) (region : Region) (opening : Opening) (taken
       → went_on (with_found (found_with n region w x (found_by n region taken))) scan
       (wanted n more) ≡ local_stood n before region opening more
   stood_with w is =
-      ap (λ (f : Found). went_on (with_found f) scan (wanted n more))
+      ap (λ (f : ScannedWords). went_on (with_found f) scan (wanted n more))
       (ap (λ (v : Want). found_with n region v x (found_by n region taken)) (sym is)
       ∙ sym (found_more n region taken x))
 

@@ -17,7 +17,7 @@ use Rattle.std.specs.Option.{unwrap_or}
 use Rattle.world_core.specs.Local.{Looked, Local}
 use Rattle.world_core.specs.Event.{Opening, is_same_region, knows_row}
 use Rattle.world_core.proofs.Scans.{open_lacks, rounds_more, rounds_whole, open_more, open_whole, course_kept, course_filled}
-use Rattle.collect_scan.specs.Scanned.{Found, found_with, found_by, local_in_scan}
+use Rattle.collect_scan.specs.Scanned.{ScannedWords, found_with, found_by, local_in_scan}
 use Rattle.collect_scan.proofs.Going.{found_more, same_region_self}
 
 -- This look is among those.
@@ -25,7 +25,7 @@ abbrev HasLook : List Looked → Looked → Type 0
 HasLook [] look = ⊥
 HasLook (l ∷ looks) look = (l ≡ look) ⊎ HasLook looks look
 
-looks_stay : (n : ℕ) (region : Region) (w : Want) (x : ℕ) (f : Found) (look : Looked)
+looks_stay : (n : ℕ) (region : Region) (w : Want) (x : ℕ) (f : ScannedWords) (look : Looked)
     → HasLook f.looks look → HasLook (found_with n region w x f).looks look
 looks_stay n region (Look j) x f look h = inr h
 looks_stay n region (Peek j row entry) x f look h = h
@@ -130,13 +130,13 @@ module _ (n : ℕ) (region : Region) (some : 0 < n) where
     stays : (look : Looked) → HasLook (found_by n region taken).looks look
         → HasLook (found_by n region more).looks look
     stays look old =
-        subst (λ (f : Found). HasLook f.looks look) (sym (found_more n region taken x))
+        subst (λ (f : ScannedWords). HasLook f.looks look) (sym (found_more n region taken x))
         (looks_stay n region (wanted n taken) x (found_by n region taken) look old)
 
     looks_now : course n taken ≡ Collects
         → HasLook (found_by n region more).looks (look_at region (length latest) x)
     looks_now going =
-        subst (λ (f : Found). HasLook f.looks (look_at region (length latest) x))
+        subst (λ (f : ScannedWords). HasLook f.looks (look_at region (length latest) x))
         (ap (λ (w : Want). found_with n region w x (found_by n region taken))
         (sym (ap (λ (c : Course). wanted_by c latest) going)) ∙ sym (found_more n region taken x))
         (inl refl)

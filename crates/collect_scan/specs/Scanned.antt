@@ -9,13 +9,13 @@ use Rattle.world_core.specs.Local.{Scan, Looked, Peeked, Local}
 use Rattle.world_core.specs.Event.{Opening, Begins_view, opened, went_on}
 
 -- What a scan has looked at and peeked, each newest first.
-pub record Found : Type 0 where
+pub record ScannedWords : Type 0 where
   pub looks : List Looked
   pub peeks : List Peeked
 
 -- What it has found with one word more, by what it wanted: a count, or an entry of the cut that a
 -- row embeds.
-abbrev pub found_with : ℕ → Region → Want → ℕ → Found → Found
+abbrev pub found_with : ℕ → Region → Want → ℕ → ScannedWords → ScannedWords
 found_with n region (Look j) x found =
     record found { looks = record { region = region; caller = j; count = x } ∷ found.looks }
 found_with n region (Peek j row entry) x found =
@@ -32,13 +32,13 @@ found_with n region (Done cut) x found = found
 
 -- What a scan has found that takes these further words after those that it had taken: each is what
 -- it wanted then.
-abbrev pub found_from : ℕ → Region → List ℕ → Found → List ℕ → Found
+abbrev pub found_from : ℕ → Region → List ℕ → ScannedWords → List ℕ → ScannedWords
 found_from n region taken found [] = found
 found_from n region taken found (x ∷ words) =
     found_from n region (taken ++ x ∷ []) (found_with n region (wanted n taken) x found) words
 
 -- What a scan of a region by one of n callers has found that has taken these words.
-abbrev pub found_by : ℕ → Region → List ℕ → Found
+abbrev pub found_by : ℕ → Region → List ℕ → ScannedWords
 found_by n region taken = found_from n region [] (record { looks = []; peeks = [] }) taken
 
 -- Whether a scan with this opening is the view's: whether it begins with a reply.
@@ -59,7 +59,7 @@ scan_with before region opening taken =
 -- The local in the course of that scan: the scan was opened, and what it has found is known.
 abbrev pub local_in_scan : ℕ → Local → Region → Opening → List ℕ → Local
 local_in_scan n before region opening taken =
-    let found : Found = found_by n region taken in
+    let found : ScannedWords = found_by n region taken in
     record (opened before region opening) {
       scan = Some (scan_with before region opening taken);
       looked = found.looks ++ before.looked;

@@ -26,8 +26,8 @@ pub fn scans_add_one_cut()
 pub fn cuts_are_of_counts()
     // No count of a scan's cut is above the cap.
     ensures few { CutsAreFew }
-    // A scan's cut that serves for something has its caller's own count in the region after the
-    // scan for its caller.
+    // A scan's cut that serves for something has as its caller's entry the count that the caller
+    // has in the region after the scan.
     ensures own { OwnEntriesAreCounts }
 {}
 

@@ -34,8 +34,8 @@ pub fn scan<P: Program, L: Ledger>(
     // The caller means to begin no scan any more, and has handed over a reply that it kept for a
     // scan of N.
     ensures stance { stance_of caller.new ≡ stance_scanned (stance_of caller.old) region }
-    // The caller's local is the one before after one scan of the region, with no other event, which
-    // ended with the answered cut.
+    // The caller's local is its earlier one after one scan of the region, with no other event,
+    // which ended with the answered cut.
     ensures scanned { HasScanned rows.now.callers region (opening_at caller.old region) result
         (local_with caller.old) (local_with caller.new) }
     // The counter of steps has risen once for each word that this scan took.

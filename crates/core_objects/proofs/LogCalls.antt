@@ -10,7 +10,7 @@ use Rattle.book_base.specs.OperationWord.{low_of, high_of, joined}
 use Rattle.world_core.specs.Shape.{Meaning}
 use Rattle.world_core.specs.Local.{Local, Object_step}
 use Rattle.world_core.specs.CallSteps.{operation_now, steps_now, all_steps_of}
-use Rattle.call_lines.specs.Phases.{Progress, progress_of}
+use Rattle.report_lines.specs.Phases.{Progress, progress_of}
 use Rattle.row_table.specs.declared.caller.Caller.{Caller}
 use Rattle.row_table.specs.declared.rows.Rows.{Rows}
 use Rattle.row_table.specs.Callers.{shape_of, who_of, IsCallerOf, MayGet}

@@ -5,13 +5,13 @@ use Rattle.std.proofs.lemmas.List.{get_or-set_same}
 use Rattle.std.proofs.lemmas.Bool.{and_from, cond-true, cond-false}
 use Rattle.book_base.specs.declared.TheConstants.{BAD}
 use Rattle.seq_objects.specs.declared.kind.Kind.TheVariants as kinds
-use Rattle.seq_objects.specs.Words.{Entry, is_operation_of, is_known_word, entry_of, entries}
+use Rattle.seq_objects.specs.Words.{OperationEntry, is_operation_of, is_known_word, entry_of, entries}
 use Rattle.seq_objects.specs.Words as words
 use Rattle.world_core.specs.Shape.{Shape}
 use Rattle.world_core.specs.Local.{Local, Object_step, with_step}
 use Rattle.world_core.specs.CallSteps.{operation_now, steps_now, all_steps_of}
 use Rattle.world_core.specs.Calls.{IsLocalOf}
-use Rattle.call_lines.specs.Phases.{progress_of}
+use Rattle.report_lines.specs.Phases.{progress_of}
 use Rattle.drv_wrapper.specs.Calling.{IsAsked}
 use Rattle.drv_wrapper.proofs.Locals.{local_has_phase}
 use Rattle.object_orders.specs.OneWord.{OneWord, reply_of, reply_by_step, is_without_steps, is_reply}
@@ -84,7 +84,7 @@ pub has_steps : (s : Shape) (who : ℕ) (l : Local) (op : ℕ) → IsLocalOf s w
 has_steps s who l op here asked = let phase = local_has_phase s who l here in
     omega (arith, phase.object_steps, asked.counted)
 
-is_there : (e : Entry) (b : Bool) → is_some (if b then Some e else None) ≡ b
+is_there : (e : OperationEntry) (b : Bool) → is_some (if b then Some e else None) ≡ b
 is_there e true = refl
 is_there e false = refl
 

@@ -3,7 +3,7 @@ use Rattle.std.proofs.Common.{◌≡◌, ◌≢◌, ℕ, ◌-◌, ◌*◌, ◌^�
 use Rattle.std.specs.Prelude.{is_some}
 use Rattle.std.proofs.lemmas.Bool.{and_parts, cases_Bool, eqb-true}
 use Rattle.seq_objects.specs.declared.kind.Kind.TheVariants as kinds
-use Rattle.seq_objects.specs.Words.{Entry, is_operation_of, is_known_word, entry_of, entries, code_of, argument_of, extra_of}
+use Rattle.seq_objects.specs.Words.{OperationEntry, is_operation_of, is_known_word, entry_of, entries, code_of, argument_of, extra_of}
 use Rattle.seq_objects.specs.Words as words
 
 -- the read, whose code is 2
@@ -41,7 +41,7 @@ is_write op h =
       small = omega (arith, code, extra);
     }
 
-known_by : (e f : Entry) (a b : Bool)
+known_by : (e f : OperationEntry) (a b : Bool)
     → is_some (if a then Some e else (if b then Some f else None)) ≡ a || b
 known_by e f true b = refl
 known_by e f false true = refl

@@ -2,7 +2,7 @@
 use Rattle.std.specs.Prelude.{◌≡◌, ℕ, List, [], ◌++◌, Some, length, slice_get, slice_set}
 use Rattle.world_core.specs.Shape.{Shape, Meaning}
 use Rattle.world_core.specs.Local.{Local, Object_step}
-use Rattle.call_lines.specs.Phases.{Progress, progress_of}
+use Rattle.report_lines.specs.Phases.{Progress, progress_of}
 use Rattle.row_table.specs.declared.rows.Rows.{Rows}
 use Rattle.row_table.specs.Callers.{IsStill, MayGet}
 use Rattle.drv_wrapper.specs.declared.announced.Announced.{Announced}
@@ -33,8 +33,8 @@ module _ {P : Type 0} where
     pub program_is : r.program ≡ program
     pub objects : r.objects ≡ (meaning program r.callers r.cap).objects
 
-  -- The announced call b is a after some object steps of its caller, and no other event, and its
-  -- program now allows it this reply.
+  -- The announced call b is the announced call a after some object steps of its caller, and no
+  -- other event, and the program now allows it this reply.
   pub record HasReplied (meaning : P → ℕ → ℕ → Meaning) (r : Rows P) (a b : Announced P)
       (reply : ℕ) : Type 0 where
     pub steps : List Object_step

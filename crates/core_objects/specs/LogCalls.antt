@@ -5,7 +5,7 @@ use Rattle.book_base.specs.OperationWord.{low_of, high_of}
 use Rattle.world_core.specs.Shape.{Meaning}
 use Rattle.world_core.specs.Local.{Object_step}
 use Rattle.world_core.specs.CallSteps.{steps_now, all_steps_of}
-use Rattle.call_lines.specs.Phases.{progress_of}
+use Rattle.report_lines.specs.Phases.{progress_of}
 use Rattle.row_table.specs.declared.rows.Rows.{Rows}
 use Rattle.row_table.specs.Callers.{IsStill}
 use Rattle.drv_wrapper.specs.declared.announced.Announced.{Announced}
@@ -38,7 +38,8 @@ module _ {P : Type 0} where
   abbrev pub HasLogWords : Rows P → Type 0
   HasLogWords r = r.objects ≡ 3 * places_on r
 
-  -- The announced call b is a after some more object steps of its caller, and no other event.
+  -- The announced call b is the announced call a after some more object steps of its caller, and no
+  -- other event.
   pub record HasMade (meaning : P → ℕ → ℕ → Meaning) (r : Rows P) (a b : Announced P) : Type 0 where
     pub steps : List Object_step
     pub still : IsStill meaning r (caller_announced a) (caller_announced b)

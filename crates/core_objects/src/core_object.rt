@@ -3,7 +3,7 @@ ghost use Rattle.world_core.specs.Local.{Object_step};
 ghost use Rattle.world_core.specs.CallSteps.{steps_now, all_steps_of};
 ghost use Rattle.world_core.specs.World.{Step, IsRun};
 ghost use Rattle.world_core.specs.History.{IsLinearizable, history_of};
-ghost use Rattle.call_lines.specs.Phases.{progress_of};
+ghost use Rattle.report_lines.specs.Phases.{progress_of};
 ghost use Rattle.row_table.specs.Callers.{IsCallerOf, IsStill, MayGet};
 ghost use Rattle.drv_wrapper.specs.States.{who_announced, caller_announced, announced_local, op_announced, op_answered, reply_answered, caller_answered, answered_local};
 ghost use Rattle.core_objects.specs.CoreObjects.{shape_with, with_steps, after_steps, AreOpenedWith, HasReplied};

@@ -6,9 +6,9 @@ use Rattle.world_core.specs.Shape.{Meaning}
 use Rattle.world_core.specs.World.{World, Step, IsRun}
 use Rattle.world_core.specs.History.{IsLinearizable, history_of}
 use Rattle.world_core.specs.Calls.{calls_in}
-use Rattle.call_lines.specs.declared.line.Line.{Line}
-use Rattle.call_lines.specs.Lines.{any_error}
-use Rattle.call_lines.specs.Lawful.{IsLawful}
+use Rattle.report_lines.specs.declared.line.Line.{Line}
+use Rattle.report_lines.specs.Lines.{any_error}
+use Rattle.report_lines.specs.Lawful.{IsLawful}
 use Rattle.row_table.specs.declared.rows.Rows.{Rows}
 use Rattle.row_table.specs.Callers.{shape_of}
 use Rattle.core_objects.specs.CoreObjects.{shape_with, AreOpenedWith}

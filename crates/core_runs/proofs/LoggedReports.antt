@@ -3,22 +3,19 @@ use Rattle.std.proofs.Common.{◌≡◌, ◌∙◌, sym, subst, ap, ℕ, ◌<◌
 use Rattle.std.specs.List.{All}
 use Rattle.std.proofs.Math.ListN.{get_or-map}
 use Rattle.shared_log.specs.declared.entry.Entry.{Entry}
-use Rattle.world_core.specs.Shape.{Shape, Meaning}
+use Rattle.world_core.specs.Shape.{Shape}
 use Rattle.world_core.specs.Local.{Local}
 use Rattle.world_core.specs.Calls.{Made, calls_in, local_at}
-use Rattle.call_lines.specs.declared.line.Line.{Line}
-use Rattle.call_lines.specs.Lines.{made_of}
-use Rattle.call_lines.specs.Phases.{asked, operations_of, answers_in}
-use Rattle.call_lines.specs.Allotments.{operations_at}
+use Rattle.report_lines.specs.declared.line.Line.{Line}
+use Rattle.report_lines.specs.Lines.{made_of}
+use Rattle.report_lines.specs.Phases.{asked, operations_of, answers_in}
+use Rattle.report_lines.specs.Allotments.{operations_at}
 use Rattle.report_laws.proofs.Runs.{calls_at}
-use Rattle.row_table.specs.declared.rows.Rows.{Rows}
-use Rattle.row_table.specs.Callers.{shape_of}
 use Rattle.client_scripts.specs.Plans.{Plan}
 use Rattle.reports.specs.Findings.{Findings}
-use Rattle.object_orders.specs.OneWord.{one_word_shape, one_word_program}
+use Rattle.object_orders.specs.OneWord.{one_word_shape}
 use Rattle.object_orders.specs.TallyAndCell.{tally, cell}
-use Rattle.log_program.specs.LogProgram.{log_shape, log_program}
-use Rattle.core_objects.specs.CoreObjects.{shape_with, AreOpenedWith}
+use Rattle.log_program.specs.LogProgram.{log_shape}
 use Rattle.lawful_objects.specs.Replays.{last_reply}
 use Rattle.lawful_objects.specs.Forms.{IsTallyReply, IsCellReply}
 use Rattle.logged_calls.specs.Logged.{IsLoggedBy, AreFormed}
@@ -89,41 +86,3 @@ reports_of_cells_are_formed first step n cap locals plan allotments findings is 
     (calls_are first step s locals plan allotments findings is)
     (runs_of_cells_are_formed n cap (operations_at plan.operations) (phases_in allotments findings)
     locals (have_made first step s locals plan allotments findings is))
-
--- A report of callers on rows that were opened with a program is one of the world of that program.
-module _ {P : Type 0} (meaning : P → ℕ → ℕ → Meaning) (program : P) (r : Rows P)
-    (opened : AreOpenedWith meaning program r) (first : List ℕ) (step : List ℕ → ℕ → List ℕ × ℕ)
-    (locals : List Local) (plan : Plan) (allotments : List ℕ) (findings : Findings)
-    (is : IsReportOf first step (shape_of meaning r) locals plan allotments findings) where
-  pub on_opened_rows : IsReportOf first step
-      (shape_with (meaning program) r.callers r.cap) locals plan allotments findings
-  on_opened_rows = subst (λ (p : P). IsReportOf first step
-      (shape_with (meaning p) r.callers r.cap) locals plan allotments findings) opened.program_is is
-
-  -- so what the laws say of it holds by what the program means
-  pub opened_log_is_logged : (init : List ℕ) (next : List ℕ → ℕ → List ℕ × ℕ)
-      → ((n cap : ℕ) → meaning program n cap ≡ log_program init next n cap)
-      → IsLoggedBy (last_reply next init) (length findings.lines) (phases_in allotments findings)
-      (calls_of_lines findings)
-  opened_log_is_logged init next means =
-      reports_of_logs_are_logged init next first step r.callers r.cap locals plan
-      allotments findings
-      (subst (λ (m : Meaning). IsReportOf first step
-      (record { callers = r.callers; cap = r.cap; program = m }) locals plan allotments findings)
-      (means r.callers r.cap) on_opened_rows)
-
-  pub opened_tally_is_formed : ((n cap : ℕ) → meaning program n cap ≡ one_word_program tally)
-      → AreFormed IsTallyReply (length findings.lines) (calls_of_lines findings)
-  opened_tally_is_formed means =
-      reports_of_tallies_are_formed first step r.callers r.cap locals plan allotments findings
-      (subst (λ (m : Meaning). IsReportOf first step
-      (record { callers = r.callers; cap = r.cap; program = m }) locals plan allotments findings)
-      (means r.callers r.cap) on_opened_rows)
-
-  pub opened_cell_is_formed : ((n cap : ℕ) → meaning program n cap ≡ one_word_program cell)
-      → AreFormed IsCellReply (length findings.lines) (calls_of_lines findings)
-  opened_cell_is_formed means =
-      reports_of_cells_are_formed first step r.callers r.cap locals plan allotments findings
-      (subst (λ (m : Meaning). IsReportOf first step
-      (record { callers = r.callers; cap = r.cap; program = m }) locals plan allotments findings)
-      (means r.callers r.cap) on_opened_rows)

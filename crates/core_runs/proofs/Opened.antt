@@ -1,10 +1,13 @@
 -- Rows and passes that were opened for a run over an object inside the world.
 use Rattle.std.proofs.Common.{◌≡◌, ◌∙◌, sym, subst, ap, ℕ, List}
-use Rattle.world_core.specs.Shape.{Meaning}
-use Rattle.world_core.specs.Local.{Object_step}
+use Rattle.world_core.specs.Shape.{Shape, Meaning}
+use Rattle.world_core.specs.Local.{Local, Object_step}
+use Rattle.client_scripts.specs.Plans.{Plan}
+use Rattle.reports.specs.Findings.{Findings}
 use Rattle.row_table.specs.declared.rows.Rows.{Rows}
 use Rattle.row_table.specs.Callers.{shape_of}
 use Rattle.core_objects.specs.CoreObjects.{shape_with, AreOpenedWith, ArePassesFor}
+use Rattle.run_report.specs.Reporting.{IsReportOf}
 
 module _ {P : Type 0} (r : Rows P) (n cap : ℕ) (callers : r.callers ≡ n) (most : r.cap ≡ cap) where
   -- rows that were opened with a program were opened with the object's, where it is the same
@@ -24,8 +27,18 @@ module _ {P : Type 0} (r : Rows P) (n cap : ℕ) (callers : r.callers ≡ n) (mo
       subst (λ (k : ℕ). ArePassesFor fits k r.cap passes) (sym callers)
       (subst (λ (k : ℕ). ArePassesFor fits n k passes) (sym most) h)
 
-  -- the shape of their world, by the program that they were opened with
-  pub shape_opened_with : (meaning : P → ℕ → ℕ → Meaning) (program : P) → r.program ≡ program
-      → shape_of meaning r ≡ shape_with (meaning program) n cap
-  shape_opened_with meaning program own = λ i.
+  -- a report of the locals on their bench is one of the world of the program that they were opened
+  -- with
+  pub report_opened_with : (meaning : P → ℕ → ℕ → Meaning) (program : P) → r.program ≡ program
+      → (init : List ℕ) (next : List ℕ → ℕ → List ℕ × ℕ) (locals : List Local) (plan : Plan)
+      (allotments : List ℕ) (report : Findings)
+      → IsReportOf init next (shape_of meaning r) locals plan allotments report
+      → (all : List Local)
+      × IsReportOf init next (shape_with (meaning program) n cap) all plan allotments report
+  report_opened_with meaning program own init next locals plan allotments report is =
+      let same : shape_of meaning r ≡ shape_with (meaning program) n cap = λ i.
       record { callers = callers i; cap = most i; program = meaning (own i) (callers i) (most i) }
+      in (
+        locals,
+        subst (λ (s : Shape). IsReportOf init next s locals plan allotments report) same is,
+      )

@@ -2,40 +2,14 @@
 -- clients ask.
 use Rattle.std.proofs.Common.{◌≡◌, ◌∙◌, sym, subst, ap, ℕ, List, length}
 use Rattle.std.specs.Prelude.{None}
-use Rattle.world_core.specs.Shape.{Meaning}
 use Rattle.world_core.specs.Local.{Local, Object_step}
-use Rattle.world_core.specs.CallSteps.{all_steps_of}
-use Rattle.call_lines.specs.Phases.{Progress, progress_of}
+use Rattle.report_lines.specs.Phases.{Progress, progress_of}
 use Rattle.row_table.specs.declared.rows.Rows.{Rows}
-use Rattle.row_table.specs.declared.caller.Caller.{Caller}
-use Rattle.row_table.specs.Callers.{who_of, local_with, IsCallerOf}
 use Rattle.drv_wrapper.specs.Growth.{Grows}
 use Rattle.core_objects.specs.CoreObjects.{with_steps, after_steps, ArePassesFor}
-use Rattle.call_phases.specs.Asking.{FitsCaller, ComesNoFurther}
-use Rattle.bench_clients.specs.Starts.{AreFreshPasses}
+use Rattle.client_calls.specs.Asking.{ComesNoFurther}
+use Rattle.script_workers.specs.Starts.{AreFreshPasses}
 use Rattle.core_runs.specs.Inside.{fits_inside}
-
-module _ {P T : Type 0} (meaning : P → ℕ → ℕ → Meaning) (r : Rows P)
-    (fits : T → ℕ → ℕ → ℕ → List Object_step → Type 0) (pass : T) (c : Caller P)
-    (here : IsCallerOf meaning r c) where
-  -- a pass that fits a caller of these rows fits it for their callers and their cap
-  pub fits_rows : FitsCaller (fits_inside fits) pass c
-      → fits pass (who_of c) r.callers r.cap (all_steps_of (local_with c))
-  fits_rows h =
-      subst (λ (n : ℕ). fits pass (who_of c) n r.cap (all_steps_of (local_with c))) here.callers
-      (subst (λ (n : ℕ). fits pass (who_of c) c.callers n (all_steps_of (local_with c))) here.cap h)
-
-  -- and the other way round
-  pub fits_caller : (who : ℕ) (steps : List Object_step) → who_of c ≡ who
-      → all_steps_of (local_with c) ≡ steps → fits pass who r.callers r.cap steps
-      → FitsCaller (fits_inside fits) pass c
-  fits_caller who steps of are h =
-      subst (λ (n : ℕ). fits pass (who_of c) n c.cap (all_steps_of (local_with c)))
-      (sym here.callers)
-      (subst (λ (n : ℕ). fits pass (who_of c) r.callers n (all_steps_of (local_with c)))
-      (sym here.cap)
-      (subst (λ (i : ℕ). fits pass i r.callers r.cap (all_steps_of (local_with c))) (sym of)
-      (subst (λ (own : List Object_step). fits pass who r.callers r.cap own) (sym are) h)))
 
 -- a caller that has made some object steps more has come no further with its calls
 pub comes_no_further : (l m : Local) (steps : List Object_step)

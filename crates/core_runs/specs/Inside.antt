@@ -4,7 +4,7 @@ use Rattle.world_core.specs.Shape.{Meaning}
 use Rattle.world_core.specs.Local.{Object_step}
 use Rattle.row_table.specs.declared.rows.Rows.{Rows}
 use Rattle.core_objects.specs.CoreObjects.{AreOpenedWith}
-use Rattle.call_phases.specs.Asking.{Fits}
+use Rattle.client_calls.specs.Asking.{Fits}
 
 -- Whom a pass fits, as clients ask it: the number of callers and the cap come first.
 abbrev pub fits_inside : {T : Type 0} → (T → ℕ → ℕ → ℕ → List Object_step → Type 0) → Fits T

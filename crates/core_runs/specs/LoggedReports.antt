@@ -2,8 +2,8 @@
 use Rattle.std.specs.Prelude.{ℕ, List, length, map, slice_index}
 use Rattle.world_core.specs.Local.{Local}
 use Rattle.world_core.specs.Calls.{Made}
-use Rattle.call_lines.specs.Lines.{made_of, lines_at}
-use Rattle.call_lines.specs.Allotments.{phases_of}
+use Rattle.report_lines.specs.Lines.{made_of, lines_at}
+use Rattle.report_lines.specs.Allotments.{phases_of}
 use Rattle.client_scripts.specs.Plans.{Plan}
 use Rattle.reports.specs.Findings.{Findings}
 use Rattle.object_orders.specs.OneWord.{one_word_shape}

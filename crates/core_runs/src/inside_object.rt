@@ -4,10 +4,10 @@ ghost use Rattle.row_table.specs.declared.rows.Rows.{Rows as TheRows};
 ghost use Rattle.row_table.specs.Callers.{who_of, IsCallerOf, MayGet};
 ghost use Rattle.drv_wrapper.specs.Growth.{Grows};
 ghost use Rattle.drv_wrapper.specs.States.{caller_announced, who_announced, op_announced, announced_local, caller_answered, op_answered, reply_answered, answered_local};
-ghost use Rattle.call_phases.specs.Asking.{FitsCaller, ComesNoFurther};
+ghost use Rattle.client_calls.specs.Asking.{FitsCaller, ComesNoFurther};
 ghost use Rattle.core_runs.specs.Inside.{fits_inside, Serves};
 
-use call_phases::Asks;
+use client_calls::Asks;
 use core_objects::CoreObject;
 use drv_wrapper::{Announced, Answered};
 use row_table::Rows;

@@ -1,16 +1,16 @@
 ghost use Rattle.std.specs.Prelude.{◌≡◌, ℕ, ◌<◌, false, None, length, vec_len, IfOk};
 ghost use Rattle.std.specs.List.{list_any};
-ghost use Rattle.call_lines.specs.Lines.{any_error};
+ghost use Rattle.report_lines.specs.Lines.{any_error};
 ghost use Rattle.row_table.specs.Callers.{shape_of, locals_on, IsBenchOf, HoldsAll};
 ghost use Rattle.core_objects.specs.CoreObjects.{AreOpenedWith, ArePassesFor};
-ghost use Rattle.bench_clients.specs.Starts.{run_allotments, MayBegin};
-ghost use Rattle.bench_clients.specs.Returns.{IsBackOn};
+ghost use Rattle.script_workers.specs.Starts.{run_allotments, MayBegin};
+ghost use Rattle.script_workers.specs.Returns.{IsBackOn};
 ghost use Rattle.run_report.specs.Reporting.{IsReportOf, IsFreeAgain};
 ghost use Rattle.core_runs.specs.Inside.{fits_inside};
 
 use crate::inside_object::InsideObject;
 use book_base::NoMemory;
-use call_phases::Shared;
+use client_calls::Shared;
 use client_scripts::Script;
 use core_objects::{CoreObject, runs_of};
 use reports::Report;

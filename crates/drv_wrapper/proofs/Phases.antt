@@ -12,11 +12,11 @@ use Rattle.row_table.specs.Actions.{opening_in}
 use Rattle.row_table.specs.Stances.{opening_with}
 use Rattle.collect_scan.specs.Scanned.{HasScanned}
 use Rattle.collect_scan.specs.Given.{HoldsLooks}
-use Rattle.row_staging.specs.Staging.{local_announced}
+use Rattle.row_table.specs.Staging.{local_announced}
 use Rattle.drv_wrapper.specs.Stands.{ready, replied}
-use Rattle.call_lines.specs.Phases.{progress_of}
-use Rattle.call_lines.specs.Progress.{after_announcing, after_viewing}
-use Rattle.call_lines.proofs.Accounts.{announced_account, operations_are_calls, replies_are_no_records, views_make_records}
+use Rattle.report_lines.specs.Phases.{progress_of}
+use Rattle.report_lines.specs.Progress.{after_announcing, after_viewing}
+use Rattle.report_lines.proofs.Accounts.{announced_account, operations_are_calls, replies_are_no_records, views_make_records}
 use Rattle.drv_wrapper.specs.Growth.{Grows}
 use Rattle.drv_wrapper.specs.Calling.{IsAsked, IsRecorded}
 use Rattle.drv_wrapper.specs.Events.{HasAnnounced, HasViewed}

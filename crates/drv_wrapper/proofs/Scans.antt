@@ -5,7 +5,7 @@ use Rattle.world_core.specs.declared.region.Region.{Region}
 use Rattle.world_core.specs.declared.region.Region.TheVariants.{N, M}
 use Rattle.world_core.specs.Local.{Phase, Announcing, Asking, Viewing, Publishing, Judging, Staged, Scan, Looked, Peeked, Local}
 use Rattle.world_core.specs.Event.{Begins_scan, Begins_view, Purpose, For_row, purpose_of, served, is_staging}
-use Rattle.collect_scan.specs.Scanned.{Found, found_by, scan_with, local_in_scan, HasScanned}
+use Rattle.collect_scan.specs.Scanned.{ScannedWords, found_by, scan_with, local_in_scan, HasScanned}
 
 -- The local after a scan that serves the row, and after the view's scan: what the scan has looked
 -- at and peeked stands in front.
@@ -51,7 +51,7 @@ pub row_scanned : (n : ℕ) (region : Region) (cut : List ℕ) (l m : Local)
     → is_staging l.phase region ≡ true → l.staged ≡ [] → HasScanned n region Begins_scan cut l m
     → (looks : List Looked) × (peeks : List Peeked) × (m ≡ scanned_for_row region cut looks peeks l)
 row_scanned n region cut l m phase unstaged h =
-    let found : Found = found_by n region h.taken in
+    let found : ScannedWords = found_by n region h.taken in
     let scan : Scan = scan_with l region Begins_scan h.taken in
     let ended : Local = record (local_in_scan n l region Begins_scan h.taken) {
       scan = None;
@@ -67,5 +67,5 @@ pub view_scanned : (n reply : ℕ) (view : List ℕ) (l m : Local)
     → (looks : List Looked) × (peeks : List Peeked)
     × (m ≡ scanned_for_view reply view looks peeks l)
 view_scanned n reply view l m h =
-    let found : Found = found_by n N h.taken in
+    let found : ScannedWords = found_by n N h.taken in
     (found.looks, found.peeks, h.is)

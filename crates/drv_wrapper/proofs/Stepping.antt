@@ -3,8 +3,8 @@ use Rattle.std.proofs.Common.{◌≡◌, ℕ, ap, sym, subst, ◌∙◌}
 use Rattle.world_core.specs.Shape.{Meaning}
 use Rattle.world_core.specs.Local.{Local, Object_step}
 use Rattle.world_core.specs.Event.{Object}
-use Rattle.call_lines.specs.Phases.{progress_of}
-use Rattle.call_lines.proofs.Accounts.{object_steps_count}
+use Rattle.report_lines.specs.Phases.{progress_of}
+use Rattle.report_lines.proofs.Accounts.{object_steps_count}
 use Rattle.row_table.specs.declared.rows.Rows.{Rows}
 use Rattle.row_table.specs.Callers.{shape_of, IsCallerOf, IsStill, HasDone}
 use Rattle.drv_wrapper.specs.declared.announced.Announced.{Announced}

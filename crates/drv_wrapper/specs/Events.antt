@@ -6,7 +6,7 @@ use Rattle.world_core.specs.Local.{Local}
 use Rattle.world_core.specs.Event.{Begins_scan, Begins_view}
 use Rattle.collect_scan.specs.Scanned.{HasScanned}
 use Rattle.collect_scan.specs.Given.{given_with, HoldsLooks}
-use Rattle.row_staging.specs.Staging.{local_announced}
+use Rattle.row_table.specs.Staging.{local_announced}
 
 -- A scan of N, then the row of this operation, and no other event, lead one of n callers from the
 -- one local to the other. The row embeds the cut that this scan gave, which contains each count of

@@ -5,15 +5,15 @@ use Rattle.world_core.specs.Local.{Object_step, with_step}
 use Rattle.world_core.specs.Event.{Object}
 use Rattle.row_table.specs.declared.rows.Rows.{Rows}
 use Rattle.row_table.specs.Callers.{IsStill, HasDone}
-use Rattle.call_lines.specs.Phases.{progress_of}
-use Rattle.call_lines.specs.Progress.{after_stepping}
+use Rattle.report_lines.specs.Phases.{progress_of}
+use Rattle.report_lines.specs.Progress.{after_stepping}
 use Rattle.drv_wrapper.specs.declared.announced.Announced.{Announced}
 use Rattle.drv_wrapper.specs.States.{caller_announced, number_announced, op_announced, announced_local}
 use Rattle.drv_wrapper.specs.Growth.{Grows}
 
--- The announced call b is a after this object step of its caller, and no other event: the step is
--- one of this call, the last of all steps of its caller, and the caller has come no further with
--- its calls.
+-- The announced call b is the announced call a after this object step of its caller, and no other
+-- event: the step is one of this call, the last of all steps of its caller, and the caller has come
+-- no further with its calls.
 pub record HasStepped {P : Type 0} (meaning : P → ℕ → ℕ → Meaning) (r : Rows P) (a b : Announced P)
     (step : Object_step) : Type 0 where
   pub still : IsStill meaning r (caller_announced a) (caller_announced b)

@@ -1,8 +1,8 @@
 ghost use Rattle.std.specs.Prelude.{◌≡◌, ℕ, ◌+◌, ◌<◌, ◌≤◌};
 ghost use Rattle.world_core.specs.Local.{IsIdle};
 ghost use Rattle.row_table.specs.Callers.{who_of, local_with, stance_of, IsCallerOf, IsStill};
-ghost use Rattle.call_lines.specs.Phases.{progress_of};
-ghost use Rattle.call_lines.specs.Progress.{after_announcing};
+ghost use Rattle.report_lines.specs.Phases.{progress_of};
+ghost use Rattle.report_lines.specs.Progress.{after_announcing};
 ghost use Rattle.collect_scan.specs.Scanned.{most_words};
 ghost use Rattle.drv_wrapper.specs.Stands.{ready};
 ghost use Rattle.drv_wrapper.specs.States.{caller_announced, op_announced, announced_local};
@@ -12,8 +12,7 @@ ghost use Rattle.drv_wrapper.specs.Growth.{Grows};
 use crate::announced::Announced;
 use book_base::OpWord;
 use collect_scan::scan;
-use row_staging::announce_row;
-use row_table::{Caller, Rows, Steps};
+use row_table::{Caller, Rows, Steps, announce_row};
 use std::sync::ledger::Ledger;
 use world_core::{Program, Region};
 
@@ -40,8 +39,8 @@ pub fn announce<P: Program, L: Ledger>(
     ensures caller { IsStill P.meaning rows.now caller (caller_announced result) }
     // The announced call has this operation.
     ensures operation { op_announced result ≡ op }
-    // The caller's local is the one before after a scan of N and the row of this operation, with no
-    // other event.
+    // The caller's local is its earlier one after a scan of N and the row of this operation, with
+    // no other event.
     ensures announced { HasAnnounced rows.now.callers op (local_with caller)
         (announced_local result) }
     // The caller's calls are those before with the announced one at the end, and its published

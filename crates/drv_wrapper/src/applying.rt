@@ -1,8 +1,8 @@
 ghost use Rattle.std.specs.Prelude.{◌≡◌, ℕ, ◌+◌, ◌<◌, ◌≤◌, [], ◌∷◌, ◌++◌, length};
 ghost use Rattle.world_core.specs.Local.{IsIdle};
 ghost use Rattle.row_table.specs.Callers.{who_of, local_with, stance_of, IsCallerOf, IsStill};
-ghost use Rattle.call_lines.specs.Phases.{progress_of};
-ghost use Rattle.call_lines.specs.Progress.{after_announcing, after_viewing};
+ghost use Rattle.report_lines.specs.Phases.{progress_of};
+ghost use Rattle.report_lines.specs.Progress.{after_announcing, after_viewing};
 ghost use Rattle.collect_scan.specs.Scanned.{most_words};
 ghost use Rattle.drv_wrapper.specs.Stands.{ready};
 ghost use Rattle.drv_wrapper.specs.States.{caller_viewed, op_viewed, reply_viewed, view_viewed, viewed_local, record_viewed};

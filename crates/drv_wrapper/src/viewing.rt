@@ -1,7 +1,7 @@
 ghost use Rattle.std.specs.Prelude.{◌≡◌, ℕ, ◌+◌, ◌≤◌, length};
 ghost use Rattle.row_table.specs.Callers.{local_with, MayGet, IsCallerOf, IsStill};
-ghost use Rattle.call_lines.specs.Phases.{progress_of};
-ghost use Rattle.call_lines.specs.Progress.{after_viewing};
+ghost use Rattle.report_lines.specs.Phases.{progress_of};
+ghost use Rattle.report_lines.specs.Progress.{after_viewing};
 ghost use Rattle.collect_scan.specs.Scanned.{most_words};
 ghost use Rattle.drv_wrapper.specs.States.{caller_answered, op_answered, reply_answered, caller_viewed, op_viewed, reply_viewed, view_viewed, answered_local, viewed_local, record_viewed};
 ghost use Rattle.drv_wrapper.specs.Events.{HasViewed};
@@ -37,8 +37,8 @@ pub fn view<P: Program, L: Ledger>(
         × (reply_viewed result ≡ reply_answered answered) }
     // The view has one count for each caller.
     ensures wide { length (view_viewed result) ≡ rows.now.callers }
-    // The caller's local is the one before after a scan of N that began with the reply and gave the
-    // view, with no other event.
+    // The caller's local is its earlier one after a scan of N that began with the reply and gave
+    // the view, with no other event.
     ensures viewed { HasViewed rows.now.callers (reply_viewed result) (view_viewed result)
         (answered_local answered) (viewed_local result) }
     // The caller's last call has its record, of the reply and the view, and its progress is as

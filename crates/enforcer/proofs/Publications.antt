@@ -4,14 +4,14 @@ use Rattle.world_core.specs.declared.region.Region.TheVariants.{M}
 use Rattle.world_core.specs.Shape.{Shape}
 use Rattle.world_core.specs.Local.{Phase, Publishing, Local, Looked, Peeked}
 use Rattle.world_core.specs.Event.{Begins_scan, Publish, is_staging, local_after}
-use Rattle.call_lines.specs.Phases.{progress_of}
-use Rattle.call_lines.specs.Progress.{after_publishing}
-use Rattle.call_lines.proofs.Accounts.{publications_count}
+use Rattle.report_lines.specs.Phases.{progress_of}
+use Rattle.report_lines.specs.Progress.{after_publishing}
+use Rattle.report_lines.proofs.Accounts.{publications_count}
 use Rattle.row_table.specs.declared.stance.Stance.{Stance}
 use Rattle.row_table.specs.Actions.{opening_in}
 use Rattle.row_table.specs.Stances.{opening_with}
 use Rattle.collect_scan.specs.Scanned.{HasScanned}
-use Rattle.row_staging.specs.Staging.{MayPublish}
+use Rattle.row_table.specs.Staging.{MayPublish}
 use Rattle.drv_wrapper.specs.Growth.{Grows}
 use Rattle.drv_wrapper.specs.Calling.{IsRecorded}
 use Rattle.drv_wrapper.proofs.Growing.{grows_by}

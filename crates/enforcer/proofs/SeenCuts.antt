@@ -7,10 +7,10 @@ use Rattle.world_core.specs.Local.{Phase, Announcing, Judging, Scan, Local, Give
 use Rattle.world_core.specs.Event.{Begins_scan, Purpose, For_seen, For_nothing, purpose_of, served}
 use Rattle.world_core.specs.Agreement.{HasPhase, unseen_records}
 use Rattle.world_core.specs.Calls.{IsLocalOf}
-use Rattle.call_lines.specs.Phases.{progress_of}
-use Rattle.call_lines.specs.Progress.{after_seeing}
-use Rattle.call_lines.proofs.Accounts.{seen_cuts_are_of_the_last_call}
-use Rattle.collect_scan.specs.Scanned.{Found, found_by, scan_with, local_in_scan, HasScanned}
+use Rattle.report_lines.specs.Phases.{progress_of}
+use Rattle.report_lines.specs.Progress.{after_seeing}
+use Rattle.report_lines.proofs.Accounts.{seen_cuts_are_of_the_last_call}
+use Rattle.collect_scan.specs.Scanned.{ScannedWords, found_by, scan_with, local_in_scan, HasScanned}
 use Rattle.collect_scan.specs.Given.{purpose_with, HoldsLooks}
 use Rattle.collect_scan.proofs.Owning.{own_entries_are_counts}
 use Rattle.drv_wrapper.specs.Growth.{Grows}
@@ -36,7 +36,7 @@ seen_scanned : (n : ℕ) (cut : List ℕ) (l m : Local) → l.phase ≡ Judging
     → HasScanned n M Begins_scan cut l m
     → (looks : List Looked) × (peeks : List Peeked) × (m ≡ scanned_for_seen cut looks peeks l)
 seen_scanned n cut l m phase h =
-    let found : Found = found_by n M h.taken in
+    let found : ScannedWords = found_by n M h.taken in
     let scan : Scan = scan_with l M Begins_scan h.taken in
     let ended : Local = record (local_in_scan n l M Begins_scan h.taken) {
       scan = None;

@@ -2,8 +2,8 @@
 use Rattle.std.proofs.Common.{◌≡◌, ℕ, ◌+◌, ◌*◌, List, [], ◌∷◌, ◌++◌, Option, Result, Ok, Err, IfOk, IfErr, ◌≤◌, refl, sym, ap, subst, ◌∙◌, arith}
 use Rattle.book_base.specs.declared.call.Record.{Record}
 use Rattle.world_core.specs.Local.{Local, Given}
-use Rattle.call_lines.specs.Phases.{progress_of}
-use Rattle.call_lines.specs.Progress.{after_announcing, after_viewing, after_publishing, after_seeing}
+use Rattle.report_lines.specs.Phases.{progress_of}
+use Rattle.report_lines.specs.Progress.{after_announcing, after_viewing, after_publishing, after_seeing}
 use Rattle.row_gather.specs.declared.gathered.Gathered.{Gathered}
 use Rattle.row_gather.specs.Gathered.{IsGatheredBy}
 use Rattle.row_gather.specs.Peeks.{with_peeked, HasOnlyPeeked}

@@ -1,7 +1,7 @@
 -- What a judgement says that leaves its order with what stands.
 use Rattle.std.specs.Prelude.{◌≡◌, ◌+◌, ◌*◌, ◌≤◌, ℕ, false, List, Option, Some, None, Result, Ok, Err, IfSome, IsSomeAnd, length}
 use Rattle.book_base.specs.declared.call.Record.{Record}
-use Rattle.frontier_check.specs.declared.mark.Standing.{Standing}
+use Rattle.frontier_check.specs.declared.mark.KeptOrder.{KeptOrder}
 use Rattle.row_table.specs.declared.caller.Caller.{Caller}
 use Rattle.row_table.specs.declared.stance.Stance.{Stance}
 use Rattle.collect_scan.specs.Scanned.{most_words}
@@ -31,13 +31,13 @@ stance_judged (Illegal reply view seen book) = record ready { live = false }
 
 -- The outcome that a judgement is with the order of what stands. A reply that is delivered where
 -- nothing stands is none.
-abbrev pub outcome_of : Judged → Option Standing → Option Outcome
+abbrev pub outcome_of : Judged → Option KeptOrder → Option Outcome
 outcome_of (Delivered reply view seen) None = None
 outcome_of (Delivered reply view seen) (Some s) = Some (outcome.Delivered reply view seen s.order)
 outcome_of (Illegal reply view seen book) standing = Some (outcome.Illegal reply view seen book)
 
 -- A judgement is, with the order of what stands, an outcome of which this holds.
-abbrev pub IsOutcome : Judged → Option Standing → (Outcome → Type 0) → Type 0
+abbrev pub IsOutcome : Judged → Option KeptOrder → (Outcome → Type 0) → Type 0
 IsOutcome judged standing holds = IsSomeAnd (outcome_of judged standing) holds
 
 -- After a reply that is delivered to one of n callers its book is kept, at the seen cut; an error

@@ -7,9 +7,9 @@ use Rattle.book_base.specs.Order.{HasLegalOrder}
 use Rattle.world_core.specs.Shape.{Shape}
 use Rattle.world_core.specs.Local.{Local}
 use Rattle.world_core.specs.Calls.{AreTogether, book_in}
-use Rattle.call_lines.specs.Phases.{Progress}
-use Rattle.call_lines.specs.Progress.{after_announcing, after_viewing, after_publishing, after_seeing}
-use Rattle.call_lines.specs.Workers.{IsJudgedBy}
+use Rattle.report_lines.specs.Phases.{Progress}
+use Rattle.report_lines.specs.Progress.{after_announcing, after_viewing, after_publishing, after_seeing}
+use Rattle.report_lines.specs.Workers.{IsJudgedBy}
 use Rattle.row_table.specs.declared.caller.Caller.{Caller}
 use Rattle.collect_scan.specs.Scanned.{most_words}
 use Rattle.row_gather.specs.declared.gathered.Gathered.{Gathered}

@@ -2,10 +2,10 @@
 use Rattle.std.specs.Prelude.{◌≡◌, ℕ, ◌⊎◌, false, List, Option, Some, None, IsSomeAnd, length}
 use Rattle.book_base.specs.declared.call.Record.{Record}
 use Rattle.book_base.specs.Cut.{IsWithin}
-use Rattle.frontier_check.specs.declared.mark.Standing.{Standing}
+use Rattle.frontier_check.specs.declared.mark.KeptOrder.{KeptOrder}
 use Rattle.frontier_check.specs.Standing.{IsStandingFor}
-use Rattle.call_lines.specs.declared.line.LineEnd.{LineEnd}
-use Rattle.call_lines.specs.declared.line.LineEnd.TheVariants.{Delivered, Error}
+use Rattle.report_lines.specs.declared.line.LineEnd.{LineEnd}
+use Rattle.report_lines.specs.declared.line.LineEnd.TheVariants.{Delivered, Error}
 use Rattle.row_table.specs.declared.stance.Stance.{Stance}
 use Rattle.row_gather.specs.declared.gathered.Gathered.{Gathered}
 use Rattle.drv_wrapper.specs.Stands.{ready}
@@ -13,7 +13,7 @@ use Rattle.drv_wrapper.specs.Stands.{ready}
 -- Where a book is kept, what is kept of an order stands for an object in that book, or in one from
 -- which it has grown.
 abbrev pub StandsIn : (init : List ℕ) → (next : List ℕ → ℕ → List ℕ × ℕ) → Option Gathered
-    → Option Standing → Type 0
+    → Option KeptOrder → Type 0
 StandsIn init next gathered None = Unit {0}
 StandsIn init next None (Some s) = Unit {0}
 StandsIn init next (Some g) (Some s) = IsStandingFor init next g.book s

@@ -1,6 +1,6 @@
 ghost use Rattle.std.specs.Prelude.{◌≡◌, ◌+◌, ◌<◌, ◌≤◌, false, None, IfOk, IfErr};
 ghost use Rattle.world_core.specs.Local.{IsIdle};
-ghost use Rattle.call_lines.specs.Phases.{progress_of};
+ghost use Rattle.report_lines.specs.Phases.{progress_of};
 ghost use Rattle.row_table.specs.Callers.{who_of, local_with, stance_of, IsCallerOf, IsStill};
 ghost use Rattle.row_gather.specs.Gathered.{IsGatheredBy};
 ghost use Rattle.drv_wrapper.specs.Growth.{Grows};
@@ -130,7 +130,7 @@ use world_core::{Outside, Program};
 /// - `guide`: the last order that was found, after whose places the search for the next one begins.
 ///   It costs or saves time alone, and never changes a verdict, so a new one is always good. The
 ///   sequential object is asked for each of these places again;
-///   [`enforce_after`](crate::enforce_after) asks for those that are new.
+///   [`enforce_after`](crate::enforce_after) asks for those after the last mark that still stands.
 /// - `steps`: the counter that ticks with each word of the table that is looked at or peeked: those
 ///   of four scans, and those of the book that are new.
 ///

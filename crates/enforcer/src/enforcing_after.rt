@@ -1,6 +1,6 @@
 ghost use Rattle.std.specs.Prelude.{◌≡◌, ◌+◌, ◌<◌, ◌≤◌, false, None, IfOk, IfErr};
 ghost use Rattle.world_core.specs.Local.{IsIdle};
-ghost use Rattle.call_lines.specs.Phases.{progress_of};
+ghost use Rattle.report_lines.specs.Phases.{progress_of};
 ghost use Rattle.row_table.specs.Callers.{who_of, local_with, stance_of, IsCallerOf, IsStill};
 ghost use Rattle.row_gather.specs.Gathered.{IsGatheredBy};
 ghost use Rattle.drv_wrapper.specs.Growth.{Grows};
@@ -19,7 +19,7 @@ use crate::publishing::publish;
 use crate::seeing::seen;
 use book_base::{OpWord, SeqObject};
 use drv_wrapper::{BlackBox, apply};
-use frontier_check::Standing;
+use frontier_check::KeptOrder;
 use row_gather::Gathered;
 use row_table::{Caller, Rows, Steps};
 use std::alloc::Global;
@@ -46,7 +46,7 @@ pub fn enforce_after<S: SeqObject, B: BlackBox, L: Ledger>(
     object: &B,
     pass: &mut B::Pass,
     gathered: &mut Option<Gathered>,
-    standing: &mut Option<Standing>,
+    standing: &mut Option<KeptOrder>,
     steps: &mut Steps<L>,
 ) -> Result<(Caller, Judged), Unjudged>
     // The caller is one of these rows.

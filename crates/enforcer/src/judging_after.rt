@@ -16,7 +16,7 @@ use crate::lines::decide_after;
 use crate::outcome::Unjudged;
 use crate::seen_call::Seen;
 use book_base::{NoMemory, SeqObject};
-use frontier_check::Standing;
+use frontier_check::KeptOrder;
 use row_gather::Gathered;
 use row_table::{Caller, Rows, Steps};
 use std::alloc::Global;
@@ -42,7 +42,7 @@ pub fn judge_after<P: Program, S: SeqObject, L: Ledger>(
     rows: &Rows<P>,
     mut seen: Seen<P>,
     gathered: &mut Option<Gathered>,
-    standing: &mut Option<Standing>,
+    standing: &mut Option<KeptOrder>,
     steps: &mut Steps<L>,
 ) -> Result<(Caller<P>, Judged), Unjudged<P>>
     // The caller of the seen call is one of these rows.

@@ -2,7 +2,7 @@ ghost use Rattle.std.specs.Prelude.{◌≡◌, ◌≤◌, false, None, Some, IfO
 ghost use Rattle.book_base.specs.Order.{IsLegalOrder, HasLegalOrder};
 ghost use Rattle.world_core.specs.Local.{IsIdle};
 ghost use Rattle.world_core.specs.Calls.{IsGathered};
-ghost use Rattle.call_lines.specs.Workers.{IsJudgedBy};
+ghost use Rattle.report_lines.specs.Workers.{IsJudgedBy};
 ghost use Rattle.row_table.specs.Callers.{local_with, stance_of, IsCallerOf, IsStill};
 ghost use Rattle.row_gather.specs.Peeks.{OnlyPeeks};
 ghost use Rattle.row_gather.specs.Exact.{IsTheBookAt};
@@ -17,8 +17,8 @@ use crate::judging::{gather, halted};
 use crate::outcome::Unjudged;
 use crate::seen_call::Seen;
 use book_base::{Cut, NoMemory, Record, SeqObject};
-use call_lines::LineEnd;
-use frontier_check::{Standing, check_after};
+use frontier_check::{KeptOrder, check_after};
+use report_lines::LineEnd;
 use row_gather::Gathered;
 use row_table::{Caller, Rows, Steps};
 use std::alloc::Global;
@@ -31,9 +31,9 @@ use world_core::Program;
 pub fn standing_in(
     n: u32,
     gathered: &Option<Gathered>,
-    standing: Option<Standing>,
+    standing: Option<KeptOrder>,
     cut: &Cut,
-) -> Option<Standing>
+) -> Option<KeptOrder>
     // What is answered, where anything is, is what was handed in.
     ensures same { IfSome result (λ s. standing ≡ Some s) }
     // Where anything is answered, a book is kept, it is of `n` callers, and its cut is within this
@@ -59,9 +59,9 @@ pub(crate) fn decide_after<P: Program, S: SeqObject, L: Ledger>(
     rows: &Rows<P>,
     seen: &mut Seen<P>,
     gathered: Option<Gathered>,
-    standing: Option<Standing>,
+    standing: Option<KeptOrder>,
     steps: &mut Steps<L>,
-) -> Result<(Gathered, Option<Standing>), NoMemory>
+) -> Result<(Gathered, Option<KeptOrder>), NoMemory>
     requires rows { IsCallerOf P.meaning rows.now (caller_seen seen.old) }
     requires gathered { IsGatheredBy (local_with (caller_seen seen.old)) gathered }
     requires stands { StandsIn (S.init object.now) (S.next object.now) gathered standing }
@@ -110,7 +110,7 @@ pub fn judge_line<P: Program, S: SeqObject, L: Ledger>(
     rows: &Rows<P>,
     mut seen: Seen<P>,
     gathered: &mut Option<Gathered>,
-    standing: &mut Option<Standing>,
+    standing: &mut Option<KeptOrder>,
     steps: &mut Steps<L>,
 ) -> Result<(Caller<P>, LineEnd), Unjudged<P>>
     // The caller of the seen call is one of these rows.

@@ -1,8 +1,8 @@
 ghost use Rattle.std.specs.Prelude.{◌≡◌, ℕ, ◌+◌, ◌≤◌, length};
 ghost use Rattle.row_table.specs.Callers.{local_with, IsCallerOf, IsStill};
 ghost use Rattle.collect_scan.specs.Scanned.{most_words};
-ghost use Rattle.call_lines.specs.Phases.{progress_of};
-ghost use Rattle.call_lines.specs.Progress.{after_publishing};
+ghost use Rattle.report_lines.specs.Phases.{progress_of};
+ghost use Rattle.report_lines.specs.Progress.{after_publishing};
 ghost use Rattle.drv_wrapper.specs.Growth.{Grows};
 ghost use Rattle.drv_wrapper.specs.States.{caller_viewed, reply_viewed, view_viewed};
 ghost use Rattle.enforcer.specs.Events.{IsPublication};
@@ -11,8 +11,7 @@ ghost use Rattle.enforcer.specs.States.{caller_published, reply_published, view_
 use crate::published_call::Published;
 use collect_scan::scan;
 use drv_wrapper::Viewed;
-use row_staging::publish_row;
-use row_table::{Rows, Steps};
+use row_table::{Rows, Steps, publish_row};
 use std::sync::ledger::Ledger;
 use world_core::{Program, Region};
 
@@ -36,7 +35,7 @@ pub fn publish<P: Program, L: Ledger>(
     // The published call has the reply and the view of the viewed one.
     ensures record { (reply_published result ≡ reply_viewed viewed)
         × (view_published result ≡ view_viewed viewed) }
-    // The caller's local is the one before after a scan of M and the publication of the row that
+    // The caller's local is its earlier one after a scan of M and the publication of the row that
     // was staged, with no other event but stages; the row embeds the cut of that scan, which
     // contains each count of M that the caller had looked at before.
     ensures published { IsPublication rows.now.callers (local_with (caller_viewed viewed))

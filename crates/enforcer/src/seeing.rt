@@ -1,8 +1,8 @@
 ghost use Rattle.std.specs.Prelude.{◌≡◌, ℕ, ◌+◌, ◌≤◌, length};
 ghost use Rattle.row_table.specs.Callers.{local_with, IsCallerOf, IsStill};
 ghost use Rattle.collect_scan.specs.Scanned.{most_words};
-ghost use Rattle.call_lines.specs.Phases.{progress_of};
-ghost use Rattle.call_lines.specs.Progress.{after_seeing};
+ghost use Rattle.report_lines.specs.Phases.{progress_of};
+ghost use Rattle.report_lines.specs.Progress.{after_seeing};
 ghost use Rattle.drv_wrapper.specs.Growth.{Grows};
 ghost use Rattle.enforcer.specs.Recorded.{HoldsOwn};
 ghost use Rattle.enforcer.specs.Events.{IsSight};
@@ -35,7 +35,7 @@ pub fn seen<P: Program, L: Ledger>(
     ensures wide { length (cut_seen result) ≡ rows.now.callers }
     // The seen cut holds each record that the caller has published, and no more of it.
     ensures own { HoldsOwn (cut_seen result) (caller_seen result) }
-    // The caller's local is the one before after a scan of M that gave the seen cut, with no other
+    // The caller's local is its earlier one after a scan of M that gave the seen cut, with no other
     // event; the cut contains each count of M that the caller had looked at before.
     ensures seen { IsSight rows.now.callers (cut_seen result)
         (local_with (caller_published published)) (local_with (caller_seen result)) }

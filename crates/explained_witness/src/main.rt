@@ -7,7 +7,7 @@ ghost use Rattle.given_book.specs.Given.{IsFirstGivenFault};
 
 use book_base::ReadFault;
 use broken_rules::{broken_line, broken_rule};
-use byte_streams::{Answer, Program, StdSink, StdSource, run_program};
+use byte_streams::{Answer, StdSink, StdSource, TextProgram, run_program};
 use given_book::read_given;
 use std::alloc::Global;
 use std::process::ExitCode;
@@ -16,7 +16,7 @@ use std::process::ExitCode;
 #[derive(Clone, Copy)]
 struct Explainer;
 
-impl Program for Explainer {
+impl TextProgram for Explainer {
     ghost is_fine = { λ _ bytes text. SaysNoneBroken bytes text };
 
     ghost is_found = { λ _ bytes text. IsExplained bytes text };

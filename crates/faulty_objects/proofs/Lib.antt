@@ -1,4 +1,7 @@
+pub mod Answering
+pub mod Waiting
 pub mod Naming
 pub mod Forming
 pub mod Raising
 pub mod Together
+pub mod Worked

@@ -8,10 +8,9 @@ use Rattle.std.proofs.lemmas.List.Sums.{sum_by-cons}
 use Rattle.seq_objects.specs.Replies.{reply_value}
 use Rattle.lawful_objects.specs.Forms.{cell_may}
 use Rattle.lawful_objects.proofs.Together.{cells_are_read}
-use Rattle.shared_words.specs.declared.words_pass.WordsPass.{WordsPass}
 use Rattle.shared_words.specs.Deeds.{Deed, Added, Stored, Loaded, Swapped, place_of, leaves}
 use Rattle.shared_words.specs.Histories.{Access, access, word_from, word_at, IsLawful, IsAfterAccess}
-use Rattle.shared_words.specs.Passes.{AreOfOneHistory}
+use Rattle.shared_words.specs.Transcripts.{Transcript, AreOfOneHistory}
 use Rattle.shared_words.proofs.Histories.{lawful_allowed, lawful_prefix}
 use Rattle.faulty_objects.specs.Forms.{IsSplit, queue_may, item_index, IsOnePass, up, meeting_may, IsMeeting}
 use Rattle.faulty_objects.specs.Together.{TellOneSplit, is_addition, IsPutAt, IsGiven, TellOneQueue, TellOneMeeting, QueuesGivePlacesInOrder, QueuesGiveWhatWasPut, MeetingsFindRaisedFlags}
@@ -237,24 +236,26 @@ meetings_find_raised_flags history lawful before rest who flag is =
     flags_are_raised flag before
     (first_lawful meeting_may history before rest a lawful is) (sym was)
 
--- ---- what the passes tell together
+-- ---- what the transcripts tell together
 
-pub one_split : (n : ℕ) (history : List Access) (passes : List WordsPass)
-    → AreOfOneHistory cell_may (λ _. IsSplit) n history passes → TellOneSplit n history passes
-one_split n history passes one = record { told = one; found = cells_are_read history one.lawful }
+pub one_split : (n : ℕ) (history : List Access) (transcripts : List Transcript)
+    → AreOfOneHistory cell_may (λ _. IsSplit) n history transcripts
+    → TellOneSplit n history transcripts
+one_split n history transcripts one =
+    record { told = one; found = cells_are_read history one.lawful }
 
-pub one_queue : (places n : ℕ) (history : List Access) (passes : List WordsPass)
-    → AreOfOneHistory queue_may (λ _. IsOnePass places) n history passes
-    → TellOneQueue places n history passes
-one_queue places n history passes one =
+pub one_queue : (places n : ℕ) (history : List Access) (transcripts : List Transcript)
+    → AreOfOneHistory queue_may (λ _. IsOnePass places) n history transcripts
+    → TellOneQueue places n history transcripts
+one_queue places n history transcripts one =
     record {
       told = one;
       in_order = queues_give_places_in_order history one.lawful;
       taken = queues_give_what_was_put history one.lawful;
     }
 
-pub one_meeting : (n : ℕ) (history : List Access) (passes : List WordsPass)
-    → AreOfOneHistory meeting_may (λ caller _. IsMeeting caller) n history passes
-    → TellOneMeeting n history passes
-one_meeting n history passes one =
+pub one_meeting : (n : ℕ) (history : List Access) (transcripts : List Transcript)
+    → AreOfOneHistory meeting_may (λ caller _. IsMeeting caller) n history transcripts
+    → TellOneMeeting n history transcripts
+one_meeting n history transcripts one =
     record { told = one; raised = meetings_find_raised_flags history one.lawful }

@@ -15,7 +15,7 @@ pub record IsSplit (op reply : ℕ) (before after : List Deed) : Type 0 where
   pub other : op ≢ increment → (after ≡ before) × (reply ≡ BAD)
 
 -- A history that ends with a split increment of a caller, with the reply to it: the word that the
--- last store before its load stored.
+-- last store before its load stored, or 0 where there is none.
 pub record IsTorn (who reply : ℕ) (history : List Access) : Type 0 where
   pub before : List Access
   pub between : List Access
@@ -56,7 +56,7 @@ queue_may caller deed =
     ⊎ ((place value : ℕ) × (deed ≡ Stored (item_index place) (value + 1)))
     ⊎ ((place found : ℕ) × (deed ≡ Swapped (item_index place) 0 found))
 
--- The first so many places are gone over once, from the first, and each is found empty.
+-- The first places, this many, are gone over once, from the first, and each is found empty.
 abbrev pub empty_places : ℕ → List Deed
 empty_places zero = []
 empty_places (suc count) = empty_places count ++ Swapped (item_index count) 0 0 ∷ []

@@ -1,4 +1,11 @@
+pub mod Calls
+pub mod Lossy
+pub mod Twice
+pub mod Late
+pub mod Invent
+pub mod Changes
 pub mod Names
 pub mod Forms
 pub mod Passes
 pub mod Together
+pub mod Cases

@@ -1,18 +1,18 @@
--- What the passes of all callers of each object tell together.
+-- What the calls of all callers of each object tell together.
 use Rattle.std.specs.Prelude.{◌≡◌, ◌≢◌, ℕ, ◌-◌, ◌%◌, ◌^◌, ◌⊎◌, Bool, true, false, List, [], ◌∷◌, ◌++◌, All, count_by}
 use Rattle.seq_objects.specs.Replies.{reply_none, reply_value}
 use Rattle.lawful_objects.specs.Forms.{cell_may}
 use Rattle.lawful_objects.specs.Together.{LoadsFindTheLast}
-use Rattle.shared_words.specs.declared.words_pass.WordsPass.{WordsPass}
 use Rattle.shared_words.specs.Deeds.{Deed, Added, Stored, Loaded, Swapped, place_of}
 use Rattle.shared_words.specs.Histories.{Access, access, IsLawful}
-use Rattle.shared_words.specs.Passes.{AreOfOneHistory}
+use Rattle.shared_words.specs.Transcripts.{Transcript, AreOfOneHistory}
 use Rattle.faulty_objects.specs.Forms.{IsSplit, queue_may, item_index, IsOnePass, up, meeting_may, HasRaised, IsMeeting}
 
--- The passes of n callers of a split tally tell one history of loads and stores. Each load found
--- what the last store before it stored.
-pub record TellOneSplit (n : ℕ) (history : List Access) (passes : List WordsPass) : Type 0 where
-  pub told : AreOfOneHistory cell_may (λ _. IsSplit) n history passes
+-- The calls of all n callers of a split tally are of this one history of loads and stores. Each
+-- load found what the last store before it stored, or 0 where there is none.
+pub record TellOneSplit (n : ℕ) (history : List Access)
+    (transcripts : List Transcript) : Type 0 where
+  pub told : AreOfOneHistory cell_may (λ _. IsSplit) n history transcripts
   pub found : LoadsFindTheLast history
 
 -- The deed is an addition.
@@ -23,7 +23,7 @@ is_addition (Loaded place found) = false
 is_addition (Swapped place word found) = false
 
 -- Each addition to the counter found the number of additions before it, modulo 2^64: so the places
--- are given in order, each once.
+-- are given in order, and each of them once where there are at most 2^64 additions.
 abbrev pub PlacesAreInOrder : List Access → Type 0
 PlacesAreInOrder history = (before rest : List Access) (who found : ℕ)
     → history ≡ before ++ access who (Added 0 1 found) ∷ rest
@@ -58,11 +58,11 @@ pub record IsGiven (who reply : ℕ) (history : List Access) : Type 0 where
 abbrev pub IsNoneOrGiven : ℕ → ℕ → List Access → Type 0
 IsNoneOrGiven who reply history = (reply ≡ reply_none) ⊎ IsGiven who reply history
 
--- The passes of n callers of a one-pass queue with this many places tell one history. Its places
--- are given in order, and what is taken was put.
+-- The calls of all n callers of a one-pass queue with this many places are of this one history. Its
+-- places are given in order, modulo 2^64, and what is taken was put.
 pub record TellOneQueue (places n : ℕ) (history : List Access)
-    (passes : List WordsPass) : Type 0 where
-  pub told : AreOfOneHistory queue_may (λ _. IsOnePass places) n history passes
+    (transcripts : List Transcript) : Type 0 where
+  pub told : AreOfOneHistory queue_may (λ _. IsOnePass places) n history transcripts
   pub in_order : PlacesAreInOrder history
   pub taken : TakesTakeWhatWasPut history
 
@@ -71,10 +71,11 @@ abbrev pub LoadsFindRaisedFlags : List Access → Type 0
 LoadsFindRaisedFlags history = (before rest : List Access) (who flag : ℕ)
     → history ≡ before ++ access who (Loaded flag up) ∷ rest → HasRaised flag before
 
--- The passes of n callers of a meeting tell one history. A flag is found up only after its caller
--- has raised it.
-pub record TellOneMeeting (n : ℕ) (history : List Access) (passes : List WordsPass) : Type 0 where
-  pub told : AreOfOneHistory meeting_may (λ caller _. IsMeeting caller) n history passes
+-- The calls of all n callers of a meeting are of this one history. A flag is found up only after
+-- its caller has raised it.
+pub record TellOneMeeting (n : ℕ) (history : List Access)
+    (transcripts : List Transcript) : Type 0 where
+  pub told : AreOfOneHistory meeting_may (λ caller _. IsMeeting caller) n history transcripts
   pub raised : LoadsFindRaisedFlags history
 
 -- In the history of a one-pass queue the places are given in order, and what is taken was put.

@@ -41,7 +41,7 @@ pub struct Meeting {
 }
 
 impl Meeting {
-    ghost use Rattle.shared_words.specs.Passes.{caller_of_seat, history_of, deeds_of, caller_of_pass, made_with, cap_of_pass, pairs_in, history_in, IsSeatOf, IsFreshPass};
+    ghost use Rattle.shared_words.specs.Passes.{caller_of_seat, history_of, deeds_of, caller_of_pass, made_with, cap_of_pass, pairs_in, history_in, transcript_of, IsSeatOf, IsFreshPass};
     ghost use Rattle.faulty_objects.specs.Passes.{IsMeetingPass};
 
     /// A meeting for `n` callers, of whom there are two, with `cap` calls each, and a pass for each
@@ -147,7 +147,7 @@ impl Meeting {
         // The passes tell one history, in which a flag is found up only after its caller has raised
         // it.
         ensures history { (history : List Access)
-            × TellOneMeeting (callers_of self.words) history passes.items }
+            × TellOneMeeting (callers_of self.words) history (map transcript_of passes.items) }
     {
         let Meeting { words } = self;
         words.close(passes);

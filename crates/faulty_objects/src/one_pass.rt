@@ -37,7 +37,7 @@ pub struct OnePass {
 }
 
 impl OnePass {
-    ghost use Rattle.shared_words.specs.Passes.{caller_of_seat, history_of, deeds_of, caller_of_pass, made_with, cap_of_pass, pairs_in, history_in, IsSeatOf, IsFreshPass};
+    ghost use Rattle.shared_words.specs.Passes.{caller_of_seat, history_of, deeds_of, caller_of_pass, made_with, cap_of_pass, pairs_in, history_in, transcript_of, IsSeatOf, IsFreshPass};
     ghost use Rattle.faulty_objects.specs.Passes.{IsQueuePass};
 
     /// A queue for `n` callers with `cap` calls each, and a pass for each caller, in order. It is
@@ -165,12 +165,12 @@ impl OnePass {
             ≡ range_with_len 0 (callers_of self.words) }
         // Each pass is one of this queue.
         requires own { All (IsQueuePass self) passes.items }
-        // The passes tell one history. Its additions to the counter found 0, 1 and so on, so that
-        // the places are given in order, and each item that an exchange found had been put into
-        // this place and not taken since.
+        // The passes tell one history. Its additions to the counter found 0, 1 and so on, modulo
+        // 2^64, so that the places are given in order, and each item that an exchange found had
+        // been put into this place and not taken since.
         ensures history { (history : List Access)
             × TellOneQueue (callers_of self.words * cap_of self.words) (callers_of self.words)
-            history passes.items }
+            history (map transcript_of passes.items) }
     {
         let OnePass { words } = self;
         words.close(passes);

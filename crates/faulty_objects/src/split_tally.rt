@@ -27,7 +27,7 @@ pub struct SplitTally {
 }
 
 impl SplitTally {
-    ghost use Rattle.shared_words.specs.Passes.{caller_of_seat, history_of, deeds_of, caller_of_pass, made_with, cap_of_pass, pairs_in, history_in, IsSeatOf, IsFreshPass};
+    ghost use Rattle.shared_words.specs.Passes.{caller_of_seat, history_of, deeds_of, caller_of_pass, made_with, cap_of_pass, pairs_in, history_in, transcript_of, IsSeatOf, IsFreshPass};
     ghost use Rattle.faulty_objects.specs.Passes.{IsSplitPass};
 
     /// A split tally for `n` callers with `cap` calls each, and a pass for each caller, in order.
@@ -107,9 +107,9 @@ impl SplitTally {
         // Each pass is one of this tally.
         requires own { All (IsSplitPass self) passes.items }
         // The passes tell one history of loads and stores, of which each load found what the last
-        // store before it stored.
+        // store before it stored, or 0 where there is none.
         ensures history { (history : List Access)
-            × TellOneSplit (callers_of self.words) history passes.items }
+            × TellOneSplit (callers_of self.words) history (map transcript_of passes.items) }
     {
         let SplitTally { words } = self;
         words.close(passes);

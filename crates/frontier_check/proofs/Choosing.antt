@@ -13,7 +13,7 @@ use Rattle.book_base.specs.declared.call.Record.{Record}
 use Rattle.book_base.specs.Cut.{Holds, IsWithin}
 use Rattle.book_base.specs.Book.{Page, IsValid, IsCall, IsAnswered, operation_of, record_of, Precedes}
 use Rattle.book_base.specs.Order.{call_at, step_at, IsLegalOrder}
-use Rattle.book_base.specs.Foresight.{Leaves, IsInfeasible, HasEarly, rank_of}
+use Rattle.book_base.specs.PruningRules.{Leaves, IsInfeasible, HasEarly, rank_of}
 use Rattle.book_base.proofs.PageLemmas.{caller_from_call, caller_from_answer}
 use Rattle.book_base.proofs.GrowthLemmas.{below_calls}
 use Rattle.book_base.specs.Next.{next_call, raised, list_after, HoldsAnswered, MayComeNext, MayStandNext, Continues}

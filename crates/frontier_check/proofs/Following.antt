@@ -10,7 +10,7 @@ use Rattle.book_base.specs.declared.call.Record.{Record}
 use Rattle.book_base.specs.declared.TheConstants.{MAX_CALLERS, MAX_CALLS}
 use Rattle.book_base.specs.Book.{Page, IsValid, IsSmall, IsAnswered, record_of, Precedes}
 use Rattle.book_base.specs.Order.{call_at, step_at, IsLegalOrder}
-use Rattle.book_base.specs.Foresight.{Reaches}
+use Rattle.book_base.specs.PruningRules.{Reaches}
 use Rattle.book_base.proofs.PageLemmas.{caller_from_call}
 use Rattle.book_base.proofs.ViewLemmas.{same_call}
 use Rattle.book_base.proofs.ReachingLemmas.{no_places_reach_the_start, one_more_place_reaches_on}
@@ -18,8 +18,8 @@ use Rattle.book_base.specs.Next.{next_call, raised, list_after, MayComeNext, Con
 use Rattle.book_laws.proofs.LegalOrder.{raised_other, raised_more, raised_same, legal_order_from_continues}
 use Rattle.book_laws.proofs.Precedence.{may_come_next-from_first}
 use Rattle.frontier_check.specs.declared.prefix.Prefix.{Prefix}
-use Rattle.frontier_check.specs.declared.walk.TheConstants.{ROOM}
-use Rattle.frontier_check.specs.Prefix.{no_calls, IsNext, Follow, LeavesOpen, Stands, IsPut, IsPrefix}
+use Rattle.frontier_check.specs.declared.walk.TheConstants.{CAPACITY}
+use Rattle.frontier_check.specs.Prefix.{no_calls, IsNext, Follow, LeavesOpen, PrefixReaches, IsPut, IsPrefix}
 use Rattle.frontier_check.proofs.Leading.{zeros, raised_within, sum_raised, sum_small}
 
 -- one place more
@@ -159,7 +159,7 @@ prefix-from_put init next book prefix put leaves =
 pub stands-start : (init : List ℕ) (next : List ℕ → ℕ → List ℕ × ℕ) (book : List Page)
     (prefix : Prefix) → IsValid book → IsSmall book → length init ≤ 1
     → prefix.places.items ≡ [] → prefix.cut ≡ no_calls book → prefix.here.words ≡ init
-    → Stands init next book prefix
+    → PrefixReaches init next book prefix
 stands-start init next book prefix valid small begins places cut list =
     let long : length (no_calls book) ≡ length book = length-replicate (length book) 0 in
     record {
@@ -205,10 +205,10 @@ prefix-start init next book prefix valid small begins places cut list =
 pub record Putting (book : List Page) (prefix : Prefix) (place : Place) : Type 0 where
   pub caller : place.caller < length prefix.cut
   pub number : place.number < MAX_CALLS
-  pub words : length prefix.here.words < ROOM
+  pub words : length prefix.here.words < CAPACITY
 
 pub putting : (init : List ℕ) (next : List ℕ → ℕ → List ℕ × ℕ) (book : List Page) (prefix : Prefix)
-    (place : Place) → Stands init next book prefix → IsNext book prefix.cut place
+    (place : Place) → PrefixReaches init next book prefix → IsNext book prefix.cut place
     → Putting book prefix place
 putting init next book prefix place s is =
     let there : place.caller < length book =
@@ -282,9 +282,9 @@ put-more init next book old new place grows put is gives places cut list =
           (old.places.items ++ place ∷ []) (raised old.cut place.caller) l) (sym list) follow));
     }
 
--- The list of a prefix that stands fits the room of a state.
+-- The list of a prefix that reaches its cut fits the capacity of a state.
 pub stands-fit : (init : List ℕ) (next : List ℕ → ℕ → List ℕ × ℕ) (book : List Page)
-    (prefix : Prefix) → Stands init next book prefix → length prefix.here.words ≤ ROOM
+    (prefix : Prefix) → PrefixReaches init next book prefix → length prefix.here.words ≤ CAPACITY
 stands-fit init next book prefix s =
     let few : sum prefix.cut ≤ MAX_CALLERS * MAX_CALLS =
     sum_small book prefix.cut s.small s.wide s.within in

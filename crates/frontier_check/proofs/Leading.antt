@@ -11,13 +11,13 @@ use Rattle.book_base.specs.declared.call.Place.{Place}
 use Rattle.book_base.specs.declared.TheConstants.{MAX_CALLERS, MAX_CALLS}
 use Rattle.book_base.specs.Book.{Page, calls_of, IsCall, IsSmall}
 use Rattle.book_base.specs.Order.{call_at, step_at, IsLegalOrder, HasLegalOrder}
-use Rattle.book_base.specs.Foresight.{Reaches}
+use Rattle.book_base.specs.PruningRules.{Reaches}
 use Rattle.book_base.proofs.ReachingLemmas.{one_more_place_reaches_on}
 use Rattle.book_base.proofs.PageLemmas.{caller_from_call}
 use Rattle.book_base.specs.Next.{raised, list_after, HoldsAnswered, MayComeNext, Continues}
 use Rattle.book_laws.proofs.LegalOrder.{raised_same, raised_other, within_cut, continues_from_legal_order}
-use Rattle.frontier_check.specs.declared.walk.Level.{Level}
-use Rattle.frontier_check.specs.declared.walk.TheConstants.{ROOM}
+use Rattle.frontier_check.specs.declared.walk.WalkLevel.{WalkLevel}
+use Rattle.frontier_check.specs.declared.walk.TheConstants.{CAPACITY}
 use Rattle.frontier_check.specs.declared.prefix.Prefix.{Prefix}
 use Rattle.frontier_check.specs.Prefix.{no_calls, IsPrefix}
 use Rattle.book_base.specs.Pruning.{IsDeadEnd, IsReached}
@@ -25,7 +25,7 @@ use Rattle.frontier_check.specs.Search.{places_of, IsOpen, Leads, Fits, order_of
 
 -- one level more
 pub leads-push : (book : List Page) (next : List ℕ → ℕ → List ℕ × ℕ) (cut list : List ℕ)
-    (levels : List Level) (to_cut to_list : List ℕ) (level : Level)
+    (levels : List WalkLevel) (to_cut to_list : List ℕ) (level : WalkLevel)
     → Leads book next cut list levels to_cut to_list → level.words.items ≡ to_list
     → IsOpen book next to_cut to_list (level.place ∷ places_of level.choices.items)
     → Leads book next cut list (levels ++ level ∷ []) (raised to_cut level.place.caller)
@@ -51,7 +51,7 @@ leads-push book next cut list (first ∷ levels) to_cut to_list level (at, way, 
 
 -- where a walk stood before its last level
 pub record Back (book : List Page) (next : List ℕ → ℕ → List ℕ × ℕ) (cut list : List ℕ)
-    (levels : List Level) (level : Level) (to_cut to_list : List ℕ) : Type 0 where
+    (levels : List WalkLevel) (level : WalkLevel) (to_cut to_list : List ℕ) : Type 0 where
   pub from : List ℕ
   pub leads : Leads book next cut list levels from level.words.items
   pub here : IsOpen book next from level.words.items (level.place ∷ places_of level.choices.items)
@@ -60,7 +60,7 @@ pub record Back (book : List Page) (next : List ℕ → ℕ → List ℕ × ℕ)
 
 -- one level fewer
 pub leads-pop : (book : List Page) (next : List ℕ → ℕ → List ℕ × ℕ) (cut list : List ℕ)
-    (levels : List Level) (level : Level) (to_cut to_list : List ℕ)
+    (levels : List WalkLevel) (level : WalkLevel) (to_cut to_list : List ℕ)
     → Leads book next cut list (levels ++ level ∷ []) to_cut to_list
     → Back book next cut list levels level to_cut to_list
 leads-pop book next cut list [] level to_cut to_list (words, here, (cut_is, list_is)) = record {
@@ -85,7 +85,7 @@ leads-pop book next cut list (first ∷ levels) level to_cut to_list (words, her
 
 -- what the levels lead to goes on from where they begin
 leads-continues : (book : List Page) (next : List ℕ → ℕ → List ℕ × ℕ) (cut list : List ℕ)
-    (levels : List Level) (to_cut to_list : List ℕ)
+    (levels : List WalkLevel) (to_cut to_list : List ℕ)
     → Leads book next cut list levels to_cut to_list → HoldsAnswered book to_cut
     → Continues book next cut list (order_of levels)
 leads-continues book next cut list [] to_cut to_list (same_cut, same_list) all =
@@ -102,7 +102,7 @@ zeros book i = get_or-replicate_default (length book) i 0
 
 -- what goes on from where the levels lead to goes on, after them, from where they begin
 leads-more : (book : List Page) (next : List ℕ → ℕ → List ℕ × ℕ) (cut list : List ℕ)
-    (levels : List Level) (to_cut to_list : List ℕ) (rest : List Place)
+    (levels : List WalkLevel) (to_cut to_list : List ℕ) (rest : List Place)
     → Leads book next cut list levels to_cut to_list → Continues book next to_cut to_list rest
     → Continues book next cut list (order_of levels ++ rest)
 leads-more book next cut list [] to_cut to_list rest (same_cut, same_list) goes =
@@ -116,7 +116,7 @@ leads-more book next cut list (first ∷ levels) to_cut to_list rest (words, her
 
 -- what the levels lead to is reached by their places, where it is reached from where they begin
 leads-reaches : (init : List ℕ) (next : List ℕ → ℕ → List ℕ × ℕ) (book : List Page)
-    (before : List Place) (cut list : List ℕ) (levels : List Level) (to_cut to_list : List ℕ)
+    (before : List Place) (cut list : List ℕ) (levels : List WalkLevel) (to_cut to_list : List ℕ)
     → length book ≤ length cut → Reaches init next book before cut list
     → Leads book next cut list levels to_cut to_list
     → Reaches init next book (before ++ order_of levels) to_cut to_list
@@ -145,7 +145,7 @@ leads-reaches init next book before cut list (first ∷ levels) to_cut to_list w
 
 -- The levels that lead from a prefix to a cut and a list reach them, after its places.
 pub reached-from_leads : (init : List ℕ) (next : List ℕ → ℕ → List ℕ × ℕ) (book : List Page)
-    (prefix : Prefix) (levels : List Level) (cut list : List ℕ)
+    (prefix : Prefix) (levels : List WalkLevel) (cut list : List ℕ)
     → IsPrefix init next book prefix → Leads book next prefix.cut prefix.here.words levels cut list
     → IsReached init next book cut list
 reached-from_leads init next book prefix levels cut list f leads = record {
@@ -181,7 +181,7 @@ raised_within book cut call inside is at within i =
     ]
 
 -- how far levels lead
-pub record Reach (book : List Page) (cut list : List ℕ) (levels : List Level)
+pub record Reach (book : List Page) (cut list : List ℕ) (levels : List WalkLevel)
     (to_cut to_list : List ℕ) : Type 0 where
   pub wide : length to_cut ≡ length cut
   pub calls : sum to_cut ≡ sum cut + length levels
@@ -189,7 +189,7 @@ pub record Reach (book : List Page) (cut list : List ℕ) (levels : List Level)
   pub within : (i : ℕ) → get_or to_cut i 0 ≤ calls_of book i
 
 leads-reach : (book : List Page) (next : List ℕ → ℕ → List ℕ × ℕ) (cut list : List ℕ)
-    (levels : List Level) (to_cut to_list : List ℕ)
+    (levels : List WalkLevel) (to_cut to_list : List ℕ)
     → ((list : List ℕ) (op : ℕ) → length (next list op).0 ≤ length list + 1)
     → length book ≤ length cut → ((i : ℕ) → get_or cut i 0 ≤ calls_of book i)
     → Leads book next cut list levels to_cut to_list → Reach book cut list levels to_cut to_list
@@ -227,21 +227,21 @@ sum_small book counts small wide within =
     omega (arith, sum_by-le (λ (n : ℕ). n) MAX_CALLS counts few)
 
 -- What is known of where a walk from the start stands, where one more place may stand next.
-pub record Standing (book : List Page) (levels : List Level) (cut list : List ℕ)
+pub record WalkFacts (book : List Page) (levels : List WalkLevel) (cut list : List ℕ)
     (place : Place) : Type 0 where
   pub wide : length cut ≡ length book
   pub caller : place.caller < length cut
   pub number : place.number < MAX_CALLS
-  pub depth : length levels < ROOM
+  pub depth : length levels < CAPACITY
   pub fits : Fits cut list
-  pub after : length levels + 1 < ROOM
+  pub after : length levels + 1 < CAPACITY
 
 pub standing : (book : List Page) (prefix : Prefix) (init : List ℕ) (next : List ℕ → ℕ → List ℕ × ℕ)
-    (levels : List Level) (cut list : List ℕ) (place : Place)
+    (levels : List WalkLevel) (cut list : List ℕ) (place : Place)
     → IsPrefix init next book prefix
     → ((list : List ℕ) (op : ℕ) → length (next list op).0 ≤ length list + 1)
     → Leads book next prefix.cut prefix.here.words levels cut list
-    → MayComeNext book cut (call_at place) → Standing book levels cut list place
+    → MayComeNext book cut (call_at place) → WalkFacts book levels cut list place
 standing book prefix init next levels cut list place f grows leads may =
     let small = f.stands.small in
     let reach = leads-reach book next prefix.cut prefix.here.words levels cut list grows
@@ -267,7 +267,7 @@ standing book prefix init next levels cut list place f grows leads may =
 
 -- the cut at which a walk stands has a count for each caller
 pub leads-wide : (book : List Page) (prefix : Prefix) (init : List ℕ)
-    (next : List ℕ → ℕ → List ℕ × ℕ) (levels : List Level) (cut list : List ℕ)
+    (next : List ℕ → ℕ → List ℕ × ℕ) (levels : List WalkLevel) (cut list : List ℕ)
     → IsPrefix init next book prefix
     → ((list : List ℕ) (op : ℕ) → length (next list op).0 ≤ length list + 1)
     → Leads book next prefix.cut prefix.here.words levels cut list → length cut ≡ length book
@@ -278,7 +278,7 @@ leads-wide book prefix init next levels cut list f grows leads =
 -- The levels that lead to a cut with all answered calls make a legal order, after the places of the
 -- prefix.
 pub legal-from_leads : (book : List Page) (prefix : Prefix) (init : List ℕ)
-    (next : List ℕ → ℕ → List ℕ × ℕ) (levels : List Level) (cut list : List ℕ)
+    (next : List ℕ → ℕ → List ℕ × ℕ) (levels : List WalkLevel) (cut list : List ℕ)
     → IsPrefix init next book prefix
     → Leads book next prefix.cut prefix.here.words levels cut list → HoldsAnswered book cut
     → IsLegalOrder init next book (prefix.places.items ++ order_of levels)

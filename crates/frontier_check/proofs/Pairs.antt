@@ -5,11 +5,11 @@ use Rattle.std.proofs.lemmas.List.{length-append, length-drop, length_push, drop
 use Rattle.std.proofs.lemmas.Option.{slice_get_within}
 use Rattle.std.proofs.Math.Nat.{mul-le-mul_right}
 use Rattle.list_laws.proofs.Places.{slice_get-push_cases}
-use Rattle.frontier_check.specs.declared.memo.Entry.{Entry}
+use Rattle.frontier_check.specs.declared.memo.MemoEntry.{MemoEntry}
 use Rattle.frontier_check.specs.declared.memo.Memo.{Memo}
 use Rattle.frontier_check.specs.Memo.{IsMemo, Remembers, counts_at, words_at}
 
--- a part of a longer list that lies in its front
+-- a part of a longer list that lies in its prefix
 range-append_left : (xs ys : List ℕ) (from to : ℕ) → from ≤ to → to ≤ length xs
     → slice_range (xs ++ ys) from to ≡ slice_range xs from to
 range-append_left xs ys from to le within =
@@ -30,7 +30,7 @@ counts_inside k n callers h = let le : (k + 1) * callers ≤ n * callers =
     mul-le-mul_right callers (omega arith) in omega arith
 
 -- What is added at the end of a memo is the one pair that it remembers beside those that it did.
-pub record IsAdded (old new : Memo) (cut list : List ℕ) (entry : Entry) : Type 0 where
+pub record IsAdded (old new : Memo) (cut list : List ℕ) (entry : MemoEntry) : Type 0 where
   pub callers : new.callers ≡ old.callers
   pub counts : new.counts.items ≡ old.counts.items ++ cut
   pub words : new.words.items ≡ old.words.items ++ list
@@ -39,11 +39,11 @@ pub record IsAdded (old new : Memo) (cut list : List ℕ) (entry : Entry) : Type
   pub from : entry.from ≡ length old.words.items
   pub len : entry.len ≡ length list
 
-pub memo-added : (old new : Memo) (cut list : List ℕ) (entry : Entry) → IsMemo old
+pub memo-added : (old new : Memo) (cut list : List ℕ) (entry : MemoEntry) → IsMemo old
     → IsAdded old new cut list entry → length old.entries.items + 1 < 2 ^ 32 → IsMemo new
 memo-added old new cut list entry h a few =
     let total : length new.entries.items ≡ length old.entries.items + 1 =
-    ap (λ (l : List Entry). length l) a.entries ∙ length_push old.entries.items entry in
+    ap (λ (l : List MemoEntry). length l) a.entries ∙ length_push old.entries.items entry in
     let long : length new.counts.items ≡ length old.counts.items + length cut =
     ap (λ (l : List ℕ). length l) a.counts ∙ length-append old.counts.items cut in
     let longer : length new.words.items ≡ length old.words.items + length list =
@@ -56,28 +56,28 @@ memo-added old new cut list entry h a few =
           let all = h.counts in
           let wide = a.wide in
           omega arith;
-      words = λ (k : ℕ) (e : Entry) (at : slice_get new.entries.items k ≡ Some e).
+      words = λ (k : ℕ) (e : MemoEntry) (at : slice_get new.entries.items k ≡ Some e).
           let there : slice_get (old.entries.items ++ entry ∷ []) k ≡ Some e =
-          subst (λ (es : List Entry). slice_get es k ≡ Some e) a.entries at in
+          subst (λ (es : List MemoEntry). slice_get es k ≡ Some e) a.entries at in
           elim (slice_get-push_cases old.entries.items entry k e there) [
             | inl early ↦ omega (arith, h.words k e early)
             | inr last ↦ omega (
               arith,
               a.from,
               a.len,
-              ap (λ (x : Entry). x.from) last.1,
-              ap (λ (x : Entry). x.len) last.1,
+              ap (λ (x : MemoEntry). x.from) last.1,
+              ap (λ (x : MemoEntry). x.len) last.1,
             )
           ];
       few = omega arith;
     }
 
-pub remembers-added : (old new : Memo) (cut list : List ℕ) (entry : Entry) → IsMemo old
+pub remembers-added : (old new : Memo) (cut list : List ℕ) (entry : MemoEntry) → IsMemo old
     → IsAdded old new cut list entry
     → (c l : List ℕ) → Remembers new c l → Remembers old c l ⊎ ((c ≡ cut) × (l ≡ list))
 remembers-added old new cut list entry h a c l (k, e, at, counts, words) =
     let there : slice_get (old.entries.items ++ entry ∷ []) k ≡ Some e =
-    subst (λ (es : List Entry). slice_get es k ≡ Some e) a.entries at in
+    subst (λ (es : List MemoEntry). slice_get es k ≡ Some e) a.entries at in
     let wider : counts_at new k
     ≡ slice_range (old.counts.items ++ cut) (k * old.callers) (k * old.callers + old.callers) =
     ap (λ (n : ℕ). slice_range new.counts.items (k * n) (k * n + n)) a.callers ∙ ap
@@ -106,8 +106,8 @@ remembers-added old new cut list entry h a c l (k, e, at, counts, words) =
             counts ∙ (wider ∙ range-append_right old.counts.items cut (k * old.callers)
                 (k * old.callers + old.callers) start (omega arith)),
             words ∙ (longer ∙ range-append_right old.words.items list e.from (e.from + e.len)
-                (ap (λ (x : Entry). x.from) last.1 ∙ a.from)
-                (omega (arith, a.len, ap (λ (x : Entry). x.len) last.1))),
+                (ap (λ (x : MemoEntry). x.from) last.1 ∙ a.from)
+                (omega (arith, a.len, ap (λ (x : MemoEntry). x.len) last.1))),
           )
     ]
 

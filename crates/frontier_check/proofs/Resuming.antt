@@ -10,15 +10,15 @@ use Rattle.book_base.specs.declared.call.Place.{Place}
 use Rattle.book_base.specs.declared.call.Record.{Record}
 use Rattle.book_base.specs.Book.{Page, page_of, calls_of, answered, record_of, operation_of, IsCall, IsValid, IsSmall}
 use Rattle.book_base.specs.Order.{call_at, step_at}
-use Rattle.book_base.specs.Foresight.{list_after_run, Reaches}
+use Rattle.book_base.specs.PruningRules.{list_after_run, Reaches}
 use Rattle.book_base.specs.Next.{raised, list_after}
 use Rattle.book_base.proofs.PageLemmas.{caller_from_call, caller_from_answer}
 use Rattle.book_base.proofs.ViewLemmas.{answer_stands, answered_at}
 use Rattle.book_laws.proofs.LegalOrder.{raised_same, raised_other}
 use Rattle.frontier_check.specs.declared.prefix.Prefix.{Prefix}
 use Rattle.frontier_check.specs.declared.mark.Mark.{Mark}
-use Rattle.frontier_check.specs.declared.mark.Standing.{Standing}
-use Rattle.frontier_check.specs.declared.walk.TheConstants.{ROOM}
+use Rattle.frontier_check.specs.declared.mark.KeptOrder.{KeptOrder}
+use Rattle.frontier_check.specs.declared.walk.TheConstants.{CAPACITY}
 use Rattle.frontier_check.specs.Prefix.{no_calls, Follow, IsPut}
 use Rattle.frontier_check.specs.Standing.{HasGrown, IsQuiet, IsMark, AreMarks, IsStandingFor, IsAsWide, StillStands, MarksEnd, KeepsMarks}
 use Rattle.frontier_check.proofs.Following.{stands-fit}
@@ -266,7 +266,7 @@ module _ (init : List ℕ) (next : List ℕ → ℕ → List ℕ × ℕ) where
   )
 
   mark_fits : (book : List Page) (order : List Place) (m : Mark) → IsMark init next book order m
-      → length m.words.items ≤ ROOM
+      → length m.words.items ≤ CAPACITY
   mark_fits book order m is = omega (
     arith,
     ap (λ (l : List ℕ). length l) is.words,
@@ -296,7 +296,8 @@ module _ (init : List ℕ) (next : List ℕ → ℕ → List ℕ × ℕ) where
       (low, mark_stays a b order m grown is, marks_stay a b order m.len ms grown later)
 
   -- What stands stays in a book that has grown.
-  pub standing_stays : (a b : List Page) (s : Standing) → HasGrown a b → IsStandingFor init next a s
+  pub standing_stays : (a b : List Page) (s : KeptOrder) → HasGrown a b
+      → IsStandingFor init next a s
       → IsStandingFor init next b s
   standing_stays a b s grown h = marks_stay a b s.order.items 0 s.marks.items grown h
 
@@ -355,7 +356,7 @@ module _ (init : List ℕ) (next : List ℕ → ℕ → List ℕ × ℕ) where
 
   pub marks_fit : (book : List Page) (order : List Place) (ms : List Mark)
       → AreMarks init next book order 0 ms → (k : ℕ) (m : Mark) → k < length ms → m ≡ get_or ms k m
-      → (m.len ≤ length order) × (length m.words.items ≤ ROOM)
+      → (m.len ≤ length order) × (length m.words.items ≤ CAPACITY)
   marks_fit book order ms h k m low is =
       let found = (marks_at book order 0 ms k m low is h).1 in
       (mark_low book order m found, mark_fits book order m found)
@@ -405,7 +406,7 @@ module _ (init : List ℕ) (next : List ℕ → ℕ → List ℕ × ℕ) where
   marks_removed book order least (m ∷ ms) (suc k) (le, is, later) =
       (le, is, marks_removed book order m.len ms k later)
 
-  -- the first so many marks
+  -- the first marks, this many
   pub marks_fewer : (book : List Page) (order : List Place) (least n : ℕ) (ms : List Mark)
       → AreMarks init next book order least ms → AreMarks init next book order least (take n ms)
   marks_fewer book order least zero ms h = tt

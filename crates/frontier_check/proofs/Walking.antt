@@ -10,9 +10,9 @@ use Rattle.book_base.specs.Order.{IsLegalOrder}
 use Rattle.book_base.specs.Next.{next_call, raised, list_after, HoldsAnswered, MayComeNext}
 use Rattle.book_laws.proofs.LegalOrder.{answer_stands}
 use Rattle.frontier_check.specs.declared.choice.Choice.{Choice}
-use Rattle.frontier_check.specs.declared.walk.Level.{Level}
+use Rattle.frontier_check.specs.declared.walk.WalkLevel.{WalkLevel}
 use Rattle.frontier_check.specs.declared.walk.Walk.{Walk}
-use Rattle.frontier_check.specs.declared.walk.TheConstants.{ROOM}
+use Rattle.frontier_check.specs.declared.walk.TheConstants.{CAPACITY}
 use Rattle.frontier_check.specs.Memo.{IsMemo, Remembers}
 use Rattle.frontier_check.specs.declared.prefix.Prefix.{Prefix}
 use Rattle.frontier_check.specs.Prefix.{IsPrefix}
@@ -25,12 +25,12 @@ use Rattle.frontier_check.proofs.Weighing.{weigh-push, weigh-skip, weigh-pop}
 
 -- what a walk leads to, in the words of another with the same levels, counts and list
 same_leads : (book : List Page) (next : List ℕ → ℕ → List ℕ × ℕ) (cut list : List ℕ)
-    (levels new_levels : List Level) (to_cut new_cut to_list new_list : List ℕ)
+    (levels new_levels : List WalkLevel) (to_cut new_cut to_list new_list : List ℕ)
     → new_levels ≡ levels → new_cut ≡ to_cut → new_list ≡ to_list
     → Leads book next cut list levels to_cut to_list
     → Leads book next cut list new_levels new_cut new_list
 same_leads book next cut list levels new_levels to_cut new_cut to_list new_list e f k h =
-    subst (λ (ls : List Level). Leads book next cut list ls new_cut new_list) (sym e)
+    subst (λ (ls : List WalkLevel). Leads book next cut list ls new_cut new_list) (sym e)
     (subst (λ (c : List ℕ). Leads book next cut list levels c new_list) (sym f)
     (subst (λ (l : List ℕ). Leads book next cut list levels to_cut l) (sym k) h))
 
@@ -50,7 +50,7 @@ pub walk-choose : (book : List Page) (prefix : Prefix) (init : List ℕ)
     → old.choices.items ≡ new.choices.items ++ choice ∷ []
     → new.levels ≡ old.levels → new.counts ≡ old.counts → new.here ≡ old.here → new.memo ≡ old.memo
     → IsWalk book prefix init next new (choice.place ∷ places_of new.choices.items)
-    × (weigh ROOM new.levels.items (length new.choices.items + 1) ≡ weight old)
+    × (weigh CAPACITY new.levels.items (length new.choices.items + 1) ≡ weight old)
 walk-choose book prefix init next old new choice h choices levels counts here memo =
     let more : IsOpen book next old.counts.items old.here.words
     (places_of (new.choices.items ++ choice ∷ [])) =
@@ -73,8 +73,8 @@ walk-choose book prefix init next old new choice h choices levels counts here me
         callers = ap (λ m. m.callers) memo ∙ h.callers;
         room = ap (λ s. s.room) here ∙ h.room;
       },
-      ap (λ v. weigh ROOM v.items (length new.choices.items + 1)) levels
-          ∙ ap (λ (n : ℕ). weigh ROOM old.levels.items n) long,
+      ap (λ v. weigh CAPACITY v.items (length new.choices.items + 1)) levels
+          ∙ ap (λ (n : ℕ). weigh CAPACITY old.levels.items n) long,
     )
 
 -- one more dead end is remembered
@@ -112,13 +112,13 @@ pub walk-skip : (book : List Page) (prefix : Prefix) (init : List ℕ)
     → new.levels ≡ old.levels → new.counts.items ≡ old.counts.items → new.here ≡ old.here
     → new.choices ≡ old.choices → new.memo ≡ old.memo
     → IsWalk book prefix init next new (places_of new.choices.items)
-    × (weight new < weigh ROOM old.levels.items (length old.choices.items + 1))
+    × (weight new < weigh CAPACITY old.levels.items (length old.choices.items + 1))
 walk-skip book prefix init next old new place h there levels counts here choices memo =
     let dead = h.dead (raised old.counts.items place.caller)
     (list_after book next old.here.words place) there in
-    let same : weight new ≡ weigh ROOM old.levels.items (length old.choices.items) =
-    ap (λ v. weigh ROOM v.items (length new.choices.items)) levels
-    ∙ ap (λ v. weigh ROOM old.levels.items (length v.items)) choices in (
+    let same : weight new ≡ weigh CAPACITY old.levels.items (length old.choices.items) =
+    ap (λ v. weigh CAPACITY v.items (length new.choices.items)) levels
+    ∙ ap (λ v. weigh CAPACITY old.levels.items (length v.items)) choices in (
       record {
         begins = h.begins;
         leads = same_leads book next prefix.cut prefix.here.words old.levels.items new.levels.items
@@ -133,12 +133,12 @@ walk-skip book prefix init next old new place h there levels counts here choices
         callers = ap (λ m. m.callers) memo ∙ h.callers;
         room = ap (λ s. s.room) here ∙ h.room;
       },
-      omega (arith, same, weigh-skip ROOM old.levels.items (length old.choices.items)),
+      omega (arith, same, weigh-skip CAPACITY old.levels.items (length old.choices.items)),
     )
 
 -- What a place that is put next adds to a walk.
 pub record IsDeeper (book : List Page) (next : List ℕ → ℕ → List ℕ × ℕ) (old new : Walk)
-    (level : Level) : Type 0 where
+    (level : WalkLevel) : Type 0 where
   pub levels : new.levels.items ≡ old.levels.items ++ level ∷ []
   pub words : level.words.items ≡ old.here.words
   pub choices : level.choices.items ≡ old.choices.items
@@ -148,7 +148,7 @@ pub record IsDeeper (book : List Page) (next : List ℕ → ℕ → List ℕ × 
   pub memo : new.memo ≡ old.memo
 
 deeper-leads : (book : List Page) (prefix : Prefix) (init : List ℕ) (next : List ℕ → ℕ → List ℕ × ℕ)
-    (old new : Walk) (level : Level)
+    (old new : Walk) (level : WalkLevel)
     → IsWalk book prefix init next old (level.place ∷ places_of old.choices.items)
     → IsDeeper book next old new level
     → Leads book next prefix.cut prefix.here.words new.levels.items new.counts.items new.here.words
@@ -164,23 +164,24 @@ deeper-leads book prefix init next old new level h d =
     old.here.words level h.leads d.words here)
 
 pub walk-deeper : (book : List Page) (prefix : Prefix) (init : List ℕ)
-    (next : List ℕ → ℕ → List ℕ × ℕ) (old new : Walk) (level : Level)
+    (next : List ℕ → ℕ → List ℕ × ℕ) (old new : Walk) (level : WalkLevel)
     → ((list : List ℕ) (op : ℕ) → length (next list op).0 ≤ length list + 1)
     → IsWalk book prefix init next old (level.place ∷ places_of old.choices.items)
     → IsDeeper book next old new level
     → IsOpen book next new.counts.items new.here.words (places_of new.choices.items)
     → length new.choices.items ≤ length book
     → IsWalk book prefix init next new (places_of new.choices.items)
-    × (weight new < weigh ROOM old.levels.items (length old.choices.items + 1))
+    × (weight new < weigh CAPACITY old.levels.items (length old.choices.items + 1))
 walk-deeper book prefix init next old new level grows h d here few =
     let s = standing book prefix init next old.levels.items old.counts.items old.here.words
     level.place h.begins grows h.leads h.here.sound.0.may_come in
     let callers = h.begins.stands.small.callers in
-    let same : weight new ≡ weigh ROOM (old.levels.items ++ level ∷ []) (length new.choices.items) =
-    ap (λ (ls : List Level). weigh ROOM ls (length new.choices.items)) d.levels in
-    let more : weigh ROOM old.levels.items (length level.choices.items + 1)
-    ≡ weigh ROOM old.levels.items (length old.choices.items + 1) =
-    ap (λ (cs : List Choice). weigh ROOM old.levels.items (length cs + 1)) d.choices in (
+    let same : weight new
+    ≡ weigh CAPACITY (old.levels.items ++ level ∷ []) (length new.choices.items) =
+    ap (λ (ls : List WalkLevel). weigh CAPACITY ls (length new.choices.items)) d.levels in
+    let more : weigh CAPACITY old.levels.items (length level.choices.items + 1)
+    ≡ weigh CAPACITY old.levels.items (length old.choices.items + 1) =
+    ap (λ (cs : List Choice). weigh CAPACITY old.levels.items (length cs + 1)) d.choices in (
       record {
         begins = h.begins;
         leads = deeper-leads book prefix init next old new level h d;
@@ -194,12 +195,12 @@ walk-deeper book prefix init next old new level grows h d here few =
         arith,
         same,
         more,
-        weigh-push ROOM old.levels.items level (length new.choices.items) s.depth (omega arith),
+        weigh-push CAPACITY old.levels.items level (length new.choices.items) s.depth (omega arith),
       ),
     )
 
 pub walk-found : (book : List Page) (prefix : Prefix) (init : List ℕ)
-    (next : List ℕ → ℕ → List ℕ × ℕ) (old new : Walk) (level : Level)
+    (next : List ℕ → ℕ → List ℕ × ℕ) (old new : Walk) (level : WalkLevel)
     → IsWalk book prefix init next old (level.place ∷ places_of old.choices.items)
     → IsDeeper book next old new level → HoldsAnswered book new.counts.items
     → IsLegalOrder init next book (prefix.places.items ++ order_of new.levels.items)
@@ -208,7 +209,8 @@ walk-found book prefix init next old new level h d all =
     (deeper-leads book prefix init next old new level h d) all
 
 -- Where a place that is put next leads to.
-pub record LeadsTo (book : List Page) (next : List ℕ → ℕ → List ℕ × ℕ) (old : Walk) (level : Level)
+pub record LeadsTo (book : List Page) (next : List ℕ → ℕ → List ℕ × ℕ) (old : Walk)
+    (level : WalkLevel)
     (cut list : List ℕ) : Type 0 where
   pub words : level.words.items ≡ old.here.words
   pub choices : level.choices.items ≡ old.choices.items
@@ -216,7 +218,7 @@ pub record LeadsTo (book : List Page) (next : List ℕ → ℕ → List ℕ × �
   pub list_is : list ≡ list_after book next old.here.words level.place
 
 leads-to : (book : List Page) (prefix : Prefix) (init : List ℕ) (next : List ℕ → ℕ → List ℕ × ℕ)
-    (old : Walk) (level : Level) (cut list : List ℕ)
+    (old : Walk) (level : WalkLevel) (cut list : List ℕ)
     → IsWalk book prefix init next old (level.place ∷ places_of old.choices.items)
     → LeadsTo book next old level cut list
     → Leads book next prefix.cut prefix.here.words (old.levels.items ++ level ∷ []) cut list
@@ -233,7 +235,8 @@ leads-to book prefix init next old level cut list h to =
 
 -- Where a place leads to a pair that isn't the end, one more word fits the list there.
 pub deeper-fits : (book : List Page) (prefix : Prefix) (init : List ℕ)
-    (next : List ℕ → ℕ → List ℕ × ℕ) (old : Walk) (level : Level) (cut list : List ℕ) (first : ℕ)
+    (next : List ℕ → ℕ → List ℕ × ℕ) (old : Walk) (level : WalkLevel)
+    (cut list : List ℕ) (first : ℕ)
     → ((list : List ℕ) (op : ℕ) → length (next list op).0 ≤ length list + 1)
     → IsWalk book prefix init next old (level.place ∷ places_of old.choices.items)
     → LeadsTo book next old level cut list → IsLeast book cut (length book) first → Fits cut list
@@ -251,7 +254,7 @@ deeper-fits book prefix init next old level cut list first grows h to least =
 
 -- An order from the start reaches where a place leads to.
 pub deeper-reached : (book : List Page) (prefix : Prefix) (init : List ℕ)
-    (next : List ℕ → ℕ → List ℕ × ℕ) (old : Walk) (level : Level) (cut list : List ℕ)
+    (next : List ℕ → ℕ → List ℕ × ℕ) (old : Walk) (level : WalkLevel) (cut list : List ℕ)
     → IsWalk book prefix init next old (level.place ∷ places_of old.choices.items)
     → LeadsTo book next old level cut list → IsReached init next book cut list
 deeper-reached book prefix init next old level cut list h to =
@@ -260,17 +263,18 @@ deeper-reached book prefix init next old level cut list h to =
 
 -- one level back from a dead end
 pub walk-back : (book : List Page) (prefix : Prefix) (init : List ℕ)
-    (next : List ℕ → ℕ → List ℕ × ℕ) (old new : Walk) (level : Level)
+    (next : List ℕ → ℕ → List ℕ × ℕ) (old new : Walk) (level : WalkLevel)
     → IsWalk book prefix init next old [] → old.levels.items ≡ new.levels.items ++ level ∷ []
     → new.counts.items ≡ set old.counts.items level.place.caller level.place.number
     → new.here.words ≡ level.words.items → new.here.room ≡ old.here.room
     → new.choices ≡ level.choices → new.memo ≡ old.memo
     → IsWalk book prefix init next new (places_of new.choices.items)
-    × (weight new < weigh ROOM old.levels.items 0)
+    × (weight new < weigh CAPACITY old.levels.items 0)
 walk-back book prefix init next old new level h levels counts here room choices memo =
     let back = leads-pop book next prefix.cut prefix.here.words new.levels.items level
     old.counts.items old.here.words
-    (subst (λ (ls : List Level). Leads book next prefix.cut prefix.here.words ls old.counts.items
+    (subst
+    (λ (ls : List WalkLevel). Leads book next prefix.cut prefix.here.words ls old.counts.items
     old.here.words) levels h.leads) in
     let cut : new.counts.items ≡ back.from =
     counts ∙ (ap (λ (c : List ℕ). set c level.place.caller level.place.number) back.to_cut_is
@@ -282,10 +286,11 @@ walk-back book prefix init next old new level h levels counts here room choices 
     back.to_cut_is
     (subst (λ (l : List ℕ). IsDeadEnd book next old.counts.items l) back.to_list_is
     (dead_end book next old.counts.items old.here.words h.here)) in
-    let same : weight new ≡ weigh ROOM new.levels.items (length level.choices.items) =
-    ap (λ v. weigh ROOM new.levels.items (length v.items)) choices in
-    let old_is : weigh ROOM old.levels.items 0 ≡ weigh ROOM (new.levels.items ++ level ∷ []) 0 =
-    ap (λ (ls : List Level). weigh ROOM ls 0) levels in (
+    let same : weight new ≡ weigh CAPACITY new.levels.items (length level.choices.items) =
+    ap (λ v. weigh CAPACITY new.levels.items (length v.items)) choices in
+    let old_is : weigh CAPACITY old.levels.items 0
+    ≡ weigh CAPACITY (new.levels.items ++ level ∷ []) 0 =
+    ap (λ (ls : List WalkLevel). weigh CAPACITY ls 0) levels in (
       record {
         begins = h.begins;
         leads = same_leads book next prefix.cut prefix.here.words new.levels.items new.levels.items
@@ -299,24 +304,24 @@ walk-back book prefix init next old new level h levels counts here room choices 
         callers = ap (λ m. m.callers) memo ∙ h.callers;
         room = room ∙ h.room;
       },
-      omega (arith, same, old_is, weigh-pop ROOM new.levels.items level),
+      omega (arith, same, old_is, weigh-pop CAPACITY new.levels.items level),
     )
 
 -- what is known of the last level of a walk
-pub record LastLevel (old : Walk) (level : Level) : Type 0 where
+pub record LastLevel (old : Walk) (level : WalkLevel) : Type 0 where
   pub caller : level.place.caller < length old.counts.items
   pub number : level.place.number ≤ MAX_CALLS
-  pub words : length level.words.items ≤ ROOM
+  pub words : length level.words.items ≤ CAPACITY
 
 pub last_level : (book : List Page) (prefix : Prefix) (init : List ℕ)
-    (next : List ℕ → ℕ → List ℕ × ℕ) (old : Walk) (levels : List Level) (level : Level)
+    (next : List ℕ → ℕ → List ℕ × ℕ) (old : Walk) (levels : List WalkLevel) (level : WalkLevel)
     → ((list : List ℕ) (op : ℕ) → length (next list op).0 ≤ length list + 1)
     → IsWalk book prefix init next old [] → old.levels.items
     ≡ levels ++ level ∷ [] → LastLevel old level
 last_level book prefix init next old levels level grows h is =
     let back =
     leads-pop book next prefix.cut prefix.here.words levels level old.counts.items old.here.words
-    (subst (λ (ls : List Level).
+    (subst (λ (ls : List WalkLevel).
     Leads book next prefix.cut prefix.here.words ls old.counts.items old.here.words) is h.leads) in
     let s = standing book prefix init next levels back.from level.words.items level.place h.begins
     grows back.leads back.here.sound.0.may_come in
@@ -336,7 +341,8 @@ pub walk-none : (book : List Page) (prefix : Prefix) (init : List ℕ)
     → IsDeadEnd book next prefix.cut prefix.here.words
 walk-none book prefix init next walk h none =
     let leads : Leads book next prefix.cut prefix.here.words [] walk.counts.items walk.here.words =
-    subst (λ (ls : List Level). Leads book next prefix.cut prefix.here.words ls walk.counts.items
+    subst
+    (λ (ls : List WalkLevel). Leads book next prefix.cut prefix.here.words ls walk.counts.items
     walk.here.words) none h.leads in
     subst (λ (c : List ℕ). IsDeadEnd book next c prefix.here.words) (sym leads.0)
     (subst (λ (l : List ℕ). IsDeadEnd book next walk.counts.items l) (sym leads.1)
@@ -346,13 +352,13 @@ walk-none book prefix init next walk h none =
 pub walk-start : (book : List Page) (prefix : Prefix) (init : List ℕ)
     (next : List ℕ → ℕ → List ℕ × ℕ) (walk : Walk) → IsPrefix init next book prefix
     → walk.levels.items ≡ [] → walk.counts.items ≡ prefix.cut → walk.here.words ≡ prefix.here.words
-    → walk.here.room ≡ ROOM → IsMemo walk.memo → walk.memo.callers ≡ length book
+    → walk.here.room ≡ CAPACITY → IsMemo walk.memo → walk.memo.callers ≡ length book
     → ((cut list : List ℕ) → Remembers walk.memo cut list → ⊥)
     → IsOpen book next walk.counts.items walk.here.words (places_of walk.choices.items)
     → IsWalk book prefix init next walk (places_of walk.choices.items)
 walk-start book prefix init next walk f levels counts here room memo callers none start = record {
   begins = f;
-  leads = subst (λ (ls : List Level). Leads book next prefix.cut prefix.here.words ls
+  leads = subst (λ (ls : List WalkLevel). Leads book next prefix.cut prefix.here.words ls
       walk.counts.items walk.here.words) (sym levels) (sym counts, sym here);
   here = start;
   dead = λ cut list there. absurd (none cut list there);

@@ -2,7 +2,7 @@
 use Rattle.std.proofs.Common.{◌≡◌, ℕ, zero, suc, ◌+◌, ◌-◌, ◌*◌, ◌<◌, ◌≤◌, List, [], ◌∷◌, ◌++◌, length, sym, ap, arith}
 use Rattle.std.proofs.Math.Nat.{mul-le-mul_right}
 use Rattle.book_base.specs.declared.TheConstants.{MAX_CALLERS}
-use Rattle.frontier_check.specs.declared.walk.Level.{Level}
+use Rattle.frontier_check.specs.declared.walk.WalkLevel.{WalkLevel}
 use Rattle.frontier_check.specs.Search.{ways, weigh}
 
 ways_positive : (depth : ℕ) → 1 ≤ ways depth
@@ -24,7 +24,7 @@ lighter choices fresh above below e positive few =
     omega arith
 
 -- what goes down by a choice weighs less than the choice
-pub weigh-push : (depth : ℕ) (levels : List Level) (level : Level) (fresh : ℕ)
+pub weigh-push : (depth : ℕ) (levels : List WalkLevel) (level : WalkLevel) (fresh : ℕ)
     → length levels < depth → fresh ≤ MAX_CALLERS
     → weigh depth (levels ++ level ∷ []) fresh < weigh depth levels (length level.choices.items + 1)
 unfolding weigh
@@ -34,14 +34,14 @@ weigh-push depth (first ∷ levels) level fresh h few =
     omega (arith, weigh-push (depth - 1) levels level fresh (omega arith) few)
 
 -- a choice fewer weighs less
-pub weigh-skip : (depth : ℕ) (levels : List Level) (choices : ℕ)
+pub weigh-skip : (depth : ℕ) (levels : List WalkLevel) (choices : ℕ)
     → weigh depth levels choices < weigh depth levels (choices + 1)
 unfolding weigh
 weigh-skip depth [] choices = omega (arith, ways_positive depth)
 weigh-skip depth (first ∷ levels) choices = omega (arith, weigh-skip (depth - 1) levels choices)
 
 -- what is left of a level weighs less than the level and what is below it
-pub weigh-pop : (depth : ℕ) (levels : List Level) (level : Level)
+pub weigh-pop : (depth : ℕ) (levels : List WalkLevel) (level : WalkLevel)
     → weigh depth levels (length level.choices.items) < weigh depth (levels ++ level ∷ []) 0
 unfolding weigh
 weigh-pop depth [] level = omega (arith, ways_positive (depth - 1))

@@ -1,11 +1,11 @@
--- Fronts of orders: places that stand already.
+-- Prefixes of orders: the places that were put already.
 use Rattle.std.specs.Prelude.{◌≡◌, ℕ, ◌+◌, ◌≤◌, List, [], ◌∷◌, ◌++◌, length, replicate, sum, slice_index, Some}
 use Rattle.book_base.specs.declared.call.Place.{Place}
 use Rattle.book_base.specs.declared.call.Record.{Record}
 use Rattle.book_base.specs.Cut.{IsWithin}
 use Rattle.book_base.specs.Book.{Page, IsCall, IsValid, IsSmall, calls_of, record_of}
 use Rattle.book_base.specs.Order.{call_at, step_at, IsLegalOrder}
-use Rattle.book_base.specs.Foresight.{Reaches}
+use Rattle.book_base.specs.PruningRules.{Reaches}
 use Rattle.book_base.specs.Next.{next_call, raised, list_after, Continues}
 use Rattle.frontier_check.specs.declared.prefix.Prefix.{Prefix}
 
@@ -37,9 +37,9 @@ abbrev pub LeavesOpen : List Page → List ℕ → Type 0
 LeavesOpen book cut = (i : ℕ) (r : Record) → record_of book (next_call cut i) ≡ Some r
     → IsWithin cut r.view
 
--- A prefix of a valid and small book stands: its places reach its cut and its list, which are no
--- larger than that takes.
-pub record Stands (init : List ℕ) (next : List ℕ → ℕ → List ℕ × ℕ) (book : List Page)
+-- A prefix of orders of a valid and small book reaches its cut and its list by its places, and
+-- neither is larger than these places make it.
+pub record PrefixReaches (init : List ℕ) (next : List ℕ → ℕ → List ℕ × ℕ) (book : List Page)
     (prefix : Prefix) : Type 0 where
   pub valid : IsValid book
   pub small : IsSmall book
@@ -51,7 +51,7 @@ pub record Stands (init : List ℕ) (next : List ℕ → ℕ → List ℕ × ℕ
 -- The places of a prefix follow one another from the start.
 pub record IsPut (init : List ℕ) (next : List ℕ → ℕ → List ℕ × ℕ) (book : List Page)
     (prefix : Prefix) : Type 0 where
-  pub stands : Stands init next book prefix
+  pub stands : PrefixReaches init next book prefix
   pub follow : Follow book next
       (no_calls book) init prefix.places.items prefix.cut prefix.here.words
 
@@ -59,6 +59,6 @@ pub record IsPut (init : List ℕ) (next : List ℕ → ℕ → List ℕ × ℕ)
 -- places.
 pub record IsPrefix (init : List ℕ) (next : List ℕ → ℕ → List ℕ × ℕ) (book : List Page)
     (prefix : Prefix) : Type 0 where
-  pub stands : Stands init next book prefix
+  pub stands : PrefixReaches init next book prefix
   pub legal : (rest : List Place) → Continues book next prefix.cut prefix.here.words rest
       → IsLegalOrder init next book (prefix.places.items ++ rest)

@@ -5,23 +5,23 @@ use Rattle.book_base.specs.declared.call.Place.{Place}
 use Rattle.book_base.specs.declared.TheConstants.{MAX_CALLERS}
 use Rattle.book_base.specs.Order.{IsLegalOrder}
 use Rattle.book_base.specs.Book.{Page}
-use Rattle.book_base.specs.Foresight.{HasEarly}
+use Rattle.book_base.specs.PruningRules.{HasEarly}
 use Rattle.book_base.specs.declared.marks.Marks.{Marks}
 use Rattle.book_base.specs.Pruning.{IsDeadEnd, IsMarked, MarksSuffice}
 use Rattle.book_base.specs.Next.{next_call, raised, list_after, HoldsAnswered, MayComeNext, MayStandNext, Continues}
 use Rattle.frontier_check.specs.declared.choice.Choice.{Choice}
 use Rattle.frontier_check.specs.declared.prefix.Prefix.{Prefix}
-use Rattle.frontier_check.specs.declared.walk.Level.{Level}
+use Rattle.frontier_check.specs.declared.walk.WalkLevel.{WalkLevel}
 use Rattle.frontier_check.specs.declared.walk.Walk.{Walk}
-use Rattle.frontier_check.specs.declared.walk.Outcome.{Outcome}
-use Rattle.frontier_check.specs.declared.walk.Outcome.TheVariants.{Found, NoneLeft, GoesOn}
-use Rattle.frontier_check.specs.declared.walk.TheConstants.{ROOM}
+use Rattle.frontier_check.specs.declared.walk.StepOutcome.{StepOutcome}
+use Rattle.frontier_check.specs.declared.walk.StepOutcome.TheVariants.{Found, NoneLeft, GoesOn}
+use Rattle.frontier_check.specs.declared.walk.TheConstants.{CAPACITY}
 use Rattle.frontier_check.specs.Memo.{IsMemo, Remembers}
 use Rattle.frontier_check.specs.Prefix.{IsPrefix}
 
 -- the object's list may grow by one word for each call of a book
 abbrev pub Fits : List ℕ → List ℕ → Type 0
-Fits cut list = length list + 1 ≤ ROOM
+Fits cut list = length list + 1 ≤ CAPACITY
 
 -- the place is one of these
 abbrev pub IsAmong : Place → List Place → Type 0
@@ -96,7 +96,7 @@ pub record AreToTry (book : List Page) (next : List ℕ → ℕ → List ℕ × 
 
 -- The levels lead from a cut and a list to others: at each level its words are the list, its place
 -- stands next, and the places besides its own that are still to be tried are those of its choices.
-abbrev pub Leads : List Page → (List ℕ → ℕ → List ℕ × ℕ) → List ℕ → List ℕ → List Level → List ℕ
+abbrev pub Leads : List Page → (List ℕ → ℕ → List ℕ × ℕ) → List ℕ → List ℕ → List WalkLevel → List ℕ
     → List ℕ → Type 0
 Leads book next cut list [] to_cut to_list = (cut ≡ to_cut) × (list ≡ to_list)
 Leads book next cut list (level ∷ levels) to_cut to_list =
@@ -120,10 +120,10 @@ pub record IsWalk (book : List Page) (prefix : Prefix) (init : List ℕ)
   pub dead : AllDead book next walk
   pub memo : IsMemo walk.memo
   pub callers : walk.memo.callers ≡ length book
-  pub room : walk.here.room ≡ ROOM
+  pub room : walk.here.room ≡ CAPACITY
 
 -- the places of levels, in order
-abbrev pub order_of : List Level → List Place
+abbrev pub order_of : List WalkLevel → List Place
 order_of levels = map (λ level. level.place) levels
 
 -- how many ways there may be of this many places, where at each of them no more may be tried than
@@ -134,19 +134,19 @@ ways (suc depth) = (MAX_CALLERS + 2) * ways depth
 
 -- how much may be left to try, where at most this many places follow the first cut: each choice of
 -- a level weighs more than all that may come below it
-unfoldable pub weigh : ℕ → List Level → ℕ → ℕ
+unfoldable pub weigh : ℕ → List WalkLevel → ℕ → ℕ
 weigh depth [] choices = (choices + 1) * ways depth
 weigh depth (level ∷ levels) choices =
     (length level.choices.items + 1) * ways depth + weigh (depth - 1) levels choices
 
 -- the weight of a walk
 abbrev pub weight : Walk → ℕ
-weight walk = weigh ROOM walk.levels.items (length walk.choices.items)
+weight walk = weigh CAPACITY walk.levels.items (length walk.choices.items)
 
 -- What came of a step is so: the levels make a legal order after the prefix, nothing goes on from
 -- the prefix, or the walk goes on with less weight than before.
 abbrev pub IsRightOutcome : List Page → Prefix → List ℕ → (List ℕ → ℕ → List ℕ × ℕ) → ℕ → Walk
-    → Outcome → Type 0
+    → StepOutcome → Type 0
 IsRightOutcome book prefix init next before walk Found =
     IsLegalOrder init next book (prefix.places.items ++ order_of walk.levels.items)
 IsRightOutcome book prefix init next before walk NoneLeft =

@@ -6,7 +6,7 @@ use Rattle.book_base.specs.declared.call.Record.{Record}
 use Rattle.book_base.specs.Book.{Page, answers_of, answered, operation_of, record_of}
 use Rattle.frontier_check.specs.declared.prefix.Prefix.{Prefix}
 use Rattle.frontier_check.specs.declared.mark.Mark.{Mark}
-use Rattle.frontier_check.specs.declared.mark.Standing.{Standing}
+use Rattle.frontier_check.specs.declared.mark.KeptOrder.{KeptOrder}
 use Rattle.frontier_check.specs.Prefix.{LeavesOpen, IsPut}
 
 -- A book has grown to another one: it has the same callers, and all its calls and records are the
@@ -49,7 +49,7 @@ AreMarks init next book order least (mark ∷ marks) =
 
 -- What stands is of this book, or of one from which it has grown.
 abbrev pub IsStandingFor : (init : List ℕ) → (next : List ℕ → ℕ → List ℕ × ℕ) → List Page
-    → Standing → Type 0
+    → KeptOrder → Type 0
 IsStandingFor init next book standing =
     AreMarks init next book standing.order.items 0 standing.marks.items
 

@@ -17,7 +17,7 @@ mod walk;
 
 pub use book_base::Place;
 pub use guide::Guide;
-pub use mark::Standing;
+pub use mark::KeptOrder;
 pub use memo::Memo;
 pub use verdict::{Verdict, check, check_after, check_from};
 pub use walk::load;

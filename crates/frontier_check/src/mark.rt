@@ -14,7 +14,7 @@ pub struct Mark {
 /// The last legal order that was found, with marks at intervals. The next search begins after the
 /// last of them whose places still follow one another.
 #[derive(Debug, Drop)]
-pub struct Standing {
+pub struct KeptOrder {
     pub order: Vec<Place>,
     pub marks: Vec<Mark>,
 }

@@ -1,12 +1,12 @@
 ghost use Rattle.std.specs.Prelude.{◌≡◌, ℕ, ◌+◌, ◌*◌, ◌<◌, ◌≤◌, ◌⊎◌, ◌↔◌, [], List, length, slice_get, OnOk, IfOk, IsTrue, Some};
-ghost use Rattle.frontier_check.specs.declared.memo.Entry.{Entry};
+ghost use Rattle.frontier_check.specs.declared.memo.MemoEntry.{MemoEntry};
 
 use book_base::NoMemory;
 use std::alloc::Global;
 
 /// Where the words of a remembered pair lie.
 #[derive(Clone, Copy)]
-pub struct Entry {
+pub struct MemoEntry {
     pub from: u32,
     pub len: u32,
 }
@@ -18,7 +18,7 @@ pub struct Memo {
     pub callers: usize,
     pub counts: Vec<u16>,
     pub words: Vec<u64>,
-    pub entries: Vec<Entry>,
+    pub entries: Vec<MemoEntry>,
     pub slots: Vec<u32>,
 }
 
@@ -92,7 +92,7 @@ impl Memo {
     fn words_of(&self, index: usize) -> &[u64]
         requires memo { IsMemo self.now }
         requires index { index < length self.now.entries.items }
-        ensures { (entry : Entry) → slice_get self.now.entries.items index ≡ Some entry
+        ensures { (entry : MemoEntry) → slice_get self.now.entries.items index ≡ Some entry
             → result.now ≡ words_at self.now entry }
     {
         let entry = self.entries[index];
@@ -134,7 +134,7 @@ impl Memo {
         ensures only { OnOk result ((cut list : List ℕ) → Remembers self.new cut list
             → Remembers self.old cut list ⊎ ((cut ≡ counts.now) × (list ≡ words.now))) }
     {
-        let entry = Entry {
+        let entry = MemoEntry {
             from: self.words.len() as u32,
             len: words.len() as u32,
         };

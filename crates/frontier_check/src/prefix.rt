@@ -8,7 +8,7 @@ ghost use Rattle.frontier_check.specs.Prefix.{no_calls, IsNext, IsPut, IsPrefix,
 ghost use Rattle.frontier_check.specs.Standing.{AreMarks, MarksEnd, KeepsMarks};
 
 use crate::mark::Mark;
-use crate::walk::ROOM;
+use crate::walk::CAPACITY;
 use book_base::{Book, Call, Cut, NoMemory, Place, SeqObject, State};
 use std::alloc::Global;
 
@@ -28,9 +28,9 @@ impl Prefix {
         ensures places { IfOk result (λ prefix. prefix.places.items ≡ []) }
         ensures cut { IfOk result (λ prefix. prefix.cut ≡ no_calls book.now) }
         ensures list { IfOk result (λ prefix. prefix.here.words ≡ S.init object.now) }
-        ensures room { IfOk result (λ prefix. prefix.here.room ≡ ROOM) }
+        ensures room { IfOk result (λ prefix. prefix.here.room ≡ CAPACITY) }
     {
-        let mut here = State::with_room(alloc, ROOM)?;
+        let mut here = State::with_room(alloc, CAPACITY)?;
         object.reset(&mut here);
         Ok(Prefix {
             places: Vec::new(alloc),
@@ -72,7 +72,7 @@ impl Prefix {
     ) -> Result<bool, NoMemory>
         requires limit { length limit.now ≡ length book.now }
         requires put { IsPut (S.init object.now) (S.next object.now) book.now self.old }
-        requires room { self.old.here.room ≡ ROOM }
+        requires room { self.old.here.room ≡ CAPACITY }
         ensures { IfOk result (λ given. IsTrue given
             → IsPut (S.init object.now) (S.next object.now) book.now self.new) }
     {
@@ -100,12 +100,12 @@ impl Prefix {
     ) -> Result<bool, NoMemory>
         requires limit { length limit.now ≡ length book.now }
         requires put { IsPut (S.init object.now) (S.next object.now) book.now self.old }
-        requires room { self.old.here.room ≡ ROOM }
+        requires room { self.old.here.room ≡ CAPACITY }
         requires marks { AreMarks (S.init object.now)
             (S.next object.now) book.now self.old.places.items 0 marks.old.items }
         ensures put { IfOk result (λ given. IsTrue given
             → IsPut (S.init object.now) (S.next object.now) book.now self.new) }
-        ensures room { IfOk result (λ given. IsTrue given → self.new.here.room ≡ ROOM) }
+        ensures room { IfOk result (λ given. IsTrue given → self.new.here.room ≡ CAPACITY) }
         ensures marks { IfOk result (λ given. IsTrue given
             → AreMarks (S.init object.now)
             (S.next object.now) book.now self.new.places.items 0 marks.new.items) }
@@ -190,11 +190,11 @@ impl Prefix {
     ) -> Result<bool, NoMemory>
         requires put { IsPut (S.init object.now) (S.next object.now) book.now self.old }
         requires next { IsNext book.now self.old.cut place }
-        requires room { self.old.here.room ≡ ROOM }
+        requires room { self.old.here.room ≡ CAPACITY }
         ensures put { IfOk result (λ given. IsTrue given
             → IsPut (S.init object.now) (S.next object.now) book.now self.new) }
         ensures places { OnOk result (self.new.places.items ≡ self.old.places.items ++ place ∷ []) }
-        ensures room { self.new.here.room ≡ ROOM }
+        ensures room { self.new.here.room ≡ CAPACITY }
     {
         let op = book.op(Call {
             caller: place.caller,

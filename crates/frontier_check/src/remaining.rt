@@ -3,7 +3,7 @@
 ghost use Rattle.std.specs.Prelude.{◌≡◌, length};
 
 use crate::prefix::Prefix;
-use crate::walk::ROOM;
+use crate::walk::CAPACITY;
 use book_base::{Book, BookFault, Call, Cut, Decision, NoMemory, OpWord, Place, SeqObject, State};
 use std::alloc::Global;
 
@@ -46,7 +46,7 @@ fn puts_of<S: SeqObject>(
     book: &Book,
     prefix: &Prefix,
 ) -> Result<Vec<OpWord>, NoMemory> {
-    let mut spare = State::with_room(alloc, ROOM)?;
+    let mut spare = State::with_room(alloc, CAPACITY)?;
     let mut wanted = Vec::from_slice(alloc, prefix.here.words())?;
     let mut puts = Vec::new(alloc);
     for back in 0..prefix.places.len() {
@@ -85,8 +85,8 @@ fn put_at<S: SeqObject>(
     place: Place,
     word: u64,
 ) -> Option<OpWord>
-    requires { spare.old.room ≡ ROOM }
-    ensures { spare.new.room ≡ ROOM }
+    requires { spare.old.room ≡ CAPACITY }
+    ensures { spare.new.room ≡ CAPACITY }
 {
     let op = operation_at(book, place)?;
     object.reset(spare);
@@ -110,7 +110,7 @@ fn add_puts<S: SeqObject>(
     puts: &[OpWord],
     left: &mut Book,
 ) -> Result<bool, NoMemory> {
-    let mut here = State::with_room(alloc, ROOM)?;
+    let mut here = State::with_room(alloc, CAPACITY)?;
     object.reset(&mut here);
     for back in 0..puts.len() {
         if here.len() >= here.room() {
@@ -135,7 +135,7 @@ fn view_of_first(left: &Book, number: u64) -> Cut {
     view
 }
 
-// Adds the calls of a book after a cut. Whether there was room for all.
+// Adds the calls of a book after a cut. It answers whether all of them fit.
 fn add_calls(book: &Book, cut: &Cut, left: &mut Book) -> Result<bool, NoMemory>
     requires { length cut.now ≡ length book.now }
 {
@@ -149,7 +149,7 @@ fn add_calls(book: &Book, cut: &Cut, left: &mut Book) -> Result<bool, NoMemory>
     Ok(true)
 }
 
-// Adds the answers of a book after a cut, where caller 0 has so many calls before those of the
+// Adds the answers of a book after a cut, where caller 0 has this many calls before those of the
 // book. Whether all fit.
 fn add_answers(book: &Book, cut: &Cut, before: u64, left: &mut Book) -> Result<bool, NoMemory>
     requires { length cut.now ≡ length book.now }

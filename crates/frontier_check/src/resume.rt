@@ -5,7 +5,7 @@ ghost use Rattle.frontier_check.specs.Standing.{IsQuiet, IsAsWide, StillStands, 
 
 use crate::mark::Mark;
 use crate::prefix::{Prefix, leaves_open};
-use crate::walk::{ROOM, load};
+use crate::walk::{CAPACITY, load};
 use book_base::{Book, Cut, NoMemory, Place, SeqObject, State};
 use std::alloc::Global;
 
@@ -58,13 +58,13 @@ fn prefix_at(
     mark: &Mark,
 ) -> Result<(Prefix, Vec<Place>), NoMemory>
     requires len { mark.now.len ≤ length order.items }
-    requires words { length mark.now.words.items ≤ ROOM }
+    requires words { length mark.now.words.items ≤ CAPACITY }
     ensures places { IfOk result (λ r. r.0.places.items ≡ take mark.now.len order.items) }
     ensures cut { IfOk result (λ r. r.0.cut ≡ mark.now.cut) }
     ensures words { IfOk result (λ r. r.0.here.words ≡ mark.now.words.items) }
-    ensures room { IfOk result (λ r. r.0.here.room ≡ ROOM) }
+    ensures room { IfOk result (λ r. r.0.here.room ≡ CAPACITY) }
 {
-    let mut here = State::with_room(alloc, ROOM)?;
+    let mut here = State::with_room(alloc, CAPACITY)?;
     load(&mut here, &mark.words);
     let later = Vec::from_slice(alloc, &order[mark.len..])?;
     let mut places = order;
@@ -89,7 +89,7 @@ pub fn resume<S: SeqObject>(
     requires marks { AreMarks (S.init object.now)
         (S.next object.now) book.now order.items 0 marks.old.items }
     ensures put { IfOk result (λ r. IsPut (S.init object.now) (S.next object.now) book.now r.0) }
-    ensures room { IfOk result (λ r. r.0.here.room ≡ ROOM) }
+    ensures room { IfOk result (λ r. r.0.here.room ≡ CAPACITY) }
     ensures marks { IfOk result (λ r.
         AreMarks (S.init object.now)
         (S.next object.now) book.now r.0.places.items 0 marks.new.items) }

@@ -4,7 +4,7 @@ ghost use Rattle.book_base.specs.declared.call.Place.{Place};
 ghost use Rattle.book_base.specs.declared.call.Record.{Record};
 ghost use Rattle.book_base.specs.Book.{IsCall, IsAnswered, IsValid, record_of};
 ghost use Rattle.book_base.specs.Order.{IsLegalOrder};
-ghost use Rattle.book_base.specs.Foresight.{IsForesight, IsInfeasible};
+ghost use Rattle.book_base.specs.PruningRules.{ArePruningRules, IsInfeasible};
 ghost use Rattle.book_base.specs.declared.TheConstants.{MAX_CALLERS, MAX_CALLS};
 ghost use Rattle.book_base.specs.Next.{next_call, raised, list_after, HoldsAnswered, MayComeNext, MayStandNext};
 ghost use Rattle.frontier_check.specs.Prefix.{IsPrefix};
@@ -16,8 +16,8 @@ use crate::memo::Memo;
 use crate::plan::Plan;
 use crate::prefix::Prefix;
 use crate::twins::choose;
-use crate::walk::{Level, Outcome, ROOM, Walk, load, places, set_count};
-use book_base::{Book, Call, Cut, Foresight, Marks, NoMemory, Place, SeqObject, Sight, State};
+use crate::walk::{CAPACITY, StepOutcome, Walk, WalkLevel, load, places, set_count};
+use book_base::{Book, Call, Cut, Marks, NoMemory, Place, PruningRules, SeqObject, Sight, State};
 use next_calls::{all_next, cut_of, first_view, least_open};
 use std::alloc::Global;
 use std::mem;
@@ -27,7 +27,7 @@ pub struct Search<'a, S> {
     pub alloc: Global,
     pub object: &'a S,
     pub book: &'a Book,
-    pub known: &'a Foresight,
+    pub known: &'a PruningRules,
     pub limited: bool,
     pub one_open: bool,
     pub sight: &'a Option<Sight>,
@@ -54,7 +54,7 @@ impl<S> Drop for Search<'_, S> {
 impl<S: SeqObject> Search<'_, S> {
     /// Finds the places that make a legal order after those of the prefix, if there are any.
     pub fn run(&self) -> Result<Option<Vec<Place>>, NoMemory>
-        requires foresight { IsForesight (S.init self.now.object.now)
+        requires pruning_rules { ArePruningRules (S.init self.now.object.now)
             (S.next self.now.object.now) self.now.book.now self.now.known.now }
         requires open { IsTrue self.now.one_open → HasOneOpen self.now.book.now }
         requires sight { IfSome self.now.sight.now (λ sight. HasOneOpen self.now.book.now
@@ -67,7 +67,7 @@ impl<S: SeqObject> Search<'_, S> {
         ensures none { IfOk result (λ found. IfNone found (IsDeadEnd self.now.book.now
             (S.next self.now.object.now) self.now.prefix.now.cut self.now.prefix.now.here.words)) }
     {
-        let mut spare = State::with_room(self.alloc, ROOM)?;
+        let mut spare = State::with_room(self.alloc, CAPACITY)?;
         match self.begin(&mut spare)? {
             None => Ok(Some(Vec::new(self.alloc))),
             Some(mut walk) => self.go_on(&mut walk, &mut spare),
@@ -77,7 +77,7 @@ impl<S: SeqObject> Search<'_, S> {
     /// The places that make a legal order after those of the prefix, if they are found within this
     /// many steps. `None` says nothing: there may be some, and no clause says that it looks so far.
     pub fn run_few(&self, steps: u64) -> Result<Option<Vec<Place>>, NoMemory>
-        requires foresight { IsForesight (S.init self.now.object.now)
+        requires pruning_rules { ArePruningRules (S.init self.now.object.now)
             (S.next self.now.object.now) self.now.book.now self.now.known.now }
         requires open { IsTrue self.now.one_open → HasOneOpen self.now.book.now }
         requires sight { IfSome self.now.sight.now (λ sight. HasOneOpen self.now.book.now
@@ -88,7 +88,7 @@ impl<S: SeqObject> Search<'_, S> {
             (λ rest. IsLegalOrder (S.init self.now.object.now) (S.next self.now.object.now)
             self.now.book.now (self.now.prefix.now.places.items ++ rest.items))) }
     {
-        let mut spare = State::with_room(self.alloc, ROOM)?;
+        let mut spare = State::with_room(self.alloc, CAPACITY)?;
         match self.begin(&mut spare)? {
             None => Ok(Some(Vec::new(self.alloc))),
             Some(mut walk) => self.go_few(&mut walk, &mut spare, steps),
@@ -97,15 +97,15 @@ impl<S: SeqObject> Search<'_, S> {
 
     // The walk that stands where the prefix ends; there is none where all answered calls stand.
     fn begin(&self, spare: &mut State) -> Result<Option<Walk>, NoMemory>
-        requires foresight { IsForesight (S.init self.now.object.now)
+        requires pruning_rules { ArePruningRules (S.init self.now.object.now)
             (S.next self.now.object.now) self.now.book.now self.now.known.now }
         requires open { IsTrue self.now.one_open → HasOneOpen self.now.book.now }
         requires sight { IfSome self.now.sight.now (λ sight. HasOneOpen self.now.book.now
             × S.sees self.now.object.now self.now.book.now sight) }
         requires prefix { IsPrefix (S.init self.now.object.now)
             (S.next self.now.object.now) self.now.book.now self.now.prefix.now }
-        requires room { spare.old.room ≡ ROOM }
-        ensures room { spare.new.room ≡ ROOM }
+        requires room { spare.old.room ≡ CAPACITY }
+        ensures room { spare.new.room ≡ CAPACITY }
         ensures walk { IfOk result (λ begun. IfSome begun
             (λ walk. IsWalk self.now.book.now self.now.prefix.now (S.init self.now.object.now)
             (S.next self.now.object.now) walk (places_of walk.choices.items))) }
@@ -116,7 +116,7 @@ impl<S: SeqObject> Search<'_, S> {
         let Some(first) = least_open(self.book, &counts) else {
             return Ok(None);
         };
-        let mut here = State::with_room(self.alloc, ROOM)?;
+        let mut here = State::with_room(self.alloc, CAPACITY)?;
         here.copy_from(&self.prefix.here);
         let choices = self.choices(&counts, &here, spare, first)?;
         let memo = Memo::new(self.alloc, counts.len());
@@ -131,14 +131,14 @@ impl<S: SeqObject> Search<'_, S> {
 
     // Goes on with a walk until it has found a legal order, or all is tried.
     fn go_on(&self, walk: &mut Walk, spare: &mut State) -> Result<Option<Vec<Place>>, NoMemory>
-        requires foresight { IsForesight (S.init self.now.object.now)
+        requires pruning_rules { ArePruningRules (S.init self.now.object.now)
             (S.next self.now.object.now) self.now.book.now self.now.known.now }
         requires open { IsTrue self.now.one_open → HasOneOpen self.now.book.now }
         requires sight { IfSome self.now.sight.now (λ sight. HasOneOpen self.now.book.now
             × S.sees self.now.object.now self.now.book.now sight) }
         requires walk { IsWalk self.now.book.now self.now.prefix.now (S.init self.now.object.now)
             (S.next self.now.object.now) walk.old (places_of walk.old.choices.items) }
-        requires room { spare.old.room ≡ ROOM }
+        requires room { spare.old.room ≡ CAPACITY }
         ensures found { IfOk result (λ found. IfSome found
             (λ rest. IsLegalOrder (S.init self.now.object.now) (S.next self.now.object.now)
             self.now.book.now (self.now.prefix.now.places.items ++ rest.items))) }
@@ -147,9 +147,9 @@ impl<S: SeqObject> Search<'_, S> {
     {
         'steps: loop {
             match self.advance(walk, spare)? {
-                Outcome::Found => return Ok(Some(places(self.alloc, &walk.levels)?)),
-                Outcome::NoneLeft => return Ok(None),
-                Outcome::GoesOn => {}
+                StepOutcome::Found => return Ok(Some(places(self.alloc, &walk.levels)?)),
+                StepOutcome::NoneLeft => return Ok(None),
+                StepOutcome::GoesOn => {}
             }
         }
     }
@@ -161,39 +161,39 @@ impl<S: SeqObject> Search<'_, S> {
         spare: &mut State,
         steps: u64,
     ) -> Result<Option<Vec<Place>>, NoMemory>
-        requires foresight { IsForesight (S.init self.now.object.now)
+        requires pruning_rules { ArePruningRules (S.init self.now.object.now)
             (S.next self.now.object.now) self.now.book.now self.now.known.now }
         requires open { IsTrue self.now.one_open → HasOneOpen self.now.book.now }
         requires sight { IfSome self.now.sight.now (λ sight. HasOneOpen self.now.book.now
             × S.sees self.now.object.now self.now.book.now sight) }
         requires walk { IsWalk self.now.book.now self.now.prefix.now (S.init self.now.object.now)
             (S.next self.now.object.now) walk.old (places_of walk.old.choices.items) }
-        requires room { spare.old.room ≡ ROOM }
+        requires room { spare.old.room ≡ CAPACITY }
         ensures found { IfOk result (λ found. IfSome found
             (λ rest. IsLegalOrder (S.init self.now.object.now) (S.next self.now.object.now)
             self.now.book.now (self.now.prefix.now.places.items ++ rest.items))) }
     {
         for _ in 0..steps {
             match self.advance(walk, spare)? {
-                Outcome::Found => return Ok(Some(places(self.alloc, &walk.levels)?)),
-                Outcome::NoneLeft => return Ok(None),
-                Outcome::GoesOn => {}
+                StepOutcome::Found => return Ok(Some(places(self.alloc, &walk.levels)?)),
+                StepOutcome::NoneLeft => return Ok(None),
+                StepOutcome::GoesOn => {}
             }
         }
         Ok(None)
     }
 
     // Tries the best choice that is left, or leaves a dead end.
-    fn advance(&self, walk: &mut Walk, spare: &mut State) -> Result<Outcome, NoMemory>
-        requires foresight { IsForesight (S.init self.now.object.now)
+    fn advance(&self, walk: &mut Walk, spare: &mut State) -> Result<StepOutcome, NoMemory>
+        requires pruning_rules { ArePruningRules (S.init self.now.object.now)
             (S.next self.now.object.now) self.now.book.now self.now.known.now }
         requires open { IsTrue self.now.one_open → HasOneOpen self.now.book.now }
         requires sight { IfSome self.now.sight.now (λ sight. HasOneOpen self.now.book.now
             × S.sees self.now.object.now self.now.book.now sight) }
         requires walk { IsWalk self.now.book.now self.now.prefix.now (S.init self.now.object.now)
             (S.next self.now.object.now) walk.old (places_of walk.old.choices.items) }
-        requires room { spare.old.room ≡ ROOM }
-        ensures room { spare.new.room ≡ ROOM }
+        requires room { spare.old.room ≡ CAPACITY }
+        ensures room { spare.new.room ≡ CAPACITY }
         ensures outcome { IfOk result (IsRightOutcome self.now.book.now self.now.prefix.now
             (S.init self.now.object.now) (S.next self.now.object.now) (weight walk.old) walk.new) }
     {
@@ -208,46 +208,51 @@ impl<S: SeqObject> Search<'_, S> {
     }
 
     // Puts a place next, unless that leads to a remembered dead end.
-    fn enter(&self, walk: &mut Walk, spare: &mut State, place: Place) -> Result<Outcome, NoMemory>
-        requires foresight { IsForesight (S.init self.now.object.now)
+    fn enter(
+        &self,
+        walk: &mut Walk,
+        spare: &mut State,
+        place: Place,
+    ) -> Result<StepOutcome, NoMemory>
+        requires pruning_rules { ArePruningRules (S.init self.now.object.now)
             (S.next self.now.object.now) self.now.book.now self.now.known.now }
         requires open { IsTrue self.now.one_open → HasOneOpen self.now.book.now }
         requires sight { IfSome self.now.sight.now (λ sight. HasOneOpen self.now.book.now
             × S.sees self.now.object.now self.now.book.now sight) }
         requires walk { IsWalk self.now.book.now self.now.prefix.now (S.init self.now.object.now)
             (S.next self.now.object.now) walk.old (place ∷ places_of walk.old.choices.items) }
-        requires room { spare.old.room ≡ ROOM }
-        ensures room { spare.new.room ≡ ROOM }
+        requires room { spare.old.room ≡ CAPACITY }
+        ensures room { spare.new.room ≡ CAPACITY }
         ensures outcome { IfOk result (IsRightOutcome self.now.book.now self.now.prefix.now
             (S.init self.now.object.now) (S.next self.now.object.now)
-            (weigh ROOM walk.old.levels.items (length walk.old.choices.items + 1)) walk.new) }
+            (weigh CAPACITY walk.old.levels.items (length walk.old.choices.items + 1)) walk.new) }
     {
         self.step(walk, spare, place);
         if walk.memo.remembers(&walk.counts, walk.here.words()) {
             set_count(&mut walk.counts, place.caller, place.number);
             walk.here.copy_from(spare);
-            return Ok(Outcome::GoesOn);
+            return Ok(StepOutcome::GoesOn);
         }
         let words = Vec::from_slice(self.alloc, spare.words())?;
         match least_open(self.book, &walk.counts) {
             None => {
                 let choices = mem::replace(&mut walk.choices, Vec::new(self.alloc));
-                walk.levels.push(Level {
+                walk.levels.push(WalkLevel {
                     place,
                     words,
                     choices,
                 })?;
-                Ok(Outcome::Found)
+                Ok(StepOutcome::Found)
             }
             Some(first) => {
                 let fresh = self.choices(&walk.counts, &walk.here, spare, first)?;
                 let choices = mem::replace(&mut walk.choices, fresh);
-                walk.levels.push(Level {
+                walk.levels.push(WalkLevel {
                     place,
                     words,
                     choices,
                 })?;
-                Ok(Outcome::GoesOn)
+                Ok(StepOutcome::GoesOn)
             }
         }
     }
@@ -256,7 +261,7 @@ impl<S: SeqObject> Search<'_, S> {
     fn step(&self, walk: &mut Walk, spare: &mut State, place: Place)
         requires walk { IsWalk self.now.book.now self.now.prefix.now (S.init self.now.object.now)
             (S.next self.now.object.now) walk.old (place ∷ places_of walk.old.choices.items) }
-        requires room { spare.old.room ≡ ROOM }
+        requires room { spare.old.room ≡ CAPACITY }
         ensures spare { spare.new ≡ record spare.old { words = walk.old.here.words } }
         ensures here { walk.new.here ≡ record walk.old.here {
           words =
@@ -277,16 +282,16 @@ impl<S: SeqObject> Search<'_, S> {
     }
 
     // Leaves a dead end: goes back by one level.
-    fn retreat(&self, walk: &mut Walk) -> Outcome
+    fn retreat(&self, walk: &mut Walk) -> StepOutcome
         requires walk { IsWalk self.now.book.now self.now.prefix.now (S.init self.now.object.now)
             (S.next self.now.object.now) walk.old [] }
         ensures { IsRightOutcome self.now.book.now self.now.prefix.now (S.init self.now.object.now)
-            (S.next self.now.object.now) (weigh ROOM walk.old.levels.items 0) walk.new result }
+            (S.next self.now.object.now) (weigh CAPACITY walk.old.levels.items 0) walk.new result }
     {
         let Some(level) = walk.levels.pop() else {
-            return Outcome::NoneLeft;
+            return StepOutcome::NoneLeft;
         };
-        let Level {
+        let WalkLevel {
             place,
             words,
             choices,
@@ -294,7 +299,7 @@ impl<S: SeqObject> Search<'_, S> {
         set_count(&mut walk.counts, place.caller, place.number);
         load(&mut walk.here, &words);
         walk.choices = choices;
-        Outcome::GoesOn
+        StepOutcome::GoesOn
     }
 
     // What is to be tried after the calls of a cut, at a list of the object: of the callers that
@@ -309,7 +314,7 @@ impl<S: SeqObject> Search<'_, S> {
         spare: &mut State,
         first: u32,
     ) -> Result<Vec<Choice>, NoMemory>
-        requires foresight { IsForesight (S.init self.now.object.now)
+        requires pruning_rules { ArePruningRules (S.init self.now.object.now)
             (S.next self.now.object.now) self.now.book.now self.now.known.now }
         requires open { IsTrue self.now.one_open → HasOneOpen self.now.book.now }
         requires sight { IfSome self.now.sight.now (λ sight. HasOneOpen self.now.book.now
@@ -319,8 +324,8 @@ impl<S: SeqObject> Search<'_, S> {
         requires wide { length counts.now ≡ length self.now.book.now }
         requires first { IsLeast self.now.book.now counts.now (length self.now.book.now) first }
         requires fits { Fits counts.now here.now.words }
-        requires room { spare.old.room ≡ ROOM }
-        ensures room { spare.new.room ≡ ROOM }
+        requires room { spare.old.room ≡ CAPACITY }
+        ensures room { spare.new.room ≡ CAPACITY }
         ensures open { IfOk result (λ choices. IsOpen self.now.book.now
             (S.next self.now.object.now) counts.now here.now.words (places_of choices.items)) }
         ensures few { IfOk result (λ choices. length choices.items ≤ length self.now.book.now) }
@@ -382,8 +387,8 @@ impl<S: SeqObject> Search<'_, S> {
             ≡ Some r → r.view ≡ view.now }
         requires views { length view.now ≡ length self.now.book.now }
         requires fits { Fits counts.now here.now.words }
-        requires room { spare.old.room ≡ ROOM }
-        ensures room { spare.new.room ≡ ROOM }
+        requires room { spare.old.room ≡ CAPACITY }
+        ensures room { spare.new.room ≡ CAPACITY }
         ensures some { IfSome result (StandsAtOnce self.now.book.now
             (S.next self.now.object.now) counts.now here.now.words) }
     {
@@ -412,8 +417,8 @@ impl<S: SeqObject> Search<'_, S> {
         requires caller { caller < length counts.now }
         requires may { MayComeNext self.now.book.now counts.now (next_call counts.now caller) }
         requires fits { Fits counts.now here.now.words }
-        requires room { spare.old.room ≡ ROOM }
-        ensures room { spare.new.room ≡ ROOM }
+        requires room { spare.old.room ≡ CAPACITY }
+        ensures room { spare.new.room ≡ CAPACITY }
         ensures some { IfSome result (StandsAtOnce self.now.book.now
             (S.next self.now.object.now) counts.now here.now.words) }
     {
@@ -463,7 +468,7 @@ impl<S: SeqObject> Search<'_, S> {
     fn is_infeasible(&self, cut: &Cut, here: &State, earliest: Option<u64>, caller: u32) -> bool
         requires caller { caller < length cut.now }
         requires earliest { IfSome earliest (IsRankIn self.now.known.now.ranks here.now.words) }
-        requires foresight { IsForesight (S.init self.now.object.now)
+        requires pruning_rules { ArePruningRules (S.init self.now.object.now)
             (S.next self.now.object.now) self.now.book.now self.now.known.now }
         ensures { IsTrue result
             → IsInfeasible (S.init self.now.object.now) (S.next self.now.object.now)
@@ -499,11 +504,11 @@ impl<S: SeqObject> Search<'_, S> {
         requires caller { caller < length counts.now }
         requires may { MayComeNext self.now.book.now counts.now (next_call counts.now caller) }
         requires fits { Fits counts.now here.now.words }
-        requires room { spare.old.room ≡ ROOM }
+        requires room { spare.old.room ≡ CAPACITY }
         requires sound { AllByRecursion
             (MayStandNext self.now.book.now (S.next self.now.object.now) counts.now here.now.words)
             (places_of choices.old.items) }
-        ensures room { spare.new.room ≡ ROOM }
+        ensures room { spare.new.room ≡ CAPACITY }
         ensures more { OnOk result
             (IsOneMore self.now.book.now (S.next self.now.object.now) counts.now here.now.words
             caller (places_of choices.old.items) (places_of choices.new.items)) }

@@ -1,21 +1,21 @@
 ghost use Rattle.std.specs.Prelude.{◌≡◌, ◌++◌, IfOk, IfSome, IfNone, IsTrue};
-ghost use Rattle.book_base.specs.Foresight.{IsForesight};
+ghost use Rattle.book_base.specs.PruningRules.{ArePruningRules};
 ghost use Rattle.book_base.specs.Order.{IsLegalOrder, HasLegalOrder};
 ghost use Rattle.book_base.specs.Pruning.{HasOneOpen};
 ghost use Rattle.frontier_check.specs.Prefix.{IsPut, IsPrefix};
 ghost use Rattle.frontier_check.specs.Standing.{AreMarks, IsStandingFor};
 ghost use Rattle.frontier_check.specs.Verdict.{IsRight, IsKept};
-ghost use Rattle.frontier_check.specs.declared.walk.TheConstants.{ROOM};
+ghost use Rattle.frontier_check.specs.declared.walk.TheConstants.{CAPACITY};
 
 use crate::fresh::{calls_after, holds_answered, put_fresh};
 use crate::guide::Guide;
-use crate::mark::{Mark, Standing};
+use crate::mark::{KeptOrder, Mark};
 use crate::plan::Plan;
 use crate::prefix::{Prefix, leaves_open, limit_of};
 use crate::remaining::decided_after;
 use crate::resume::resume;
 use crate::search::Search;
-use book_base::{Book, Call, Decision, Foresight, NoMemory, Place, SeqObject, Sight};
+use book_base::{Book, Call, Decision, NoMemory, Place, PruningRules, SeqObject, Sight};
 use next_calls::has_one_open;
 use std::alloc::Global;
 
@@ -86,8 +86,8 @@ pub fn check_after<S: SeqObject>(
     alloc: Global,
     object: &S,
     book: &Book,
-    standing: Option<Standing>,
-) -> Result<Option<Standing>, NoMemory>
+    standing: Option<KeptOrder>,
+) -> Result<Option<KeptOrder>, NoMemory>
     // What stands, where anything does, is for this object of this book, or of one from which it
     // has grown.
     requires standing { IfSome standing
@@ -104,7 +104,7 @@ pub fn check_after<S: SeqObject>(
 {
     match standing {
         None => {
-            let nothing = Standing {
+            let nothing = KeptOrder {
                 order: Vec::new(alloc),
                 marks: Vec::new(alloc),
             };
@@ -119,8 +119,8 @@ fn check_on<S: SeqObject>(
     alloc: Global,
     object: &S,
     book: &Book,
-    standing: Standing,
-) -> Result<Option<Standing>, NoMemory>
+    standing: KeptOrder,
+) -> Result<Option<KeptOrder>, NoMemory>
     requires standing { IsStandingFor (S.init object.now) (S.next object.now) book.now standing }
     ensures legal { IfOk result (λ found. IfSome found
         (λ s. IsLegalOrder (S.init object.now) (S.next object.now) book.now s.order.items)) }
@@ -129,7 +129,7 @@ fn check_on<S: SeqObject>(
     ensures illegal { IfOk result (λ found. IfNone found
         (HasLegalOrder (S.init object.now) (S.next object.now) book.now → ⊥)) }
 {
-    let Standing { order, mut marks } = standing;
+    let KeptOrder { order, mut marks } = standing;
     let (mut prefix, later) = resume(alloc, object, book, order, &mut marks)?;
     let limit = limit_of(book, &prefix.cut, &later);
     let before = prefix.places.len();
@@ -137,7 +137,7 @@ fn check_on<S: SeqObject>(
         return check_anew(alloc, object, book, &prefix.places);
     }
     let later = later_of(&later, prefix.places.len().saturating_sub(before));
-    if !put_fresh(alloc, object, book, later, &mut prefix, &mut marks)? {
+    if !put_fresh(alloc, object, book, &mut prefix, &mut marks)? {
         return check_anew(alloc, object, book, &prefix.places);
     }
     match rest_after(alloc, object, book, later, &prefix, FIRST_STEPS)? {
@@ -157,7 +157,7 @@ fn check_on<S: SeqObject>(
             } = prefix;
             let mut order = places;
             order.extend_from_slice(&rest)?;
-            Ok(Some(Standing { order, marks }))
+            Ok(Some(KeptOrder { order, marks }))
         }
     }
 }
@@ -174,7 +174,7 @@ fn check_before<S: SeqObject>(
     book: &Book,
     order: Vec<Place>,
     marks: Vec<Mark>,
-) -> Result<Option<Standing>, NoMemory>
+) -> Result<Option<KeptOrder>, NoMemory>
     requires marks { AreMarks (S.init object.now)
         (S.next object.now) book.now order.items 0 marks.items }
     ensures legal { IfOk result (λ found. IfSome found
@@ -184,6 +184,7 @@ fn check_before<S: SeqObject>(
     ensures illegal { IfOk result (λ found. IfNone found
         (HasLegalOrder (S.init object.now) (S.next object.now) book.now → ⊥)) }
 {
+    let mut order = order;
     let mut marks = marks;
     let mut fewer = 0usize;
     for _ in 0..TURNS_BACK {
@@ -192,51 +193,42 @@ fn check_before<S: SeqObject>(
             return check_anew(alloc, object, book, &order);
         }
         marks.truncate(left);
-        match order_after_mark(alloc, object, book, &order, &mut marks)? {
-            Some(order) => return Ok(Some(Standing { order, marks })),
-            None => fewer = fewer.saturating_mul(2).saturating_add(1),
+        let (next, is_legal) = order_after_mark(alloc, object, book, order, &mut marks)?;
+        order = next;
+        if is_legal {
+            return Ok(Some(KeptOrder { order, marks }));
         }
+        fewer = fewer.saturating_mul(2).saturating_add(1);
     }
     check_anew(alloc, object, book, &order)
 }
 
-// A legal order that begins as this one does up to the last of its marks that still stands, if the
-// object decides what is left after it, or one is found soon. The marks after that one are gone.
+// An order that begins as this one does up to the last of its marks that still stands, and whether
+// it is a legal one: it is, if the object decides what is left after the mark, or if some order is
+// found soon. The marks after that one are gone.
 fn order_after_mark<S: SeqObject>(
     alloc: Global,
     object: &S,
     book: &Book,
-    order: &[Place],
+    order: Vec<Place>,
     marks: &mut Vec<Mark>,
-) -> Result<Option<Vec<Place>>, NoMemory>
+) -> Result<(Vec<Place>, bool), NoMemory>
     requires marks { AreMarks (S.init object.now)
-        (S.next object.now) book.now order.now 0 marks.old.items }
-    ensures legal { IfOk result (λ found. IfSome found
-        (λ order. IsLegalOrder (S.init object.now) (S.next object.now) book.now order.items)) }
-    ensures marks { IfOk result (λ found. IfSome found
-        (λ order.
-        AreMarks (S.init object.now) (S.next object.now) book.now order.items 0 marks.new.items)) }
-    ensures kept { IfOk result (λ found. IfNone found
-        (AreMarks (S.init object.now) (S.next object.now) book.now order.now 0 marks.new.items)) }
+        (S.next object.now) book.now order.items 0 marks.old.items }
+    ensures legal { IfOk result (λ r. IsTrue r.1
+        → IsLegalOrder (S.init object.now) (S.next object.now) book.now r.0.items) }
+    ensures marks { IfOk result (λ r.
+        AreMarks (S.init object.now) (S.next object.now) book.now r.0.items 0 marks.new.items) }
 {
-    let all = Vec::from_slice(alloc, order)?;
-    let (prefix, later) = resume(alloc, object, book, all, marks)?;
-    if let Some(places) = decided_after(alloc, object, book, &prefix)? {
-        let Some(order) = order_by(alloc, object, book, &places, prefix, marks)? else {
-            // Some of them may be marks of the places that are given up.
-            marks.clear();
-            return Ok(None);
-        };
-        return Ok(Some(order));
+    let (prefix, later) = resume(alloc, object, book, order, marks)?;
+    match decided_after(alloc, object, book, &prefix)? {
+        Some(places) => order_by(alloc, object, book, &places, prefix, marks),
+        None => order_on(alloc, object, book, &later, prefix, marks),
     }
-    let Some(order) = order_on(alloc, object, book, &later, prefix, marks)? else {
-        return Ok(None);
-    };
-    Ok(Some(order))
 }
 
-// A legal order that begins with the places of a prefix and with those of these that follow them,
-// if what is left then is found soon.
+// An order that begins with the places of a prefix and with those of these that follow them, and
+// whether it is a legal one: it is, if what is left then is found soon. Else it has no marks.
 fn order_by<S: SeqObject>(
     alloc: Global,
     object: &S,
@@ -244,26 +236,38 @@ fn order_by<S: SeqObject>(
     places: &[Place],
     mut prefix: Prefix,
     marks: &mut Vec<Mark>,
-) -> Result<Option<Vec<Place>>, NoMemory>
+) -> Result<(Vec<Place>, bool), NoMemory>
     requires put { IsPut (S.init object.now) (S.next object.now) book.now prefix }
-    requires room { prefix.here.room ≡ ROOM }
+    requires room { prefix.here.room ≡ CAPACITY }
     requires marks { AreMarks (S.init object.now)
         (S.next object.now) book.now prefix.places.items 0 marks.old.items }
-    ensures legal { IfOk result (λ found. IfSome found
-        (λ order. IsLegalOrder (S.init object.now) (S.next object.now) book.now order.items)) }
-    ensures marks { IfOk result (λ found. IfSome found
-        (λ order.
-        AreMarks (S.init object.now) (S.next object.now) book.now order.items 0 marks.new.items)) }
+    ensures legal { IfOk result (λ r. IsTrue r.1
+        → IsLegalOrder (S.init object.now) (S.next object.now) book.now r.0.items) }
+    ensures marks { IfOk result (λ r.
+        AreMarks (S.init object.now) (S.next object.now) book.now r.0.items 0 marks.new.items) }
 {
     let limit = limit_of(book, &prefix.cut, places);
     if !prefix.put_marked(alloc, object, book, &limit, places, marks)? {
-        return Ok(None);
+        marks.clear();
+        let Prefix {
+            places: order,
+            cut: _,
+            here: _,
+        } = prefix;
+        return Ok((order, false));
     }
-    order_on(alloc, object, book, &[], prefix, marks)
+    let (order, is_legal) = order_on(alloc, object, book, &[], prefix, marks)?;
+    if is_legal {
+        return Ok((order, true));
+    }
+    // Some of them may be marks of the places that are given up.
+    marks.clear();
+    Ok((order, false))
 }
 
-// A legal order that begins with the places of a prefix, if one is found soon: the later places are
-// tried first. The marks of those places are marks of it.
+// An order that begins with the places of a prefix, and whether it is a legal one: it is, if one is
+// found soon, and else it goes on with the later places, which are tried first. The marks of the
+// prefix are marks of it.
 fn order_on<S: SeqObject>(
     alloc: Global,
     object: &S,
@@ -271,26 +275,31 @@ fn order_on<S: SeqObject>(
     later: &[Place],
     prefix: Prefix,
     _marks: &[Mark],
-) -> Result<Option<Vec<Place>>, NoMemory>
+) -> Result<(Vec<Place>, bool), NoMemory>
     requires put { IsPut (S.init object.now) (S.next object.now) book.now prefix }
     requires marks { AreMarks (S.init object.now)
         (S.next object.now) book.now prefix.places.items 0 _marks.now }
-    ensures legal { IfOk result (λ found. IfSome found
-        (λ order. IsLegalOrder (S.init object.now) (S.next object.now) book.now order.items)) }
-    ensures marks { IfOk result (λ found. IfSome found
-        (λ order.
-        AreMarks (S.init object.now) (S.next object.now) book.now order.items 0 _marks.now)) }
+    ensures legal { IfOk result (λ r. IsTrue r.1
+        → IsLegalOrder (S.init object.now) (S.next object.now) book.now r.0.items) }
+    ensures marks { IfOk result (λ r.
+        AreMarks (S.init object.now) (S.next object.now) book.now r.0.items 0 _marks.now) }
 {
-    let Some(rest) = rest_after(alloc, object, book, later, &prefix, STEPS)? else {
-        return Ok(None);
-    };
+    let found = rest_after(alloc, object, book, later, &prefix, STEPS)?;
     let Prefix {
         mut places,
         cut: _,
         here: _,
     } = prefix;
-    places.extend_from_slice(&rest)?;
-    Ok(Some(places))
+    match found {
+        Some(rest) => {
+            places.extend_from_slice(&rest)?;
+            Ok((places, true))
+        }
+        None => {
+            places.extend_from_slice(later)?;
+            Ok((places, false))
+        }
+    }
 }
 
 // Looks for a legal order anywhere, and tries the guide's places first. It has no marks yet.
@@ -299,7 +308,7 @@ fn check_anew<S: SeqObject>(
     object: &S,
     book: &Book,
     guide: &[Place],
-) -> Result<Option<Standing>, NoMemory>
+) -> Result<Option<KeptOrder>, NoMemory>
     ensures legal { IfOk result (λ found. IfSome found
         (λ s. IsLegalOrder (S.init object.now) (S.next object.now) book.now s.order.items)) }
     ensures stands { IfOk result (λ found. IfSome found
@@ -309,7 +318,7 @@ fn check_anew<S: SeqObject>(
 {
     match order_anywhere(alloc, object, book, guide)? {
         None => Ok(None),
-        Some(order) => Ok(Some(Standing {
+        Some(order) => Ok(Some(KeptOrder {
             order,
             marks: Vec::new(alloc),
         })),
@@ -336,7 +345,7 @@ fn rest_after<S: SeqObject>(
     if holds_answered(book, &prefix.cut) {
         return Ok(Some(Vec::new(alloc)));
     }
-    let known = Foresight::none(alloc);
+    let known = PruningRules::none(alloc);
     places_after(alloc, object, book, &known, later, prefix, more)
 }
 
@@ -392,7 +401,7 @@ fn order_after<S: SeqObject>(
     ensures { IfOk result (λ found. IfSome found
         (λ order. IsLegalOrder (S.init object.now) (S.next object.now) book.now order.items)) }
 {
-    let known = Foresight::none(alloc);
+    let known = PruningRules::none(alloc);
     let later = later_of(guide, prefix.places.len());
     let Some(rest) = places_after(alloc, object, book, &known, later, &prefix, STEPS)? else {
         return Ok(None);
@@ -406,7 +415,7 @@ fn order_after<S: SeqObject>(
     Ok(Some(places))
 }
 
-// The places of a guide but for the first so many.
+// The places of a guide from this number on.
 fn later_of(guide: &[Place], taken: usize) -> &[Place] {
     if taken < guide.len() {
         &guide[taken..]
@@ -421,12 +430,13 @@ fn places_after<S: SeqObject>(
     alloc: Global,
     object: &S,
     book: &Book,
-    known: &Foresight,
+    known: &PruningRules,
     later: &[Place],
     prefix: &Prefix,
     more: u64,
 ) -> Result<Option<Vec<Place>>, NoMemory>
-    requires foresight { IsForesight (S.init object.now) (S.next object.now) book.now known.now }
+    requires pruning_rules { ArePruningRules (S.init object.now)
+        (S.next object.now) book.now known.now }
     requires prefix { IsPrefix (S.init object.now) (S.next object.now) book.now prefix.now }
     ensures { IfOk result (λ found. IfSome found (λ rest. IsLegalOrder (S.init object.now)
         (S.next object.now) book.now (prefix.now.places.items ++ rest.items))) }
@@ -481,7 +491,7 @@ fn order_searched<S: SeqObject>(
 {
     let one_open = has_one_open(book);
     let sight = sight_of(alloc, object, book, one_open)?;
-    let known = object.foresee(alloc, book)?;
+    let known = object.find_pruning_rules(alloc, book)?;
     let prefix = Prefix::new(alloc, object, book)?;
     let plan = Plan::new(alloc, book, guide, &prefix)?;
     let search = Search {
@@ -517,7 +527,7 @@ fn sight_of<S: SeqObject>(
 }
 
 // Whether a call of a book has a limit. No clause says so: it costs or saves time alone.
-fn has_limits(book: &Book, known: &Foresight) -> bool {
+fn has_limits(book: &Book, known: &PruningRules) -> bool {
     for caller in 0..book.callers() {
         for number in 0..book.calls(caller) {
             if known.limit(Call { caller, number }) > 0 {

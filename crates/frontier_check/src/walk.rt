@@ -7,13 +7,13 @@ use crate::memo::Memo;
 use book_base::{MAX_CALLERS, MAX_CALLS, NoMemory, Place, State};
 use std::alloc::Global;
 
-/// Room for as many words as a book has calls, and one more.
-pub const ROOM: u64 = MAX_CALLERS as u64 * MAX_CALLS + 1;
+/// A capacity of as many words as a book has calls, and one more.
+pub const CAPACITY: u64 = MAX_CALLERS as u64 * MAX_CALLS + 1;
 
 /// A cut and a list on the way to where a search stands: the list's words, the place that was put
 /// next there, and what is still to be tried there besides it.
 #[derive(Drop)]
-pub struct Level {
+pub struct WalkLevel {
     pub place: Place,
     pub words: Vec<u64>,
     pub choices: Vec<Choice>,
@@ -26,7 +26,7 @@ pub struct Level {
 /// level's words on a retreat.
 #[derive(Drop)]
 pub struct Walk {
-    pub levels: Vec<Level>,
+    pub levels: Vec<WalkLevel>,
     pub counts: Vec<u16>,
     pub here: State,
     pub choices: Vec<Choice>,
@@ -35,7 +35,7 @@ pub struct Walk {
 
 /// What came of one more step of a search.
 #[derive(Drop)]
-pub enum Outcome {
+pub enum StepOutcome {
     /// The levels have the places of a legal order.
     Found,
     /// There is none.
@@ -45,7 +45,7 @@ pub enum Outcome {
 }
 
 /// The places of levels, in order.
-pub fn places(alloc: Global, levels: &[Level]) -> Result<Vec<Place>, NoMemory>
+pub fn places(alloc: Global, levels: &[WalkLevel]) -> Result<Vec<Place>, NoMemory>
     ensures { IfOk result (λ order. order.items ≡ order_of levels.now) }
 {
     let mut order = Vec::with_capacity(alloc, levels.len())?;
@@ -55,9 +55,9 @@ pub fn places(alloc: Global, levels: &[Level]) -> Result<Vec<Place>, NoMemory>
     Ok(order)
 }
 
-/// Makes the list of a state these words. The room stays.
+/// Makes the list of a state these words. The capacity stays.
 pub fn load(state: &mut State, words: &[u64])
-    // The state has room for these words.
+    // The state has capacity for these words.
     requires { length words.now ≤ state.old.room }
     ensures { state.new ≡ record state.old { words = words.now } }
 {

@@ -7,8 +7,8 @@ use Rattle.std.proofs.lemmas.Option.{slice_get_past}
 use Rattle.std.proofs.lemmas.List.{get_or_past}
 use Rattle.list_laws.proofs.Options.{none_from_is_some}
 use Rattle.book_base.specs.declared.call.Call.{Call}
-use Rattle.call_lines.specs.declared.line.Line.{Line}
-use Rattle.call_lines.specs.Lines.{lines_at, line_at, error_in, error_at, is_error}
+use Rattle.report_lines.specs.declared.line.Line.{Line}
+use Rattle.report_lines.specs.Lines.{lines_at, line_at, error_in, error_at, is_error}
 use Rattle.reports.specs.Findings.{StandsBefore, IsFirstError}
 use Rattle.given_book.specs.Given.{HasEndAt}
 use Rattle.given_book.specs.FirstError.{IsUpToEnd, IsReportPart}

@@ -1,12 +1,12 @@
 ghost use Rattle.std.specs.Prelude.{◌≡◌, ℕ, ◌<◌, List, length, Some, None, IsTrue, IfOk, IfSome, IfNone};
 ghost use Rattle.book_base.specs.declared.call.Call.{Call};
-ghost use Rattle.call_lines.specs.Lines.{error_at, is_error};
+ghost use Rattle.report_lines.specs.Lines.{error_at, is_error};
 ghost use Rattle.reports.specs.Findings.{IsFirstError};
 ghost use Rattle.given_book.specs.FirstError.{IsFirstErrorGiven};
 
 use crate::part::report_part;
 use book_base::{Call, NoMemory, ReadFault};
-use call_lines::{Line, LineEnd};
+use report_lines::{Line, LineEnd};
 use report_text::read_report;
 use reports::Report;
 use std::alloc::Global;

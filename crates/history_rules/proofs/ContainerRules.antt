@@ -1,5 +1,5 @@
 -- The rules of any container.
-use Rattle.std.proofs.Common.{◌≡◌, ℕ, suc, ◌+◌, ◌<◌, ◌≤◌, ◌∙◌, Bool, IsTrue, List, [], ◌∷◌, take, Option, Some, None, sym, ap, subst, inl, inr, slice_get, arith}
+use Rattle.std.proofs.Common.{◌≡◌, ℕ, suc, ◌+◌, ◌<◌, ◌≤◌, ◌∙◌, List, [], take, Option, Some, None, sym, ap, subst, inl, inr, slice_get, arith}
 use Rattle.std.proofs.lemmas.Bool.{cases_lt}
 use Rattle.std.proofs.lemmas.Option.{same_Some, none-some}
 use Rattle.book_base.specs.declared.call.Call.{Call}
@@ -8,13 +8,13 @@ use Rattle.book_base.specs.Book.{Page}
 use Rattle.book_base.specs.Sequential.{IsRunFrom}
 use Rattle.book_base.specs.Order.{call_at, StandsAt, IsLegalOrder}
 use Rattle.book_laws.proofs.Final.{IsRunFrom-take}
-use Rattle.book_base.specs.Foresight.{list_after_run}
-use Rattle.history_rules.specs.Container.{Deed, Puts, Takes, Reading, value_put, value_taken, put_by, taken_by, times, GivesOne, IsContainer}
+use Rattle.book_base.specs.PruningRules.{list_after_run}
+use Rattle.history_rules.specs.Container.{Effect, Puts, Takes, Reading, value_put, value_taken, put_by, taken_by, times, GivesOne, IsContainer}
 use Rattle.history_rules.specs.Calls.{PutsInAlone}
-use Rattle.history_rules.specs.Rules.{EmptyBeforePut, EmptyBeforeKept, TakenIsPut, TakenOnce, GreaterBeforePut}
+use Rattle.history_rules.specs.Rules.{EmptyBeforePut, TakenOnce}
 use Rattle.history_rules.proofs.Counting.{how_often, how_often-grows, how_often-more, how_often-found, how_often-once}
 use Rattle.history_rules.proofs.Runs.{step_of_run, holds_what_was_put}
-use Rattle.history_rules.proofs.Orders.{steps_of, answered_step, putting_step, put_alone, put_at_one_place, call_of_put, call_of_take}
+use Rattle.history_rules.proofs.Orders.{steps_of, answered_step, putting_step, put_alone, put_at_one_place}
 
 -- what is held after a prefix of a run from empty
 pub held_after : (reading : Reading) (next : List ℕ → ℕ → List ℕ × ℕ) → IsContainer reading next
@@ -52,7 +52,7 @@ puts_by reading step v deed = ap value_put deed
 pub takes_by : (reading : Reading) (step : ℕ × ℕ) (v : ℕ) → reading.deed step.0 ≡ Takes
     → reading.shown step.1 ≡ Some v → taken_by reading step ≡ Some v
 takes_by reading step v deed shows =
-    ap (λ (d : Deed). value_taken d (reading.shown step.1)) deed ∙ shows
+    ap (λ (d : Effect). value_taken d (reading.shown step.1)) deed ∙ shows
 
 -- no step both puts in and takes
 pub deeds_apart : (reading : Reading) (steps : List (ℕ × ℕ)) (j k : ℕ) (a b : ℕ × ℕ) (v : ℕ)
@@ -131,40 +131,6 @@ empty_before_put reading init next book is none v empty take_v put_v finds takes
       ]
     ]
 
-pub empty_before_kept : EmptyBeforeKept
-empty_before_kept reading init next book is none all v empty put_v finds puts never order
-    legal q stands =
-    let steps = steps_of book order in
-    let e = answered_step reading init next book order legal empty None finds in
-    let put = putting_step reading book order put_v v q puts stands in
-    elim (cases_lt e.0 q) [
-      | inl before ↦ (e.0, before, e.2)
-      | inr le ↦ elim (cases_lt q e.0) [
-        | inl after ↦
-            let early = taken_before_empty reading next is init steps legal.run none v q e.0 put.0
-            e.1 put.1 put.2 e.3 e.4 e.5 after in
-            let found = how_often-found (taken_by reading) v steps e.0 early in
-            let taker =
-            call_of_take reading init next book order legal all found.0 v found.1 found.3 found.4 in
-            absurd (never taker.0 taker.1)
-        | inr ge ↦
-            absurd (deeds_apart reading steps q e.0 put.0 e.1 v put.1 e.3 put.2 e.4 (omega arith))
-      ]
-    ]
-
-pub taken_is_put : TakenIsPut
-taken_is_put reading init next book is none v take_v takes never h =
-    let order = h.0 in
-    let legal = h.1 in
-    let steps = steps_of book order in
-    let m = answered_step reading init next book order legal take_v (Some v) takes in
-    let more = how_often-more (taken_by reading) v steps m.0 (suc m.0) m.1 m.3
-    (takes_by reading m.1 v m.4 m.5) (omega arith) in
-    let found = how_often-found (put_by reading) v steps (suc m.0)
-    (omega (arith, more, held_after reading next is v init steps legal.run none (suc m.0))) in
-    let putter = call_of_put reading init next book order legal found.0 v found.1 found.3 found.4 in
-    never putter.0 putter.2
-
 -- a value that is put in once is taken out once
 pub taken_at_one_place : (reading : Reading) (init : List ℕ) (next : List ℕ → ℕ → List ℕ × ℕ)
     (book : List Page) (order : List Place) → IsContainer reading next → reading.values init ≡ []
@@ -202,54 +168,5 @@ taken_once reading init next book is none v one other put_v apart takes_one take
             let place : a.2.0 ≡ b.2.0 =
             same_Some a.2.0 b.2.0 (sym a.2.1 ∙ (ap (slice_get order) same ∙ b.2.1)) in
             apart (sym a.2.2 ∙ (ap call_at place ∙ b.2.2))
-      ]
-    ]
-
--- what each step keeps, a run keeps
-kept_along : (next : List ℕ → ℕ → List ℕ × ℕ) (kept : List ℕ → Bool)
-    → ((list : List ℕ) (op : ℕ) → IsTrue (kept list) → IsTrue (kept (next list op).0))
-    → (list : List ℕ) (steps : List (ℕ × ℕ)) → IsTrue (kept list)
-    → IsTrue (kept (list_after_run next list steps))
-kept_along next kept keeps list [] now = now
-kept_along next kept keeps list (step ∷ steps) now =
-    kept_along next kept keeps (next list step.0).0 steps (keeps list step.0 now)
-
-pub greater_before_put : GreaterBeforePut
-greater_before_put reading init next kept book is kept_init none v w take_v take_w put_w less
-    takes_v takes_w precedes alone order legal q stands =
-    let steps = steps_of book order in
-    let a = answered_step reading init next book order legal take_v (Some v) takes_v in
-    let b = answered_step reading init next book order legal take_w (Some w) takes_w in
-    let put = putting_step reading book order put_w w q alone.0 stands in
-    let lt : a.0 < b.0 = legal.precedence a.0 b.0 take_v take_w a.2 b.2 precedes in
-    elim (cases_lt a.0 q) [
-      | inl before ↦ (a.0, before, a.2)
-      | inr le ↦ elim (cases_lt q a.0) [
-        | inl after ↦
-            let here : List ℕ = list_after_run next init (take a.0 steps) in
-            let put_more = how_often-more (put_by reading) w steps q a.0 put.0 put.1
-            (puts_by reading put.0 w put.2) after in
-            let none_taken : how_often (taken_by reading) w (take a.0 steps) ≡ 0 =
-            elim (cases_lt (how_often (taken_by reading) w (take a.0 steps)) 1) [
-              | inl zero_times ↦ omega arith
-              | inr some ↦
-                  let found = how_often-found (taken_by reading) w steps a.0 some in
-                  absurd (taken_at_one_place reading init next book order is.container none legal w
-                  put_w alone found.0 b.0 found.1 b.1 found.3 found.4 b.3
-                  (takes_by reading b.1 w b.4 b.5) (omega (arith, found.2)))
-            ] in
-            let held : 1 ≤ times w (reading.values here) = omega (
-              arith,
-              put_more,
-              none_taken,
-              held_after reading next is.container w init steps legal.run none a.0,
-            ) in
-            let shows : reading.shown (next here a.1.0).1 ≡ Some v =
-            ap reading.shown (step_of_run next init steps a.0 a.1 legal.run a.3).0 ∙ a.5 in
-            let wrong = is.least here a.1.0 v w
-            (kept_along next kept is.keeps init (take a.0 steps) kept_init) a.4 shows held in
-            absurd (omega (arith, wrong, less))
-        | inr ge ↦
-            absurd (deeds_apart reading steps q a.0 put.0 a.1 w put.1 a.3 put.2 a.4 (omega arith))
       ]
     ]

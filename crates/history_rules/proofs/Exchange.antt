@@ -1,4 +1,4 @@
--- An answered read-only call may be moved to the front of what goes on.
+-- An answered read-only call may be moved to the head of what goes on.
 use Rattle.std.proofs.Common.{◌≡◌, ◌≢◌, ℕ, ◌+◌, ◌<◌, ◌≤◌, ◌∙◌, List, [], ◌∷◌, length, get_or, set, Some, sym, ap, subst, inl, inr, length-set, arith}
 use Rattle.std.proofs.lemmas.Bool.{cases_eq}
 use Rattle.std.proofs.lemmas.Option.{same_Some, slice_get_within}
@@ -10,7 +10,7 @@ use Rattle.book_base.specs.Book.{Page, record_of, Precedes}
 use Rattle.book_base.specs.Order.{call_at}
 use Rattle.book_base.specs.Next.{raised, MayComeNext, MayStandNext, list_after, Continues}
 use Rattle.book_laws.proofs.LegalOrder.{raised_twice, comes_later, same_call, within_cut}
-use Rattle.book_base.specs.Foresight.{Leaves}
+use Rattle.book_base.specs.PruningRules.{Leaves}
 use Rattle.history_rules.specs.Standing.{answered_place, word_of, GoesOnWithIt}
 
 -- What may come next, is answered, and leaves every list with its recorded reply, wherever it

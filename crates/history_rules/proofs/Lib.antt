@@ -8,5 +8,4 @@ pub mod MoreTaken
 pub mod QueueRules
 pub mod StackRules
 pub mod Exchange
-pub mod RegisterRules
 pub mod SmallObjects

@@ -6,9 +6,8 @@ use Rattle.book_base.specs.declared.call.Call.{Call}
 use Rattle.book_base.specs.declared.call.Place.{Place}
 use Rattle.book_base.specs.Book.{Page, page_of, IsCall, operation_of}
 use Rattle.book_base.specs.Order.{call_at, StandsAt, step_at, IsLegalOrder}
-use Rattle.book_laws.proofs.LegalOrder.{answer_stands}
-use Rattle.history_rules.specs.Container.{Deed, Puts, Takes, Neither, Reading, value_put, value_taken, put_by, taken_by}
-use Rattle.history_rules.specs.Calls.{PutsIn, PutsInAlone, TakesShowing, TakesOut, AllTakesAnswered}
+use Rattle.history_rules.specs.Container.{Effect, Puts, Takes, Neither, Reading, value_put, value_taken, put_by}
+use Rattle.history_rules.specs.Calls.{PutsIn, PutsInAlone, TakesShowing}
 
 -- the steps of an order
 abbrev pub steps_of : List Page → List Place → List (ℕ × ℕ)
@@ -30,12 +29,12 @@ place_of_step book (first ∷ rest) zero step e = (first, refl, same_Some (step_
 place_of_step book (first ∷ rest) (suc k) step e = place_of_step book rest k step e
 
 -- the deed of an operation that puts something in, or takes something out
-put_from_value : (deed : Deed) (v : ℕ) → value_put deed ≡ Some v → deed ≡ Puts v
+put_from_value : (deed : Effect) (v : ℕ) → value_put deed ≡ Some v → deed ≡ Puts v
 put_from_value (Puts w) v e = ap Puts (same_Some w v e)
 put_from_value Takes v e = absurd (none-some v e)
 put_from_value Neither v e = absurd (none-some v e)
 
-take_from_value : (deed : Deed) (shown : Option ℕ) (v : ℕ) → value_taken deed shown ≡ Some v
+take_from_value : (deed : Effect) (shown : Option ℕ) (v : ℕ) → value_taken deed shown ≡ Some v
     → (deed ≡ Takes) × (shown ≡ Some v)
 take_from_value (Puts w) shown v e = absurd (none-some v e)
 take_from_value Takes shown v e = (refl, e)
@@ -116,29 +115,3 @@ pub put_at_one_place : (reading : Reading) (init : List ℕ) (next : List ℕ �
 put_at_one_place reading init next book order legal call v q alone stands k step e is =
     legal.once k q call
     (put_alone reading init next book order legal call v alone k step e is) stands
-
--- a step that takes out a value is one of an answered call that does, where all takes are answered
-pub call_of_take : (reading : Reading) (init : List ℕ) (next : List ℕ → ℕ → List ℕ × ℕ)
-    (book : List Page) (order : List Place) → IsLegalOrder init next book order
-    → AllTakesAnswered reading book → (k v : ℕ) (step : ℕ × ℕ)
-    → slice_get (steps_of book order) k ≡ Some step → taken_by reading step ≡ Some v
-    → (call : Call) × TakesOut reading book call v
-call_of_take reading init next book order legal all k v step e is =
-    let place = place_of_step book order k step e in
-    let call : Call = call_at place.0 in
-    let stands : StandsAt order k call = (place.0, place.1, refl) in
-    let word : ℕ = unwrap_or (operation_of book call) 0 in
-    let known : operation_of book call ≡ Some word =
-    has_operation book call (legal.calls k call stands) in
-    let parts = take_from_value (reading.deed step.0) (reading.shown step.1) v is in
-    let deed : reading.deed word ≡ Takes = ap (λ (s : ℕ × ℕ). reading.deed s.0) place.2 ∙ parts.0 in
-    let answer = answer_stands book call (all call word known deed) in
-    let it : Place =
-    record { caller = call.caller; number = call.number; reply = answer.0.reply } in
-    let found = legal.answered call answer.0 answer.1 in
-    let same_place : found.0 ≡ k = legal.once found.0 k call (it, found.1, refl) stands in
-    let one : it ≡ place.0 =
-    same_Some it place.0 (sym found.1 ∙ (ap (slice_get order) same_place ∙ place.1)) in
-    let reply : answer.0.reply ≡ step.1 =
-    ap (λ (p : Place). p.reply) one ∙ ap (λ (s : ℕ × ℕ). s.1) place.2 in
-    (call, (word, answer.0, known, answer.1, deed, ap reading.shown reply ∙ parts.1))

@@ -2,9 +2,9 @@
 use Rattle.std.proofs.Common.{ℕ, ◌<◌, ◌∙◌, List, ◌++◌, Some, sym, ap}
 use Rattle.std.specs.List.{filter_map}
 use Rattle.history_rules.specs.Container.{put_by}
-use Rattle.history_rules.specs.Rules.{QueueGivesInOrder, PutsInOrder, TakenBeforeKept}
-use Rattle.history_rules.proofs.QueueRuns.{queue_gives_in_order, put_before, put_before_kept}
-use Rattle.history_rules.proofs.Orders.{steps_of, answered_step, putting_step, put_alone, put_at_one_place, call_of_take}
+use Rattle.history_rules.specs.Rules.{QueueGivesInOrder, PutsInOrder}
+use Rattle.history_rules.proofs.QueueRuns.{queue_gives_in_order, put_before}
+use Rattle.history_rules.proofs.Orders.{steps_of, answered_step, putting_step, put_alone, put_at_one_place}
 use Rattle.history_rules.proofs.ContainerRules.{puts_by, takes_by}
 
 pub gives_in_order : QueueGivesInOrder
@@ -24,21 +24,6 @@ puts_in_order reading init next book is none x v take_x take_v put_x put_v takes
     (takes_by reading a.1 x a.4 a.5) b.3 (takes_by reading b.1 v b.4 b.5) lt
     put.1 (puts_by reading put.0 v put.2)
     (put_at_one_place reading init next book order legal put_v v q alone_v stands) in (
-      found.0,
-      found.2,
-      put_alone reading init next book order legal put_x x alone_x found.0 found.1 found.3 found.4,
-    )
-
-pub taken_before_kept : TakenBeforeKept
-taken_before_kept reading init next book is none all x v take_x put_x put_v takes_x alone_x puts_v
-    never order legal q stands =
-    let steps = steps_of book order in
-    let a = answered_step reading init next book order legal take_x (Some x) takes_x in
-    let put = putting_step reading book order put_v v q puts_v stands in
-    let found = put_before_kept reading next is init steps legal.run none x v a.0 q a.1 put.0 a.3
-    (takes_by reading a.1 x a.4 a.5) put.1 (puts_by reading put.0 v put.2)
-    (λ k step at takes. let taker = call_of_take reading init next book order legal all k v step at
-    takes in never taker.0 taker.1) in (
       found.0,
       found.2,
       put_alone reading init next book order legal put_x x alone_x found.0 found.1 found.3 found.4,

@@ -5,8 +5,8 @@ use Rattle.std.proofs.lemmas.Bool.{cases_lt}
 use Rattle.std.proofs.lemmas.Option.{slice_get_within}
 use Rattle.list_laws.proofs.Prefixes.{slice_get-append_within}
 use Rattle.book_base.specs.Sequential.{IsRunFrom}
-use Rattle.book_base.specs.Foresight.{list_after_run}
-use Rattle.history_rules.specs.Container.{Deed, Puts, Takes, Neither, Reading, value_put, value_taken, put_by, taken_by, times, GivesOne, GivesFirst, IsContainer, IsQueue, IsStack}
+use Rattle.book_base.specs.PruningRules.{list_after_run}
+use Rattle.history_rules.specs.Container.{Effect, Puts, Takes, Neither, Reading, value_put, value_taken, put_by, taken_by, times, GivesOne, GivesFirst, IsContainer, IsQueue, IsStack}
 use Rattle.history_rules.proofs.Counting.{times-append}
 use Rattle.history_rules.proofs.Ranks.{rank, shown_at_rank, found_at_rank, rank-grows, rank-more}
 
@@ -48,7 +48,7 @@ queue_take before None after puts h = ap (λ (xs : List ℕ). xs ++ puts) (h.0 �
 queue_take before (Some v) after puts h = ap (λ (xs : List ℕ). xs ++ puts) h
 
 queue_step : (reading : Reading) (next : List ℕ → ℕ → List ℕ × ℕ) → IsQueue reading next
-    → (list : List ℕ) (op : ℕ) (puts : List ℕ) (deed : Deed) → reading.deed op ≡ deed
+    → (list : List ℕ) (op : ℕ) (puts : List ℕ) (deed : Effect) → reading.deed op ≡ deed
     → reading.values list ++ cons_option (value_put deed) puts ≡ cons_option
     (value_taken deed (reading.shown (next list op).1)) (reading.values (next list op).0 ++ puts)
 queue_step reading next is list op puts (Puts v) e =

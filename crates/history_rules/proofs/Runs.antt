@@ -3,8 +3,8 @@
 use Rattle.std.proofs.Common.{◌≡◌, ℕ, zero, suc, ◌+◌, List, [], ◌∷◌, take, Option, Some, None, refl, ap, subst, slice_get, arith}
 use Rattle.std.proofs.lemmas.Option.{same_Some, none-some}
 use Rattle.book_base.specs.Sequential.{IsRunFrom}
-use Rattle.book_base.specs.Foresight.{list_after_run}
-use Rattle.history_rules.specs.Container.{Deed, Puts, Takes, Neither, Reading, value_put, value_taken, put_by, taken_by, times, GivesOne, IsContainer}
+use Rattle.book_base.specs.PruningRules.{list_after_run}
+use Rattle.history_rules.specs.Container.{Effect, Puts, Takes, Neither, Reading, value_put, value_taken, put_by, taken_by, times, GivesOne, IsContainer}
 use Rattle.history_rules.proofs.Counting.{is_once, how_often}
 
 -- a step of a run: its reply is the one that the object gives at the list before it, and the list
@@ -34,7 +34,7 @@ container_take reading next list op v (Some w) gives = omega (arith, gives v)
 
 -- what one step puts in, takes out and leaves
 container_step : (reading : Reading) (next : List ℕ → ℕ → List ℕ × ℕ) → IsContainer reading next
-    → (list : List ℕ) (op v : ℕ) (deed : Deed) → reading.deed op ≡ deed
+    → (list : List ℕ) (op v : ℕ) (deed : Effect) → reading.deed op ≡ deed
     → times v (reading.values list) + is_once v (value_put deed) ≡ is_once v
     (value_taken deed (reading.shown (next list op).1)) + times v (reading.values (next list op).0)
 container_step reading next is list op v (Puts w) e = omega (arith, is.put list op w e v)

@@ -9,14 +9,14 @@ use Rattle.book_base.specs.declared.call.Place.{Place}
 use Rattle.book_base.specs.Book.{Page}
 use Rattle.book_base.specs.Sequential.{IsRunFrom}
 use Rattle.book_base.specs.Order.{step_at, StandsAt, IsLegalOrder}
-use Rattle.history_rules.specs.Container.{Deed, Puts, Takes, Neither, Reading, value_taken, taken_by, times, GivesFirst, IsStack}
+use Rattle.history_rules.specs.Container.{Effect, Puts, Takes, Neither, Reading, value_taken, taken_by, times, GivesFirst, IsStack}
 use Rattle.history_rules.specs.Calls.{PutsIn, PutsInAlone, TakesOut}
-use Rattle.book_base.specs.Foresight.{list_after_run, IsInfeasible}
-use Rattle.history_rules.specs.Rules.{PutIsCovered, KeptCoversNone}
+use Rattle.book_base.specs.PruningRules.{list_after_run, IsInfeasible}
+use Rattle.history_rules.specs.Rules.{PutIsCovered}
 use Rattle.history_rules.proofs.Counting.{how_often-more, times-append, times-stands, times-first}
 use Rattle.history_rules.proofs.Runs.{step_of_run}
 use Rattle.history_rules.proofs.QueueRuns.{stack_is_container}
-use Rattle.history_rules.proofs.Orders.{steps_of, answered_step, putting_step, call_of_take}
+use Rattle.history_rules.proofs.Orders.{steps_of, answered_step, putting_step}
 use Rattle.history_rules.proofs.ContainerRules.{held_after, takes_by, deeds_apart, puts_at_most_one, taken_at_one_place}
 
 -- What a stack has from a value on, it has still after a step that doesn't take out that value.
@@ -31,7 +31,7 @@ kept_by_take (u ∷ above) v below (Some w) after gives apart =
     let rest : above ++ v ∷ below ≡ after = cc in (above, sym rest)
 
 kept_by_step : (reading : Reading) (next : List ℕ → ℕ → List ℕ × ℕ) → IsStack reading next
-    → (list : List ℕ) (op : ℕ) (above : List ℕ) (v : ℕ) (below : List ℕ) (deed : Deed)
+    → (list : List ℕ) (op : ℕ) (above : List ℕ) (v : ℕ) (below : List ℕ) (deed : Effect)
     → reading.deed op ≡ deed
     → reading.values list ≡ above ++ v ∷ below
     → (value_taken deed (reading.shown (next list op).1) ≡ Some v → ⊥) → (now : List ℕ)
@@ -205,11 +205,3 @@ put_is_covered reading init next book is none x v take_x take_v put_x put_v take
     let lt : a < b.0 = legal.precedence a b.0 take_x take_v stands b.2 precedes in
     taken_at_one_place reading init next book order (stack_is_container reading next is) none legal
     v put_v alone_v k b.0 step b.1 at takes b.3 (takes_by reading b.1 v b.4 b.5) (omega arith))
-
-pub kept_covers_none : KeptCoversNone
-kept_covers_none reading init next book is none all x v take_x put_x put_v takes_x alone_x
-    puts_v never =
-    infeasible_where_covered reading init next book is none x v take_x put_x put_v takes_x alone_x
-    puts_v (λ order legal a k step stands le at takes.
-    let taker = call_of_take reading init next book order legal all k v step at takes in
-    never taker.0 taker.1)

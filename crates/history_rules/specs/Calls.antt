@@ -2,7 +2,7 @@
 use Rattle.std.specs.Prelude.{◌≡◌, ℕ, List, Option, Some, None}
 use Rattle.book_base.specs.declared.call.Call.{Call}
 use Rattle.book_base.specs.declared.call.Record.{Record}
-use Rattle.book_base.specs.Book.{Page, IsAnswered, operation_of, record_of}
+use Rattle.book_base.specs.Book.{Page, operation_of, record_of}
 use Rattle.history_rules.specs.Container.{Puts, Takes, Reading}
 
 -- a call of the book puts in a value
@@ -28,11 +28,6 @@ TakesOut reading book call v = TakesShowing reading book call (Some v)
 -- an answered call wants to take, and finds nothing
 abbrev pub FindsNothing : Reading → List Page → Call → Type 0
 FindsNothing reading book call = TakesShowing reading book call None
-
--- each call that takes is answered
-abbrev pub AllTakesAnswered : Reading → List Page → Type 0
-AllTakesAnswered reading book = (call : Call) (op : ℕ) → operation_of book call ≡ Some op
-    → reading.deed op ≡ Takes → IsAnswered book call
 
 -- no answered call takes out the value
 abbrev pub IsNeverTaken : Reading → List Page → ℕ → Type 0

@@ -1,27 +1,27 @@
 -- Objects that hold values: what is put in is held until it is taken out. What an object does is
 -- read through parameters, so that each rule here is one for every object that can be read so.
-use Rattle.std.specs.Prelude.{◌≡◌, ℕ, ◌+◌, ◌≤◌, ◌==◌, Bool, true, false, IsTrue, List, [], ◌∷◌, ◌++◌, Option, Some, None}
+use Rattle.std.specs.Prelude.{◌≡◌, ℕ, ◌+◌, ◌==◌, Bool, true, false, List, [], ◌∷◌, ◌++◌, Option, Some, None}
 
 -- what an operation does to what is held: it puts a value in, it takes one out, or neither
-pub data Deed : Type 0 where
-  Puts : ℕ → Deed
-  Takes : Deed
-  Neither : Deed
+pub data Effect : Type 0 where
+  Puts : ℕ → Effect
+  Takes : Effect
+  Neither : Effect
 
 -- How an object is read: what each operation word does, what the reply to a take shows (a value, or
 -- that nothing was there), and which values a list of the object's words holds.
 pub record Reading : Type 0 where
-  pub deed : ℕ → Deed
+  pub deed : ℕ → Effect
   pub shown : ℕ → Option ℕ
   pub values : List ℕ → List ℕ
 
 -- the value that a deed puts in, and the one that it takes out by what its reply shows
-abbrev pub value_put : Deed → Option ℕ
+abbrev pub value_put : Effect → Option ℕ
 value_put (Puts v) = Some v
 value_put Takes = None
 value_put Neither = None
 
-abbrev pub value_taken : Deed → Option ℕ → Option ℕ
+abbrev pub value_taken : Effect → Option ℕ → Option ℕ
 value_taken (Puts v) shown = None
 value_taken Takes shown = shown
 value_taken Neither shown = None
@@ -70,7 +70,7 @@ pub record IsQueue (reading : Reading) (next : List ℕ → ℕ → List ℕ × 
   pub neither : (list : List ℕ) (op : ℕ) → reading.deed op ≡ Neither
       → reading.values (next list op).0 ≡ reading.values list
 
--- A stack: a put adds its value in front, and a take gives out the first.
+-- A stack: a put adds its value at the head of the list, and a take gives out the first value.
 pub record IsStack (reading : Reading) (next : List ℕ → ℕ → List ℕ × ℕ) : Type 0 where
   pub put : (list : List ℕ) (op v : ℕ) → reading.deed op ≡ Puts v
       → reading.values (next list op).0 ≡ v ∷ reading.values list
@@ -78,12 +78,3 @@ pub record IsStack (reading : Reading) (next : List ℕ → ℕ → List ℕ × 
       (reading.shown (next list op).1) (reading.values (next list op).0)
   pub neither : (list : List ℕ) (op : ℕ) → reading.deed op ≡ Neither
       → reading.values (next list op).0 ≡ reading.values list
-
--- A priority queue: a container of which a take gives out a least value, at each list that it may
--- come to (the test says which).
-pub record IsPriorityQueue (reading : Reading) (next : List ℕ → ℕ → List ℕ × ℕ)
-    (kept : List ℕ → Bool) : Type 0 where
-  pub container : IsContainer reading next
-  pub keeps : (list : List ℕ) (op : ℕ) → IsTrue (kept list) → IsTrue (kept (next list op).0)
-  pub least : (list : List ℕ) (op v w : ℕ) → IsTrue (kept list) → reading.deed op ≡ Takes
-      → reading.shown (next list op).1 ≡ Some v → 1 ≤ times w (reading.values list) → v ≤ w

@@ -1,6 +1,5 @@
 pub mod Container
 pub mod Calls
 pub mod Rules
-pub mod Register
 pub mod Standing
 pub mod SmallObjects

@@ -1,14 +1,14 @@
 -- The rules: what every legal order of a book has, where the values concerned are put in once.
-use Rattle.std.specs.Prelude.{◌≡◌, ◌≢◌, ℕ, ◌+◌, ◌<◌, Bool, IsTrue, List, [], ◌++◌, length, Some, slice_get, Contains}
+use Rattle.std.specs.Prelude.{◌≡◌, ◌≢◌, ℕ, ◌+◌, ◌<◌, List, [], ◌++◌, length, Some, slice_get, Contains}
 use Rattle.std.specs.List.{filter_map}
 use Rattle.book_base.specs.declared.call.Call.{Call}
 use Rattle.book_base.specs.Cut.{Holds}
 use Rattle.book_base.specs.Book.{Page, Precedes}
 use Rattle.book_base.specs.Sequential.{IsLegalRun}
 use Rattle.book_base.specs.Order.{HasLegalOrder}
-use Rattle.history_rules.specs.Container.{Reading, put_by, taken_by, times, IsContainer, IsQueue, IsStack, IsPriorityQueue}
-use Rattle.history_rules.specs.Calls.{PutsIn, PutsInAlone, TakesOut, FindsNothing, AllTakesAnswered, IsNeverTaken}
-use Rattle.book_base.specs.Foresight.{list_after_run, IsInfeasible, MustComeFirst}
+use Rattle.history_rules.specs.Container.{Reading, put_by, taken_by, times, IsContainer, IsQueue, IsStack}
+use Rattle.history_rules.specs.Calls.{PutsIn, PutsInAlone, TakesOut, FindsNothing}
+use Rattle.book_base.specs.PruningRules.{list_after_run, IsInfeasible, MustComeFirst}
 
 -- What a queue gives out in a legal run from empty is the first of what was put in, in that order:
 -- all that was put in is what was given out, followed by what the queue still holds.
@@ -59,44 +59,6 @@ PutIsCovered =
     → (cut list : List ℕ) → Contains (reading.values list) x
     → IsInfeasible init next book cut list put_v
 
--- Where each take is answered, a value that none takes out stays for good. Any container: a take
--- that found nothing stands before its put.
-abbrev pub EmptyBeforeKept : Type 0
-EmptyBeforeKept =
-    (reading : Reading) (init : List ℕ) (next : List ℕ → ℕ → List ℕ × ℕ) (book : List Page)
-    → IsContainer reading next → reading.values init ≡ []
-    → AllTakesAnswered reading book → (v : ℕ) (empty put_v : Call) → FindsNothing reading book empty
-    → PutsIn reading book put_v v → IsNeverTaken reading book v
-    → MustComeFirst init next book empty put_v
-
--- A queue: so does the put of each value that is taken out.
-abbrev pub TakenBeforeKept : Type 0
-TakenBeforeKept =
-    (reading : Reading) (init : List ℕ) (next : List ℕ → ℕ → List ℕ × ℕ) (book : List Page)
-    → IsQueue reading next → reading.values init ≡ []
-    → AllTakesAnswered reading book → (x v : ℕ) (take_x put_x put_v : Call)
-    → TakesOut reading book take_x x → PutsInAlone reading book put_x x
-    → PutsIn reading book put_v v → IsNeverTaken reading book v
-    → MustComeFirst init next book put_x put_v
-
--- A stack: its put is infeasible at a list that holds a value that is taken out.
-abbrev pub KeptCoversNone : Type 0
-KeptCoversNone =
-    (reading : Reading) (init : List ℕ) (next : List ℕ → ℕ → List ℕ × ℕ) (book : List Page)
-    → IsStack reading next → reading.values init ≡ []
-    → AllTakesAnswered reading book → (x v : ℕ) (take_x put_x put_v : Call)
-    → TakesOut reading book take_x x → PutsInAlone reading book put_x x
-    → PutsIn reading book put_v v → IsNeverTaken reading book v
-    → (cut list : List ℕ) → Contains (reading.values list) x
-    → IsInfeasible init next book cut list put_v
-
--- Any container: a book where a value is taken out that no call puts in has no legal order.
-abbrev pub TakenIsPut : Type 0
-TakenIsPut = (reading : Reading) (init : List ℕ) (next : List ℕ → ℕ → List ℕ × ℕ) (book : List Page)
-    → IsContainer reading next → reading.values init ≡ []
-    → (v : ℕ) (take_v : Call) → TakesOut reading book take_v v
-    → ((call : Call) → PutsIn reading book call v → ⊥) → ¬ HasLegalOrder init next book
-
 -- Any container: a book where a value is put in once and taken out twice has no legal order.
 abbrev pub TakenOnce : Type 0
 TakenOnce = (reading : Reading) (init : List ℕ) (next : List ℕ → ℕ → List ℕ × ℕ) (book : List Page)
@@ -120,16 +82,6 @@ TakenNoMoreThanPut =
     → ((k : ℕ) (call : Call) → slice_get takers k ≡ Some call → TakesOut reading book call v)
     → ((call : Call) → PutsIn reading book call v → (k : ℕ) × (slice_get putters k ≡ Some call))
     → length putters < length takers → ¬ HasLegalOrder init next book
-
--- A priority queue: where w is less than v, and the take of v precedes the take of w, the take of v
--- stands before the put of w.
-abbrev pub GreaterBeforePut : Type 0
-GreaterBeforePut = (reading : Reading) (init : List ℕ) (next : List ℕ → ℕ → List ℕ × ℕ)
-    (kept : List ℕ → Bool) (book : List Page)
-    → IsPriorityQueue reading next kept → IsTrue (kept init) → reading.values init ≡ []
-    → (v w : ℕ) (take_v take_w put_w : Call) → w < v → TakesOut reading book take_v v
-    → TakesOut reading book take_w w → Precedes book take_v take_w
-    → PutsInAlone reading book put_w w → MustComeFirst init next book take_v put_w
 
 -- What must come first makes a call infeasible next, where the cut lacks it.
 abbrev pub InfeasibleUntilThen : Type 0

@@ -1,15 +1,13 @@
 -- Small objects that can be read as the rules read them: each puts in v by the operation v + 1 and
 -- takes by the operation 0; a take replies v + 1 where it takes out v, and 0 where it finds
 -- nothing.
-use Rattle.std.specs.Prelude.{ℕ, zero, suc, Bool, true, not, ◌&&◌, List, [], ◌∷◌, ◌++◌, Option, Some, None, nat_lt, if◌then◌else◌}
-use Rattle.std.specs.List.{list_all}
+use Rattle.std.specs.Prelude.{ℕ, zero, suc, List, [], ◌∷◌, ◌++◌, Option, Some, None}
 use Rattle.book_base.specs.declared.call.Call.{Call}
 use Rattle.book_base.specs.declared.call.Record.{Record}
 use Rattle.book_base.specs.Book.{Page}
-use Rattle.history_rules.specs.Container.{Deed, Puts, Takes, Reading}
-use Rattle.history_rules.specs.Register.{Access, Writes, Reads, RegisterReading}
+use Rattle.history_rules.specs.Container.{Effect, Puts, Takes, Reading}
 
-abbrev pub sample_deed : ℕ → Deed
+abbrev pub sample_deed : ℕ → Effect
 sample_deed zero = Takes
 sample_deed (suc v) = Puts v
 
@@ -26,43 +24,11 @@ queue_next [] zero = ([], 0)
 queue_next (x ∷ rest) zero = (rest, suc x)
 queue_next list (suc v) = (list ++ v ∷ [], 0)
 
--- A stack: a value comes in in front, and the first leaves.
+-- A stack: a value comes in at the head of the list, and the first value leaves.
 abbrev pub stack_next : List ℕ → ℕ → List ℕ × ℕ
 stack_next [] zero = ([], 0)
 stack_next (x ∷ rest) zero = (rest, suc x)
 stack_next list (suc v) = (v ∷ list, 0)
-
--- A priority queue: a value comes in before the first that is no less, and the first leaves.
-abbrev pub placed : ℕ → List ℕ → List ℕ
-placed v [] = v ∷ []
-placed v (x ∷ rest) = if nat_lt x v then x ∷ placed v rest else v ∷ x ∷ rest
-
-abbrev pub least_next : List ℕ → ℕ → List ℕ × ℕ
-least_next [] zero = ([], 0)
-least_next (x ∷ rest) zero = (rest, suc x)
-least_next list (suc v) = (placed v list, 0)
-
--- no value is less than one before it
-abbrev pub is_rising : List ℕ → Bool
-is_rising [] = true
-is_rising (x ∷ rest) = list_all (λ w. not (nat_lt w x)) rest && is_rising rest
-
--- A register, read so: the operation 0 reads, and v + 1 writes v; it holds 0 at first, and a read
--- replies what it holds.
-abbrev pub register_access : ℕ → Access
-register_access zero = Reads
-register_access (suc v) = Writes v
-
-abbrev pub first_or_zero : List ℕ → ℕ
-first_or_zero [] = 0
-first_or_zero (x ∷ rest) = x
-
-abbrev pub register : RegisterReading
-register = record { access = register_access; shown = λ reply. reply; held = first_or_zero }
-
-abbrev pub register_next : List ℕ → ℕ → List ℕ × ℕ
-register_next list zero = (list, first_or_zero list)
-register_next list (suc v) = (v ∷ [], 0)
 
 abbrev pub caller_page : List ℕ → List Record → Page
 caller_page operations records = record { operations = operations; records = records }

@@ -1,21 +1,16 @@
 //! Worked cases: small objects that the rules speak of, and a book that a rule decides.
 
 ghost use Rattle.std.specs.Prelude.{[], ◌∷◌};
-ghost use Rattle.history_rules.specs.Container.{IsQueue, IsStack, IsPriorityQueue};
-ghost use Rattle.book_base.specs.Foresight.{IsInfeasible, MustComeFirst};
-ghost use Rattle.history_rules.specs.Register.{IsRegister};
-ghost use Rattle.history_rules.specs.SmallObjects.{sample, queue_next, stack_next, least_next, is_rising, register, register_next, call_of, six_first};
+ghost use Rattle.history_rules.specs.Container.{IsQueue, IsStack};
+ghost use Rattle.book_base.specs.PruningRules.{IsInfeasible, MustComeFirst};
+ghost use Rattle.history_rules.specs.SmallObjects.{sample, queue_next, stack_next, call_of, six_first};
 
-/// The small queue, stack, priority queue and register are what the rules ask for.
+/// The small queue and stack are what the rules ask for.
 pub fn small_objects_are_read_so()
     // The small queue is a queue, as the rules ask for.
     ensures queue { IsQueue sample queue_next }
     // The small stack is a stack, as the rules ask for.
     ensures stack { IsStack sample stack_next }
-    // The small priority queue is one, as the rules ask for, at the rising lists.
-    ensures least { IsPriorityQueue sample least_next is_rising }
-    // The small register is a register, as the rules ask for.
-    ensures register { IsRegister register register_next }
 {}
 
 /// Both values were put in at once, and 6 was taken first: in every legal order 6 is put in first,

@@ -22,12 +22,12 @@ const USAGE: &[u8] = b"usage: [report | picture]\n";
 
 // How many runs were made, and the seed of the last one.
 #[derive(Drop)]
-struct Tally {
+struct RunCount {
     runs: u64,
     seed: u64,
 }
 
-impl Watch for Tally {
+impl Watch for RunCount {
     fn ran(&mut self, seed: u64, _counts: Counts) {
         self.runs = self.runs.saturating_add(1);
         self.seed = seed;
@@ -69,7 +69,7 @@ where
     let Some(shown) = Shown::from_words(words) else {
         return write_text(&mut sink, Status::Usage, USAGE);
     };
-    let mut tally = Tally { runs: 0, seed: 0 };
+    let mut tally = RunCount { runs: 0, seed: 0 };
     let status = hunt_and_write(
         rt,
         rt.alloc(),
@@ -84,9 +84,9 @@ where
 }
 
 // Tells on standard error how many runs were made. Whoever reads the output alone misses nothing.
-fn tell<R: Eprint>(rt: &R, settings: &Settings, tally: &Tally, status: Status) {
+fn tell<R: Eprint>(rt: &R, settings: &Settings, tally: &RunCount, status: Status) {
     let most = settings.runs;
-    let Tally { runs, seed } = tally;
+    let RunCount { runs, seed } = tally;
     let _told = match status {
         Status::Found => eprintln!(rt;
             "run {runs} of at most {most} has an error; its seed is {seed}"

@@ -30,7 +30,7 @@ pub(crate) struct Size {
 
 /// What came of a hunt.
 #[derive(Clone, Copy)]
-pub(crate) struct Found {
+pub(crate) struct HuntFindings {
     runs: u64,
     caught: Option<Calls>,
 }
@@ -42,14 +42,14 @@ struct Calls {
     smaller: u64,
 }
 
-impl Found {
+impl HuntFindings {
     /// Whether the hunt has caught something.
     pub(crate) fn is_caught(&self) -> bool {
         self.caught.is_some()
     }
 }
 
-impl Display for Found {
+impl Display for HuntFindings {
     fn fmt<W: fmt::Write>(&self, f: &mut Formatter<W>) -> fmt::Result {
         match self.caught {
             Some(calls) => {
@@ -90,7 +90,7 @@ pub(crate) fn hunt_over_kind<R: Threads + Sync, B: BlackBox + Sync + Drop, M: Ma
     maker: &M,
     kind: Kind,
     size: Size,
-) -> Result<Found, NoMemory>
+) -> Result<HuntFindings, NoMemory>
 where
     B::Pass: Send + Drop,
 {
@@ -115,7 +115,7 @@ where
         Some(catch) => calls_in(alloc, kind, &catch.witness)?,
         None => None,
     };
-    Ok(Found {
+    Ok(HuntFindings {
         runs: hunted.runs,
         caught,
     })

@@ -5,7 +5,7 @@ use crate::locked::LockedObjects;
 use crate::queues::Queues;
 use crate::ring::Rings;
 use crate::stack::Stacks;
-use crate::trial::{Found, Size, hunt_over_kind};
+use crate::trial::{HuntFindings, Size, hunt_over_kind};
 use book_base::NoMemory;
 use seq_objects::Kind;
 use std::alloc::Global;
@@ -41,7 +41,7 @@ pub(crate) fn hunt_over<R: Threads + Sync>(
     alloc: Global,
     name: &str,
     size: Size,
-) -> Result<Option<Found>, NoMemory> {
+) -> Result<Option<HuntFindings>, NoMemory> {
     let found = match name {
         "torn_counter" | "counter" => {
             let maker = Counters {

@@ -9,12 +9,12 @@ use Rattle.seq_objects.specs.Objects.{kind_init, kind_next}
 use Rattle.client_scripts.specs.Plans.{Plan}
 use Rattle.world_core.specs.Shape.{Shape}
 use Rattle.world_core.specs.Local.{Local}
-use Rattle.call_lines.specs.Lawful.{IsLawful}
+use Rattle.report_lines.specs.Lawful.{IsLawful}
 use Rattle.reports.specs.Findings.{Findings, IsWitness}
 use Rattle.lawful_reports.proofs.Errors.{witnesses_have_no_order}
-use Rattle.call_phases.specs.Asking.{own_count}
-use Rattle.bench_clients.specs.Places.{AreInOrder}
-use Rattle.bench_clients.specs.Starts.{run_allotments}
+use Rattle.client_calls.specs.Asking.{own_count}
+use Rattle.script_workers.specs.Places.{AreInOrder}
+use Rattle.script_workers.specs.Starts.{run_allotments}
 use Rattle.run_report.specs.Reporting.{outside_shape, IsReportOf, IsCountedIn}
 use Rattle.run_report.proofs.Workers.{counted_told}
 use Rattle.hunts.specs.Hunting.{IsRun, IsMade}

@@ -3,13 +3,13 @@ use Rattle.std.specs.Prelude.{◌≡◌, ℕ, ◌+◌, ◌<◌, ◌≤◌, ◌%�
 use Rattle.book_base.specs.Book.{Page}
 use Rattle.book_base.specs.Order.{HasLegalOrder}
 use Rattle.seq_objects.specs.Objects.{kind_init, kind_next}
-use Rattle.call_lines.specs.Lawful.{IsLawful}
+use Rattle.report_lines.specs.Lawful.{IsLawful}
 use Rattle.client_scripts.specs.Plans.{Plan}
 use Rattle.random_scripts.specs.declared.workload.Workload.{Workload}
 use Rattle.random_scripts.specs.Drawn.{drawn_plan}
 use Rattle.reports.specs.Findings.{Findings, IsWitness, HasNoError}
-use Rattle.bench_clients.specs.Places.{AreInOrder}
-use Rattle.bench_clients.specs.Starts.{run_allotments}
+use Rattle.script_workers.specs.Places.{AreInOrder}
+use Rattle.script_workers.specs.Starts.{run_allotments}
 use Rattle.run_report.specs.Reporting.{outside_shape, IsToldIn}
 use Rattle.hunts.specs.declared.trial.Catch.{Catch}
 use Rattle.hunts.specs.declared.runs.Settings.{Settings}

@@ -4,10 +4,10 @@ ghost use Rattle.row_table.specs.Callers.{who_of, MayGet, IsCallerOf};
 ghost use Rattle.world_core.specs.CallSteps.{steps_now};
 ghost use Rattle.drv_wrapper.specs.Growth.{Grows};
 ghost use Rattle.drv_wrapper.specs.States.{caller_announced, who_announced, op_announced, announced_local, caller_answered, op_answered, reply_answered, answered_local};
-ghost use Rattle.call_phases.specs.Asking.{FitsCaller, HasCallLeft, count_after, ComesNoFurther};
+ghost use Rattle.client_calls.specs.Asking.{FitsCaller, HasCallLeft, count_after, ComesNoFurther};
 
 use crate::noise::Noise;
-use call_phases::Asks;
+use client_calls::Asks;
 use drv_wrapper::{Announced, Answered};
 
 /// An object that is asked as ever, and noise at the pauses between the phases of its callers.

@@ -7,7 +7,7 @@ ghost use Rattle.hunts.specs.Hunting.{IsRun};
 use crate::noise::Noise;
 use crate::noisy::Noisy;
 use book_base::{MAX_CALLS, NoMemory};
-use call_phases::{OutsideObject, Shared};
+use client_calls::{OutsideObject, Shared};
 use client_scripts::Script;
 use drv_wrapper::{BlackBox, ObjectPass};
 use reports::Report;

@@ -37,8 +37,8 @@ pub struct Hunted {
 }
 
 /// Runs the scripts of one seed after the other, each over a new object, until the report of a run
-/// has a witness, or so many runs are made. Callers run in threads of their own where these can be
-/// had, with noise between their phases.
+/// has a witness, or this many runs are made. Callers run in threads of their own where these can
+/// be had, with noise between their phases.
 ///
 /// What is caught is a fact about the object, and no matter of chance: the witness has no legal
 /// order. That nothing is caught says no more than that. A second hunt with the same seed makes the

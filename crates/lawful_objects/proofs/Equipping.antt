@@ -17,7 +17,7 @@ use Rattle.lawful_objects.specs.Passes.{seat_in, callers_in, cap_in, IsFresh, Is
 use Rattle.book_base.specs.State.{Contents}
 use Rattle.lawful_objects.specs.declared.scratch.Scratch.{Scratch}
 use Rattle.lawful_objects.specs.declared.log_pass.Tools.{Tools}
-use Rattle.lawful_objects.specs.Scratches.{IsClear, HasRoom}
+use Rattle.lawful_objects.specs.Scratches.{IsClear, HasCapacity}
 use Rattle.lawful_objects.specs.Equipment.{AreReady}
 
 -- what holds of each image holds of each element
@@ -116,8 +116,8 @@ module _ {M : Type 0} (reply_to : M → List Entry → ℕ) (has_seen : M → Li
           (All-of_map ps (All-tail (λ q. IsSeatOf b.log (seat_in q)) p ps all))
 
 -- a new scratch has room
-pub clear_room : (n cap : ℕ) (s : Scratch) → IsClear n cap s → HasRoom (n * cap) s
-clear_room n cap s clear =
+pub clear_capacity : (n cap : ℕ) (s : Scratch) → IsClear n cap s → HasCapacity (n * cap) s
+clear_capacity n cap s clear =
     let state = ap (λ (c : Contents). c.room) clear.state in
     let other = ap (λ (c : Contents). c.room) clear.other in
     record { state = omega arith; other = omega arith }
@@ -136,7 +136,7 @@ tools_more n cap all new t ready is pairs room clear long =
     (All-push (AreReady n cap) all t ready (record {
       pairs = pairs;
       room = room;
-      scratch = clear_room n cap t.scratch clear;
+      scratch = clear_capacity n cap t.scratch clear;
       waiting = long ∙ clear_waiting n cap t.scratch clear;
     }))
 

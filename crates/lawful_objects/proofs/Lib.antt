@@ -5,3 +5,4 @@ pub mod Equipping
 pub mod Forming
 pub mod Counting
 pub mod Together
+pub mod Worked

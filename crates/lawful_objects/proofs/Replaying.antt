@@ -74,10 +74,10 @@ module _ (next : List ℕ → ℕ → List ℕ × ℕ) (init : List ℕ) (log : 
   reply_beyond more = reply_of_more (drop known log) refl (omega (arith, length-drop known log))
 
   -- there is room for what the rest adds
-  pub room_beyond : (room : ℕ) → length init ≤ 1
+  pub capacity_beyond : (room : ℕ) → length init ≤ 1
       → ((l : List ℕ) (op : ℕ) → length (next l op).0 ≤ length l + 1) → known < length log
       → length log < room → length words + length (drop known log) ≤ room
-  room_beyond room small grows more low =
+  capacity_beyond room small grows more low =
       let most = length-list_after next grows init (take known log) in
       let same = ap length seen in
       omega (arith, length-take known log, length-drop known log)

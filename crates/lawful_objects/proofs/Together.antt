@@ -1,13 +1,12 @@
--- What the passes of all callers of a tally, and of a cell, tell together.
+-- What the calls of all callers of a tally, and of a cell, tell together.
 use Rattle.std.proofs.Common.{◌≡◌, ◌≢◌, ℕ, zero, suc, ◌+◌, ◌%◌, ◌^◌, ◌<◌, ◌≤◌, Bool, cond, ◌==◌, List, [], ◌∷◌, length, map, count_by, sum_by, refl, sym, ap, ◌∙◌, subst, inl, inr, arith, length-append, eq-eqb, ne_eqb}
 use Rattle.std.specs.List.{All, range_with_len}
 use Rattle.std.proofs.lemmas.Bool.{cases_Bool, cases_eq, cond-true, cond-false}
 use Rattle.std.proofs.lemmas.List.Elements.{All-head, All-tail}
 use Rattle.std.proofs.lemmas.List.Sums.{sum_by-cons}
-use Rattle.shared_words.specs.declared.words_pass.WordsPass.{WordsPass}
 use Rattle.shared_words.specs.Deeds.{Deed, Added, Loaded, place_of, HasFound, AreCalls}
 use Rattle.shared_words.specs.Histories.{Access, access, deeds_by, word_at, IsLawful}
-use Rattle.shared_words.specs.Passes.{caller_of_pass, pairs_in, AreOfOneHistory}
+use Rattle.shared_words.specs.Transcripts.{Transcript, AreOfOneHistory}
 use Rattle.shared_words.proofs.Histories.{deeds_by-append, lawful_prefix}
 use Rattle.lawful_objects.specs.Forms.{increment, tally_may, cell_may, IsTallied, IsKept, IsLastStored}
 use Rattle.lawful_objects.specs.Together.{increments_in, TellOneTally, TellOneCell, TalliesAreCounted, CellsAreRead}
@@ -121,7 +120,7 @@ each_is_one_callers n (a ∷ history) callers =
     each_is_one_callers n history (All-tail (λ (b : Access). b.caller < n) a history callers) in
     omega (arith, split, both, one, more)
 
--- ---- a pass tells as many increments as it made additions
+-- ---- a caller tells as many increments as it made additions
 
 abbrev is_increment : ℕ × ℕ → Bool
 is_increment pair = pair.0 == increment
@@ -147,34 +146,35 @@ told_as_made (pair ∷ pairs) before after calls =
           omega (arith, more, counts, here, made)
     ]
 
-all_told : (history : List Access) (passes : List WordsPass)
-    → All
-    (λ (p : WordsPass). AreCalls IsTallied (pairs_in p) [] (deeds_by (caller_of_pass p) history))
-    passes
-    → sum_by increments_in passes ≡ sum_by (deeds_many history) (map caller_of_pass passes)
+all_told : (history : List Access) (transcripts : List Transcript)
+    → All (λ (t : Transcript). AreCalls IsTallied t.pairs [] (deeds_by t.caller history))
+    transcripts
+    → sum_by increments_in transcripts
+    ≡ sum_by (deeds_many history) (map (λ (t : Transcript). t.caller) transcripts)
 all_told history [] calls = refl
-all_told history (p ∷ passes) calls =
-    let mine =
-    λ (q : WordsPass). AreCalls IsTallied (pairs_in q) [] (deeds_by (caller_of_pass q) history) in
-    let here = told_as_made (pairs_in p) [] (deeds_by (caller_of_pass p) history)
-    (All-head mine p passes calls) in
-    let more = all_told history passes (All-tail mine p passes calls) in
+all_told history (t ∷ transcripts) calls =
+    let mine = λ (u : Transcript). AreCalls IsTallied u.pairs [] (deeds_by u.caller history) in
+    let here =
+    told_as_made t.pairs [] (deeds_by t.caller history) (All-head mine t transcripts calls) in
+    let more = all_told history transcripts (All-tail mine t transcripts calls) in
     omega (
       arith,
-      sum_by-cons increments_in p passes,
-      sum_by-cons (deeds_many history) (caller_of_pass p) (map caller_of_pass passes),
+      sum_by-cons increments_in t transcripts,
+      sum_by-cons (deeds_many history) t.caller
+          (map (λ (u : Transcript). u.caller) transcripts),
       here,
       more,
     )
 
--- what the passes tell together
-pub one_tally : (n : ℕ) (history : List Access) (passes : List WordsPass)
-    → map caller_of_pass passes ≡ range_with_len 0 n
-    → AreOfOneHistory tally_may (λ _. IsTallied) n history passes → TellOneTally n history passes
-one_tally n history passes callers one =
-    let all : length history ≡ sum_by increments_in passes =
-    sym (all_told history passes one.calls ∙ ap (λ (ids : List ℕ). sum_by (deeds_many history) ids)
-    callers ∙ each_is_one_callers n history one.callers) in
+-- what the transcripts tell together
+pub one_tally : (n : ℕ) (history : List Access) (transcripts : List Transcript)
+    → AreOfOneHistory tally_may (λ _. IsTallied) n history transcripts
+    → TellOneTally n history transcripts
+one_tally n history transcripts one =
+    let all : length history ≡ sum_by increments_in transcripts =
+    sym (all_told history transcripts one.calls
+    ∙ ap (λ (ids : List ℕ). sum_by (deeds_many history) ids) one.all
+    ∙ each_is_one_callers n history one.callers) in
     record {
       told = one;
       counted = tallies_are_counted history one.lawful;
@@ -182,9 +182,10 @@ one_tally n history passes callers one =
       word = tallies_count history one.lawful ∙ ap (λ (k : ℕ). k % 2 ^ 64) all;
     }
 
-pub one_cell : (n : ℕ) (history : List Access) (passes : List WordsPass)
-    → AreOfOneHistory cell_may (λ _. IsKept) n history passes → TellOneCell n history passes
-one_cell n history passes one =
+pub one_cell : (n : ℕ) (history : List Access) (transcripts : List Transcript)
+    → AreOfOneHistory cell_may (λ _. IsKept) n history transcripts
+    → TellOneCell n history transcripts
+one_cell n history transcripts one =
     record {
       told = one;
       found = cells_are_read history one.lawful;

@@ -1,12 +1,12 @@
 -- What a pass needs besides its seat.
 use Rattle.std.specs.Prelude.{◌≡◌, ℕ, ◌*◌, ◌≤◌, [], vec_len, vec_capacity}
 use Rattle.lawful_objects.specs.declared.log_pass.Tools.{Tools}
-use Rattle.lawful_objects.specs.Scratches.{HasRoom}
+use Rattle.lawful_objects.specs.Scratches.{HasCapacity}
 
 -- No pair yet, with room for those of all calls; and a scratch for logs of n callers with cap calls
 -- each.
 pub record AreReady (n cap : ℕ) (t : Tools) : Type 0 where
   pub pairs : t.pairs.items ≡ []
   pub room : cap ≤ vec_capacity t.pairs
-  pub scratch : HasRoom (n * cap) t.scratch
+  pub scratch : HasCapacity (n * cap) t.scratch
   pub waiting : vec_len t.scratch.waiting ≡ n

@@ -89,7 +89,7 @@ IsLastStored word history =
     × (history ≡ before ++ access who (Stored 0 word) ∷ rest) × All IsLoad rest)
 
 -- A history that ends with a load of a caller, with a reply that tells the word that the last store
--- before it stored.
+-- before it stored, or 0 where there is none.
 pub record IsLastRead (who reply : ℕ) (history : List Access) : Type 0 where
   pub before : List Access
   pub word : ℕ
@@ -102,7 +102,7 @@ abbrev pub TalliesCount : Type 0
 TalliesCount = (history : List Access) → IsLawful tally_may history
     → word_at 0 history ≡ length history % 2 ^ 64
 
--- The word of a cell is the last one stored.
+-- The word of a cell is the last one stored, or 0 where none was.
 abbrev pub CellsHoldTheLast : Type 0
 CellsHoldTheLast = (history : List Access) → IsLawful cell_may history
     → IsLastStored (word_at 0 history) history

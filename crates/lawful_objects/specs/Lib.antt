@@ -6,3 +6,4 @@ pub mod Equipment
 pub mod Forms
 pub mod WordObjects
 pub mod Together
+pub mod Cases

@@ -3,8 +3,8 @@ use Rattle.std.specs.Prelude.{◌≡◌, ℕ, ◌==◌, if◌then◌else◌, Lis
 use Rattle.shared_log.specs.declared.entry.Entry.{Entry}
 use Rattle.shared_log.specs.Entries.{calls_by}
 
--- Of each entry of caller i after some prefix, in order, its operation and the answer to the log up
--- to it.
+-- Of each entry of caller i that a log has after a prefix, in order, its operation and the answer
+-- to the log up to it.
 abbrev pub pairs_after : (List Entry → ℕ) → ℕ → List Entry → List Entry → List (ℕ × ℕ)
 pairs_after answer i prefix [] = []
 pairs_after answer i prefix (e ∷ rest) =

@@ -7,7 +7,7 @@ use Rattle.shared_log.specs.Seats.{caller_of, cap_of_seat, log_of, made_by, call
 use Rattle.lawful_objects.specs.declared.scratch.Scratch.{Scratch}
 use Rattle.lawful_objects.specs.declared.log_pass.LogPass.{LogPass}
 use Rattle.lawful_objects.specs.declared.log_box.LogBox.{LogBox}
-use Rattle.lawful_objects.specs.Scratches.{HasRoom}
+use Rattle.lawful_objects.specs.Scratches.{HasCapacity}
 use Rattle.lawful_objects.specs.Pairs.{pairs_of}
 
 -- The seat of a pass.
@@ -61,7 +61,7 @@ module _ {M : Type 0} where
     pub pairs : pairs_in p ≡ pairs_of (reply_to (machine_in b)) (log_in p) (caller_of_pass p)
     pub count : length (pairs_in p) ≡ made_with p
     pub room : cap_in b ≤ vec_capacity p.tools.pairs
-    pub scratch : HasRoom (callers_in b * cap_in b) p.tools.scratch
+    pub scratch : HasCapacity (callers_in b * cap_in b) p.tools.scratch
     pub waiting : vec_len p.tools.scratch.waiting ≡ callers_in b
     pub seen : 0 < length (log_in p) → has_seen (machine_in b) (log_in p) p.tools.scratch
 

@@ -1,9 +1,9 @@
--- The rooms of a scratch.
+-- The capacities of a scratch.
 use Rattle.std.specs.Prelude.{◌≡◌, ℕ, ◌+◌, ◌*◌, ◌<◌, [], None, replicate, vec_len}
 use Rattle.book_base.specs.State.{Contents}
 use Rattle.lawful_objects.specs.declared.scratch.Scratch.{Scratch}
 
--- An empty state with this room.
+-- An empty state with this capacity.
 abbrev pub empty_state : ℕ → Contents
 empty_state room = record { words = []; room = room }
 
@@ -15,12 +15,12 @@ pub record IsClear (n cap : ℕ) (s : Scratch) : Type 0 where
   pub waiting : s.waiting.items ≡ replicate n None
 
 -- The states have room for more than this many words.
-pub record HasRoom (count : ℕ) (s : Scratch) : Type 0 where
+pub record HasCapacity (count : ℕ) (s : Scratch) : Type 0 where
   pub state : count < s.state.room
   pub other : count < s.other.room
 
--- The scratch has the rooms that it had before.
-pub record KeepsRoom (before after : Scratch) : Type 0 where
+-- The scratch has the capacities that it had before.
+pub record KeepsCapacity (before after : Scratch) : Type 0 where
   pub state : after.state.room ≡ before.state.room
   pub other : after.other.room ≡ before.other.room
   pub waiting : vec_len after.waiting ≡ vec_len before.waiting

@@ -1,9 +1,8 @@
--- What the passes of all callers of a tally, and of a cell, tell together.
+-- What the calls of all callers of a tally, and of a cell, tell together.
 use Rattle.std.specs.Prelude.{◌≡◌, ℕ, ◌%◌, ◌^◌, ◌==◌, List, ◌∷◌, ◌++◌, length, count_by, sum_by}
-use Rattle.shared_words.specs.declared.words_pass.WordsPass.{WordsPass}
 use Rattle.shared_words.specs.Deeds.{Added, Loaded}
 use Rattle.shared_words.specs.Histories.{Access, access, word_at, IsLawful}
-use Rattle.shared_words.specs.Passes.{pairs_in, AreOfOneHistory}
+use Rattle.shared_words.specs.Transcripts.{Transcript, AreOfOneHistory}
 use Rattle.lawful_objects.specs.Forms.{increment, tally_may, cell_may, IsTallied, IsKept, IsLastStored}
 
 -- Each access of a history is an increment that found the number of accesses before it, modulo
@@ -18,23 +17,26 @@ abbrev pub LoadsFindTheLast : List Access → Type 0
 LoadsFindTheLast history = (before rest : List Access) (who found : ℕ)
     → history ≡ before ++ access who (Loaded 0 found) ∷ rest → IsLastStored found before
 
--- How many increments a pass tells.
-abbrev pub increments_in : WordsPass → ℕ
-increments_in p = count_by (λ pair. pair.0 == increment) (pairs_in p)
+-- How many increments a transcript has.
+abbrev pub increments_in : Transcript → ℕ
+increments_in t = count_by (λ pair. pair.0 == increment) t.pairs
 
--- The passes of n callers of a tally tell one history of increments. The history has as many
--- increments as the passes tell, each found the number of those before it, and the word is left as
+-- The calls of all n callers of a tally are of this one history of increments. It has as many
+-- increments as the transcripts, each found the number of those before it, and the word is left as
 -- their number, modulo 2^64.
-pub record TellOneTally (n : ℕ) (history : List Access) (passes : List WordsPass) : Type 0 where
-  pub told : AreOfOneHistory tally_may (λ _. IsTallied) n history passes
+pub record TellOneTally (n : ℕ) (history : List Access)
+    (transcripts : List Transcript) : Type 0 where
+  pub told : AreOfOneHistory tally_may (λ _. IsTallied) n history transcripts
   pub counted : AreCounted history
-  pub all : length history ≡ sum_by increments_in passes
-  pub word : word_at 0 history ≡ sum_by increments_in passes % 2 ^ 64
+  pub all : length history ≡ sum_by increments_in transcripts
+  pub word : word_at 0 history ≡ sum_by increments_in transcripts % 2 ^ 64
 
--- The passes of n callers of a cell tell one history of stores and loads. Each load found what the
--- last store before it stored, and the word is left as the last one stored.
-pub record TellOneCell (n : ℕ) (history : List Access) (passes : List WordsPass) : Type 0 where
-  pub told : AreOfOneHistory cell_may (λ _. IsKept) n history passes
+-- The calls of all n callers of a cell are of this one history of stores and loads. Each load found
+-- what the last store before it stored, and the word is left as the last one stored; both are 0
+-- where no store comes before.
+pub record TellOneCell (n : ℕ) (history : List Access)
+    (transcripts : List Transcript) : Type 0 where
+  pub told : AreOfOneHistory cell_may (λ _. IsKept) n history transcripts
   pub found : LoadsFindTheLast history
   pub word : IsLastStored (word_at 0 history) history
 
@@ -42,6 +44,7 @@ pub record TellOneCell (n : ℕ) (history : List Access) (passes : List WordsPas
 abbrev pub TalliesAreCounted : Type 0
 TalliesAreCounted = (history : List Access) → IsLawful tally_may history → AreCounted history
 
--- In the history of a cell each load found the last word stored before it.
+-- In the history of a cell each load found the last word stored before it, or 0 where there is
+-- none.
 abbrev pub CellsAreRead : Type 0
 CellsAreRead = (history : List Access) → IsLawful cell_may history → LoadsFindTheLast history

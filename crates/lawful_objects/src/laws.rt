@@ -30,12 +30,12 @@ pub fn replies_are_formed()
 {}
 
 /// The word of a tally is the number of its increments modulo 2^64, and that of a cell is the last
-/// one stored.
+/// one stored, or 0 where none was.
 #[tactic(auto, using(crate::proofs::Counting::tallies_count, crate::proofs::Counting::cells_hold_the_last))]
 pub fn words_are_of_histories()
     // The word of a tally is the number of its increments modulo 2^64.
     ensures tallies { TalliesCount }
-    // The word of a cell is the last one stored.
+    // The word of a cell is the last one stored, or 0 where none was.
     ensures cells { CellsHoldTheLast }
 {}
 

@@ -1,7 +1,7 @@
 ghost use Rattle.std.specs.Prelude.{◌≡◌, ℕ, ◌<◌, List, All, length, take, vec_len};
 ghost use Rattle.shared_log.specs.declared.entry.Entry.{Entry as Item};
 ghost use Rattle.lawful_objects.specs.declared.scratch.Scratch.{Scratch as Tool};
-ghost use Rattle.lawful_objects.specs.Scratches.{HasRoom, KeepsRoom};
+ghost use Rattle.lawful_objects.specs.Scratches.{HasCapacity, KeepsCapacity};
 
 use crate::scratch::Scratch;
 use shared_log::Entry;
@@ -18,18 +18,19 @@ pub trait Machine {
 
     /// The reply to the last entry of the log.
     ///
-    /// It may use the scratch as it likes: its rooms stay, and what it held before doesn't matter.
+    /// It may use the scratch as it likes: its capacities stay, and what it held before doesn't
+    /// matter.
     fn answer(&self, log: &[Entry], scratch: &mut Scratch) -> u64
         // The log has at least one entry.
         requires some { 0 < length log.now }
         // Each entry of the log is a call of one of the callers that the scratch is for.
         requires callers { All (λ e. e.caller < vec_len scratch.old.waiting) log.now }
         // Both states of the scratch have room for more words than the log has entries.
-        requires room { HasRoom (length log.now) scratch.old }
+        requires room { HasCapacity (length log.now) scratch.old }
         // The answer is the machine's reply to the log.
         ensures reply { result ≡ reply_to self.now log.now }
-        // The scratch keeps its rooms.
-        ensures room { KeepsRoom scratch.old scratch.new }
+        // The scratch keeps its capacities.
+        ensures room { KeepsCapacity scratch.old scratch.new }
         // The scratch holds what the machine keeps of the log.
         ensures seen { has_seen self.now log.now scratch.new };
 
@@ -41,14 +42,14 @@ pub trait Machine {
         // Each entry of the log is a call of one of the callers that the scratch is for.
         requires callers { All (λ e. e.caller < vec_len scratch.old.waiting) log.now }
         // Both states of the scratch have room for more words than the log has entries.
-        requires room { HasRoom (length log.now) scratch.old }
+        requires room { HasCapacity (length log.now) scratch.old }
         // The scratch holds what the machine keeps of the first `known` entries, where there are
         // some.
         requires seen { 0 < known → has_seen self.now (take known log.now) scratch.old }
         // The answer is the machine's reply to the log.
         ensures reply { result ≡ reply_to self.now log.now }
-        // The scratch keeps its rooms.
-        ensures room { KeepsRoom scratch.old scratch.new }
+        // The scratch keeps its capacities.
+        ensures room { KeepsCapacity scratch.old scratch.new }
         // The scratch holds what the machine keeps of the log.
         ensures seen { has_seen self.now log.now scratch.new }
     {

@@ -33,7 +33,7 @@ pub struct Tally {
 }
 
 impl Tally {
-    ghost use Rattle.shared_words.specs.Passes.{caller_of_seat, history_of, deeds_of, callers_of, cap_of, caller_of_pass, made_with, cap_of_pass, pairs_in, history_in, IsSeatOf, IsFreshPass};
+    ghost use Rattle.shared_words.specs.Passes.{caller_of_seat, history_of, deeds_of, callers_of, cap_of, caller_of_pass, made_with, cap_of_pass, pairs_in, history_in, transcript_of, IsSeatOf, IsFreshPass};
     ghost use Rattle.lawful_objects.specs.WordObjects.{IsTallyPass};
 
     /// A tally for `n` callers with `cap` calls each, and a pass for each caller, in order. The
@@ -114,7 +114,7 @@ impl Tally {
         // passes tell, each found the number of those before it, and the word is left as their
         // number, modulo 2^64.
         ensures history { (history : List Access)
-            × TellOneTally (callers_of self.word) history passes.items }
+            × TellOneTally (callers_of self.word) history (map transcript_of passes.items) }
     {
         let Tally { word } = self;
         word.close(passes);

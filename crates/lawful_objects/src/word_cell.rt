@@ -36,7 +36,7 @@ pub struct WordCell {
 }
 
 impl WordCell {
-    ghost use Rattle.shared_words.specs.Passes.{caller_of_seat, history_of, deeds_of, callers_of, cap_of, caller_of_pass, made_with, cap_of_pass, pairs_in, history_in, IsSeatOf, IsFreshPass};
+    ghost use Rattle.shared_words.specs.Passes.{caller_of_seat, history_of, deeds_of, callers_of, cap_of, caller_of_pass, made_with, cap_of_pass, pairs_in, history_in, transcript_of, IsSeatOf, IsFreshPass};
     ghost use Rattle.lawful_objects.specs.WordObjects.{IsCellPass};
 
     /// A cell for `n` callers with `cap` calls each, and a pass for each caller, in order. Its
@@ -100,7 +100,8 @@ impl WordCell {
         ensures form { IsCellReply op result }
         // The accesses that the pass knew are the first of those that it knows.
         ensures history { IsPrefix (history_in pass.old) (history_in pass.new) }
-        // The last access is this read, and its reply tells the last word stored before it.
+        // The last access is this read, and its reply tells the last word stored before it, or 0
+        // where none was.
         ensures last { op ≡ read
             → IsLastRead (caller_of_pass pass.old) result (history_in pass.new) }
     {
@@ -117,9 +118,10 @@ impl WordCell {
         // Each pass is one of this cell.
         requires own { All (IsCellPass self) passes.items }
         // The passes tell one history of stores and loads. Each load found what the last store
-        // before it stored, and the word is left as the last one stored.
+        // before it stored, and the word is left as the last one stored; both are 0 where no store
+        // comes before.
         ensures history { (history : List Access)
-            × TellOneCell (callers_of self.word) history passes.items }
+            × TellOneCell (callers_of self.word) history (map transcript_of passes.items) }
     {
         let WordCell { word } = self;
         word.close(passes);

@@ -5,8 +5,8 @@ use Rattle.std.proofs.lemmas.Option.{slice_get-map}
 use Rattle.book_base.specs.declared.call.Call.{Call}
 use Rattle.book_base.specs.Book.{Page, page_of, operation_of}
 use Rattle.world_core.specs.Calls.{Made, page_with}
-use Rattle.call_lines.specs.declared.line.Line.{Line}
-use Rattle.call_lines.specs.Lines.{made_of, book_of_lines, lines_at, line_at}
+use Rattle.report_lines.specs.declared.line.Line.{Line}
+use Rattle.report_lines.specs.Lines.{made_of, book_of_lines, lines_at, line_at}
 
 -- the page of a caller is that of its lines
 page_of-lines : (lines : List (List Line)) (i : ℕ)

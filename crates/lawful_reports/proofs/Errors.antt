@@ -3,7 +3,7 @@
 use Rattle.std.proofs.Common.{subst}
 use Rattle.book_base.specs.Order.{HasLegalOrder}
 use Rattle.book_laws.proofs.BookAtLaws.{is_the_only_one}
-use Rattle.call_lines.specs.Lines.{book_of_lines}
+use Rattle.report_lines.specs.Lines.{book_of_lines}
 use Rattle.reports.proofs.FirstErrors.{some_error_is_first}
 use Rattle.lawful_reports.specs.Errors.{WitnessesHaveNoOrder, NoRunLeavesAnError}
 

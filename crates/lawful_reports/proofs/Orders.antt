@@ -15,10 +15,10 @@ use Rattle.world_core.specs.Local.{Local}
 use Rattle.world_core.specs.Calls.{Made, Reached, Is_announced, Has_record, Has_seen, AreTogether, record_in, reached_in, call_in, calls_in, book_in, local_at}
 use Rattle.world_books.proofs.Pages.{slice_get-made, record_in_book}
 use Rattle.world_books.proofs.Validity.{all_lengths}
-use Rattle.call_lines.specs.declared.line.Line.{Line}
-use Rattle.call_lines.specs.declared.line.LineEnd.TheVariants.{Delivered}
-use Rattle.call_lines.specs.Lines.{made_of, reached_of, book_of_lines, delivered_in, line_at, delivered_at}
-use Rattle.call_lines.specs.Lawful.{delivered_cut}
+use Rattle.report_lines.specs.declared.line.Line.{Line}
+use Rattle.report_lines.specs.declared.line.LineEnd.TheVariants.{Delivered}
+use Rattle.report_lines.specs.Lines.{made_of, reached_of, book_of_lines, delivered_in, line_at, delivered_at}
+use Rattle.report_lines.specs.Lawful.{delivered_cut}
 use Rattle.report_laws.proofs.Lines.{call_of_line}
 use Rattle.report_laws.proofs.Runs.{calls_at}
 use Rattle.report_laws.proofs.Worlds.{one, same_book}

@@ -3,9 +3,9 @@ use Rattle.std.specs.Prelude.{ℕ, List, [], ◌∷◌}
 use Rattle.book_base.specs.declared.call.Place.{Place}
 use Rattle.world_core.specs.Shape.{Shape}
 use Rattle.world_core.specs.Schedules.{pair}
-use Rattle.call_lines.specs.declared.line.Line.{Line}
-use Rattle.call_lines.specs.Cases.{pending, delivered, failed}
-use Rattle.call_lines.specs.Lawful.{IsLawful}
+use Rattle.report_lines.specs.declared.line.Line.{Line}
+use Rattle.report_lines.specs.Cases.{pending, delivered, failed}
+use Rattle.report_lines.specs.Lawful.{IsLawful}
 use Rattle.report_laws.specs.Cases.{fifty, sixty}
 use Rattle.lawful_reports.specs.Orders.{DeliveredLinesStandIn, delivered_book}
 

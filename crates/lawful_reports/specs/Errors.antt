@@ -7,9 +7,9 @@ use Rattle.world_core.specs.Shape.{Shape}
 use Rattle.world_core.specs.World.{Step, IsRun, end_of}
 use Rattle.world_core.specs.History.{IsLinearizable, history_of}
 use Rattle.world_core.specs.Calls.{calls_in}
-use Rattle.call_lines.specs.declared.line.Line.{Line}
-use Rattle.call_lines.specs.Lines.{calls_of, any_error, AreLinesOf}
-use Rattle.call_lines.specs.Lawful.{IsLawful}
+use Rattle.report_lines.specs.declared.line.Line.{Line}
+use Rattle.report_lines.specs.Lines.{calls_of, any_error, AreLinesOf}
+use Rattle.report_lines.specs.Lawful.{IsLawful}
 use Rattle.reports.specs.Findings.{IsWitness}
 
 -- The witness of a lawful report, the book at the seen cut of its first error line, has no legal

@@ -7,10 +7,10 @@ use Rattle.book_base.specs.Book.{Page, operation_of}
 use Rattle.book_base.specs.BookAt.{book_at}
 use Rattle.book_base.specs.Order.{IsLegalOrder}
 use Rattle.world_core.specs.Shape.{Shape}
-use Rattle.call_lines.specs.declared.line.LineEnd.TheVariants.{Delivered}
-use Rattle.call_lines.specs.declared.line.Line.{Line}
-use Rattle.call_lines.specs.Lines.{book_of_lines, line_at}
-use Rattle.call_lines.specs.Lawful.{delivered_cut, IsLawful}
+use Rattle.report_lines.specs.declared.line.LineEnd.TheVariants.{Delivered}
+use Rattle.report_lines.specs.declared.line.Line.{Line}
+use Rattle.report_lines.specs.Lines.{book_of_lines, line_at}
+use Rattle.report_lines.specs.Lawful.{delivered_cut, IsLawful}
 
 -- The call stands in this order of a book, with this operation and this reply.
 abbrev pub StandsWith : List Page → List Place → Call → ℕ → ℕ → Type 0

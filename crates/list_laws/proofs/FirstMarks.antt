@@ -13,7 +13,7 @@ not-first mark x word lacks same =
     both_ways (eqb x mark) (All-head (λ b. eqb b mark ≡ false) x word lacks)
     (eq-eqb x mark (sym same))
 
--- what stands before the first such byte, and after it, is one way only
+-- a word has one part before the first such byte, and one part after it
 pub first_mark-once : (mark : ℕ) (before other suffix rest : List ℕ) → Lacks mark before
     → Lacks mark other
     → before ++ mark ∷ suffix ≡ other ++ mark ∷ rest → (before ≡ other) × (suffix ≡ rest)

@@ -3,9 +3,9 @@ use Rattle.std.proofs.Common.{◌≡◌, ℕ, zero, suc, ◌+◌, ◌<◌, ◌�
 use Rattle.std.proofs.lemmas.Option.{same_Some, none-some, slice_get_within}
 use Rattle.list_laws.proofs.Places.{slice_get-push_old, slice_get-push_last, slice_get-push_cases}
 
--- an element stands in a list, somewhere
-abbrev pub Stands : {X : Type 0} → List X → X → Type 0
-Stands xs x = (k : ℕ) × (slice_get xs k ≡ Some x)
+-- a list has this element
+abbrev pub IsMember : {X : Type 0} → List X → X → Type 0
+IsMember xs x = (k : ℕ) × (slice_get xs k ≡ Some x)
 
 -- what stands earlier in a list comes before what stands later
 abbrev pub IsOrderedBy : {X : Type 0} → (X → X → Type 0) → List X → Type 0
@@ -13,23 +13,24 @@ IsOrderedBy {X} before xs = (j k : ℕ) (x y : X) → slice_get xs j ≡ Some x 
     → j < k → before x y
 
 -- what stands in a list with one more element stood there before, or is the new one
-pub Stands-push_cases : {X : Type 0} (xs : List X) (y x : X) → Stands (xs ++ y ∷ []) x
-    → Stands xs x ⊎ (x ≡ y)
-Stands-push_cases xs y x (k, at) =
+pub IsMember-push_cases : {X : Type 0} (xs : List X) (y x : X) → IsMember (xs ++ y ∷ []) x
+    → IsMember xs x ⊎ (x ≡ y)
+IsMember-push_cases xs y x (k, at) =
     elim (slice_get-push_cases xs y k x at) [
       | inl old ↦ inl (k, old)
       | inr new ↦ inr new.1
     ]
 
-pub Stands-push_old : {X : Type 0} (xs : List X) (y x : X) → Stands xs x → Stands (xs ++ y ∷ []) x
-Stands-push_old xs y x (k, at) = (k, slice_get-push_old xs y k x at)
+pub IsMember-push_old : {X : Type 0} (xs : List X) (y x : X) → IsMember xs x
+    → IsMember (xs ++ y ∷ []) x
+IsMember-push_old xs y x (k, at) = (k, slice_get-push_old xs y k x at)
 
-pub Stands-push_new : {X : Type 0} (xs : List X) (y : X) → Stands (xs ++ y ∷ []) y
-Stands-push_new xs y = (length xs, slice_get-push_last xs y)
+pub IsMember-push_new : {X : Type 0} (xs : List X) (y : X) → IsMember (xs ++ y ∷ []) y
+IsMember-push_new xs y = (length xs, slice_get-push_last xs y)
 
 -- an ordered list stays ordered with one more element that all others come before
 pub IsOrderedBy-push : {X : Type 0} (before : X → X → Type 0) (xs : List X) (y : X)
-    → IsOrderedBy before xs → ((x : X) → Stands xs x → before x y)
+    → IsOrderedBy before xs → ((x : X) → IsMember xs x → before x y)
     → IsOrderedBy before (xs ++ y ∷ [])
 IsOrderedBy-push before xs y ordered all j k a b at bt less =
     elim (slice_get-push_cases xs y k b bt) [
@@ -45,7 +46,8 @@ IsOrderedBy-push before xs y ordered all j k a b at bt less =
 
 -- two elements never come before one another
 abbrev pub IsAsymmetricIn : {X : Type 0} → (X → X → Type 0) → List X → Type 0
-IsAsymmetricIn {X} before xs = (x y : X) → Stands xs x → Stands xs y → before x y → before y x → ⊥
+IsAsymmetricIn {X} before xs = (x y : X) → IsMember xs x → IsMember xs y → before x y
+    → before y x → ⊥
 
 -- the first elements of ordered lists with the same elements are one
 same_first : {X : Type 0} (before : X → X → Type 0) (x y : X) (xs ys : List X) (j k : ℕ)
@@ -62,7 +64,7 @@ same_first before x y xs ys (suc j) (suc k) a b apart at bt =
 same_rest : {X : Type 0} (before : X → X → Type 0) (x y : X) (xs ys : List X) (z : X) (j k : ℕ)
     → IsOrderedBy before (x ∷ xs)
     → IsAsymmetricIn before (x ∷ xs) → x ≡ y → slice_get xs j ≡ Some z
-    → slice_get (y ∷ ys) k ≡ Some z → Stands ys z
+    → slice_get (y ∷ ys) k ≡ Some z → IsMember ys z
 same_rest before x y xs ys z j zero a apart same at bt =
     let one : z ≡ x = sym (same ∙ same_Some y z bt) in
     let self : before x x = subst (before x) one (a 0 (suc j) x z refl at (omega arith)) in
@@ -72,8 +74,9 @@ same_rest before x y xs ys z j (suc k) a apart same at bt = (k, bt)
 -- Two ordered lists with the same elements are one, where no two elements come before one another.
 pub IsOrderedBy-same : {X : Type 0} (before : X → X → Type 0) (xs ys : List X)
     → IsOrderedBy before xs → IsOrderedBy before ys
-    → IsAsymmetricIn before xs → IsAsymmetricIn before ys → ((x : X) → Stands xs x → Stands ys x)
-    → ((y : X) → Stands ys y → Stands xs y) → xs ≡ ys
+    → IsAsymmetricIn before xs → IsAsymmetricIn before ys
+    → ((x : X) → IsMember xs x → IsMember ys x)
+    → ((y : X) → IsMember ys y → IsMember xs y) → xs ≡ ys
 IsOrderedBy-same before [] [] a b apart bpart forth back = refl
 IsOrderedBy-same before [] (y ∷ ys) a b apart bpart forth back = let there = back y (0, refl) in
     absurd (none-some y there.1)

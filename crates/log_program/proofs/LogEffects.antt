@@ -483,7 +483,7 @@ module _ (init : List ℕ) (next : List ℕ → ℕ → List ℕ × ℕ) (n cap 
       (local_of (after s w (record { who = who; event = Object step })) who) (Object step))
       (steps : (local_of (after s w (record { who = who; event = Object step })) who).object_steps
       ≡ with_step (local_of w who).object_steps (local_of w who).published step)
-      → logs.Deed init next n cap w who step → IsQuietOrTakesEffect next s
+      → logs.StepCase init next n cap w who step → IsQuietOrTakesEffect next s
       (log_effects init next n cap) w (after s w (record { who = who; event = Object step }))
   by_deed w who kept log step may added steps (logs.Leaves same lasting) =
       inl (same_words w (after s w (record { who = who; event = Object step })) log

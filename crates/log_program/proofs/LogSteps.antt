@@ -594,11 +594,11 @@ module _ (init : List ℕ) (next : List ℕ → ℕ → List ℕ × ℕ) (n cap 
 
   -- What an object step does: it leaves a lasting word; it stores a word of the own operation; or
   -- it places the own ticket.
-  pub data Deed (w : World) (who : ℕ) (step : Object_step) : Type 0 where
-    Leaves : (same : step.new ≡ step.old) (lasting : IsLasting s w step) → Deed w who step
+  pub data StepCase (w : World) (who : ℕ) (step : Object_step) : Type 0 where
+    Leaves : (same : step.new ≡ step.old) (lasting : IsLasting s w step) → StepCase w who step
     Stores : (half : ℕ) (low : half < 2)
         (at : step.place ≡ 2 * number_of cap who (local_of w who).published + half)
-        (is : step.new ≡ half_of half (operation_now (local_of w who))) → Deed w who step
+        (is : step.new ≡ half_of half (operation_now (local_of w who))) → StepCase w who step
     Places : (high : 2 * total ≤ step.place) (free : step.old ≡ 0)
         (is : step.new ≡ ticket_of (number_of cap who (local_of w who).published))
         (below : IsTrue
@@ -608,7 +608,7 @@ module _ (init : List ℕ) (next : List ℕ → ℕ → List ℕ × ℕ) (n cap 
         (has_high : (x : ℕ) × (known (high_place (number_of cap who (local_of w who).published))
         (steps_now (local_of w who)) ≡ Some x))
         (none : placed_at total (ticket_of (number_of cap who (local_of w who).published))
-        (steps_now (local_of w who)) ≡ None) → Deed w who step
+        (steps_now (local_of w who)) ≡ None) → StepCase w who step
 
   module _ (w : World) (who : ℕ) (kept : Kept s w) (log : IsLog s w) (step : Object_step)
       (may : IsTrue (is_possible s w (record { who = who; event = Object step }))) where
@@ -663,12 +663,12 @@ module _ (init : List ℕ) (next : List ℕ → ℕ → List ℕ × ℕ) (n cap 
         lasting_at q named.number t (omega (arith, is, t.ticket)) same named.at
 
     load_deed : (o : Option ℕ) → step.new ≡ step.old
-        → is_named_before o total (all_steps_of mine) step.place ≡ true → Deed w who step
+        → is_named_before o total (all_steps_of mine) step.place ≡ true → StepCase w who step
     load_deed None same h = absurd cc
     load_deed (Some p) same h =
         Leaves same (loads_lasting p same (named_is total (all_steps_of mine) step.place p h))
 
-    exchange_deed : IsTrue (is_exchange total own_number mine step) → Deed w who step
+    exchange_deed : IsTrue (is_exchange total own_number mine step) → StepCase w who step
     exchange_deed exchange =
         let steps : List Object_step = steps_now mine in
         let all : List Object_step = all_steps_of mine in
@@ -709,7 +709,7 @@ module _ (init : List ℕ) (next : List ℕ → ℕ → List ℕ × ℕ) (n cap 
               })
         ]
 
-    pub deed : Deed w who step
+    pub deed : StepCase w who step
     deed =
         let low : Bool = is_low_store own_number mine step in
         let high : Bool = is_high_store own_number mine step in
@@ -751,7 +751,7 @@ module _ (init : List ℕ) (next : List ℕ → ℕ → List ℕ × ℕ) (n cap 
       (local_of (after s w (record { who = who; event = Object step })) who) (Object step))
       (steps : (local_of (after s w (record { who = who; event = Object step })) who).object_steps
       ≡ with_step (local_of w who).object_steps (local_of w who).published step)
-      → Deed w who step → LeadsOn w (after s w (record { who = who; event = Object step }))
+      → StepCase w who step → LeadsOn w (after s w (record { who = who; event = Object step }))
   by_deed w who kept log step may added steps (Leaves same lasting) =
       leads_same w who kept log step may added steps same lasting
   by_deed w who kept log step may added steps (Stores half low at is) =

@@ -11,7 +11,7 @@ use Rattle.book_base.specs.declared.call.Record.{Record}
 use Rattle.world_core.specs.Local.{Local}
 use Rattle.world_core.specs.Calls.{Reached, Is_announced, Has_record, Has_seen, Made, record_in, reached_in, call_in, calls_in, records_of}
 use Rattle.world_books.proofs.Pages.{HasLengths, slice_get-made, operations_with}
-use Rattle.call_lines.specs.Phases.{Mark, Announced, Recorded, Seen, begun, answered, judged, mark_of, mark_under_way, marks_after, progress_of, HasMade, answers_in}
+use Rattle.report_lines.specs.Phases.{Mark, Announced, Recorded, Seen, begun, answered, judged, mark_of, mark_under_way, marks_after, progress_of, HasMade, answers_in}
 use Rattle.report_laws.proofs.Telling.{as_many_calls}
 
 -- ---- answers, call by call

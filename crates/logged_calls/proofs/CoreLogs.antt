@@ -5,8 +5,8 @@ use Rattle.world_core.specs.Local.{Local}
 use Rattle.world_core.specs.World.{World, Step, local_of, IsRun, end_of, IsReachable}
 use Rattle.world_core.specs.History.{call_of}
 use Rattle.world_core.specs.Calls.{calls_in, local_at}
-use Rattle.call_lines.specs.Phases.{judged, HasMade}
-use Rattle.call_phases.specs.Finishing.{KeepsAsked}
+use Rattle.report_lines.specs.Phases.{judged, HasMade}
+use Rattle.client_calls.specs.Finishing.{KeepsAsked}
 use Rattle.log_program.specs.LogProgram.{log_shape}
 use Rattle.log_program.specs.LogEffects.{log_effects}
 use Rattle.log_program.proofs.LogOrders.{no_reply_without_steps, reply_where_allowed, log_orders_are_of_tickets}

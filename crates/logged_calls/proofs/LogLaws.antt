@@ -9,7 +9,7 @@ use Rattle.list_laws.proofs.Prefixes.{slice_get-take_below}
 use Rattle.shared_log.specs.declared.entry.Entry.{Entry}
 use Rattle.shared_log.specs.Entries.{calls_by, entry}
 use Rattle.shared_log.proofs.Logs.{calls_by-append, All-suffix}
-use Rattle.call_lines.specs.Phases.{asked, answered, operations_of}
+use Rattle.report_lines.specs.Phases.{asked, answered, operations_of}
 use Rattle.lawful_objects.specs.Pairs.{pairs_of, pairs_after}
 use Rattle.lawful_objects.proofs.Pairing.{after_own}
 use Rattle.logged_calls.specs.LogLaws.{AnswersComeFromTheLog, EntriesAreOfCalls}
@@ -38,15 +38,15 @@ calls_with_other i e log other =
 module _ (answer : List Entry → ℕ) (i : ℕ) where
   -- Call k of the caller stands in the rest of a log after some prefix, and its reply is the answer
   -- to the log up to it.
-  abbrev Stands : List Entry → List Entry → ℕ → ℕ → ℕ → Type 0
-  Stands prefix rest k op reply =
+  abbrev IsInLog : List Entry → List Entry → ℕ → ℕ → ℕ → Type 0
+  IsInLog prefix rest k op reply =
       (before suffix : List Entry) × (rest ≡ before ++ entry i op ∷ suffix)
       × (length (calls_by i before) ≡ k) × (reply ≡ answer (prefix ++ (before ++ entry i op ∷ [])))
 
   -- with one entry more in front it still stands there
   later : (prefix rest : List Entry) (e : Entry) (j k op reply : ℕ)
-      (s : Stands (prefix ++ e ∷ []) rest k op reply) → length (calls_by i (e ∷ s.0)) ≡ j
-      → Stands prefix (e ∷ rest) j op reply
+      (s : IsInLog (prefix ++ e ∷ []) rest k op reply) → length (calls_by i (e ∷ s.0)) ≡ j
+      → IsInLog prefix (e ∷ rest) j op reply
   later prefix rest e j k op reply s count = (
     e ∷ s.0,
     s.1,
@@ -58,10 +58,10 @@ module _ (answer : List Entry → ℕ) (i : ℕ) where
   -- the first pair is that of the entry in front, where that is the caller's
   first_or_later : (prefix rest : List Entry) (e : Entry) (op reply : ℕ) → (e.caller == i) ≡ true
       → ((k : ℕ) → slice_get (pairs_after answer i (prefix ++ e ∷ []) rest) k ≡ Some (op, reply)
-      → Stands (prefix ++ e ∷ []) rest k op reply)
+      → IsInLog (prefix ++ e ∷ []) rest k op reply)
       → (k : ℕ) → slice_get
       ((e.op, answer (prefix ++ e ∷ [])) ∷ pairs_after answer i (prefix ++ e ∷ []) rest) k
-      ≡ Some (op, reply) → Stands prefix (e ∷ rest) k op reply
+      ≡ Some (op, reply) → IsInLog prefix (e ∷ rest) k op reply
   first_or_later prefix rest e op reply own others zero there =
       let same : ◌≡◌ {A = ℕ × ℕ} (e.op, answer (prefix ++ e ∷ [])) (op, reply) =
       same_Some (e.op, answer (prefix ++ e ∷ [])) (op, reply) there in
@@ -79,7 +79,7 @@ module _ (answer : List Entry → ℕ) (i : ℕ) where
 
   pair_stands : (prefix rest : List Entry) (k op reply : ℕ)
       → slice_get (pairs_after answer i prefix rest) k ≡ Some (op, reply)
-      → Stands prefix rest k op reply
+      → IsInLog prefix rest k op reply
   pair_stands prefix [] k op reply there = absurd (none-some (op, reply) there)
   pair_stands prefix (e ∷ rest) k op reply there = elim (cases_Bool (e.caller == i)) [
     | inl own ↦

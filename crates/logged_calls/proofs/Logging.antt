@@ -24,7 +24,7 @@ use Rattle.world_books.proofs.Pages.{HasLengths, operation_in_book, operations_w
 use Rattle.world_books.proofs.Validity.{all_lengths}
 use Rattle.world_books.proofs.Recording.{invoked_is_announced}
 use Rattle.world_books.proofs.NoFalseErrors.{runs_have_their_histories}
-use Rattle.call_lines.specs.Phases.{begun, asked, answered, judged, operations_of, answers_in, HasMade}
+use Rattle.report_lines.specs.Phases.{begun, asked, answered, judged, operations_of, answers_in, HasMade}
 use Rattle.object_orders.specs.Effects.{Effects, IsOrderOfEffects}
 use Rattle.logged_calls.specs.Logged.{IsLoggedBy}
 use Rattle.logged_calls.proofs.OwnCalls.{own_in, RisesFor, HasFirstCalls, own_at, own_operations}

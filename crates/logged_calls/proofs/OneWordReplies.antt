@@ -17,7 +17,7 @@ use Rattle.world_core.specs.World.{World, Step, local_of, IsRun, end_of}
 use Rattle.world_core.specs.Calls.{calls_in, local_at}
 use Rattle.world_books.proofs.Pages.{HasLengths, slice_get-made}
 use Rattle.world_books.proofs.Validity.{all_lengths}
-use Rattle.call_lines.specs.Phases.{answered, HasMade, answers_in}
+use Rattle.report_lines.specs.Phases.{answered, HasMade, answers_in}
 use Rattle.object_orders.specs.OneWord.{OneWord, one_word_shape, reply_by_step, reply_of, reply_if_announced, one_word_effects, Serves}
 use Rattle.object_orders.specs.TallyAndCell.{tally, count_in, cell, value_in}
 use Rattle.object_orders.proofs.OneWords.{one_word_orders_are_of_steps}

@@ -12,13 +12,13 @@ use Rattle.std.proofs.lemmas.List.Kept.{AllPairs-filter}
 use Rattle.std.proofs.lemmas.Option.{same_Some, none-some, slice_get_past, slice_get_within, slice_get-get_or, slice_get-map, get_or_from_slice_get}
 use Rattle.list_laws.proofs.Prefixes.{slice_get-take_within, same_from_places}
 use Rattle.list_laws.proofs.Options.{map_some}
-use Rattle.list_laws.proofs.Ordered.{Stands, IsOrderedBy, IsOrderedBy-same}
+use Rattle.list_laws.proofs.Ordered.{IsMember, IsOrderedBy, IsOrderedBy-same}
 use Rattle.world_core.specs.History.{Done, call_of}
 use Rattle.world_books.proofs.LegalOrders.{stands, contained}
 
 -- what passes a test stands in what the test keeps
 kept_by_filter : {X : Type 0} (p : X → Bool) (xs : List X) (k : ℕ) (x : X) → p x ≡ true
-    → slice_get xs k ≡ Some x → Stands (filter p xs) x
+    → slice_get xs k ≡ Some x → IsMember (filter p xs) x
 kept_by_filter p [] k x passes at = absurd (none-some x at)
 kept_by_filter p (y ∷ ys) zero x passes at =
     let same : y ≡ x = same_Some y x at in
@@ -27,7 +27,7 @@ kept_by_filter p (y ∷ ys) zero x passes at =
     (0, ap (λ (zs : List _). slice_get zs 0) here ∙ ap Some same)
 kept_by_filter p (y ∷ ys) (suc k) x passes at =
     let there = kept_by_filter p ys k x passes at in
-    elim (p y) as (λ b. Stands (cond b (y ∷ filter p ys) (filter p ys)) x) [
+    elim (p y) as (λ b. IsMember (cond b (y ∷ filter p ys) (filter p ys)) x) [
       | true ↦ (suc there.0, there.1)
       | false ↦ there
     ]
@@ -54,7 +54,7 @@ range_has m k low =
 
 -- rising numbers below m, of which none is left out, are all numbers below m
 all_below : (xs : List ℕ) (m : ℕ) → IsOrderedBy (λ (a b : ℕ). a < b) xs
-    → ((k x : ℕ) → slice_get xs k ≡ Some x → x < m) → ((x : ℕ) → x < m → Stands xs x)
+    → ((k x : ℕ) → slice_get xs k ≡ Some x → x < m) → ((x : ℕ) → x < m → IsMember xs x)
     → xs ≡ range_with_len 0 m
 all_below xs m rises few all =
     let less : ℕ → ℕ → Type 0 = λ a b. a < b in

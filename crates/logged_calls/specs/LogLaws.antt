@@ -3,7 +3,7 @@ use Rattle.std.specs.Prelude.{◌≡◌, ℕ, ◌<◌, List, [], ◌∷◌, ◌+
 use Rattle.shared_log.specs.declared.entry.Entry.{Entry}
 use Rattle.shared_log.specs.Entries.{calls_by, entry}
 use Rattle.world_core.specs.Calls.{Made}
-use Rattle.call_lines.specs.Phases.{asked, operations_of, answers_in}
+use Rattle.report_lines.specs.Phases.{asked, operations_of, answers_in}
 use Rattle.logged_calls.specs.Logged.{IsLoggedBy}
 
 -- Call k of caller i stands in a log, after entries of which k are the caller's, and its reply is

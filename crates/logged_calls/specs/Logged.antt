@@ -3,7 +3,7 @@ use Rattle.std.specs.Prelude.{◌≡◌, ℕ, ◌<◌, List, take, All}
 use Rattle.shared_log.specs.declared.entry.Entry.{Entry}
 use Rattle.shared_log.specs.Entries.{calls_by}
 use Rattle.world_core.specs.Calls.{Made}
-use Rattle.call_lines.specs.Phases.{asked, answered, operations_of, answers_in}
+use Rattle.report_lines.specs.Phases.{asked, answered, operations_of, answers_in}
 use Rattle.lawful_objects.specs.Pairs.{pairs_of}
 
 -- All calls of n callers, each of which made this many phases, went into one log, and were answered

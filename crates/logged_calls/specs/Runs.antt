@@ -3,8 +3,8 @@ use Rattle.std.specs.Prelude.{ℕ, ◌<◌, List}
 use Rattle.world_core.specs.Shape.{Shape}
 use Rattle.world_core.specs.Local.{Local}
 use Rattle.world_core.specs.Calls.{AreTogether, calls_in, local_at}
-use Rattle.call_lines.specs.Phases.{HasMade}
-use Rattle.call_phases.specs.Finishing.{KeepsAsked}
+use Rattle.report_lines.specs.Phases.{HasMade}
+use Rattle.client_calls.specs.Finishing.{KeepsAsked}
 use Rattle.object_orders.specs.OneWord.{one_word_shape}
 use Rattle.object_orders.specs.TallyAndCell.{tally, cell}
 use Rattle.log_program.specs.LogProgram.{log_shape}

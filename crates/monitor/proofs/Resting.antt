@@ -7,7 +7,7 @@ use Rattle.world_core.specs.Local.{Phase, Announcing, Scan, Local, Given, Looked
 use Rattle.world_core.specs.Calls.{IsGathered}
 use Rattle.world_core.specs.Event.{Begins_scan, Purpose, For_nothing, purpose_of, served}
 use Rattle.world_laws.specs.Given.{IsGivenIn}
-use Rattle.collect_scan.specs.Scanned.{Found, found_by, scan_with, local_in_scan, most_words, HasScanned}
+use Rattle.collect_scan.specs.Scanned.{ScannedWords, found_by, scan_with, local_in_scan, most_words, HasScanned}
 use Rattle.collect_scan.specs.Given.{given_with}
 use Rattle.row_gather.specs.declared.gathered.Gathered.{Gathered}
 use Rattle.row_gather.specs.Gathered.{IsGatheredBy, TicksForNew}
@@ -33,7 +33,7 @@ idle_scanned : (n : ℕ) (cut : List ℕ) (l m : Local) → l.phase ≡ Announci
     → HasScanned n M Begins_scan cut l m
     → (looks : List Looked) × (peeks : List Peeked) × (m ≡ scanned_idly cut looks peeks l)
 idle_scanned n cut l m phase h =
-    let found : Found = found_by n M h.taken in
+    let found : ScannedWords = found_by n M h.taken in
     let scan : Scan = scan_with l M Begins_scan h.taken in
     let ended : Local = record (local_in_scan n l M Begins_scan h.taken)
     { scan = None; cuts = l.cuts ++ given_with l M cut ∷ [] } in

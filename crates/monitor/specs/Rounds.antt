@@ -6,7 +6,7 @@ use Rattle.book_base.specs.Order.{HasLegalOrder}
 use Rattle.world_core.specs.declared.region.Region.TheVariants.{M}
 use Rattle.world_core.specs.Local.{Local, Given}
 use Rattle.world_core.specs.Calls.{IsGathered}
-use Rattle.call_lines.specs.Phases.{progress_of}
+use Rattle.report_lines.specs.Phases.{progress_of}
 use Rattle.collect_scan.specs.Given.{AddsCut}
 use Rattle.monitor.specs.declared.witness.Witness.{Witness}
 

@@ -1,7 +1,7 @@
 -- A monitor at work: before its rounds, and after them.
 use Rattle.std.specs.Prelude.{◌≡◌, ℕ, Bool, false, List, None, Some}
 use Rattle.world_core.specs.Shape.{Meaning}
-use Rattle.call_lines.specs.Phases.{progress_of}
+use Rattle.report_lines.specs.Phases.{progress_of}
 use Rattle.row_table.specs.declared.rows.Rows.{Rows}
 use Rattle.monitor.specs.declared.board.Board.{Board}
 use Rattle.monitor.specs.declared.monitor.Monitor.{Monitor}

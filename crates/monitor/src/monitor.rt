@@ -5,7 +5,7 @@ use crate::witness::Witness;
 use book_base::{NoMemory, SeqObject};
 use collect_scan::scan;
 use enforcer::standing_in;
-use frontier_check::{Standing, check_after};
+use frontier_check::{KeptOrder, check_after};
 use row_gather::{Gathered, grow_at};
 use row_table::{Caller, Rows, Steps};
 use std::alloc::Global;
@@ -68,9 +68,9 @@ impl<P: Program> Monitor<P> {
         &mut self,
         alloc: Global,
         rows: &Rows<P>,
-        standing: Option<Standing>,
+        standing: Option<KeptOrder>,
         steps: &mut Steps<L>,
-    ) -> Result<(Gathered, Option<Standing>), NoMemory>
+    ) -> Result<(Gathered, Option<KeptOrder>), NoMemory>
         requires rows { IsMonitorOf P.meaning rows.now self.old }
         ensures rows { IsMonitorOf P.meaning rows.now self.new }
         ensures who { who_of self.new.caller ≡ who_of self.old.caller }
@@ -154,7 +154,7 @@ impl<P: Program> Monitor<P> {
         object: &S,
         rows: &Rows<P>,
         board: &Board,
-        standing: &mut Option<Standing>,
+        standing: &mut Option<KeptOrder>,
         steps: &mut Steps<L>,
     ) -> Result<Round, NoMemory>
         // The monitor is one of these rows.

@@ -4,10 +4,10 @@ ghost use Rattle.std.specs.Prelude.{◌≡◌, ◌⊎◌, ◌≤◌, ◌<◌, �
 ghost use Rattle.seq_objects.specs.Objects.{kind_init, kind_next};
 ghost use Rattle.world_core.specs.Local.{Local};
 ghost use Rattle.row_table.specs.Callers.{locals_on, on_bench, IsBenchOf, HoldsAll};
-ghost use Rattle.call_phases.specs.Asking.{fits_own, own_count};
-ghost use Rattle.bench_clients.specs.Places.{AreInOrder};
-ghost use Rattle.bench_clients.specs.Starts.{run_allotments, IsUnused, MayBegin};
-ghost use Rattle.bench_clients.specs.Returns.{IsBackOn};
+ghost use Rattle.client_calls.specs.Asking.{fits_own, own_count};
+ghost use Rattle.script_workers.specs.Places.{AreInOrder};
+ghost use Rattle.script_workers.specs.Starts.{run_allotments, IsUnused, MayBegin};
+ghost use Rattle.script_workers.specs.Returns.{IsBackOn};
 ghost use Rattle.run_report.specs.Passes.{IsOwnPass, AreUnusedPasses};
 ghost use Rattle.byte_streams.specs.Fault.{LeavesSink};
 ghost use Rattle.byte_streams.specs.Writing.{EndsWriting};

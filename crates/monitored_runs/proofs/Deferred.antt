@@ -6,12 +6,12 @@ use Rattle.book_base.specs.Book.{Page}
 use Rattle.book_base.specs.declared.call.Record.{Record}
 use Rattle.world_core.specs.Local.{Local}
 use Rattle.world_core.specs.Calls.{Reached, Is_announced, Has_record, Has_seen, Made, records_of, page_with, calls_in, book_in, local_at}
-use Rattle.call_lines.specs.declared.line.LineEnd.{LineEnd}
-use Rattle.call_lines.specs.declared.line.Line.{Line}
-use Rattle.call_lines.specs.Lines.{made_of, reached_of, is_error, any_error, book_of_lines, lines_at}
-use Rattle.call_lines.specs.Phases.{HasMade}
-use Rattle.call_lines.specs.Allotments.{phases_of}
-use Rattle.call_phases.specs.Ends.{Sequential, SaysDeferred, EndsAs, AreLinesOfCalls}
+use Rattle.report_lines.specs.declared.line.LineEnd.{LineEnd}
+use Rattle.report_lines.specs.declared.line.Line.{Line}
+use Rattle.report_lines.specs.Lines.{made_of, reached_of, is_error, any_error, book_of_lines, lines_at}
+use Rattle.report_lines.specs.Phases.{HasMade}
+use Rattle.report_lines.specs.Allotments.{phases_of}
+use Rattle.client_calls.specs.Ends.{Sequential, SaysDeferred, EndsAs, AreLinesOfCalls}
 use Rattle.monitored_runs.specs.Deferred.{HavePage, DeferringClientsMakeAll, LinesAreTheBook}
 
 module _ (object : Sequential) (n : ℕ) (l : Local) where

@@ -14,11 +14,11 @@ use Rattle.world_core.specs.Shape.{Meaning}
 use Rattle.world_core.specs.Local.{Local, fresh}
 use Rattle.world_core.specs.Calls.{Reached, Is_announced, Has_record, Has_seen, Made, AreTogether, page_with, calls_in, book_in, local_at}
 use Rattle.world_books.proofs.Validity.{books_are_valid}
-use Rattle.call_lines.specs.declared.line.LineEnd.{LineEnd}
-use Rattle.call_lines.specs.declared.line.Line.{Line}
-use Rattle.call_lines.specs.Lines.{any_error, book_of_lines, lines_at}
-use Rattle.call_lines.specs.Phases.{Mark, Seen, Progress, HasMade, mark_of, mark_under_way, marks_of, marks_after, published_by, progress_of}
-use Rattle.call_lines.specs.Allotments.{operations_at, stop_at, phases_for}
+use Rattle.report_lines.specs.declared.line.LineEnd.{LineEnd}
+use Rattle.report_lines.specs.declared.line.Line.{Line}
+use Rattle.report_lines.specs.Lines.{any_error, book_of_lines, lines_at}
+use Rattle.report_lines.specs.Phases.{Mark, Seen, Progress, HasMade, mark_of, mark_under_way, marks_of, marks_after, published_by, progress_of}
+use Rattle.report_lines.specs.Allotments.{operations_at, stop_at, phases_for}
 use Rattle.report_laws.proofs.Stepping.{length-marks_after}
 use Rattle.row_table.specs.declared.rows.Rows.{Rows}
 use Rattle.row_table.specs.declared.bench.Bench.{Bench}
@@ -32,11 +32,11 @@ use Rattle.reports.specs.declared.report.Own.{Own}
 use Rattle.reports.specs.ReportLayout.{lines_in}
 use Rattle.reports.specs.Filling.{answer_in, AreOfABook}
 use Rattle.reports.proofs.Filling.{length-book}
-use Rattle.call_phases.specs.Asking.{Fits, PassCount, own_count}
-use Rattle.call_phases.specs.Ends.{Sequential, silent, SaysDeferred, EndsAs, AreLinesOfCalls}
-use Rattle.bench_clients.specs.Places.{AreInOrder}
-use Rattle.bench_clients.specs.Starts.{run_allotments, course_of, IsUnused, MayBegin}
-use Rattle.bench_clients.specs.Returns.{IsCountOf, AreBack, IsBackOn}
+use Rattle.client_calls.specs.Asking.{Fits, PassCount, own_count}
+use Rattle.client_calls.specs.Ends.{Sequential, silent, SaysDeferred, EndsAs, AreLinesOfCalls}
+use Rattle.script_workers.specs.Places.{AreInOrder}
+use Rattle.script_workers.specs.Starts.{run_allotments, course_of, IsUnused, MayBegin}
+use Rattle.script_workers.specs.Returns.{IsCountOf, AreBack, IsBackOn}
 use Rattle.std.proofs.lemmas.Slice.Zip.{AllZip-long}
 use Rattle.run_report.proofs.Workers.{the_local, lines_here}
 use Rattle.run_report.proofs.Reports.{at_most, none_after}

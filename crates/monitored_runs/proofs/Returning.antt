@@ -7,7 +7,7 @@ use Rattle.row_table.specs.declared.rows.Rows.{Rows}
 use Rattle.row_table.specs.declared.bench.Bench.{Bench}
 use Rattle.row_table.specs.Callers.{on_bench, HoldsFree}
 use Rattle.client_scripts.specs.Plans.{Plan}
-use Rattle.bench_clients.specs.Starts.{AreAlikeFrom, IsUnused, MayBegin}
+use Rattle.script_workers.specs.Starts.{AreAlikeFrom, IsUnused, MayBegin}
 use Rattle.monitor.specs.declared.beside.Left.{Left}
 use Rattle.monitor.specs.Beside.{IsBackFrom}
 use Rattle.monitored_runs.specs.Monitoring.{IsMonitor, HasWatched}

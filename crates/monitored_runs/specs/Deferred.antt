@@ -2,10 +2,10 @@
 use Rattle.std.specs.Prelude.{◌≡◌, ℕ, ◌<◌, List, length, map}
 use Rattle.world_core.specs.Local.{Local}
 use Rattle.world_core.specs.Calls.{page_with, calls_in, book_in, local_at}
-use Rattle.call_lines.specs.declared.line.Line.{Line}
-use Rattle.call_lines.specs.Lines.{made_of, book_of_lines, lines_at}
-use Rattle.call_lines.specs.Phases.{HasMade}
-use Rattle.call_phases.specs.Ends.{Sequential, SaysDeferred, HasLeftAt}
+use Rattle.report_lines.specs.declared.line.Line.{Line}
+use Rattle.report_lines.specs.Lines.{made_of, book_of_lines, lines_at}
+use Rattle.report_lines.specs.Phases.{HasMade}
+use Rattle.client_calls.specs.Ends.{Sequential, SaysDeferred, HasLeftAt}
 
 -- A caller's lines have the operation of each of its calls, and the record where the call has one.
 abbrev pub HavePage : List Line → Local → Type 0

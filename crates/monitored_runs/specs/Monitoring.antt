@@ -3,16 +3,16 @@
 use Rattle.std.specs.Prelude.{◌≡◌, ℕ, ◌+◌, ◌%◌, ◌<◌, ◌≤◌, List, [], ◌∷◌, ◌++◌, Option, Some, IfSome, length, map, sum_by, slice_index}
 use Rattle.world_core.specs.Local.{Local, Given}
 use Rattle.world_core.specs.Calls.{calls_in, book_in, local_at}
-use Rattle.call_lines.specs.declared.line.Line.{Line}
-use Rattle.call_lines.specs.Phases.{HasMade, IsTold, asked, published_by, progress_of, no_progress}
-use Rattle.call_lines.specs.Allotments.{operations_at}
+use Rattle.report_lines.specs.declared.line.Line.{Line}
+use Rattle.report_lines.specs.Phases.{HasMade, IsTold, asked, published_by, progress_of, no_progress}
+use Rattle.report_lines.specs.Allotments.{operations_at}
 use Rattle.row_table.specs.declared.bench.Bench.{Bench}
 use Rattle.row_table.specs.Benches.{fresh_stance}
 use Rattle.row_table.specs.Callers.{on_bench, stance_on}
 use Rattle.client_scripts.specs.Plans.{Plan}
-use Rattle.call_phases.specs.Asking.{PassCount}
-use Rattle.bench_clients.specs.Starts.{run_allotments}
-use Rattle.bench_clients.specs.Returns.{IsCountOf}
+use Rattle.client_calls.specs.Asking.{PassCount}
+use Rattle.script_workers.specs.Starts.{run_allotments}
+use Rattle.script_workers.specs.Returns.{IsCountOf}
 use Rattle.monitor.specs.declared.witness.Witness.{Witness}
 use Rattle.monitor.specs.Rounds.{HasMadeRounds}
 use Rattle.monitor.specs.Worlds.{AreJudgedRounds}

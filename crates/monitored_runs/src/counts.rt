@@ -4,9 +4,9 @@ ghost use Rattle.std.specs.Prelude.{◌≡◌, ◌+◌, ◌≤◌, length};
 ghost use Rattle.book_base.specs.declared.TheConstants.{MAX_CALLERS};
 ghost use Rattle.monitored_runs.specs.Monitoring.{most_rounds, published_for};
 
-use bench_clients::allotment_of;
 use book_base::Cut;
 use client_scripts::{PHASES, Script};
+use script_workers::allotment_of;
 
 /// How many rounds a monitor makes at the most: one for each call of a script, and one more.
 pub(crate) fn most_rounds(script: &Script) -> u64

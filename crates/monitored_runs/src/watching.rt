@@ -4,21 +4,21 @@ ghost use Rattle.std.specs.Prelude.{◌≡◌, ◌≢◌, ℕ, ◌+◌, ◌<◌,
 ghost use Rattle.std.specs.List.{All, AllZip};
 ghost use Rattle.world_core.specs.Local.{Local};
 ghost use Rattle.row_table.specs.Callers.{on_bench, IsBenchOf, HoldsFree};
-ghost use Rattle.call_phases.specs.Ends.{silent, SaysDeferred};
+ghost use Rattle.client_calls.specs.Ends.{silent, SaysDeferred};
 ghost use Rattle.reports.specs.ReportLayout.{lines_in};
 ghost use Rattle.monitor.specs.Beside.{IsUnmoved, IsBackFrom};
-ghost use Rattle.bench_clients.specs.Work.{IsReady, HasRun};
-ghost use Rattle.bench_clients.specs.Starts.{run_allotments, course_of, IsUnused, MayBegin, AreFreshPasses};
-ghost use Rattle.bench_clients.specs.Returns.{IsBackOn, AreBack};
+ghost use Rattle.script_workers.specs.Work.{IsReady, HasRun};
+ghost use Rattle.script_workers.specs.Starts.{run_allotments, course_of, IsUnused, MayBegin, AreFreshPasses};
+ghost use Rattle.script_workers.specs.Returns.{IsBackOn, AreBack};
 ghost use Rattle.monitored_runs.specs.Monitoring.{IsMonitor, HasWatched};
 
-use bench_clients::{Worker, end_all, start_all};
 use book_base::{NoMemory, SeqObject};
-use call_phases::{Asks, Deferring, Shared};
+use client_calls::{Asks, Deferring, Shared};
 use client_scripts::Script;
 use monitor::{Left, watch_beside};
 use reports::Own;
 use row_table::Bench;
+use script_workers::{Pace, Worker, end_all, start_all};
 use std::alloc::Global;
 use std::thread::Threads;
 use world_core::Program;
@@ -136,7 +136,8 @@ pub(crate) fn watch_all<
         callers,
         rounds,
     );
-    let lines = end_all(shared, script, &ending, workers, lines, bench, passes)?;
+    let pace = Pace::Alone;
+    let lines = end_all(shared, script, &ending, pace, workers, lines, bench, passes)?;
     if one.wants_memory || other.wants_memory {
         return Err(NoMemory);
     }

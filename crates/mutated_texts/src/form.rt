@@ -10,7 +10,7 @@ use std::alloc::Global;
 
 /// A form of texts.
 #[derive(Clone, Copy, Debug, PartialEq, Eq)]
-pub enum Form {
+pub enum TextForm {
     Book,
     OldBook,
     Script,
@@ -29,28 +29,28 @@ pub enum Answer {
     Refused(What),
 }
 
-impl Form {
+impl TextForm {
     /// All forms.
-    pub const ALL: [Form; 7] = [
-        Form::Book,
-        Form::OldBook,
-        Form::Script,
-        Form::OldScript,
-        Form::Report,
-        Form::Certificate,
-        Form::SetBook,
+    pub const ALL: [TextForm; 7] = [
+        TextForm::Book,
+        TextForm::OldBook,
+        TextForm::Script,
+        TextForm::OldScript,
+        TextForm::Report,
+        TextForm::Certificate,
+        TextForm::SetBook,
     ];
 
     /// The name of the form.
     pub fn name(self) -> &'static str {
         match self {
-            Form::Book => "book",
-            Form::OldBook => "book of version 1",
-            Form::Script => "script",
-            Form::OldScript => "script of version 1",
-            Form::Report => "report",
-            Form::Certificate => "certificate",
-            Form::SetBook => "set book",
+            TextForm::Book => "book",
+            TextForm::OldBook => "book of version 1",
+            TextForm::Script => "script",
+            TextForm::OldScript => "script of version 1",
+            TextForm::Report => "report",
+            TextForm::Certificate => "certificate",
+            TextForm::SetBook => "set book",
         }
     }
 
@@ -65,13 +65,13 @@ impl Form {
 
     fn rewrite(self, alloc: Global, bytes: &[u8]) -> Result<Vec<u8>, ReadFault> {
         match self {
-            Form::Book => book(alloc, bytes),
-            Form::OldBook => old_book(alloc, bytes),
-            Form::Script => script(alloc, bytes),
-            Form::OldScript => old_script(alloc, bytes),
-            Form::Report => report(alloc, bytes),
-            Form::Certificate => certificate(alloc, bytes),
-            Form::SetBook => set_book(alloc, bytes),
+            TextForm::Book => book(alloc, bytes),
+            TextForm::OldBook => old_book(alloc, bytes),
+            TextForm::Script => script(alloc, bytes),
+            TextForm::OldScript => old_script(alloc, bytes),
+            TextForm::Report => report(alloc, bytes),
+            TextForm::Certificate => certificate(alloc, bytes),
+            TextForm::SetBook => set_book(alloc, bytes),
         }
     }
 }

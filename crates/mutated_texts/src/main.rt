@@ -15,7 +15,7 @@ mod tally;
 mod words;
 
 use anyhow::{Context, Result};
-use form::Form;
+use form::TextForm;
 use mutate::{mutate, pick};
 use rand_core::SeedableRng;
 use rand_xoshiro::Xoshiro256PlusPlus;
@@ -24,7 +24,7 @@ use std::alloc::Global;
 use std::env;
 use std::process::ExitCode;
 use std::rt::Env;
-use tally::Tally;
+use tally::ReadingCounts;
 
 /// What the words say.
 #[derive(Drop)]
@@ -45,16 +45,20 @@ fn read_words<R: Env + AllocGlobal>(rt: &R) -> Result<Wish> {
     })
 }
 
-fn no_texts(alloc: Global) -> Result<Vec<Tally>> {
+fn no_texts(alloc: Global) -> Result<Vec<ReadingCounts>> {
     let mut tallies = Vec::new(alloc);
-    for form in Form::ALL {
-        tallies.push(Tally::new(alloc, form))?;
+    for form in TextForm::ALL {
+        tallies.push(ReadingCounts::new(alloc, form))?;
     }
     Ok(tallies)
 }
 
 // Lets each reader read a text, and prints it where one doesn't write it back.
-fn try_text<R: Print + AllocGlobal>(rt: &R, tallies: &mut Vec<Tally>, text: &[u8]) -> Result<bool> {
+fn try_text<R: Print + AllocGlobal>(
+    rt: &R,
+    tallies: &mut Vec<ReadingCounts>,
+    text: &[u8],
+) -> Result<bool> {
     let mut all = true;
     for tally in tallies.iter_mut() {
         if !tally.take(rt.alloc(), text)? {
@@ -69,7 +73,7 @@ fn try_text<R: Print + AllocGlobal>(rt: &R, tallies: &mut Vec<Tally>, text: &[u8
     Ok(all)
 }
 
-fn print_figures<R: Print + AllocGlobal>(rt: &R, tallies: &[Tally]) -> Result<()> {
+fn print_figures<R: Print + AllocGlobal>(rt: &R, tallies: &[ReadingCounts]) -> Result<()> {
     for tally in tallies {
         print!(rt; "{}: {} accepted", tally.form.name(), tally.kept)?;
         for (what, count) in &tally.refused {

@@ -1,12 +1,12 @@
-use crate::form::{Answer, Form};
+use crate::form::{Answer, TextForm};
 use anyhow::Result;
 use book_base::What;
 use std::alloc::Global;
 
 /// What the reader of a form said of the texts so far.
 #[derive(Drop)]
-pub struct Tally {
-    pub form: Form,
+pub struct ReadingCounts {
+    pub form: TextForm,
     /// How many were read, and written back as they were.
     pub kept: u64,
     /// How many were read, and something else was written.
@@ -15,10 +15,10 @@ pub struct Tally {
     pub refused: Vec<(What, u64)>,
 }
 
-impl Tally {
+impl ReadingCounts {
     /// No text so far.
-    pub fn new(alloc: Global, form: Form) -> Tally {
-        Tally {
+    pub fn new(alloc: Global, form: TextForm) -> ReadingCounts {
+        ReadingCounts {
             form,
             kept: 0,
             changed: 0,

@@ -2,7 +2,7 @@
 use Rattle.std.proofs.Common.{◌≡◌, ℕ, List, Option, length, sym, subst}
 use Rattle.world_core.specs.Shape.{Shape, Meaning}
 use Rattle.world_core.specs.Calls.{Made}
-use Rattle.call_lines.specs.Lawful.{IsLawful}
+use Rattle.report_lines.specs.Lawful.{IsLawful}
 use Rattle.client_scripts.specs.Plans.{Plan}
 use Rattle.seq_objects.specs.declared.kind.Kind.{Kind}
 use Rattle.seq_objects.specs.Objects.{kind_init, kind_next}
@@ -15,7 +15,7 @@ use Rattle.run_writer.specs.declared.form.Form.{Form}
 use Rattle.byte_streams.specs.declared.status.Status.{Status}
 use Rattle.run_report.specs.Reporting.{outside_shape}
 use Rattle.run_writer.specs.Running.{IsToldBenchReport}
-use Rattle.call_phases.specs.Ends.{Sequential}
+use Rattle.client_calls.specs.Ends.{Sequential}
 use Rattle.run_writer.specs.Runs.{RunEnds, IsRunOutput, object_of_kind}
 use Rattle.core_runs.specs.LoggedReports.{phases_in, calls_of_lines}
 use Rattle.named_runs.specs.NamedObjects.{AreTold, IsOfBehaviour}

@@ -4,12 +4,12 @@ use Rattle.std.specs.List.{list_any}
 use Rattle.seq_objects.specs.declared.kind.Kind.{Kind}
 use Rattle.seq_objects.specs.Objects.{kind_init, kind_next}
 use Rattle.world_core.specs.Local.{Local}
-use Rattle.call_lines.specs.Lines.{any_error}
+use Rattle.report_lines.specs.Lines.{any_error}
 use Rattle.client_scripts.specs.Plans.{Plan}
 use Rattle.reports.specs.Findings.{Findings}
 use Rattle.run_report.specs.Reporting.{IsReportOf}
 use Rattle.faulty_objects.specs.declared.behaviour.Behaviour.{Behaviour}
-use Rattle.bench_clients.specs.Starts.{run_allotments}
+use Rattle.script_workers.specs.Starts.{run_allotments}
 use Rattle.named_runs.specs.declared.inside.Inside.{Inside}
 use Rattle.named_runs.specs.declared.inside.Inside.TheVariants.{Log, Tally, Cell}
 use Rattle.core_runs.specs.LoggedReports.{phases_in, calls_of_lines}

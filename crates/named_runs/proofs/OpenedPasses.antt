@@ -7,10 +7,10 @@ use Rattle.std.proofs.lemmas.List.FromFn.{length-range_with_len, get_or-range_wi
 use Rattle.std.proofs.lemmas.Option.{slice_get-map, slice_get_within, slice_get-get_or, get_or_from_slice_get}
 use Rattle.text_fields.specs.declared.version.Version.TheVariants.{Second}
 use Rattle.client_scripts.specs.Plans.{Plan, IsPlan}
-use Rattle.bench_clients.specs.Places.{AreInOrder}
-use Rattle.run_report.specs.Passes.{IsOwnPass, IsUnusedPass, AreUnusedPasses}
+use Rattle.script_workers.specs.Places.{AreInOrder}
+use Rattle.run_report.specs.Passes.{IsOwnPass, AreUnusedPasses}
 use Rattle.named_runs.specs.NamedObjects.{AreOwnPasses}
-use Rattle.bench_clients.proofs.Starts.{operations_within}
+use Rattle.script_workers.proofs.Starts.{operations_within}
 
 module _ {T : Type 0} (caller : T → ℕ) (passes : List T) (n : ℕ) where
   -- there is a pass for each caller
@@ -30,30 +30,23 @@ module _ {T : Type 0} (caller : T → ℕ) (passes : List T) (n : ℕ) where
       get_or-range_with_len 0 n i 0 (omega (arith, low, passes_count callers)) in
       omega (arith, at, ap (λ (l : List ℕ). get_or l i 0) callers, own)
 
-  -- new passes are unused
-  pub opened_unused : (is_own : T → Type 0) (made cap : T → ℕ) (plan : Plan)
-      → map caller passes ≡ range_with_len 0 n → All is_own passes
-      → All (λ pass. (made pass ≡ 0) × (cap pass ≡ 256)) passes
-      → IsPlan Second plan → AreInOrder (IsUnusedPass is_own caller made cap plan.operations) passes
-  opened_unused is_own made cap plan callers own new h i pass there =
-      let low : i < length passes = slice_get_within passes i pass there in
-      let at : get_or passes i pass ≡ pass = get_or_from_slice_get passes i pass pass there in
-      let fresh = subst (λ (p : T). (made p ≡ 0) × (cap p ≡ 256)) at (new i pass low) in
-      record {
-        own = subst is_own at (own i pass low);
-        of = pass_at callers i pass there;
-        none = fresh.0;
-        enough = omega (arith, operations_within 256 plan.operations i h.calls, fresh.1);
-      }
-
-  -- so a run asks for them, where there is one for each caller
+  -- new passes are unused, as a run asks for them, where there is one for each caller
   pub opened_passes : (is_own : T → Type 0) (made cap : T → ℕ) (plan : Plan)
       → n ≡ length plan.operations → map caller passes ≡ range_with_len 0 n → All is_own passes
       → All (λ pass. (made pass ≡ 0) × (cap pass ≡ 256)) passes → IsPlan Second plan
       → AreUnusedPasses is_own caller made cap plan.operations passes
   opened_passes is_own made cap plan count callers own new h = record {
     as_many = passes_count callers ∙ count;
-    each = opened_unused is_own made cap plan callers own new h;
+    each = λ i pass there.
+        let low : i < length passes = slice_get_within passes i pass there in
+        let at : get_or passes i pass ≡ pass = get_or_from_slice_get passes i pass pass there in
+        let fresh = subst (λ (p : T). (made p ≡ 0) × (cap p ≡ 256)) at (new i pass low) in
+        record {
+          own = subst is_own at (own i pass low);
+          of = pass_at callers i pass there;
+          none = fresh.0;
+          enough = omega (arith, operations_within 256 plan.operations i h.calls, fresh.1);
+        };
   }
 
 -- passes that are those of the callers from a on

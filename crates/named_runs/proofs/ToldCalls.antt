@@ -9,8 +9,8 @@ use Rattle.shared_words.specs.declared.words_pass.WordsPass.{WordsPass}
 use Rattle.shared_words.specs.Deeds.{Deed, AreCalls}
 use Rattle.shared_words.specs.Passes.{caller_of_pass, deeds_of, pairs_in, IsPassOf}
 use Rattle.world_core.specs.Calls.{Made}
-use Rattle.call_lines.specs.Phases.{IsTold, answered}
-use Rattle.bench_clients.proofs.Places.{item_at}
+use Rattle.report_lines.specs.Phases.{IsTold, answered}
+use Rattle.script_workers.proofs.Places.{item_at}
 use Rattle.lawful_objects.specs.Pairs.{pairs_of}
 use Rattle.lawful_objects.proofs.Pairing.{pairs_have_the_calls}
 use Rattle.logged_calls.specs.Logged.{IsLoggedBy, AreFormed}

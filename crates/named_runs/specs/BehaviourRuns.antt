@@ -4,11 +4,11 @@ use Rattle.std.specs.List.{list_any}
 use Rattle.seq_objects.specs.Objects.{kind_init, kind_next}
 use Rattle.world_core.specs.Local.{Local}
 use Rattle.world_core.specs.Shape.{Shape}
-use Rattle.call_lines.specs.Lawful.{IsLawful}
-use Rattle.call_lines.specs.Lines.{any_error}
+use Rattle.report_lines.specs.Lawful.{IsLawful}
+use Rattle.report_lines.specs.Lines.{any_error}
 use Rattle.client_scripts.specs.Plans.{Plan}
-use Rattle.bench_clients.specs.Places.{AreInOrder}
-use Rattle.bench_clients.specs.Starts.{run_allotments, replay_allotments}
+use Rattle.script_workers.specs.Places.{AreInOrder}
+use Rattle.script_workers.specs.Starts.{run_allotments, replay_allotments}
 use Rattle.reports.specs.Findings.{Findings}
 use Rattle.run_report.specs.Reporting.{outside_shape, IsReportOf, IsToldIn}
 use Rattle.faulty_objects.specs.declared.behaviour.Behaviour.{Behaviour}

@@ -6,7 +6,7 @@ use Rattle.world_core.specs.Calls.{Made, AreTogether, calls_in, local_at}
 use Rattle.client_scripts.specs.Plans.{Plan}
 use Rattle.faulty_objects.specs.declared.behaviour.Behaviour.{Behaviour}
 use Rattle.byte_streams.specs.declared.status.Status.{Status}
-use Rattle.bench_clients.specs.Starts.{run_allotments}
+use Rattle.script_workers.specs.Starts.{run_allotments}
 use Rattle.monitored_runs.specs.Monitoring.{HaveMadeAll}
 use Rattle.monitor_writer.specs.MonitorTexts.{IsMonitorText}
 use Rattle.run_report.specs.Reporting.{outside_shape}
@@ -33,11 +33,12 @@ pub record AreToldMonitored {T : Type 0} (told : T → Option (List (ℕ × ℕ)
   pub monitored : AreMonitored plan locals
   pub told_in : AreTold told (phases_in plan) (calls_at locals) passes
 
--- So they are, and the object of a behaviour answered their calls.
+-- These locals are those of monitored callers, and the object of a behaviour answered the calls of
+-- the plan's callers; the monitors, which come after them, have made none.
 pub record AreNamedMonitored (behaviour : Behaviour) (plan : Plan)
     (locals : List Local) : Type 0 where
   pub monitored : AreMonitored plan locals
-  pub object : IsOfBehaviour behaviour plan.kind (length plan.operations + 2) (phases_in plan)
+  pub object : IsOfBehaviour behaviour plan.kind (length plan.operations) (phases_in plan)
       (calls_at locals)
 
 -- The output of a run that left such locals: a status and a text, right of the records that they

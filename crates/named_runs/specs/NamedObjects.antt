@@ -3,19 +3,19 @@ use Rattle.std.specs.Prelude.{◌≡◌, ℕ, List, Option, IfSome, map, All}
 use Rattle.std.specs.List.{range_with_len}
 use Rattle.shared_log.specs.declared.entry.Entry.{Entry}
 use Rattle.world_core.specs.Calls.{Made}
-use Rattle.call_lines.specs.Phases.{IsTold}
+use Rattle.report_lines.specs.Phases.{IsTold}
 use Rattle.seq_objects.specs.declared.kind.Kind.{Kind}
 use Rattle.seq_objects.specs.Objects.{kind_init, kind_next}
 use Rattle.lawful_objects.specs.Replays.{last_reply}
 use Rattle.lawful_objects.specs.Forms.{IsTallyReply, IsCellReply}
-use Rattle.faulty_machines.specs.Lossy.{lossy_reply}
-use Rattle.faulty_machines.specs.Twice.{twice_reply}
-use Rattle.faulty_machines.specs.Late.{late_reply}
-use Rattle.faulty_machines.specs.Invent.{invent_reply}
+use Rattle.faulty_objects.specs.Lossy.{lossy_reply}
+use Rattle.faulty_objects.specs.Twice.{twice_reply}
+use Rattle.faulty_objects.specs.Late.{late_reply}
+use Rattle.faulty_objects.specs.Invent.{invent_reply}
 use Rattle.faulty_objects.specs.Forms.{IsQueueReply}
 use Rattle.faulty_objects.specs.declared.behaviour.Behaviour.{Behaviour}
 use Rattle.faulty_objects.specs.declared.behaviour.Behaviour.TheVariants.{Lawful, Tally, Cell, Lossy, Twice, Late, Invent, Split, Onepass}
-use Rattle.bench_clients.specs.Places.{AreInOrder}
+use Rattle.script_workers.specs.Places.{AreInOrder}
 use Rattle.logged_calls.specs.Logged.{IsLoggedBy, AreFormed}
 
 -- These are the passes of n callers, in order, and each is the object's own.

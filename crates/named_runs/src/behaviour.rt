@@ -5,7 +5,7 @@ ghost use Rattle.book_base.specs.declared.TheConstants.{MAX_CALLERS};
 ghost use Rattle.byte_streams.specs.Fault.{LeavesSink};
 ghost use Rattle.byte_streams.specs.Writing.{EndsWriting};
 ghost use Rattle.run_writer.specs.Runs.{RunEnds, object_of_kind};
-ghost use Rattle.bench_clients.specs.Starts.{run_allotments};
+ghost use Rattle.script_workers.specs.Starts.{run_allotments};
 ghost use Rattle.run_report.specs.Reporting.{outside_shape};
 ghost use Rattle.named_runs.specs.Worlds.{inside_of};
 ghost use Rattle.named_runs.specs.BehaviourRuns.{IsNamedReport, IsNamedReplayReport, IsNamedRunReport};
@@ -132,8 +132,8 @@ pub fn replay_behaviour<K: Sink>(
 /// one can be had: none judges a call, and two monitors watch them. It writes `legal`, or `illegal`
 /// and the text of a witness, by the book of all records that the callers published.
 ///
-/// The table of rows and the object are opened for two callers more than the script has, with the
-/// greatest cap, and closed after the run, the object with the passes of all of them.
+/// The table of rows is opened for two callers more than the script has, and the object for the
+/// script's, with the greatest cap; both are closed after the run.
 pub fn monitor_behaviour<R: Threads + Sync, K: Sink>(
     rt: &R,
     alloc: Global,

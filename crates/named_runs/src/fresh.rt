@@ -3,8 +3,8 @@
 
 ghost use Rattle.std.specs.Prelude.{◌≡◌, ◌≤◌, ◌+◌, length, vec_len, vec_capacity};
 ghost use Rattle.book_base.specs.declared.TheConstants.{MAX_CALLERS};
-ghost use Rattle.bench_clients.specs.Places.{AreInOrder};
-ghost use Rattle.bench_clients.specs.Starts.{run_allotments, replay_allotments};
+ghost use Rattle.script_workers.specs.Places.{AreInOrder};
+ghost use Rattle.script_workers.specs.Starts.{run_allotments, replay_allotments};
 ghost use Rattle.run_report.specs.Passes.{IsOwnPass, AreUnusedPasses};
 ghost use Rattle.byte_streams.specs.Fault.{LeavesSink};
 ghost use Rattle.byte_streams.specs.Writing.{EndsWriting};

@@ -2,7 +2,7 @@
 
 ghost use Rattle.std.specs.Prelude.{◌≡◌, false, IfOk};
 ghost use Rattle.std.specs.List.{list_any};
-ghost use Rattle.call_lines.specs.Lines.{any_error};
+ghost use Rattle.report_lines.specs.Lines.{any_error};
 ghost use Rattle.faulty_objects.specs.declared.behaviour.Behaviour.{Behaviour};
 ghost use Rattle.named_runs.specs.Worlds.{Serves};
 ghost use Rattle.named_runs.specs.BehaviourRuns.{IsInsideReport};

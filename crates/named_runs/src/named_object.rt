@@ -26,23 +26,16 @@ pub(crate) trait NamedObject: BlackBox + Sized {
     /// The object was opened for scripts of this kind, and for this many callers.
     ghost is_opened_for: { Self → TheKind → ℕ → Type 0 } = { λ object kind n. Unit {0} };
 
-    /// An object for scripts of a kind, with `n` callers and `cap` calls each, and a pass for each
-    /// caller, in order.
-    fn open_for(
-        alloc: Global,
-        kind: Kind,
-        n: u32,
-        cap: u64,
-    ) -> Result<(Self, Vec<Self::Pass>), NoMemory>
+    /// An object for scripts of a kind, with `n` callers and the greatest cap of calls each, and a
+    /// pass for each caller, in order.
+    fn open_for(alloc: Global, kind: Kind, n: u32) -> Result<(Self, Vec<Self::Pass>), NoMemory>
         requires some_callers { 1 ≤ n }
         requires few_callers { n ≤ MAX_CALLERS }
-        requires some_calls { 1 ≤ cap }
-        requires few_calls { cap ≤ MAX_CALLS }
         ensures opened { IfOk result (λ r. is_opened_for r.0 kind n) }
         ensures passes { IfOk result
             (λ r. AreOwnPasses (Self.is_own r.0) Self.Pass.caller n r.1.items) }
         ensures fresh { IfOk result (λ r. All
-            (λ pass. (Self.Pass.made pass ≡ 0) × (Self.Pass.cap pass ≡ cap)) r.1.items) };
+            (λ pass. (Self.Pass.made pass ≡ 0) × (Self.Pass.cap pass ≡ MAX_CALLS)) r.1.items) };
 
     /// Takes the passes of all callers back. Whatever calls the passes are told in, the object
     /// answered them.
@@ -62,13 +55,8 @@ impl<M: NamedMachine> NamedObject for LogBox<M> {
 
     ghost is_opened_for = { λ object. IsLogFor M.behaviour (M.reply_to (machine_in object)) (callers_in object) };
 
-    fn open_for(
-        alloc: Global,
-        kind: Kind,
-        n: u32,
-        cap: u64,
-    ) -> Result<(Self, Vec<LogPass>), NoMemory> {
-        LogBox::open(alloc, M::for_kind(kind), n, cap)
+    fn open_for(alloc: Global, kind: Kind, n: u32) -> Result<(Self, Vec<LogPass>), NoMemory> {
+        LogBox::open(alloc, M::for_kind(kind), n, MAX_CALLS)
     }
 
     fn close_with(self, passes: Vec<LogPass>)
@@ -89,13 +77,8 @@ impl<M: NamedMachine> NamedObject for LogBox<M> {
 impl NamedObject for Tally {
     ghost behaviour = { behaviours.Tally };
 
-    fn open_for(
-        alloc: Global,
-        _kind: Kind,
-        n: u32,
-        cap: u64,
-    ) -> Result<(Self, Vec<WordsPass>), NoMemory> {
-        Tally::open(alloc, n, cap)
+    fn open_for(alloc: Global, _kind: Kind, n: u32) -> Result<(Self, Vec<WordsPass>), NoMemory> {
+        Tally::open(alloc, n, MAX_CALLS)
     }
 
     fn close_with(self, passes: Vec<WordsPass>)
@@ -110,13 +93,8 @@ impl NamedObject for Tally {
 impl NamedObject for WordCell {
     ghost behaviour = { behaviours.Cell };
 
-    fn open_for(
-        alloc: Global,
-        _kind: Kind,
-        n: u32,
-        cap: u64,
-    ) -> Result<(Self, Vec<WordsPass>), NoMemory> {
-        WordCell::open(alloc, n, cap)
+    fn open_for(alloc: Global, _kind: Kind, n: u32) -> Result<(Self, Vec<WordsPass>), NoMemory> {
+        WordCell::open(alloc, n, MAX_CALLS)
     }
 
     fn close_with(self, passes: Vec<WordsPass>)
@@ -131,13 +109,8 @@ impl NamedObject for WordCell {
 impl NamedObject for SplitTally {
     ghost behaviour = { behaviours.Split };
 
-    fn open_for(
-        alloc: Global,
-        _kind: Kind,
-        n: u32,
-        cap: u64,
-    ) -> Result<(Self, Vec<WordsPass>), NoMemory> {
-        SplitTally::open(alloc, n, cap)
+    fn open_for(alloc: Global, _kind: Kind, n: u32) -> Result<(Self, Vec<WordsPass>), NoMemory> {
+        SplitTally::open(alloc, n, MAX_CALLS)
     }
 
     fn close_with(self, passes: Vec<WordsPass>)
@@ -152,13 +125,8 @@ impl NamedObject for SplitTally {
 impl NamedObject for OnePass {
     ghost behaviour = { behaviours.Onepass };
 
-    fn open_for(
-        alloc: Global,
-        _kind: Kind,
-        n: u32,
-        cap: u64,
-    ) -> Result<(Self, Vec<WordsPass>), NoMemory> {
-        OnePass::open(alloc, n, cap)
+    fn open_for(alloc: Global, _kind: Kind, n: u32) -> Result<(Self, Vec<WordsPass>), NoMemory> {
+        OnePass::open(alloc, n, MAX_CALLS)
     }
 
     fn close_with(self, passes: Vec<WordsPass>)

@@ -3,7 +3,7 @@ use Rattle.std.proofs.Common.{◌≡◌, ℕ, ◌%◌, ◌^◌, ◌==◌, ◌&&�
 use Rattle.std.specs.Prelude.{nat_lt}
 use Rattle.std.proofs.lemmas.Bool.{cases_Bool, cond-false, and_parts, eqb-true, ltb-true}
 use Rattle.seq_objects.specs.Words as words
-use Rattle.seq_objects.specs.Words.{Entry, with_argument, with_extra, name_alone, is_operation_of, has_arguments, code_of, argument_of, extra_of, word_of, is_known_word, entry_of, entries}
+use Rattle.seq_objects.specs.Words.{OperationEntry, with_argument, with_extra, name_alone, is_operation_of, has_arguments, code_of, argument_of, extra_of, word_of, is_known_word, entry_of, entries}
 use Rattle.seq_objects.specs.declared.kind.Kind.TheVariants.{Queue, Stack, Register, Counter, IntSet, Pqueue, CasRegister, Map}
 
 -- what is found among some is the first of them, or found among the others
@@ -17,10 +17,10 @@ found-first p x xs found = elim (cases_Bool (p x)) [
 
 module _ (word : ℕ) where
   -- The word is an operation of one of these entries.
-  abbrev IsAmong : List Entry → Type 0
+  abbrev IsAmong : List OperationEntry → Type 0
   IsAmong es = is_some (find (is_operation_of word) es) ≡ true
 
-  has_code : (e : Entry) → is_operation_of word e ≡ true → code_of word ≡ e.code
+  has_code : (e : OperationEntry) → is_operation_of word e ≡ true → code_of word ≡ e.code
   has_code e is = eqb-true (code_of word) e.code
       (and_parts (code_of word == e.code) (has_arguments e.arity word) is).0
 
@@ -28,7 +28,7 @@ module _ (word : ℕ) where
   among_none never = true≢false (sym never)
 
   -- It is the first entry's, where it is none of the others'.
-  at_first : (e : Entry) (es : List Entry) → IsAmong (e ∷ es) → (IsAmong es → ⊥)
+  at_first : (e : OperationEntry) (es : List OperationEntry) → IsAmong (e ∷ es) → (IsAmong es → ⊥)
       → is_operation_of word e ≡ true
   at_first e es among none = elim (found-first (is_operation_of word) e es among) [
     | inl is ↦ is
@@ -36,7 +36,8 @@ module _ (word : ℕ) where
   ]
 
   -- It is one of the others', where its code isn't the first one's.
-  at_others : (e : Entry) (es : List Entry) → IsAmong (e ∷ es) → (code_of word ≡ e.code → ⊥)
+  at_others : (e : OperationEntry) (es : List OperationEntry) → IsAmong (e ∷ es)
+      → (code_of word ≡ e.code → ⊥)
       → IsAmong es
   at_others e es among other = elim (found-first (is_operation_of word) e es among) [
     | inl is ↦ absurd (other (has_code e is))
@@ -84,7 +85,8 @@ module _ (word : ℕ) where
       (at_others (with_argument put 1) (name_alone take 2 ∷ []) among other) among_none)
 
   -- The first, the second or the third of three entries, of the codes 1 to 3.
-  first_of_three : (a b c : Entry) → a.code ≡ 1 → b.code ≡ 2 → c.code ≡ 3 → IsAmong (a ∷ b ∷ c ∷ [])
+  first_of_three : (a b c : OperationEntry) → a.code ≡ 1 → b.code ≡ 2 → c.code ≡ 3
+      → IsAmong (a ∷ b ∷ c ∷ [])
       → code_of word ≡ 1 → is_operation_of word a ≡ true
   first_of_three a b c one two three among is_first =
       at_first a (b ∷ c ∷ []) among
@@ -92,7 +94,7 @@ module _ (word : ℕ) where
       (at_others c [] (at_others b (c ∷ []) later (λ at_two. omega (arith, is_first, two, at_two)))
       (λ at_three. omega (arith, is_first, three, at_three))))
 
-  second_of_three : (a b c : Entry) → a.code ≡ 1 → b.code ≡ 2 → c.code ≡ 3
+  second_of_three : (a b c : OperationEntry) → a.code ≡ 1 → b.code ≡ 2 → c.code ≡ 3
       → IsAmong (a ∷ b ∷ c ∷ []) → code_of word ≡ 2 → is_operation_of word b ≡ true
   second_of_three a b c one two three among is_second =
       at_first b (c ∷ [])
@@ -100,7 +102,8 @@ module _ (word : ℕ) where
       (λ later.
       among_none (at_others c [] later (λ at_three. omega (arith, is_second, three, at_three))))
 
-  third_of_three : (a b c : Entry) → a.code ≡ 1 → b.code ≡ 2 → c.code ≡ 3 → IsAmong (a ∷ b ∷ c ∷ [])
+  third_of_three : (a b c : OperationEntry) → a.code ≡ 1 → b.code ≡ 2 → c.code ≡ 3
+      → IsAmong (a ∷ b ∷ c ∷ [])
       → (code_of word ≡ 1 → ⊥) → (code_of word ≡ 2 → ⊥) → is_operation_of word c ≡ true
   third_of_three a b c one two three among not_first not_second =
       at_first c []

@@ -3,8 +3,8 @@ use Rattle.std.proofs.Common.{◌≡◌, ℕ, ◌+◌, ◌≤◌, ◌⊎◌, tru
 use Rattle.std.specs.List.{cons_option}
 use Rattle.std.proofs.lemmas.Bool.{cond-true, cond-false}
 use Rattle.book_base.specs.Sequential.{IsRunFrom}
-use Rattle.book_base.specs.Foresight.{list_after_run}
-use Rattle.history_rules.specs.Container.{Deed, Puts, Takes, Neither, value_put, value_taken, put_by, taken_by, GivesFirst}
+use Rattle.book_base.specs.PruningRules.{list_after_run}
+use Rattle.history_rules.specs.Container.{Effect, Puts, Takes, Neither, value_put, value_taken, put_by, taken_by, GivesFirst}
 use Rattle.seq_objects.specs.declared.kind.Kind.TheVariants.{Stack}
 use Rattle.seq_objects.specs.Words as words
 use Rattle.seq_objects.specs.Words.{is_operation_of, argument_of}
@@ -98,18 +98,18 @@ what_is_done list step replied = by_deed (stack_reading.deed step.0) refl where
   by_shown : (shown : Option ℕ) → stack_reading.deed step.0 ≡ Takes → shown_value step.1 ≡ shown
       → GivesFirst (values list) shown (values (next list step.0).0) → Does list step
   by_shown None is e gives = DoesNothing (ap value_put is)
-      (ap (λ (d : Deed). value_taken d (shown_value step.1)) is ∙ e) (gives.1 ∙ sym gives.0)
+      (ap (λ (d : Effect). value_taken d (shown_value step.1)) is ∙ e) (gives.1 ∙ sym gives.0)
   by_shown (Some w) is e gives = DoesTake w (ap value_put is)
-      (ap (λ (d : Deed). value_taken d (shown_value step.1)) is ∙ e) gives
+      (ap (λ (d : Effect). value_taken d (shown_value step.1)) is ∙ e) gives
 
-  by_deed : (deed : Deed) → stack_reading.deed step.0 ≡ deed → Does list step
+  by_deed : (deed : Effect) → stack_reading.deed step.0 ≡ deed → Does list step
   by_deed (Puts w) is =
-      DoesPut w (ap value_put is) (ap (λ (d : Deed). value_taken d (shown_value step.1)) is)
+      DoesPut w (ap value_put is) (ap (λ (d : Effect). value_taken d (shown_value step.1)) is)
       (stack_is_read.put list step.0 w is)
   by_deed Takes is = by_shown (shown_value (next list step.0).1) is (ap shown_value (sym replied))
       (stack_is_read.take list step.0 is)
   by_deed Neither is =
-      DoesNothing (ap value_put is) (ap (λ (d : Deed). value_taken d (shown_value step.1)) is)
+      DoesNothing (ap value_put is) (ap (λ (d : Effect). value_taken d (shown_value step.1)) is)
       (stack_is_read.neither list step.0 is)
 
 -- steps put in and give out what the values of the list differ by, and never give out more than
@@ -154,14 +154,14 @@ same_value : (a b : ℕ) (xs ys : List ℕ) → a ∷ xs ≡ b ∷ ys → (a ≡
 same_value a b xs ys e = (cc, cc)
 
 -- a value of the list after some steps was put in by them, or was in the list before
-abbrev Found : List ℕ → List (ℕ × ℕ) → ℕ → List ℕ → ℕ → Type 0
-Found list steps v below n = IsPut steps v n
+abbrev IsPutOrThere : List ℕ → List (ℕ × ℕ) → ℕ → List ℕ → ℕ → Type 0
+IsPutOrThere list steps v below n = IsPut steps v n
     ⊎ ((top : List ℕ) × (values list ≡ top ++ v ∷ below) × Covers (length top) n steps)
 
 found : (list : List ℕ) (steps : List (ℕ × ℕ)) → IsRunFrom next list steps
     → (above : List ℕ) (v : ℕ) (below : List ℕ)
     → values (list_after_run next list steps) ≡ above ++ v ∷ below
-    → Found list steps v below (length above)
+    → IsPutOrThere list steps v below (length above)
 found list [] run above v below e = inr (above, e, covers_none (length above))
 found list (step ∷ steps) run above v below e =
     elim (found (next list step.0).0 steps run.1 above v below e) [
@@ -173,7 +173,7 @@ found list (step ∷ steps) run above v below e =
 
       found_by : Does list step → (top : List ℕ) → values (next list step.0).0 ≡ top ++ v ∷ below
           → Covers (length top) (length above) steps
-          → Found list (step ∷ steps) v below (length above)
+          → IsPutOrThere list (step ∷ steps) v below (length above)
       found_by (DoesPut w put taken is) [] at covers =
           let parts = same_value w v (values list) below (sym is ∙ at) in
           inl (record {
@@ -236,7 +236,7 @@ no_value : (top : List ℕ) (v : ℕ) (below : List ℕ) → [] ≡ top ++ v ∷
 no_value [] v below e = cc
 no_value (t ∷ top) v below e = cc
 
-newest : (before : List (ℕ × ℕ)) (v : ℕ) (below : List ℕ) → Found [] before v below 0
+newest : (before : List (ℕ × ℕ)) (v : ℕ) (below : List ℕ) → IsPutOrThere [] before v below 0
     → IsNewest before v
 newest before v below (inl put) = record {
   before = put.before;

@@ -4,7 +4,7 @@ use Rattle.std.specs.List.{AllByRecursion, position_or_len}
 use Rattle.std.proofs.lemmas.Bool.{cases_Bool, cases_eq, cond-true, cond-false, eq-eqb, ltb-true, ltb-false}
 use Rattle.std.proofs.lemmas.Option.{same_Some}
 use Rattle.book_base.specs.Sequential.{IsRunFrom}
-use Rattle.book_base.specs.Foresight.{list_after_run}
+use Rattle.book_base.specs.PruningRules.{list_after_run}
 use Rattle.history_rules.specs.Container.{Puts, Takes, Neither, value_put, one_if, times, GivesOne, IsContainer}
 use Rattle.history_rules.proofs.Counting.{times-apart}
 use Rattle.seq_objects.specs.declared.kind.Kind.TheVariants.{Pqueue}

@@ -6,11 +6,11 @@ use Rattle.std.proofs.lemmas.Option.{slice_get-get_or}
 use Rattle.std.proofs.lemmas.List.Quantifiers.{position-Some}
 use Rattle.std.proofs.lemmas.List.Sums.{fails_before_first}
 use Rattle.list_laws.proofs.Options.{cases_Option}
-use Rattle.book_base.specs.Foresight.{list_after_run}
+use Rattle.book_base.specs.PruningRules.{list_after_run}
 use Rattle.history_rules.specs.Container.{one_if, times}
 use Rattle.history_rules.proofs.Counting.{times-stands}
 use Rattle.seq_objects.specs.Words as words
-use Rattle.seq_objects.specs.Words.{Entry, argument_of, is_operation_of}
+use Rattle.seq_objects.specs.Words.{OperationEntry, argument_of, is_operation_of}
 use Rattle.seq_objects.specs.Replies.{reply_no, reply_yes}
 use Rattle.seq_objects.specs.Items.{place_of, place_for, inserted}
 use Rattle.seq_objects.specs.IntSetSteps.{added, taken_out, removed, set_operation, set_after}
@@ -176,22 +176,23 @@ leaves list word not_add not_remove = elim (cases_Bool (is_operation_of word wor
 
 -- ---- whether an add stands
 
-with_parts : (entry : Entry) (v : ℕ) (step : ℕ × ℕ) → does_with entry v step ≡ true
+with_parts : (entry : OperationEntry) (v : ℕ) (step : ℕ × ℕ) → does_with entry v step ≡ true
     → (does entry step ≡ true) × (argument_of step.0 ≡ v)
 with_parts entry v step e =
     let parts = and_parts (does entry step) (argument_of step.0 == v) e in
     (parts.0, eqb-true (argument_of step.0) v parts.1)
 
-with_both : (entry : Entry) (v : ℕ) (step : ℕ × ℕ) → does entry step ≡ true → argument_of step.0 ≡ v
+with_both : (entry : OperationEntry) (v : ℕ) (step : ℕ × ℕ) → does entry step ≡ true
+    → argument_of step.0 ≡ v
     → does_with entry v step ≡ true
 with_both entry v step is same =
     and_from (does entry step) (argument_of step.0 == v) is (eq-eqb (argument_of step.0) v same)
 
-without_entry : (entry : Entry) (v : ℕ) (step : ℕ × ℕ) → does entry step ≡ false
+without_entry : (entry : OperationEntry) (v : ℕ) (step : ℕ × ℕ) → does entry step ≡ false
     → does_with entry v step ≡ false
 without_entry entry v step other = ap (λ t. t && (argument_of step.0 == v)) other
 
-without_value : (entry : Entry) (v : ℕ) (step : ℕ × ℕ) → argument_of step.0 ≢ v
+without_value : (entry : OperationEntry) (v : ℕ) (step : ℕ × ℕ) → argument_of step.0 ≢ v
     → does_with entry v step ≡ false
 without_value entry v step other = elim (cases_Bool (does_with entry v step)) [
   | inl is ↦ absurd (other (with_parts entry v step is).1)

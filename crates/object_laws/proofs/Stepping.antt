@@ -2,8 +2,8 @@
 use Rattle.std.proofs.Common.{◌≡◌, ◌≢◌, ℕ, ◌/◌, ◌^◌, true, false, ◌==◌, ◌&&◌, List, [], ◌∷◌, ◌++◌, Some, None, refl, sym, ap, ◌∙◌, arith}
 use Rattle.std.proofs.lemmas.Bool.{cond-true, and_parts, eqb-true, eq-eqb, ne_eqb}
 use Rattle.book_base.specs.Sequential.{IsRunFrom}
-use Rattle.book_base.specs.Foresight.{list_after_run}
-use Rattle.seq_objects.specs.Words.{Entry, is_operation_of, has_arguments, code_of}
+use Rattle.book_base.specs.PruningRules.{list_after_run}
+use Rattle.seq_objects.specs.Words.{OperationEntry, is_operation_of, has_arguments, code_of}
 use Rattle.seq_objects.specs.Replies.{reply_value, is_value}
 use Rattle.seq_objects.specs.Readings.{value_of, shown_value}
 
@@ -29,7 +29,7 @@ list_after-append next list [] b = refl
 list_after-append next list (step ∷ a) b = list_after-append next (next list step.0).0 a b
 
 -- a word of one entry is of no entry with another code
-pub apart : (word : ℕ) (a b : Entry) → a.code ≢ b.code → is_operation_of word a ≡ true
+pub apart : (word : ℕ) (a b : OperationEntry) → a.code ≢ b.code → is_operation_of word a ≡ true
     → is_operation_of word b ≡ false
 apart word a b other is =
     let code : code_of word ≡ a.code = eqb-true (code_of word) a.code

@@ -1,8 +1,8 @@
 -- What a take of a container gives out was put in, and isn't out.
 use Rattle.std.proofs.Common.{◌≡◌, ℕ, ◌+◌, ◌<◌, ◌≤◌, List, [], ◌∷◌, ◌++◌, Option, Some, refl, ap, ◌∙◌, subst, arith, eq-eqb}
 use Rattle.book_base.specs.Sequential.{IsRunFrom}
-use Rattle.book_base.specs.Foresight.{list_after_run}
-use Rattle.history_rules.specs.Container.{Deed, Puts, Takes, Neither, Reading, value_taken, put_by, taken_by, one_if, times, GivesOne, IsContainer}
+use Rattle.book_base.specs.PruningRules.{list_after_run}
+use Rattle.history_rules.specs.Container.{Effect, Puts, Takes, Neither, Reading, value_taken, put_by, taken_by, one_if, times, GivesOne, IsContainer}
 use Rattle.history_rules.proofs.Counting.{times-shown}
 use Rattle.history_rules.proofs.Runs.{holds_what_was_put}
 use Rattle.history_rules.proofs.QueueRuns.{queue_is_container, stack_is_container}
@@ -30,7 +30,7 @@ module _ (reading : Reading) (next : List ℕ → ℕ → List ℕ × ℕ) (is :
         times-shown (taken_by reading) w steps,
       )
 
-  taken_was_held : (list : List ℕ) (step : ℕ × ℕ) (value : ℕ) (deed : Deed) → (next list step.0).1
+  taken_was_held : (list : List ℕ) (step : ℕ × ℕ) (value : ℕ) (deed : Effect) → (next list step.0).1
       ≡ step.1 → reading.deed step.0 ≡ deed → value_taken deed (reading.shown step.1) ≡ Some value
       → 1 ≤ times value (reading.values list)
   taken_was_held list step value (Puts w) reply deed taken = absurd cc

@@ -1,7 +1,7 @@
 -- Runs of queues, stacks and priority queues: which of the values that were put in comes out next.
 use Rattle.std.specs.Prelude.{◌≡◌, ◌⊎◌, ℕ, ◌<◌, ◌≤◌, ◌^◌, true, List, ◌∷◌, ◌++◌, length, map, slice_get, Option, Some, None, if◌then◌else◌}
 use Rattle.std.specs.List.{filter_map}
-use Rattle.history_rules.specs.Container.{Deed, Puts, Takes, Neither, Reading, put_by, taken_by, times}
+use Rattle.history_rules.specs.Container.{Effect, Puts, Takes, Neither, Reading, put_by, taken_by, times}
 use Rattle.seq_objects.specs.declared.kind.Kind.{Kind}
 use Rattle.seq_objects.specs.declared.kind.Kind.TheVariants.{Queue, Stack, Pqueue}
 use Rattle.seq_objects.specs.Words.{insert, deq, pop, min, is_operation_of, argument_of}
@@ -64,7 +64,7 @@ PopsGiveTheNewest = (before rest : List (ℕ × ℕ)) (step : ℕ × ℕ)
     → GivesTheNewest before step.1
 
 -- How priority queues are read: an insert puts in, a min takes.
-abbrev pub pqueue_deed : ℕ → Deed
+abbrev pub pqueue_deed : ℕ → Effect
 pqueue_deed word =
     if is_operation_of word insert then Puts (argument_of word) else if is_operation_of word min
     then Takes else Neither

@@ -4,7 +4,7 @@ use Rattle.std.specs.Prelude.{◌≡◌, ℕ, ◌==◌, ◌&&◌, Bool, true, fa
 use Rattle.std.specs.List.{AllByRecursion}
 use Rattle.book_base.specs.Sequential.{IsLegalRun}
 use Rattle.seq_objects.specs.declared.kind.Kind.{Kind}
-use Rattle.seq_objects.specs.Words.{Entry, is_operation_of, argument_of}
+use Rattle.seq_objects.specs.Words.{OperationEntry, is_operation_of, argument_of}
 use Rattle.seq_objects.specs.Replies.{reply_done}
 use Rattle.seq_objects.specs.Objects.{kind_init, kind_next}
 
@@ -13,11 +13,11 @@ abbrev pub IsRunOf : Kind → List (ℕ × ℕ) → Type 0
 IsRunOf kind steps = IsLegalRun (kind_init kind) (kind_next kind) steps
 
 -- Whether a step has an operation of this entry.
-abbrev pub does : Entry → ℕ × ℕ → Bool
+abbrev pub does : OperationEntry → ℕ × ℕ → Bool
 does entry step = is_operation_of step.0 entry
 
 -- Whether a step has an operation of this entry, with this argument.
-abbrev pub does_with : Entry → ℕ → ℕ × ℕ → Bool
+abbrev pub does_with : OperationEntry → ℕ → ℕ × ℕ → Bool
 does_with entry value step = does entry step && (argument_of step.0 == value)
 
 -- No step passes this test.
@@ -25,7 +25,7 @@ abbrev pub NonePass : (ℕ × ℕ → Bool) → List (ℕ × ℕ) → Type 0
 NonePass test steps = AllByRecursion (λ step. test step ≡ false) steps
 
 -- In each run of this kind the reply to an operation of this entry is `done`.
-abbrev pub AreDone : Kind → Entry → Type 0
+abbrev pub AreDone : Kind → OperationEntry → Type 0
 AreDone kind entry = (before rest : List (ℕ × ℕ)) (step : ℕ × ℕ)
     → IsRunOf kind (before ++ step ∷ rest) → does entry step ≡ true
     → step.1 ≡ reply_done

@@ -1,7 +1,7 @@
 -- Runs that are worked by hand.
 use Rattle.std.specs.Prelude.{ℕ}
-use Rattle.seq_objects.specs.Words.{Entry, word_of}
+use Rattle.seq_objects.specs.Words.{OperationEntry, word_of}
 
 -- The operation word of an entry with this argument, which is 0 where the entry has none.
-abbrev pub operation : Entry → ℕ → ℕ
+abbrev pub operation : OperationEntry → ℕ → ℕ
 operation entry argument = word_of entry.code argument 0

@@ -11,8 +11,8 @@ use crate::place::{call_at, first_fault_at};
 use book_base::{Book, Call, Cut, MAX_CALLERS, MAX_CALLS, NoMemory, Place, SeqObject, State};
 use std::alloc::Global;
 
-// Room for as many words as a book has calls, and one more.
-const ROOM: u64 = MAX_CALLERS as u64 * MAX_CALLS + 1;
+// A capacity of as many words as a book has calls, and one more.
+const CAPACITY: u64 = MAX_CALLERS as u64 * MAX_CALLS + 1;
 
 /// Judges a list of places: Ok where it is a legal order of the book, and else its first fault.
 ///
@@ -34,7 +34,7 @@ pub fn check_order<S: SeqObject>(
         (IsFirstFault (S.init object.now) (S.next object.now) book.now order.now)) }
 {
     let mut standing = Cut::zero(book.callers());
-    let mut state = State::with_room(alloc, ROOM)?;
+    let mut state = State::with_room(alloc, CAPACITY)?;
     object.reset(&mut state);
     for p in 0..order.len() {
         if let Some(fault) = first_fault_at(book, order, p, &standing) {

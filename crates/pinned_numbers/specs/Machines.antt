@@ -8,31 +8,31 @@ use Rattle.seq_objects.specs.Words as words
 use Rattle.seq_objects.specs.Words.{word_of, is_operation_of}
 use Rattle.seq_objects.specs.Replies.{reply_word}
 use Rattle.seq_objects.specs.Objects.{kind_init, kind_next}
-use Rattle.faulty_machines.specs.Calls.{is_put, is_take}
-use Rattle.faulty_machines.specs.Late.{late_reply}
-use Rattle.faulty_machines.specs.Invent.{invent_reply}
+use Rattle.faulty_objects.specs.Calls.{is_put, is_take}
+use Rattle.faulty_objects.specs.Late.{late_reply}
+use Rattle.faulty_objects.specs.Invent.{invent_reply}
 
 -- Each operation of these entries is a put, and no take.
-abbrev pub ArePuts : List words.Entry → Type 0
+abbrev pub ArePuts : List words.OperationEntry → Type 0
 ArePuts table = AllByRecursion (λ e. (word : ℕ) → is_operation_of word e ≡ true
     → (is_put word ≡ true) × (is_take word ≡ false)) table
 
 -- Each is a take, and no put.
-abbrev pub AreTakes : List words.Entry → Type 0
+abbrev pub AreTakes : List words.OperationEntry → Type 0
 AreTakes table = AllByRecursion (λ e. (word : ℕ) → is_operation_of word e ≡ true
     → (is_put word ≡ false) × (is_take word ≡ true)) table
 
 -- Each is neither.
-abbrev pub AreNeither : List words.Entry → Type 0
+abbrev pub AreNeither : List words.OperationEntry → Type 0
 AreNeither table = AllByRecursion (λ e. (word : ℕ) → is_operation_of word e ≡ true
     → (is_put word ≡ false) × (is_take word ≡ false)) table
 
 -- A log of calls, each by its caller, its operation's entry and its argument.
-abbrev pub log_of : List (ℕ × words.Entry × ℕ) → List Entry
+abbrev pub log_of : List (ℕ × words.OperationEntry × ℕ) → List Entry
 log_of calls = map (λ call. entry call.0 (word_of call.1.code call.2 0)) calls
 
 -- The text of a late queue's reply to the last call of a log.
-abbrev pub late_text : List (ℕ × words.Entry × ℕ) → List ℕ
+abbrev pub late_text : List (ℕ × words.OperationEntry × ℕ) → List ℕ
 late_text calls = reply_word (late_reply (kind_next Queue) (kind_init Queue) (log_of calls))
 
 -- The text of an inventing counter's reply to the last increment of a log, of which these are the

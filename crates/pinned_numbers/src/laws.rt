@@ -10,12 +10,12 @@ ghost use Rattle.text_fields.specs.declared.TheConstants.{TEXT_CALLERS, TEXT_CAL
 ghost use Rattle.text_fields.specs.declared.version.Version.TheVariants.{First, Second};
 ghost use Rattle.text_fields.specs.Version.{most_callers, most_calls, word_limit};
 ghost use Rattle.client_scripts.specs.declared.TheConstants.{PHASES};
-ghost use Rattle.call_lines.specs.Allotments.{phases_for};
-ghost use Rattle.call_lines.specs.Phases.{judged};
+ghost use Rattle.report_lines.specs.Allotments.{phases_for};
+ghost use Rattle.report_lines.specs.Phases.{judged};
 ghost use Rattle.byte_streams.specs.declared.TheConstants.{INPUT_LIMIT};
 ghost use Rattle.byte_streams.specs.declared.status.Status.TheVariants as statuses;
 ghost use Rattle.byte_streams.specs.Status.{code_of};
-ghost use Rattle.faulty_machines.specs.Calls.{is_put, is_take};
+ghost use Rattle.faulty_objects.specs.Calls.{is_put, is_take};
 ghost use Rattle.faulty_objects.specs.Forms.{most_loads};
 ghost use Rattle.pinned_numbers.specs.Machines.{ArePuts, AreTakes, AreNeither, late_text, invented_text};
 

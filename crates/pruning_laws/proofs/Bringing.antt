@@ -33,9 +33,10 @@ abbrev word_at : List Page → Place → ℕ
 word_at book place = (step_at book place).0
 
 -- What is found: a place with the key goes first, and the forced call doesn't precede it.
-abbrev Found : (ℕ → Option ℕ) → List Page → (List ℕ → ℕ → List ℕ × ℕ) → List ℕ → List ℕ → ℕ → ℕ
+abbrev KeyGoesFirst : (ℕ → Option ℕ) → List Page → (List ℕ → ℕ → List ℕ × ℕ) → List ℕ
+    → List ℕ → ℕ → ℕ
     → List Place → Type 0
-Found key book next cut list forced k rest =
+KeyGoesFirst key book next cut list forced k rest =
     (place : Place) × (other : List Place) × Continues book next cut list (place ∷ other)
     × (key (word_at book place) ≡ Some k)
     × (length (place ∷ other) ≤ length rest)

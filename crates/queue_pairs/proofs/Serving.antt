@@ -1,21 +1,18 @@
 -- What stands at earlier moments serves for what stands at later ones; and what is overdue never
 -- stands.
-use Rattle.std.proofs.Common.{◌≡◌, ◌≢◌, ℕ, ◌+◌, ◌<◌, ◌≤◌, ◌⊎◌, ◌∙◌, List, [], ◌∷◌, length, get_or, set, Some, refl, sym, ap, subst, inl, inr, arith}
+use Rattle.std.proofs.Common.{◌≡◌, ℕ, ◌+◌, ◌<◌, ◌≤◌, ◌⊎◌, ◌∙◌, List, [], ◌∷◌, length, get_or, set, Some, refl, sym, ap, subst, inl, inr, arith}
 use Rattle.std.proofs.lemmas.Bool.{cases_lt, cases_eq}
 use Rattle.std.proofs.lemmas.List.{get_or-set_same, get_or-set_other, length-set, set_past}
-use Rattle.std.proofs.lemmas.Option.{same_Some}
 use Rattle.book_base.specs.declared.call.Call.{Call}
 use Rattle.book_base.specs.declared.call.Record.{Record}
 use Rattle.book_base.specs.Cut.{Holds}
-use Rattle.book_base.specs.Book.{Page, IsCall, IsValid, record_of}
-use Rattle.book_base.proofs.PageLemmas.{caller_from_call}
+use Rattle.book_base.specs.Book.{Page, IsValid, record_of}
 use Rattle.book_base.proofs.ViewLemmas.{same_call}
 use Rattle.history_rules.specs.Container.{Reading}
-use Rattle.object_foresight.specs.declared.deal.Deal.TheVariants as deals
-use Rattle.object_foresight.specs.Deals.{deal_of}
-use Rattle.object_foresight.proofs.Dealing.{call_by_deal}
-use Rattle.queue_pairs.specs.Moments.{moment_of, IsHeldBy, MayTakeEffect}
-use Rattle.queue_pairs.specs.Pairs.{Paired, Pair, Step, Pairs, FindNothing, IsPutOf, IsPut, MayTakeOut, IsTake, IsNext, MayPair, MayFind, MayStep, after, IsWhole, AreSteps}
+use Rattle.container_pruning.specs.declared.deal.Deal.TheVariants as deals
+use Rattle.container_pruning.specs.Deals.{deal_of}
+use Rattle.queue_pairs.specs.Moments.{moment_of, IsHeldBy}
+use Rattle.queue_pairs.specs.Pairs.{Paired, Pair, Step, Pairs, FindNothing, IsPut, IsTake, IsNext, MayPair, MayFind, MayStep, after, AreSteps}
 
 -- the same numbers
 pub record IsSame (one other : List ℕ) : Type 0 where
@@ -69,25 +66,43 @@ pub held_later : (book : List Page) (call : Call) (m n : ℕ) → m ≤ n → Is
     → IsHeldBy book call n
 held_later book call m n le h = (h.0, h.1, h.2, h.3, omega (arith, h.4, le))
 
+-- A pair may stand where as many calls of its callers stand, at no later moments.
+pub pair-at : (reading : Reading) (book : List Page) (t s : Paired) (pair : Pair)
+    → get_or t.puts pair.put.caller 0 ≡ get_or s.puts pair.put.caller 0
+    → get_or t.takes pair.take.caller 0 ≡ get_or s.takes pair.take.caller 0
+    → t.put_moment ≤ s.put_moment → t.take_moment ≤ s.take_moment
+    → MayPair reading book s pair → MayPair reading book t pair
+pair-at reading book t s pair puts takes put_moment take_moment may = record {
+  value = may.value;
+  puts = may.puts;
+  takes = may.takes;
+  put = next-at (IsPut reading book) t.puts s.puts pair.put puts may.put;
+  take = next-at (IsTake reading book) t.takes s.takes pair.take takes may.take;
+  after_puts = omega (arith, may.after_puts, put_moment);
+  after_takes = omega (arith, may.after_takes, take_moment);
+  in_turn = may.in_turn;
+  put_effect = may.put_effect;
+  take_effect = may.take_effect;
+}
+
+-- Takes that find nothing may stand where no fewer of them stand, after no later take.
+pub find-at : (reading : Reading) (book : List Page) (t s : Paired) (m : ℕ)
+    → ((e : Call) → deal_of reading book e ≡ deals.FoundNothing → IsHeldBy book e s.found
+    → IsHeldBy book e t.found) → t.take_moment ≤ s.take_moment
+    → MayFind reading book s m → MayFind reading book t m
+find-at reading book t s m found moment may = record {
+  after_takes = omega (arith, may.after_takes, moment);
+  in_time = λ e r nothing known by out.
+      may.in_time e r nothing known by (λ before. out (found e nothing before));
+}
+
 -- a step that may stand may stand earlier
 earlier-step : (reading : Reading) (book : List Page) (t s : Paired) (step : Step)
     → IsEarlier reading book t s → MayStep reading book s step
     → MayStep reading book t step × IsEarlier reading book (after t step) (after s step)
 earlier-step reading book t s (Pairs pair) h may = (
-  record {
-    value = may.value;
-    puts = may.puts;
-    takes = may.takes;
-    put = next-at (IsPut reading book) t.puts s.puts pair.put
-        (h.puts.numbers pair.put.caller) may.put;
-    take = next-at (IsTake reading book) t.takes s.takes pair.take
-        (h.takes.numbers pair.take.caller) may.take;
-    after_puts = omega (arith, may.after_puts, h.put_moment);
-    after_takes = omega (arith, may.after_takes, h.take_moment);
-    in_turn = may.in_turn;
-    put_effect = may.put_effect;
-    take_effect = may.take_effect;
-  },
+  pair-at reading book t s pair (h.puts.numbers pair.put.caller)
+      (h.takes.numbers pair.take.caller) h.put_moment h.take_moment may,
   record {
     puts = same-set t.puts s.puts pair.put.caller (pair.put.number + 1) h.puts;
     takes = same-set t.takes s.takes pair.take.caller (pair.take.number + 1) h.takes;
@@ -97,11 +112,7 @@ earlier-step reading book t s (Pairs pair) h may = (
   },
 )
 earlier-step reading book t s (FindNothing m) h may = (
-  record {
-    after_takes = omega (arith, may.after_takes, h.take_moment);
-    in_time = λ e r nothing known by out.
-        may.in_time e r nothing known by (λ before. out (h.found e nothing before));
-  },
+  find-at reading book t s m h.found h.take_moment may,
   record {
     puts = h.puts;
     takes = h.takes;

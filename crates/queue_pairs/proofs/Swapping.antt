@@ -1,91 +1,30 @@
 -- Of two puts of one value that may stand next, one serves for the other; and so of two takes.
-use Rattle.std.proofs.Common.{◌≡◌, ◌≢◌, ℕ, ◌+◌, ◌<◌, ◌≤◌, ◌⊎◌, ◌∙◌, List, [], ◌∷◌, length, get_or, set, Some, refl, sym, ap, subst, inl, inr, arith}
+use Rattle.std.proofs.Common.{◌≡◌, ◌≢◌, ℕ, ◌+◌, ◌<◌, ◌≤◌, ◌∙◌, List, [], ◌∷◌, length, get_or, set, Some, refl, sym, ap, subst, inl, inr, arith}
 use Rattle.std.proofs.lemmas.Bool.{cases_lt, cases_eq}
 use Rattle.std.proofs.lemmas.Option.{slice_get_within}
-use Rattle.std.proofs.lemmas.List.{get_or-set_same, get_or-set_other, length-set, set_past}
 use Rattle.book_base.specs.declared.call.Call.{Call}
 use Rattle.book_base.specs.declared.call.Record.{Record}
-use Rattle.book_base.specs.Cut.{Holds}
 use Rattle.book_base.specs.Book.{Page, answers_of, IsValid, record_of}
 use Rattle.book_base.specs.Pruning.{HasOneOpen}
-use Rattle.book_base.proofs.ViewLemmas.{answer_stands, same_call}
+use Rattle.book_base.proofs.ViewLemmas.{same_call}
 use Rattle.history_rules.specs.Container.{Reading}
-use Rattle.object_foresight.specs.declared.deal.Deal.{Deal}
-use Rattle.object_foresight.specs.declared.deal.Deal.TheVariants as deals
-use Rattle.object_foresight.specs.Deals.{deal_of}
-use Rattle.queue_pairs.specs.Moments.{moment_of, IsHeldBy, MayTakeEffect}
-use Rattle.queue_pairs.specs.Pairs.{Paired, Pair, Step, Pairs, FindNothing, IsPutOf, IsPut, MayTakeOut, IsTake, IsNext, MayPair, MayFind, MayStep, after, IsWhole, AreSteps}
-use Rattle.queue_pairs.proofs.Moments.{later_moment}
+use Rattle.container_pruning.specs.declared.deal.Deal.TheVariants as deals
+use Rattle.container_pruning.specs.Deals.{deal_of}
+use Rattle.queue_pairs.specs.Moments.{moment_of, IsHeldBy}
+use Rattle.queue_pairs.specs.Pairs.{Paired, Pair, Step, Pairs, FindNothing, IsPutOf, IsPut, MayTakeOut, IsTake, MayPair, MayFind, after, IsWhole, AreSteps}
 use Rattle.queue_pairs.proofs.Walking.{open_is_unanswered}
 use Rattle.queue_pairs.specs.Serving.{IsDueNoLater, EarlierPutServes, EarlierTakeServes}
 use Rattle.book_base.proofs.PageLemmas.{caller_from_call}
-use Rattle.object_foresight.proofs.Dealing.{call_by_deal}
-use Rattle.queue_pairs.proofs.Serving.{IsSame, same-refl, same-set, next-at, IsEarlier, held_later, steps-earlier, next-least, next-same, put-due, take-due}
+use Rattle.container_pruning.proofs.Dealing.{call_by_deal}
+use Rattle.queue_pairs.proofs.Serving.{IsSame, same-refl, same-set, next-at, IsEarlier, held_later, pair-at, find-at, steps-earlier, next-least, next-same, put-due, take-due}
+use Rattle.queue_pairs.proofs.Swapped.{AreSwapped, both-stand, swapped-first, swapped-more, effect-moves, none-after}
 
--- numbers that are alike at a place are so when one caller's number is put into both
-set-alike : (one other : List ℕ) (at n i : ℕ) → length other ≡ length one
-    → get_or other i 0 ≡ get_or one i 0 → get_or (set other at n) i 0 ≡ get_or (set one at n) i 0
-set-alike one other at n i wide alike =
-    elim (cases_eq i at) [
-      | inl same ↦
-          elim (cases_lt at (length one)) [
-            | inl inside ↦
-                let first : get_or (set one at n) at 0 ≡ n = get_or-set_same one at n 0 inside in
-                let second : get_or (set other at n) at 0 ≡ n =
-                get_or-set_same other at n 0 (omega (arith, inside, wide)) in
-                ap (λ (k : ℕ). get_or (set other at n) k 0) same
-                ∙ (second ∙ (sym first ∙ sym (ap (λ (k : ℕ). get_or (set one at n) k 0) same)))
-            | inr past ↦
-                ap (λ (xs : List ℕ). get_or xs i 0)
-                (set_past other at n (omega (arith, past, wide)))
-                ∙ (alike ∙ sym (ap (λ (xs : List ℕ). get_or xs i 0) (set_past one at n past)))
-          ]
-      | inr apart ↦ get_or-set_other other at i n 0 apart
-          ∙ (alike ∙ sym (get_or-set_other one at i n 0 apart))
-    ]
+-- what goes on from one goes on from the other, in as many steps
+abbrev pub GoesOnAsLong : Reading → List Page → Paired → ℕ → Type 0
+GoesOnAsLong reading book t n = (other : List Step) × AreSteps reading book t other
+    × (length other ≡ n)
 
--- Where one call stands in each of two numbers, and then the other one's too, the numbers are the
--- same.
-changed-places : (one other : List ℕ) (p w x : Call) → p.caller ≢ w.caller
-    → get_or one w.caller 0 ≡ w.number + 1 → get_or other p.caller 0 ≡ p.number + 1
-    → ((i : ℕ) → i ≢ p.caller → i ≢ w.caller → get_or other i 0 ≡ get_or one i 0)
-    → length other ≡ length one → p.caller < length one → w.caller < length one → x ≡ p
-    → IsSame (set other w.caller (w.number + 1)) (set one x.caller (x.number + 1))
-changed-places one other p w x apart has_w has_p others wide inside_p inside_w is =
-    let at : x.caller ≡ p.caller = ap (λ (c : Call). c.caller) is in
-    let number : x.number ≡ p.number = ap (λ (c : Call). c.number) is in
-    let inside_x : x.caller < length one = omega (arith, inside_p, at) in
-    let inside_t : w.caller < length other = omega (arith, inside_w, wide) in
-    let new_t : List ℕ = set other w.caller (w.number + 1) in
-    let new_s : List ℕ = set one x.caller (x.number + 1) in
-    record {
-      wide = length-set other w.caller (w.number + 1)
-          ∙ (wide ∙ sym (length-set one x.caller (x.number + 1)));
-      numbers = λ i. elim (cases_eq i w.caller) [
-        | inl same ↦
-            let not_x : w.caller ≢ x.caller = λ (e : w.caller ≡ x.caller). apart (sym at ∙ sym e) in
-            ap (λ (k : ℕ). get_or new_t k 0) same
-            ∙ (get_or-set_same other w.caller (w.number + 1) 0 inside_t
-            ∙ (sym has_w ∙ (sym (get_or-set_other one x.caller w.caller (x.number + 1) 0 not_x)
-            ∙ sym (ap (λ (k : ℕ). get_or new_s k 0) same))))
-        | inr not_w ↦
-            elim (cases_eq i x.caller) [
-              | inl same ↦
-                  let first : get_or new_t i 0 ≡ get_or other i 0 =
-                  get_or-set_other other w.caller i (w.number + 1) 0 not_w in
-                  let second : get_or new_s x.caller 0 ≡ x.number + 1 =
-                  get_or-set_same one x.caller (x.number + 1) 0 inside_x in
-                  let there : get_or other i 0 ≡ p.number + 1 =
-                  ap (λ (k : ℕ). get_or other k 0) (same ∙ at) ∙ has_p in
-                  first ∙ (there ∙ (ap (λ (k : ℕ). k + 1) (sym number)
-                  ∙ (sym second ∙ sym (ap (λ (k : ℕ). get_or new_s k 0) same))))
-              | inr not_x ↦
-                  let not_p : i ≢ p.caller = λ (e : i ≡ p.caller). not_x (e ∙ sym at) in
-                  get_or-set_other other w.caller i (w.number + 1) 0 not_w ∙ (others i not_p not_w
-                  ∙ sym (get_or-set_other one x.caller i (x.number + 1) 0 not_x))
-            ]
-      ];
-    }
+-- ---- puts
 
 -- A put w stands in s where in t another put p of its value does: both may take effect next, and p
 -- is due no later than w.
@@ -93,52 +32,38 @@ record PutsSwapped (reading : Reading) (book : List Page) (s t : Paired) (p w : 
   value : ℕ
   p_puts : IsPutOf reading book value p
   w_puts : IsPutOf reading book value w
-  apart : p.caller ≢ w.caller
-  next_p : IsNext (IsPut reading book) s.puts p
-  next_w : IsNext (IsPut reading book) t.puts w
-  has_w : get_or s.puts w.caller 0 ≡ w.number + 1
-  has_p : get_or t.puts p.caller 0 ≡ p.number + 1
-  others : (i : ℕ) → i ≢ p.caller → i ≢ w.caller → get_or t.puts i 0 ≡ get_or s.puts i 0
-  wide : length t.puts ≡ length s.puts
-  inside_p : p.caller < length s.puts
-  inside_w : w.caller < length s.puts
+  places : AreSwapped (IsPut reading book) s.puts t.puts p w
   takes : IsSame t.takes s.takes
   found : t.found ≡ s.found
   turn : s.put_moment ≤ s.take_moment
   put_moment : t.put_moment ≤ s.put_moment
   take_moment : t.take_moment ≤ s.take_moment
   held : IsHeldBy book w s.put_moment
-  due : (r : Record) → record_of book w ≡ Some r → (o : Record) × (record_of book p ≡ Some o)
-      × (moment_of o ≤ moment_of r)
-
--- what goes on from one goes on from the other, in as many steps
-abbrev pub GoesOnAsLong : Reading → List Page → Paired → ℕ → Type 0
-GoesOnAsLong reading book t n = (other : List Step) × AreSteps reading book t other
-    × (length other ≡ n)
+  due : IsDueNoLater book p w
 
 -- At the end all that is answered may still take effect.
 swapped-end : (reading : Reading) (book : List Page) (s t : Paired) (p w : Call)
     → PutsSwapped reading book s t p w → IsWhole reading book s → IsWhole reading book t
-swapped-end reading book s t p w h whole = record {
+swapped-end reading book s t p w h whole = let k = h.places in record {
   taken = λ x v took. omega (arith, whole.taken x v took, h.takes.numbers x.caller);
   found = λ e nothing. subst (λ (m : ℕ). IsHeldBy book e m) (sym h.found) (whole.found e nothing);
   kept = λ c r put known out. elim (cases_eq c.caller w.caller) [
     | inl same ↦
         let least : w.number ≤ c.number =
-        next-least (IsPut reading book) t.puts w c h.next_w put same out in
+        next-least (IsPut reading book) t.puts w c k.next_w put same out in
         elim (cases_eq c.number w.number) [
           | inl number ↦
               let is : record_of book w ≡ Some r =
               ap (λ (x : Call). record_of book x) (same_call w c (sym same) (sym number)) ∙ known in
               let d = h.due r is in
               omega
-              (arith, h.put_moment, whole.kept p d.0 (h.value, h.p_puts) d.1 h.next_p.outside, d.2)
+              (arith, h.put_moment, whole.kept p d.0 (h.value, h.p_puts) d.1 k.next_p.outside, d.2)
           | inr more ↦
               omega (
                 arith,
                 h.put_moment,
                 whole.kept c r put known
-                    (omega (arith, least, more, h.has_w, ap (λ (i : ℕ). get_or s.puts i 0) same)),
+                    (omega (arith, least, more, k.has_w, ap (λ (i : ℕ). get_or s.puts i 0) same)),
               )
         ]
     | inr other ↦
@@ -150,8 +75,8 @@ swapped-end reading book s t p w h whole = record {
                 whole.kept c r put known (omega (
                   arith,
                   out,
-                  h.has_p,
-                  h.next_p.outside,
+                  k.has_p,
+                  k.next_p.outside,
                   ap (λ (i : ℕ). get_or t.puts i 0) same,
                   ap (λ (i : ℕ). get_or s.puts i 0) same,
                 )),
@@ -159,100 +84,35 @@ swapped-end reading book s t p w h whole = record {
           | inr apart ↦ omega (
             arith,
             h.put_moment,
-            whole.kept c r put known (omega (arith, out, h.others c.caller apart other)),
+            whole.kept c r put known (omega (arith, out, k.others c.caller apart other)),
           )
         ]
   ];
 }
-
--- No put after w of its caller stands in a pair before p does.
-none-after : (reading : Reading) (book : List Page) (s t : Paired) (p w : Call) (pair : Pair)
-    (steps : List Step) → IsValid book → HasOneOpen book → PutsSwapped reading book s t p w
-    → MayPair reading book s pair → AreSteps reading book (after s (Pairs pair)) steps
-    → pair.put.caller ≡ w.caller → ⊥
-none-after reading book s t p w pair steps valid one h may are same =
-    let x : Call = pair.put in
-    let past : w.number < x.number =
-    omega (arith, may.put.outside, h.has_w, ap (λ (i : ℕ). get_or s.puts i 0) same) in
-    let by = may.put_effect.first in
-    elim (cases_lt w.number (answers_of book w.caller)) [
-      | inl answered ↦
-          let here = answer_stands book w answered in
-          let lacks : get_or here.0.view x.caller 0 ≤ x.number = omega
-          (arith, past, valid.own w here.0 here.1, ap (λ (i : ℕ). get_or here.0.view i 0) same) in
-          let late : moment_of here.0 < moment_of by.1 =
-          later_moment book w by.0 here.0 by.1 x valid here.1 by.2 lacks by.3 in
-          let d = h.due here.0 here.1 in
-          let apart : p.caller ≢ x.caller = λ (e : p.caller ≡ x.caller). h.apart (e ∙ same) in
-          let out : get_or (set s.puts x.caller (x.number + 1)) p.caller 0 ≤ p.number = omega (
-            arith,
-            h.next_p.outside,
-            get_or-set_other s.puts x.caller p.caller (x.number + 1) 0 apart,
-          ) in
-          let due : pair.put_moment ≤ moment_of d.0 = put-due reading book
-          (after s (Pairs pair)) steps p d.0 may.in_turn are (h.value, h.p_puts) d.1 out in
-          absurd (omega (arith, late, by.4, d.2, due))
-      | inr unseen ↦
-          let few : get_or by.1.view x.caller 0 ≤ answers_of book x.caller + 1 =
-          one by.0 by.1 x.caller by.2 in
-          absurd (omega (arith, unseen, past, few, by.3, ap (λ (i : ℕ). answers_of book i) same))
-    ]
 
 -- A pair with another put stands in both.
 swapped-later : (reading : Reading) (book : List Page) (s t : Paired) (p w : Call) (pair : Pair)
     → PutsSwapped reading book s t p w → MayPair reading book s pair
     → pair.put.caller ≢ p.caller → pair.put.caller ≢ w.caller → MayPair reading book t pair
     × PutsSwapped reading book (after s (Pairs pair)) (after t (Pairs pair)) p w
-swapped-later reading book s t p w pair h may not_p not_w =
-    let x : Call = pair.put in
-    let p_apart : p.caller ≢ x.caller = λ (e : p.caller ≡ x.caller). not_p (sym e) in
-    let w_apart : w.caller ≢ x.caller = λ (e : w.caller ≡ x.caller). not_w (sym e) in
-    let in_s =
-    λ (i : ℕ) (other : i ≢ x.caller). get_or-set_other s.puts x.caller i (x.number + 1) 0 other in
-    let in_t =
-    λ (i : ℕ) (other : i ≢ x.caller). get_or-set_other t.puts x.caller i (x.number + 1) 0 other in
-    let long_s : length (set s.puts x.caller (x.number + 1)) ≡ length s.puts =
-    length-set s.puts x.caller (x.number + 1) in
-    let long_t : length (set t.puts x.caller (x.number + 1)) ≡ length t.puts =
-    length-set t.puts x.caller (x.number + 1) in (
-      record {
-        value = may.value;
-        puts = may.puts;
-        takes = may.takes;
-        put = next-at (IsPut reading book) t.puts s.puts x (h.others x.caller not_p not_w) may.put;
-        take = next-at (IsTake reading book) t.takes s.takes pair.take
-            (h.takes.numbers pair.take.caller) may.take;
-        after_puts = omega (arith, may.after_puts, h.put_moment);
-        after_takes = omega (arith, may.after_takes, h.take_moment);
-        in_turn = may.in_turn;
-        put_effect = may.put_effect;
-        take_effect = may.take_effect;
-      },
-      record {
-        value = h.value;
-        p_puts = h.p_puts;
-        w_puts = h.w_puts;
-        apart = h.apart;
-        next_p = next-at (IsPut reading book) (set s.puts x.caller (x.number + 1)) s.puts p
-            (in_s p.caller p_apart) h.next_p;
-        next_w = next-at (IsPut reading book) (set t.puts x.caller (x.number + 1)) t.puts w
-            (in_t w.caller w_apart) h.next_w;
-        has_w = in_s w.caller w_apart ∙ h.has_w;
-        has_p = in_t p.caller p_apart ∙ h.has_p;
-        others = λ i other_p other_w.
-            set-alike s.puts t.puts x.caller (x.number + 1) i h.wide (h.others i other_p other_w);
-        wide = long_t ∙ (h.wide ∙ sym long_s);
-        inside_p = omega (arith, h.inside_p, long_s);
-        inside_w = omega (arith, h.inside_w, long_s);
-        takes = same-set t.takes s.takes pair.take.caller (pair.take.number + 1) h.takes;
-        found = h.found;
-        turn = may.in_turn;
-        put_moment = omega arith;
-        take_moment = omega arith;
-        held = held_later book w s.put_moment pair.put_moment may.after_puts h.held;
-        due = h.due;
-      },
-    )
+swapped-later reading book s t p w pair h may not_p not_w = (
+  pair-at reading book t s pair (h.places.others pair.put.caller not_p not_w)
+      (h.takes.numbers pair.take.caller) h.put_moment h.take_moment may,
+  record {
+    value = h.value;
+    p_puts = h.p_puts;
+    w_puts = h.w_puts;
+    places =
+        swapped-more (IsPut reading book) s.puts t.puts p w pair.put h.places not_p not_w;
+    takes = same-set t.takes s.takes pair.take.caller (pair.take.number + 1) h.takes;
+    found = h.found;
+    turn = may.in_turn;
+    put_moment = omega arith;
+    take_moment = omega arith;
+    held = held_later book w s.put_moment pair.put_moment may.after_puts h.held;
+    due = h.due;
+  },
+)
 
 -- Where p stands in s, w stands in t, and then the same puts stand in both.
 swapped-here : (reading : Reading) (book : List Page) (s t : Paired) (p w : Call) (pair : Pair)
@@ -267,22 +127,19 @@ swapped-here reading book s t p w pair h may is =
         value = h.value;
         puts = h.w_puts;
         takes = subst (λ (v : ℕ). MayTakeOut reading book v pair.take) value may.takes;
-        put = h.next_w;
+        put = h.places.next_w;
         take = next-at (IsTake reading book) t.takes s.takes pair.take
             (h.takes.numbers pair.take.caller) may.take;
         after_puts = omega (arith, may.after_puts, h.put_moment);
         after_takes = omega (arith, may.after_takes, h.take_moment);
         in_turn = may.in_turn;
-        put_effect = record {
-          first = held_later book w s.put_moment pair.put_moment may.after_puts h.held;
-          last = λ r known. let d = h.due r known in omega
-              (arith, d.2, may.put_effect.last d.0 (ap (λ (c : Call). record_of book c) is ∙ d.1));
-        };
+        put_effect = effect-moves book p w pair.put pair.put_moment is
+            (held_later book w s.put_moment pair.put_moment may.after_puts h.held) h.due
+            may.put_effect;
         take_effect = may.take_effect;
       },
       record {
-        puts = changed-places s.puts t.puts p w pair.put h.apart h.has_w h.has_p h.others h.wide
-            h.inside_p h.inside_w is;
+        puts = both-stand (IsPut reading book) s.puts t.puts p w pair.put h.places is;
         takes = same-set t.takes s.takes pair.take.caller (pair.take.number + 1) h.takes;
         found = λ e nothing by. subst (λ (m : ℕ). IsHeldBy book e m) (sym h.found) by;
         put_moment = omega arith;
@@ -298,7 +155,7 @@ puts-swapped reading book s t p w [] valid one h are =
 puts-swapped reading book s t p w (Pairs pair ∷ steps) valid one h are =
     elim (cases_eq pair.put.caller p.caller) [
       | inl same ↦
-          let is : pair.put ≡ p = next-same (IsPut reading book) s.puts p pair.put h.next_p
+          let is : pair.put ≡ p = next-same (IsPut reading book) s.puts p pair.put h.places.next_p
           are.0.put (h.value, h.p_puts) (are.0.value, are.0.puts) same in
           let here = swapped-here reading book s t p w pair h are.0 is in (
             Pairs (record pair { put = w }) ∷ steps,
@@ -308,7 +165,10 @@ puts-swapped reading book s t p w (Pairs pair ∷ steps) valid one h are =
       | inr not_p ↦
           elim (cases_eq pair.put.caller w.caller) [
             | inl same ↦
-                absurd (none-after reading book s t p w pair steps valid one h are.0 are.1 same)
+                absurd (none-after (IsPut reading book) s.puts t.puts book p w pair.put
+                pair.put_moment valid one h.places are.0.put same are.0.put_effect h.due
+                (λ o known out. put-due reading book (after s (Pairs pair)) steps p o
+                are.0.in_turn are.1 (h.value, h.p_puts) known out))
             | inr not_w ↦
                 let later = swapped-later reading book s t p w pair h are.0 not_p not_w in
                 let on = puts-swapped reading book (after s (Pairs pair))
@@ -317,25 +177,14 @@ puts-swapped reading book s t p w (Pairs pair ∷ steps) valid one h are =
           ]
     ]
 puts-swapped reading book s t p w (FindNothing m ∷ steps) valid one h are =
-    let may : MayFind reading book t m = record {
-      after_takes = omega (arith, are.0.after_takes, h.take_moment);
-      in_time = λ e r nothing known by out. are.0.in_time e r nothing known by
-          (λ before. out (subst (λ (n : ℕ). IsHeldBy book e n) (sym h.found) before));
-    } in
+    let may : MayFind reading book t m = find-at reading book t s m
+    (λ e nothing by. subst (λ (n : ℕ). IsHeldBy book e n) (sym h.found) by) h.take_moment are.0 in
     let later : PutsSwapped reading book (after s (FindNothing m)) (after t (FindNothing m)) p w =
     record {
       value = h.value;
       p_puts = h.p_puts;
       w_puts = h.w_puts;
-      apart = h.apart;
-      next_p = h.next_p;
-      next_w = h.next_w;
-      has_w = h.has_w;
-      has_p = h.has_p;
-      others = h.others;
-      wide = h.wide;
-      inside_p = h.inside_p;
-      inside_w = h.inside_w;
+      places = h.places;
       takes = h.takes;
       found = refl;
       turn = omega arith;
@@ -348,28 +197,21 @@ puts-swapped reading book s t p w (FindNothing m ∷ steps) valid one h are =
     (after t (FindNothing m)) p w steps valid one later are.1 in
     (FindNothing m ∷ on.0, (may, on.1), omega (arith, on.2))
 
+-- ---- takes
+
 -- A take w stands in s where in t another take p of its deal does: both may take effect next, and p
 -- is due no later than w.
 record TakesSwapped (reading : Reading) (book : List Page) (s t : Paired)
     (p w : Call) : Type 0 where
   same : deal_of reading book p ≡ deal_of reading book w
   p_takes : IsTake reading book p
-  apart : p.caller ≢ w.caller
-  next_p : IsNext (IsTake reading book) s.takes p
-  next_w : IsNext (IsTake reading book) t.takes w
-  has_w : get_or s.takes w.caller 0 ≡ w.number + 1
-  has_p : get_or t.takes p.caller 0 ≡ p.number + 1
-  others : (i : ℕ) → i ≢ p.caller → i ≢ w.caller → get_or t.takes i 0 ≡ get_or s.takes i 0
-  wide : length t.takes ≡ length s.takes
-  inside_p : p.caller < length s.takes
-  inside_w : w.caller < length s.takes
+  places : AreSwapped (IsTake reading book) s.takes t.takes p w
   puts : IsSame t.puts s.puts
   found : t.found ≡ s.found
   put_moment : t.put_moment ≤ s.put_moment
   take_moment : t.take_moment ≤ s.take_moment
   held : IsHeldBy book w s.take_moment
-  due : (r : Record) → record_of book w ≡ Some r → (o : Record) × (record_of book p ≡ Some o)
-      × (moment_of o ≤ moment_of r)
+  due : IsDueNoLater book p w
 
 -- what may take out a value does so by its deal
 by_deal : (reading : Reading) (book : List Page) (v : ℕ) (a b : Call) → deal_of reading book a
@@ -381,20 +223,20 @@ by_deal reading book v a b same is = elim is [
 
 takes-end : (reading : Reading) (book : List Page) (s t : Paired) (p w : Call)
     → TakesSwapped reading book s t p w → IsWhole reading book s → IsWhole reading book t
-takes-end reading book s t p w h whole = record {
+takes-end reading book s t p w h whole = let k = h.places in record {
   taken = λ x v took. elim (cases_eq x.caller w.caller) [
     | inl same ↦
         elim (cases_lt x.number (get_or t.takes x.caller 0)) [
           | inl fine ↦ fine
           | inr out ↦
               let least : w.number ≤ x.number =
-              next-least (IsTake reading book) t.takes w x h.next_w (v, inl took) same out in
+              next-least (IsTake reading book) t.takes w x k.next_w (v, inl took) same out in
               let most : x.number < get_or s.takes w.caller 0 =
               omega (arith, whole.taken x v took, ap (λ (i : ℕ). get_or s.takes i 0) same) in
-              let is : x ≡ w = same_call x w same (omega (arith, least, most, h.has_w)) in
+              let is : x ≡ w = same_call x w same (omega (arith, least, most, k.has_w)) in
               let p_took : deal_of reading book p ≡ deals.Took v =
               h.same ∙ (ap (λ (c : Call). deal_of reading book c) (sym is) ∙ took) in
-              absurd (omega (arith, whole.taken p v p_took, h.next_p.outside))
+              absurd (omega (arith, whole.taken p v p_took, k.next_p.outside))
         ]
     | inr not_w ↦
         elim (cases_eq x.caller p.caller) [
@@ -402,12 +244,12 @@ takes-end reading book s t p w h whole = record {
               omega (
                 arith,
                 whole.taken x v took,
-                h.has_p,
-                h.next_p.outside,
+                k.has_p,
+                k.next_p.outside,
                 ap (λ (i : ℕ). get_or t.takes i 0) same,
                 ap (λ (i : ℕ). get_or s.takes i 0) same,
               )
-          | inr not_p ↦ omega (arith, whole.taken x v took, h.others x.caller not_p not_w)
+          | inr not_p ↦ omega (arith, whole.taken x v took, k.others x.caller not_p not_w)
         ]
   ];
   found = λ e nothing. subst (λ (m : ℕ). IsHeldBy book e m) (sym h.found) (whole.found e nothing);
@@ -415,44 +257,18 @@ takes-end reading book s t p w h whole = record {
       (arith, h.put_moment, whole.kept c r put known (omega (arith, out, h.puts.numbers c.caller)));
 }
 
--- No take after w of its caller stands in a pair before p does.
-no-take-after : (reading : Reading) (book : List Page) (s t : Paired) (p w : Call) (pair : Pair)
-    (steps : List Step) → IsValid book → HasOneOpen book → TakesSwapped reading book s t p w
-    → MayPair reading book s pair → AreSteps reading book (after s (Pairs pair)) steps
-    → pair.take.caller ≡ w.caller → ⊥
-no-take-after reading book s t p w pair steps valid one h may are same =
-    let x : Call = pair.take in
-    let past : w.number < x.number =
-    omega (arith, may.take.outside, h.has_w, ap (λ (i : ℕ). get_or s.takes i 0) same) in
-    let by = may.take_effect.first in
-    elim (cases_lt w.number (answers_of book w.caller)) [
-      | inl answered ↦
-          let here = answer_stands book w answered in
-          let lacks : get_or here.0.view x.caller 0 ≤ x.number = omega
-          (arith, past, valid.own w here.0 here.1, ap (λ (i : ℕ). get_or here.0.view i 0) same) in
-          let late : moment_of here.0 < moment_of by.1 =
-          later_moment book w by.0 here.0 by.1 x valid here.1 by.2 lacks by.3 in
-          let d = h.due here.0 here.1 in
-          let apart : p.caller ≢ x.caller = λ (e : p.caller ≡ x.caller). h.apart (e ∙ same) in
-          let out : get_or (set s.takes x.caller (x.number + 1)) p.caller 0 ≤ p.number = omega (
-            arith,
-            h.next_p.outside,
-            get_or-set_other s.takes x.caller p.caller (x.number + 1) 0 apart,
-          ) in
-          elim h.p_takes.1 [
-            | inl took ↦
-                let due : pair.take_moment ≤ moment_of d.0 = take-due reading book
-                (after s (Pairs pair)) steps p h.p_takes.0 d.0 are took d.1 out in
-                absurd (omega (arith, late, by.4, d.2, due))
-            | inr unseen ↦
-                let past_p : answers_of book p.caller ≤ p.number =
-                open_is_unanswered reading book p unseen in
-                absurd (omega (arith, past_p, slice_get_within _ p.number d.0 d.1))
-          ]
+-- A take that a record answers takes effect no later than the record says.
+take-in-time : (reading : Reading) (book : List Page) (s : Paired) (steps : List Step) (p : Call)
+    (o : Record) → AreSteps reading book s steps → IsTake reading book p
+    → record_of book p ≡ Some o → get_or s.takes p.caller 0 ≤ p.number
+    → s.take_moment ≤ moment_of o
+take-in-time reading book s steps p o are takes known out =
+    elim takes.1 [
+      | inl took ↦ take-due reading book s steps p takes.0 o are took known out
       | inr unseen ↦
-          let few : get_or by.1.view x.caller 0 ≤ answers_of book x.caller + 1 =
-          one by.0 by.1 x.caller by.2 in
-          absurd (omega (arith, unseen, past, few, by.3, ap (λ (i : ℕ). answers_of book i) same))
+          let past : answers_of book p.caller ≤ p.number =
+          open_is_unanswered reading book p unseen in
+          absurd (omega (arith, past, slice_get_within _ p.number o known))
     ]
 
 -- A pair with another take stands in both.
@@ -460,55 +276,22 @@ takes-later : (reading : Reading) (book : List Page) (s t : Paired) (p w : Call)
     → TakesSwapped reading book s t p w → MayPair reading book s pair
     → pair.take.caller ≢ p.caller → pair.take.caller ≢ w.caller → MayPair reading book t pair
     × TakesSwapped reading book (after s (Pairs pair)) (after t (Pairs pair)) p w
-takes-later reading book s t p w pair h may not_p not_w =
-    let x : Call = pair.take in
-    let p_apart : p.caller ≢ x.caller = λ (e : p.caller ≡ x.caller). not_p (sym e) in
-    let w_apart : w.caller ≢ x.caller = λ (e : w.caller ≡ x.caller). not_w (sym e) in
-    let in_s =
-    λ (i : ℕ) (other : i ≢ x.caller). get_or-set_other s.takes x.caller i (x.number + 1) 0 other in
-    let in_t =
-    λ (i : ℕ) (other : i ≢ x.caller). get_or-set_other t.takes x.caller i (x.number + 1) 0 other in
-    let long_s : length (set s.takes x.caller (x.number + 1)) ≡ length s.takes =
-    length-set s.takes x.caller (x.number + 1) in
-    let long_t : length (set t.takes x.caller (x.number + 1)) ≡ length t.takes =
-    length-set t.takes x.caller (x.number + 1) in (
-      record {
-        value = may.value;
-        puts = may.puts;
-        takes = may.takes;
-        put = next-at (IsPut reading book) t.puts s.puts pair.put
-            (h.puts.numbers pair.put.caller) may.put;
-        take = next-at (IsTake reading book) t.takes s.takes x
-            (h.others x.caller not_p not_w) may.take;
-        after_puts = omega (arith, may.after_puts, h.put_moment);
-        after_takes = omega (arith, may.after_takes, h.take_moment);
-        in_turn = may.in_turn;
-        put_effect = may.put_effect;
-        take_effect = may.take_effect;
-      },
-      record {
-        same = h.same;
-        p_takes = h.p_takes;
-        apart = h.apart;
-        next_p = next-at (IsTake reading book) (set s.takes x.caller (x.number + 1)) s.takes p
-            (in_s p.caller p_apart) h.next_p;
-        next_w = next-at (IsTake reading book) (set t.takes x.caller (x.number + 1)) t.takes w
-            (in_t w.caller w_apart) h.next_w;
-        has_w = in_s w.caller w_apart ∙ h.has_w;
-        has_p = in_t p.caller p_apart ∙ h.has_p;
-        others = λ i other_p other_w.
-            set-alike s.takes t.takes x.caller (x.number + 1) i h.wide (h.others i other_p other_w);
-        wide = long_t ∙ (h.wide ∙ sym long_s);
-        inside_p = omega (arith, h.inside_p, long_s);
-        inside_w = omega (arith, h.inside_w, long_s);
-        puts = same-set t.puts s.puts pair.put.caller (pair.put.number + 1) h.puts;
-        found = h.found;
-        put_moment = omega arith;
-        take_moment = omega arith;
-        held = held_later book w s.take_moment pair.take_moment may.after_takes h.held;
-        due = h.due;
-      },
-    )
+takes-later reading book s t p w pair h may not_p not_w = (
+  pair-at reading book t s pair (h.puts.numbers pair.put.caller)
+      (h.places.others pair.take.caller not_p not_w) h.put_moment h.take_moment may,
+  record {
+    same = h.same;
+    p_takes = h.p_takes;
+    places =
+        swapped-more (IsTake reading book) s.takes t.takes p w pair.take h.places not_p not_w;
+    puts = same-set t.puts s.puts pair.put.caller (pair.put.number + 1) h.puts;
+    found = h.found;
+    put_moment = omega arith;
+    take_moment = omega arith;
+    held = held_later book w s.take_moment pair.take_moment may.after_takes h.held;
+    due = h.due;
+  },
+)
 
 -- Where p stands in s, w stands in t, and then the same takes stand in both.
 takes-here : (reading : Reading) (book : List Page) (s t : Paired) (p w : Call) (pair : Pair)
@@ -525,21 +308,18 @@ takes-here reading book s t p w pair h may is =
         takes = takes;
         put = next-at (IsPut reading book) t.puts s.puts pair.put
             (h.puts.numbers pair.put.caller) may.put;
-        take = h.next_w;
+        take = h.places.next_w;
         after_puts = omega (arith, may.after_puts, h.put_moment);
         after_takes = omega (arith, may.after_takes, h.take_moment);
         in_turn = may.in_turn;
         put_effect = may.put_effect;
-        take_effect = record {
-          first = held_later book w s.take_moment pair.take_moment may.after_takes h.held;
-          last = λ r known. let d = h.due r known in omega
-              (arith, d.2, may.take_effect.last d.0 (ap (λ (c : Call). record_of book c) is ∙ d.1));
-        };
+        take_effect = effect-moves book p w pair.take pair.take_moment is
+            (held_later book w s.take_moment pair.take_moment may.after_takes h.held) h.due
+            may.take_effect;
       },
       record {
         puts = same-set t.puts s.puts pair.put.caller (pair.put.number + 1) h.puts;
-        takes = changed-places s.takes t.takes p w pair.take h.apart h.has_w h.has_p h.others h.wide
-            h.inside_p h.inside_w is;
+        takes = both-stand (IsTake reading book) s.takes t.takes p w pair.take h.places is;
         found = λ e nothing by. subst (λ (m : ℕ). IsHeldBy book e m) (sym h.found) by;
         put_moment = omega arith;
         take_moment = omega arith;
@@ -554,7 +334,8 @@ takes-swapped reading book s t p w [] valid one h are =
 takes-swapped reading book s t p w (Pairs pair ∷ steps) valid one h are =
     elim (cases_eq pair.take.caller p.caller) [
       | inl same ↦
-          let is : pair.take ≡ p = next-same (IsTake reading book) s.takes p pair.take h.next_p
+          let is : pair.take ≡ p =
+          next-same (IsTake reading book) s.takes p pair.take h.places.next_p
           are.0.take h.p_takes (are.0.value, are.0.takes) same in
           let here = takes-here reading book s t p w pair h are.0 is in (
             Pairs (record pair { take = w }) ∷ steps,
@@ -564,7 +345,11 @@ takes-swapped reading book s t p w (Pairs pair ∷ steps) valid one h are =
       | inr not_p ↦
           elim (cases_eq pair.take.caller w.caller) [
             | inl same ↦
-                absurd (no-take-after reading book s t p w pair steps valid one h are.0 are.1 same)
+                absurd (none-after (IsTake reading book) s.takes t.takes book p w pair.take
+                pair.take_moment valid one h.places are.0.take same are.0.take_effect h.due
+                (λ o known out.
+                take-in-time reading book (after s (Pairs pair)) steps p o are.1 h.p_takes known
+                out))
             | inr not_w ↦
                 let later = takes-later reading book s t p w pair h are.0 not_p not_w in
                 let on = takes-swapped reading book (after s (Pairs pair))
@@ -573,24 +358,13 @@ takes-swapped reading book s t p w (Pairs pair ∷ steps) valid one h are =
           ]
     ]
 takes-swapped reading book s t p w (FindNothing m ∷ steps) valid one h are =
-    let may : MayFind reading book t m = record {
-      after_takes = omega (arith, are.0.after_takes, h.take_moment);
-      in_time = λ e r nothing known by out. are.0.in_time e r nothing known by
-          (λ before. out (subst (λ (n : ℕ). IsHeldBy book e n) (sym h.found) before));
-    } in
+    let may : MayFind reading book t m = find-at reading book t s m
+    (λ e nothing by. subst (λ (n : ℕ). IsHeldBy book e n) (sym h.found) by) h.take_moment are.0 in
     let later : TakesSwapped reading book (after s (FindNothing m)) (after t (FindNothing m)) p w =
     record {
       same = h.same;
       p_takes = h.p_takes;
-      apart = h.apart;
-      next_p = h.next_p;
-      next_w = h.next_w;
-      has_w = h.has_w;
-      has_p = h.has_p;
-      others = h.others;
-      wide = h.wide;
-      inside_p = h.inside_p;
-      inside_w = h.inside_w;
+      places = h.places;
       puts = h.puts;
       found = refl;
       put_moment = omega arith;
@@ -601,6 +375,8 @@ takes-swapped reading book s t p w (FindNothing m ∷ steps) valid one h are =
     let on = takes-swapped reading book (after s (FindNothing m))
     (after t (FindNothing m)) p w steps valid one later are.1 in
     (FindNothing m ∷ on.0, (may, on.1), omega (arith, on.2))
+
+-- ---- one serves for the other
 
 -- a call with the deal of a put or of a take is the book's, so that its caller has a number
 put-inside : (reading : Reading) (book : List Page) (numbers : List ℕ) (p : Call)
@@ -627,36 +403,17 @@ earlier_put_serves reading book s pair p m steps valid one wide are puts next lo
     effect early due =
     let w : Call = pair.put in
     let v : ℕ = are.0.value in
+    let given = puts v are.0.puts in
     let inside_w : w.caller < length s.puts =
     put-inside reading book s.puts w wide (v, are.0.puts) in
-    let given = puts v are.0.puts in
     let inside_p : p.caller < length s.puts = put-inside reading book s.puts p wide (v, given) in
-    let w_apart : w.caller ≢ p.caller = λ (e : w.caller ≡ p.caller). apart (sym e) in
-    let in_s =
-    λ (i : ℕ) (other : i ≢ w.caller). get_or-set_other s.puts w.caller i (w.number + 1) 0 other in
-    let in_t =
-    λ (i : ℕ) (other : i ≢ p.caller). get_or-set_other s.puts p.caller i (p.number + 1) 0 other in
-    let long_w : length (set s.puts w.caller (w.number + 1)) ≡ length s.puts =
-    length-set s.puts w.caller (w.number + 1) in
-    let long_p : length (set s.puts p.caller (p.number + 1)) ≡ length s.puts =
-    length-set s.puts p.caller (p.number + 1) in
     let new : Pair = record pair { put = p; put_moment = m } in
     let swapped : PutsSwapped reading book (after s (Pairs pair)) (after s (Pairs new)) p w =
     record {
       value = v;
       p_puts = given;
       w_puts = are.0.puts;
-      apart = apart;
-      next_p = next-at (IsPut reading book) (set s.puts w.caller (w.number + 1)) s.puts p
-          (in_s p.caller apart) next;
-      next_w = next-at (IsPut reading book) (set s.puts p.caller (p.number + 1)) s.puts w
-          (in_t w.caller w_apart) are.0.put;
-      has_w = get_or-set_same s.puts w.caller (w.number + 1) 0 inside_w;
-      has_p = get_or-set_same s.puts p.caller (p.number + 1) 0 inside_p;
-      others = λ i other_p other_w. in_t i other_p ∙ sym (in_s i other_w);
-      wide = long_p ∙ sym long_w;
-      inside_p = omega (arith, inside_p, long_w);
-      inside_w = omega (arith, inside_w, long_w);
+      places = swapped-first (IsPut reading book) s.puts p w apart next are.0.put inside_p inside_w;
       takes = same-refl (set s.takes pair.take.caller (pair.take.number + 1));
       found = refl;
       turn = are.0.in_turn;
@@ -690,31 +447,13 @@ earlier_take_serves reading book s pair p m steps valid one wide are same next l
     (are.0.value, by_deal reading book are.0.value w p (sym same) are.0.takes) in
     let inside_w : w.caller < length s.takes = take-inside reading book s.takes w wide w_takes in
     let inside_p : p.caller < length s.takes = take-inside reading book s.takes p wide p_takes in
-    let w_apart : w.caller ≢ p.caller = λ (e : w.caller ≡ p.caller). apart (sym e) in
-    let in_s =
-    λ (i : ℕ) (other : i ≢ w.caller). get_or-set_other s.takes w.caller i (w.number + 1) 0 other in
-    let in_t =
-    λ (i : ℕ) (other : i ≢ p.caller). get_or-set_other s.takes p.caller i (p.number + 1) 0 other in
-    let long_w : length (set s.takes w.caller (w.number + 1)) ≡ length s.takes =
-    length-set s.takes w.caller (w.number + 1) in
-    let long_p : length (set s.takes p.caller (p.number + 1)) ≡ length s.takes =
-    length-set s.takes p.caller (p.number + 1) in
     let new : Pair = record pair { take = p; take_moment = m } in
     let swapped : TakesSwapped reading book (after s (Pairs pair)) (after s (Pairs new)) p w =
     record {
       same = same;
       p_takes = p_takes;
-      apart = apart;
-      next_p = next-at (IsTake reading book) (set s.takes w.caller (w.number + 1)) s.takes p
-          (in_s p.caller apart) next;
-      next_w = next-at (IsTake reading book) (set s.takes p.caller (p.number + 1)) s.takes w
-          (in_t w.caller w_apart) are.0.take;
-      has_w = get_or-set_same s.takes w.caller (w.number + 1) 0 inside_w;
-      has_p = get_or-set_same s.takes p.caller (p.number + 1) 0 inside_p;
-      others = λ i other_p other_w. in_t i other_p ∙ sym (in_s i other_w);
-      wide = long_p ∙ sym long_w;
-      inside_p = omega (arith, inside_p, long_w);
-      inside_w = omega (arith, inside_w, long_w);
+      places =
+          swapped-first (IsTake reading book) s.takes p w apart next are.0.take inside_p inside_w;
       puts = same-refl (set s.puts pair.put.caller (pair.put.number + 1));
       found = refl;
       put_moment = omega arith;

@@ -7,12 +7,12 @@ use Rattle.book_base.specs.declared.call.Call.{Call}
 use Rattle.book_base.specs.Book.{Page, calls_of, IsCall}
 use Rattle.book_base.proofs.ViewLemmas.{same_call}
 use Rattle.history_rules.specs.Container.{Reading}
-use Rattle.object_foresight.specs.declared.deal.Deal.TheVariants as deals
-use Rattle.object_foresight.specs.Deals.{deal_of}
-use Rattle.object_foresight.proofs.Dealing.{call_by_deal}
+use Rattle.container_pruning.specs.declared.deal.Deal.TheVariants as deals
+use Rattle.container_pruning.specs.Deals.{deal_of}
+use Rattle.container_pruning.proofs.Dealing.{call_by_deal}
 use Rattle.queue_pairs.specs.declared.TheConstants.{NEVER}
-use Rattle.queue_pairs.specs.declared.table.Deal.{Deal}
-use Rattle.queue_pairs.specs.declared.table.Deal.TheVariants as did
+use Rattle.queue_pairs.specs.declared.table.QueueDeal.{QueueDeal}
+use Rattle.queue_pairs.specs.declared.table.QueueDeal.TheVariants as did
 use Rattle.queue_pairs.specs.declared.table.TimedCall.{TimedCall}
 use Rattle.queue_pairs.specs.Tables.{known_deal, is_find, IsTimed, IsRowTo, AreRowsTo, AreFindsTo}
 use Rattle.queue_pairs.specs.NextEntries.{IsLeastOf}
@@ -131,14 +131,14 @@ finds-other reading book caller below finds h not = record {
   ];
 }
 
-is-find : (d : Deal) → is_find d ≡ true → known_deal d ≡ deals.FoundNothing
+is-find : (d : QueueDeal) → is_find d ≡ true → known_deal d ≡ deals.FoundNothing
 is-find (did.Put v) e = absurd cc
 is-find (did.Took v) e = absurd cc
 is-find did.FoundNothing e = refl
 is-find did.OpenTake e = absurd cc
 is-find did.Other e = absurd cc
 
-find-is : (d : Deal) → known_deal d ≡ deals.FoundNothing → is_find d ≡ true
+find-is : (d : QueueDeal) → known_deal d ≡ deals.FoundNothing → is_find d ≡ true
 find-is (did.Put v) e = absurd cc
 find-is (did.Took v) e = absurd cc
 find-is did.FoundNothing e = refl

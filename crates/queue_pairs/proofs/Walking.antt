@@ -17,11 +17,11 @@ use Rattle.book_base.specs.Pruning.{HasOneOpen}
 use Rattle.book_base.proofs.PageLemmas.{caller_from_call}
 use Rattle.book_base.proofs.ViewLemmas.{answer_stands, same_call}
 use Rattle.book_laws.proofs.LegalOrder.{raised_same, raised_more, raised_cases, within_cut, continues_from_legal_order, legal_order_from_continues}
-use Rattle.history_rules.specs.Container.{Deed, Puts, Takes, Neither, Reading, GivesFirst, IsQueue}
-use Rattle.object_foresight.specs.declared.deal.Deal.{Deal}
-use Rattle.object_foresight.specs.declared.deal.Deal.TheVariants as deals
-use Rattle.object_foresight.specs.Deals.{shown_deal, recorded_deal, deal_by_deed, deal_by_operation, deal_of}
-use Rattle.object_foresight.proofs.Dealing.{takes_by_deal, nothing_by_deal}
+use Rattle.history_rules.specs.Container.{Effect, Puts, Takes, Neither, Reading, GivesFirst, IsQueue}
+use Rattle.container_pruning.specs.declared.deal.Deal.{Deal}
+use Rattle.container_pruning.specs.declared.deal.Deal.TheVariants as deals
+use Rattle.container_pruning.specs.Deals.{shown_deal, recorded_deal, deal_by_deed, deal_by_operation, deal_of}
+use Rattle.container_pruning.proofs.Dealing.{takes_by_deal, nothing_by_deal}
 use Rattle.queue_pairs.specs.Moments.{moment_of, IsHeldBy, MayTakeEffect, HaveMoments, KeepPrecedence, AreHeld}
 use Rattle.queue_pairs.specs.Pairs.{Paired, Pair, Step, Pairs, FindNothing, IsPutOf, IsPut, MayTakeOut, IsTake, MayPair, MayFind, after, IsWhole, AreSteps, none_paired}
 use Rattle.queue_pairs.specs.PairLaws.{LegalOrdersHavePairs}
@@ -37,7 +37,7 @@ recorded_open : (reading : Reading) (o : Option Record)
 recorded_open reading None e = refl
 recorded_open reading (Some r) e = absurd (shown_open (reading.shown r.reply) e)
 
-deed_open : (reading : Reading) (book : List Page) (call : Call) (deed : Deed)
+deed_open : (reading : Reading) (book : List Page) (call : Call) (deed : Effect)
     → deal_by_deed reading book call deed ≡ deals.OpenTake → record_of book call ≡ None
 deed_open reading book call (Puts v) e = absurd cc
 deed_open reading book call Takes e = recorded_open reading (record_of book call) e
@@ -751,7 +751,7 @@ deal_at reading book next cut list place may is =
 walk-deed : (reading : Reading) (book : List Page) (next : List ℕ → ℕ → List ℕ × ℕ)
     (cut list : List ℕ) (s : Paired) (q : List Pending) (m n : ℕ) (place : Place)
     (rest : List Place)
-    (deed : Deed) → IsQueue reading next → HasOneOpen book
+    (deed : Effect) → IsQueue reading next → HasOneOpen book
     → Here reading book next cut list s q m n place → length book ≤ length cut
     → Continues book next cut list (place ∷ rest) → HaveMoments book n (map call_at (place ∷ rest))
     → Goes reading book (raised cut place.caller) (list_after book next list place) n

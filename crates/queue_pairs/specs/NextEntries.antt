@@ -4,14 +4,14 @@ use Rattle.book_base.specs.declared.TheConstants.{MAX_CALLERS}
 use Rattle.queue_pairs.specs.declared.TheConstants.{NEVER}
 use Rattle.queue_pairs.specs.declared.next_entries.NextEntries.{NextEntries}
 use Rattle.queue_pairs.specs.declared.next_entries.TimedPair.{TimedPair}
-use Rattle.queue_pairs.specs.declared.standing.Standing.{Standing}
+use Rattle.queue_pairs.specs.declared.standing.PairState.{PairState}
 use Rattle.queue_pairs.specs.declared.table.Table.{Table}
 use Rattle.queue_pairs.specs.declared.table.TimedCall.{TimedCall}
 use Rattle.queue_pairs.specs.Pairs.{Paired, Pair}
 use Rattle.queue_pairs.specs.Tables.{put_at, take_at, IsFirstFrom}
 
 -- what stands, as it is in memory
-abbrev pub paired : Standing → Paired
+abbrev pub paired : PairState → Paired
 paired s = record {
   puts = s.puts;
   takes = s.takes;
@@ -49,7 +49,8 @@ first_after found (Some t) = if nat_lt found t.span.first then t.span.first else
 
 -- The next calls of all callers where these stand, the first moment of the takes that find nothing
 -- and don't stand, and the latest moments of all that don't stand.
-pub record AreNextEntries (table : Table) (s : Standing) (next_entries : NextEntries) : Type 0 where
+pub record AreNextEntries (table : Table) (s : PairState)
+    (next_entries : NextEntries) : Type 0 where
   pub puts : (i : ℕ) → i < MAX_CALLERS
       → IsFirstFrom (λ n. put_at table i n) (slice_index s.puts i)
       (slice_index_or next_entries.puts i None)
@@ -72,7 +73,7 @@ IsNextEntry at numbers t = (i : ℕ) × (i < MAX_CALLERS)
 
 -- A put and a take that are next, and that some views hold, at the earliest moments that they may
 -- have as a pair.
-pub record IsNextPair (table : Table) (s : Standing) (pair : TimedPair) : Type 0 where
+pub record IsNextPair (table : Table) (s : PairState) (pair : TimedPair) : Type 0 where
   pub put : IsNextEntry (λ i n. put_at table i n) s.puts pair.put
   pub take : IsNextEntry (λ i n. take_at table i n) s.takes pair.take
   pub put_held : pair.put.span.first < NEVER

@@ -3,17 +3,17 @@ use Rattle.std.specs.Prelude.{◌≡◌, ℕ, ◌<◌, ◌≤◌, ◌⊎◌, Boo
 use Rattle.book_base.specs.declared.call.Call.{Call}
 use Rattle.book_base.specs.Book.{Page, calls_of, IsValid, IsSmall}
 use Rattle.history_rules.specs.Container.{Reading}
-use Rattle.object_foresight.specs.declared.deal.Deal.{Deal as KnownDeal}
-use Rattle.object_foresight.specs.declared.deal.Deal.TheVariants as deals
-use Rattle.object_foresight.specs.Deals.{deal_of}
-use Rattle.queue_pairs.specs.declared.table.Deal.{Deal}
-use Rattle.queue_pairs.specs.declared.table.Deal.TheVariants as did
+use Rattle.container_pruning.specs.declared.deal.Deal.{Deal as KnownDeal}
+use Rattle.container_pruning.specs.declared.deal.Deal.TheVariants as deals
+use Rattle.container_pruning.specs.Deals.{deal_of}
+use Rattle.queue_pairs.specs.declared.table.QueueDeal.{QueueDeal}
+use Rattle.queue_pairs.specs.declared.table.QueueDeal.TheVariants as did
 use Rattle.queue_pairs.specs.declared.table.TimedCall.{TimedCall}
 use Rattle.queue_pairs.specs.declared.table.Table.{Table}
 use Rattle.queue_pairs.specs.Spans.{IsSpanOf}
 
 -- a deal of a table, as the rules of containers have it
-abbrev pub known_deal : Deal → KnownDeal
+abbrev pub known_deal : QueueDeal → KnownDeal
 known_deal (did.Put v) = deals.Put v
 known_deal (did.Took v) = deals.Took v
 known_deal did.FoundNothing = deals.FoundNothing
@@ -67,7 +67,7 @@ pub record IsTable (reading : Reading) (book : List Page) (table : Table) : Type
 abbrev pub timed_at : Table → ℕ → ℕ → Option TimedCall
 timed_at table caller number = slice_get (slice_index_or (rows_of table) caller []) number
 
-abbrev pub is_put : Deal → Bool
+abbrev pub is_put : QueueDeal → Bool
 is_put (did.Put v) = true
 is_put (did.Took v) = false
 is_put did.FoundNothing = false
@@ -75,14 +75,14 @@ is_put did.OpenTake = false
 is_put did.Other = false
 
 -- it takes a value out, or is an unanswered take
-abbrev pub is_take : Deal → Bool
+abbrev pub is_take : QueueDeal → Bool
 is_take (did.Put v) = false
 is_take (did.Took v) = true
 is_take did.FoundNothing = false
 is_take did.OpenTake = true
 is_take did.Other = false
 
-abbrev pub is_find : Deal → Bool
+abbrev pub is_find : QueueDeal → Bool
 is_find (did.Put v) = false
 is_find (did.Took v) = false
 is_find did.FoundNothing = true
@@ -90,7 +90,7 @@ is_find did.OpenTake = false
 is_find did.Other = false
 
 -- the entry, where what its call did passes a test
-abbrev pub only_by : (Deal → Bool) → Option TimedCall → Option TimedCall
+abbrev pub only_by : (QueueDeal → Bool) → Option TimedCall → Option TimedCall
 only_by test None = None
 only_by test (Some t) = if test t.deal then Some t else None
 

@@ -15,11 +15,11 @@ mod walk;
 use book_base::{MAX_CALLERS, MAX_CALLS};
 pub use next_entries::{NextEntries, TimedPair};
 pub use order::{calls_in_order, places_of};
-pub use search::{Found, PairSearch};
-pub use standing::Standing;
+pub use search::{PairSearch, PairsFound};
+pub use standing::PairState;
 pub use surplus::Surplus;
-pub use table::{Deal, Table, TimedCall};
-pub use walk::{Choice, Level, Step, Walk};
+pub use table::{QueueDeal, Table, TimedCall};
+pub use walk::{Choice, PairLevel, PairWalk, Step};
 
 /// A moment later than all others, which no call has: a view counts at most the calls of all
 /// callers.

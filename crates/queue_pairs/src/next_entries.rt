@@ -3,7 +3,7 @@ ghost use Rattle.book_base.specs.declared.TheConstants.{MAX_CALLERS};
 ghost use Rattle.queue_pairs.specs.NextEntries.{last_of, AreNextEntries, IsLeastOf, IsPast, Serves};
 
 use crate::NEVER;
-use crate::standing::Standing;
+use crate::standing::PairState;
 use crate::table::{Table, TimedCall};
 use book_base::MAX_CALLERS;
 
@@ -31,7 +31,7 @@ pub struct TimedPair {
 
 impl TimedPair {
     /// The pair of a put and a take, at the earliest moments that they may have where these stand.
-    pub fn earliest(standing: &Standing, put: TimedCall, take: TimedCall) -> TimedPair
+    pub fn earliest(standing: &PairState, put: TimedCall, take: TimedCall) -> TimedPair
         // The put is this one.
         ensures put { result.put ≡ put }
         // The take is this one.
@@ -70,7 +70,7 @@ impl TimedPair {
 
 impl NextEntries {
     /// What is next where these stand.
-    pub fn of(table: &Table, standing: &Standing) -> NextEntries
+    pub fn of(table: &Table, standing: &PairState) -> NextEntries
         ensures { AreNextEntries table.now standing.now result }
     {
         let puts = table.next_puts(&standing.puts);
@@ -112,7 +112,7 @@ impl NextEntries {
     }
 
     /// Whether all answered takes stand, and the puts that don't may still take effect.
-    pub fn is_whole(&self, standing: &Standing) -> bool
+    pub fn is_whole(&self, standing: &PairState) -> bool
         ensures { IsTrue result ↔ ((NEVER ≤ self.now.find_first) × (NEVER ≤ self.now.take_limit)
             × (standing.now.put_moment ≤ self.now.put_limit)) }
     {

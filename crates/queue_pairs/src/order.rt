@@ -1,13 +1,13 @@
 ghost use Rattle.std.specs.Prelude.{◌↔◌, IsTrue};
 ghost use Rattle.book_base.specs.Book.{IsCall};
 
-use crate::table::{Deal, Table, TimedCall};
-use crate::walk::{Choice, Step, Walk};
+use crate::table::{QueueDeal, Table, TimedCall};
+use crate::walk::{Choice, PairWalk, Step};
 use book_base::{Book, Call, MAX_CALLERS, MAX_CALLS, NoMemory, Place, SeqObject, State};
 use std::alloc::Global;
 
-// Room for as many words as a book has calls, and one more.
-const ROOM: u64 = MAX_CALLERS as u64 * MAX_CALLS + 1;
+// A capacity of as many words as a book has calls, and one more.
+const CAPACITY: u64 = MAX_CALLERS as u64 * MAX_CALLS + 1;
 
 /// A call, and the moment at which it takes effect.
 #[derive(Clone, Copy)]
@@ -18,7 +18,11 @@ struct Event {
 
 /// The calls of a walk's pairs, and all other answered calls, in the order of their moments: at one
 /// moment as they stand in the walk, and the puts that nobody takes last.
-pub fn calls_in_order(alloc: Global, table: &Table, walk: &Walk) -> Result<Vec<Call>, NoMemory> {
+pub fn calls_in_order(
+    alloc: Global,
+    table: &Table,
+    walk: &PairWalk,
+) -> Result<Vec<Call>, NoMemory> {
     let mut events = Vec::new(alloc);
     for level in &walk.levels {
         add_step(table, level.choice, &mut events)?;
@@ -72,15 +76,15 @@ fn add_step(table: &Table, choice: Choice, events: &mut Vec<Event>) -> Result<()
 
 // The moment of an answered call that is in no step of a walk, if it is none: a put that nobody
 // takes, or neither a put nor a take.
-fn left_moment(walk: &Walk, caller: usize, timed: TimedCall) -> Option<u64> {
+fn left_moment(walk: &PairWalk, caller: usize, timed: TimedCall) -> Option<u64> {
     if caller >= MAX_CALLERS || !timed.is_answered() {
         return None;
     }
     match timed.deal {
-        Deal::Put(_) if timed.call.number >= walk.here.puts[caller] as u64 => {
+        QueueDeal::Put(_) if timed.call.number >= walk.here.puts[caller] as u64 => {
             Some(timed.span.first.max(walk.here.put_moment))
         }
-        Deal::Other => Some(timed.span.first),
+        QueueDeal::Other => Some(timed.span.first),
         _ => None,
     }
 }
@@ -93,7 +97,7 @@ pub fn places_of<S: SeqObject>(
     book: &Book,
     calls: &[Call],
 ) -> Result<Option<Vec<Place>>, NoMemory> {
-    let mut state = State::with_room(alloc, ROOM)?;
+    let mut state = State::with_room(alloc, CAPACITY)?;
     object.reset(&mut state);
     let mut places = Vec::with_capacity(alloc, calls.len())?;
     for call in calls {

@@ -1,9 +1,9 @@
 use crate::NEVER;
 use crate::next_entries::{NextEntries, TimedPair};
-use crate::standing::Standing;
+use crate::standing::PairState;
 use crate::surplus::Surplus;
-use crate::table::{Deal, Table, TimedCall};
-use crate::walk::{Choice, Step, Walk};
+use crate::table::{QueueDeal, Table, TimedCall};
+use crate::walk::{Choice, PairWalk, Step};
 use book_base::{MAX_CALLERS, NoMemory};
 use indexmap::IndexSet;
 use std::alloc::Global;
@@ -12,11 +12,11 @@ use std::mem;
 
 /// What a search comes to.
 #[derive(Drop)]
-pub enum Found {
+pub enum PairsFound {
     /// A walk whose levels have pairs for all answered takes.
-    Pairs(Walk),
+    Pairs(PairWalk),
     /// All was tried, and none was found: the standings that were entered.
-    DeadEnds(IndexSet<Standing>),
+    DeadEnds(IndexSet<PairState>),
     /// The steps that a search has didn't suffice.
     Unsaid,
 }
@@ -47,40 +47,40 @@ impl Drop for PairSearch<'_> {
 
 impl PairSearch<'_> {
     /// Looks for a walk whose levels have pairs for all answered takes.
-    pub fn run(&self) -> Result<Found, NoMemory> {
-        let mut walk = Walk::new(self.alloc);
+    pub fn run(&self) -> Result<PairsFound, NoMemory> {
+        let mut walk = PairWalk::new(self.alloc);
         let _is_new = walk.entered.insert(walk.here)?;
         let next_entries = NextEntries::of(self.table, &walk.here);
         if next_entries.is_whole(&walk.here) {
-            return Ok(Found::Pairs(walk));
+            return Ok(PairsFound::Pairs(walk));
         }
         walk.choices = self.choices(&walk, &walk.here, &next_entries)?;
         for _ in 0..self.steps {
             match walk.choices.pop() {
                 Some(choice) => {
                     if self.enter(&mut walk, choice)? {
-                        return Ok(Found::Pairs(walk));
+                        return Ok(PairsFound::Pairs(walk));
                     }
                 }
                 None => {
                     if !walk.retreat() {
                         let none = IndexSet::new(self.alloc);
-                        return Ok(Found::DeadEnds(mem::replace(&mut walk.entered, none)));
+                        return Ok(PairsFound::DeadEnds(mem::replace(&mut walk.entered, none)));
                     }
                 }
             }
         }
-        Ok(Found::Unsaid)
+        Ok(PairsFound::Unsaid)
     }
 
     // Goes on by a choice, unless the walk was there, and tells whether all is whole there.
-    fn enter(&self, walk: &mut Walk, choice: Choice) -> Result<bool, NoMemory> {
+    fn enter(&self, walk: &mut PairWalk, choice: Choice) -> Result<bool, NoMemory> {
         if !walk.entered.insert(choice.to)? {
             return Ok(false);
         }
         if let Step::Pair(pair) = choice.step
             && !pair.take.is_answered()
-            && let Deal::Put(value) = pair.put.deal
+            && let QueueDeal::Put(value) = pair.put.deal
         {
             walk.spent.push(value)?;
         }
@@ -94,8 +94,8 @@ impl PairSearch<'_> {
     // first.
     fn choices(
         &self,
-        walk: &Walk,
-        standing: &Standing,
+        walk: &PairWalk,
+        standing: &PairState,
         next_entries: &NextEntries,
     ) -> Result<Vec<Choice>, NoMemory> {
         let mut choices = Vec::new(self.alloc);
@@ -128,8 +128,8 @@ impl PairSearch<'_> {
     // serves for.
     fn add_pairs(
         &self,
-        walk: &Walk,
-        standing: &Standing,
+        walk: &PairWalk,
+        standing: &PairState,
         next_entries: &NextEntries,
         take: TimedCall,
         choices: &mut Vec<Choice>,
@@ -149,22 +149,23 @@ impl PairSearch<'_> {
 
     // Whether a take may take out what a put puts in. An unanswered one takes only what the
     // answered ones leave, and no unanswered put.
-    fn may_pair(&self, walk: &Walk, put: TimedCall, take: TimedCall) -> bool {
+    fn may_pair(&self, walk: &PairWalk, put: TimedCall, take: TimedCall) -> bool {
         match (put.deal, take.deal) {
-            (Deal::Put(value), Deal::Took(shown)) => value == shown,
-            (Deal::Put(value), Deal::OpenTake) => put.is_answered() && self.is_left(walk, value),
+            (QueueDeal::Put(value), QueueDeal::Took(shown)) => value == shown,
+            (QueueDeal::Put(value), QueueDeal::OpenTake) => put.is_answered()
+                && self.is_left(walk, value),
             _ => false,
         }
     }
 
     // Whether the answered takes leave one more of a value.
-    fn is_left(&self, walk: &Walk, value: u64) -> bool {
+    fn is_left(&self, walk: &PairWalk, value: u64) -> bool {
         !self.by_surplus || walk.times_spent(value) < self.surplus.of_value(value)
     }
 }
 
 // The takes that find nothing and may stand next, at the earliest moment.
-fn finds_next(standing: &Standing, next_entries: &NextEntries) -> Option<Choice> {
+fn finds_next(standing: &PairState, next_entries: &NextEntries) -> Option<Choice> {
     if next_entries.find_first == NEVER {
         return None;
     }
@@ -181,7 +182,7 @@ fn finds_next(standing: &Standing, next_entries: &NextEntries) -> Option<Choice>
 
 // The choice of a pair, at the earliest moments that it may have.
 fn pair_next(
-    standing: &Standing,
+    standing: &PairState,
     next_entries: &NextEntries,
     put: TimedCall,
     take: TimedCall,

@@ -104,11 +104,11 @@ fn moment_at(book: &Book, call: Call) -> u64
     ensures moment { (r : Record) → record_of book.now call ≡ Some r → result ≡ moment_of r }
     ensures few { result < NEVER }
 {
-    moment_of(&book.record(call).view)
+    view_moment(&book.record(call).view)
 }
 
 // How many calls a view counts.
-fn moment_of(view: &Cut) -> u64
+fn view_moment(view: &Cut) -> u64
     requires small { (i : ℕ) → slice_index view.now i ≤ MAX_CALLS }
     requires few { length view.now ≤ MAX_CALLERS }
     ensures moment { result ≡ sum view.now }

@@ -13,7 +13,7 @@ use book_base::{Call, MAX_CALLERS, MAX_CALLS};
 /// Each pair has the earliest moments that it may have, so that what goes on from the same calls at
 /// later moments goes on from here too.
 #[derive(Clone, Copy, Debug, PartialEq, Eq, Hash)]
-pub struct Standing {
+pub struct PairState {
     pub puts: [u16; MAX_CALLERS],
     pub takes: [u16; MAX_CALLERS],
     pub found: u64,
@@ -21,12 +21,12 @@ pub struct Standing {
     pub take_moment: u64,
 }
 
-impl Standing {
+impl PairState {
     /// No call stands.
-    pub fn start() -> Standing
+    pub fn start() -> PairState
         ensures { paired result ≡ none_paired MAX_CALLERS }
     {
-        Standing {
+        PairState {
             puts: [0; MAX_CALLERS],
             takes: [0; MAX_CALLERS],
             found: 0,
@@ -36,7 +36,7 @@ impl Standing {
     }
 
     /// A pair stands too.
-    pub fn with_pair(self, pair: &TimedPair) -> Standing
+    pub fn with_pair(self, pair: &TimedPair) -> PairState
         ensures { pair.now.put.call.caller < MAX_CALLERS → pair.now.put.call.number < MAX_CALLS
             → pair.now.take.call.caller < MAX_CALLERS → pair.now.take.call.number < MAX_CALLS
             → paired result ≡ after (paired self) (Pairs (pair_of pair.now)) }
@@ -51,7 +51,7 @@ impl Standing {
 
     /// The takes that find nothing stand that some view holds at a moment. What is put in or taken
     /// afterwards is so no earlier.
-    pub fn with_finds(self, moment: u64) -> Standing
+    pub fn with_finds(self, moment: u64) -> PairState
         ensures { paired result ≡ after (paired self) (FindNothing moment) }
     {
         let mut standing = self;
@@ -62,7 +62,7 @@ impl Standing {
     }
 
     /// Whether the same stands at the same moments.
-    pub fn is_same(&self, other: &Standing) -> bool
+    pub fn is_same(&self, other: &PairState) -> bool
         ensures { IsTrue result → self.now ≡ other.now }
     {
         if self.puts != other.puts || self.takes != other.takes {

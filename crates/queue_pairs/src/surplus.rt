@@ -1,4 +1,4 @@
-use crate::table::{Deal, Table};
+use crate::table::{QueueDeal, Table};
 use book_base::NoMemory;
 use std::alloc::Global;
 use std::collections::BTreeMap;
@@ -18,7 +18,7 @@ impl Surplus {
         };
         for row in &table.rows {
             for timed in row {
-                if let Deal::Put(value) = timed.deal
+                if let QueueDeal::Put(value) = timed.deal
                     && timed.is_held()
                 {
                     let more = surplus.of_value(value).saturating_add(1);
@@ -28,7 +28,7 @@ impl Surplus {
         }
         for row in &table.rows {
             for timed in row {
-                if let Deal::Took(value) = timed.deal {
+                if let QueueDeal::Took(value) = timed.deal {
                     let less = surplus.of_value(value).saturating_sub(1);
                     surplus.by_value.insert(value, less)?;
                 }

@@ -1,20 +1,20 @@
 ghost use Rattle.std.specs.Prelude.{◌≡◌, ℕ, ◌+◌, ◌<◌, ◌∷◌, ◌++◌, [], true, false, IfOk, OnOk, IsTrue, ◌↔◌, length, slice_get, slice_index, slice_index_or, None};
 ghost use Rattle.book_base.specs.declared.TheConstants.{MAX_CALLERS};
 ghost use Rattle.book_base.specs.Book.{IsCall, calls_of};
-ghost use Rattle.object_foresight.specs.Deals.{deal_of, take_of};
+ghost use Rattle.container_pruning.specs.Deals.{deal_of, take_of};
 ghost use Rattle.queue_pairs.specs.Tables.{known_deal, is_find, is_put, is_take, put_at, rows_of, take_at, timed_at, IsTimed, IsRowTo, AreFindsTo, IsTable, IsFirstFrom};
 ghost use Rattle.queue_pairs.specs.NextEntries.{first_after, last_after, IsLeastOf};
 
 use crate::NEVER;
 use crate::spans::span_of;
 use book_base::{Book, Call, MAX_CALLERS, NoMemory, Span};
-use object_foresight::{Reader, Role};
+use container_pruning::{Reader, Role};
 use std::alloc::Global;
 
 /// What a call did: it put a value in, it took one out or found nothing, it is an unanswered take,
 /// or it is neither.
 #[derive(Clone, Copy)]
-pub enum Deal {
+pub enum QueueDeal {
     Put(u64),
     Took(u64),
     FoundNothing,
@@ -22,38 +22,38 @@ pub enum Deal {
     Other,
 }
 
-impl Deal {
+impl QueueDeal {
     /// Whether the call puts a value in.
     pub fn is_put(self) -> bool
         ensures { result ≡ is_put self }
     {
-        matches!(self, Deal::Put(_))
+        matches!(self, QueueDeal::Put(_))
     }
 
     /// Whether the call takes a value out, or is an unanswered take.
     pub fn is_take(self) -> bool
         ensures { result ≡ is_take self }
     {
-        matches!(self, Deal::Took(_) | Deal::OpenTake)
+        matches!(self, QueueDeal::Took(_) | QueueDeal::OpenTake)
     }
 
     /// Whether the call takes and finds nothing.
     pub fn is_find(self) -> bool
         ensures { result ≡ is_find self }
     {
-        matches!(self, Deal::FoundNothing)
+        matches!(self, QueueDeal::FoundNothing)
     }
 
     /// Whether two calls did the same.
-    pub fn is_same(self, other: Deal) -> bool
+    pub fn is_same(self, other: QueueDeal) -> bool
         ensures { IsTrue result → self ≡ other }
     {
         match (self, other) {
-            (Deal::Put(value), Deal::Put(others)) => value == others,
-            (Deal::Took(value), Deal::Took(others)) => value == others,
-            (Deal::FoundNothing, Deal::FoundNothing) => true,
-            (Deal::OpenTake, Deal::OpenTake) => true,
-            (Deal::Other, Deal::Other) => true,
+            (QueueDeal::Put(value), QueueDeal::Put(others)) => value == others,
+            (QueueDeal::Took(value), QueueDeal::Took(others)) => value == others,
+            (QueueDeal::FoundNothing, QueueDeal::FoundNothing) => true,
+            (QueueDeal::OpenTake, QueueDeal::OpenTake) => true,
+            (QueueDeal::Other, QueueDeal::Other) => true,
             _ => false,
         }
     }
@@ -63,7 +63,7 @@ impl Deal {
 #[derive(Clone, Copy)]
 pub struct TimedCall {
     pub call: Call,
-    pub deal: Deal,
+    pub deal: QueueDeal,
     pub span: Span,
 }
 
@@ -316,27 +316,27 @@ fn timed<R: Reader>(reader: &R, book: &Book, call: Call) -> TimedCall
 }
 
 // What a call of a book did.
-fn deal_of<R: Reader>(reader: &R, book: &Book, call: Call) -> Deal
+fn deal_of<R: Reader>(reader: &R, book: &Book, call: Call) -> QueueDeal
     requires { IsCall book.now call }
     ensures { known_deal result ≡ deal_of (R.reading reader.now) book.now call }
 {
     match reader.role(book.op(call)) {
-        Role::Put(value) => Deal::Put(value),
+        Role::Put(value) => QueueDeal::Put(value),
         Role::Take => take_of(reader, book, call),
-        Role::Other => Deal::Other,
+        Role::Other => QueueDeal::Other,
     }
 }
 
 // What a call that takes did.
-fn take_of<R: Reader>(reader: &R, book: &Book, call: Call) -> Deal
+fn take_of<R: Reader>(reader: &R, book: &Book, call: Call) -> QueueDeal
     requires { IsCall book.now call }
     ensures { known_deal result ≡ take_of (R.reading reader.now) book.now call }
 {
     if call.number >= book.answers(call.caller) {
-        return Deal::OpenTake;
+        return QueueDeal::OpenTake;
     }
     match reader.shown(book.record(call).reply) {
-        Some(value) => Deal::Took(value),
-        None => Deal::FoundNothing,
+        Some(value) => QueueDeal::Took(value),
+        None => QueueDeal::FoundNothing,
     }
 }

@@ -1,5 +1,5 @@
 use crate::next_entries::TimedPair;
-use crate::standing::Standing;
+use crate::standing::PairState;
 use book_base::NoMemory;
 use indexmap::IndexSet;
 use std::alloc::Global;
@@ -20,14 +20,14 @@ pub enum Step {
 pub struct Choice {
     pub turn: u64,
     pub step: Step,
-    pub to: Standing,
+    pub to: PairState,
 }
 
 /// A standing on the way to where a walk stands: the step that was put next there, and what is
 /// still to be tried there besides it.
 #[derive(Drop)]
-pub struct Level {
-    pub from: Standing,
+pub struct PairLevel {
+    pub from: PairState,
     pub choice: Choice,
     pub choices: Vec<Choice>,
 }
@@ -36,20 +36,20 @@ pub struct Level {
 /// with the best choice last, the values that unanswered takes took on the way, and all standings
 /// that were entered.
 #[derive(Drop)]
-pub struct Walk {
-    pub levels: Vec<Level>,
-    pub here: Standing,
+pub struct PairWalk {
+    pub levels: Vec<PairLevel>,
+    pub here: PairState,
     pub choices: Vec<Choice>,
     pub spent: Vec<u64>,
-    pub entered: IndexSet<Standing>,
+    pub entered: IndexSet<PairState>,
 }
 
-impl Walk {
+impl PairWalk {
     /// A walk that stands at the start.
-    pub fn new(alloc: Global) -> Walk {
-        Walk {
+    pub fn new(alloc: Global) -> PairWalk {
+        PairWalk {
             levels: Vec::new(alloc),
-            here: Standing::start(),
+            here: PairState::start(),
             choices: Vec::new(alloc),
             spent: Vec::new(alloc),
             entered: IndexSet::new(alloc),
@@ -58,7 +58,7 @@ impl Walk {
 
     /// Goes on by a choice, to where these may be tried.
     pub fn enter(&mut self, choice: Choice, choices: Vec<Choice>) -> Result<(), NoMemory> {
-        let level = Level {
+        let level = PairLevel {
             from: self.here,
             choice,
             choices: mem::replace(&mut self.choices, choices),
@@ -72,7 +72,7 @@ impl Walk {
     pub fn retreat(&mut self) -> bool {
         match self.levels.pop() {
             Some(level) => {
-                let Level {
+                let PairLevel {
                     from,
                     choice,
                     choices,

@@ -9,11 +9,11 @@ use Rattle.book_base.specs.Book.{Page, record_of}
 use Rattle.book_base.specs.Pruning.{HasOneOpen}
 use Rattle.book_base.proofs.PageLemmas.{caller_from_call}
 use Rattle.history_rules.specs.Container.{Reading}
-use Rattle.object_foresight.specs.declared.deal.Deal.TheVariants as deals
-use Rattle.object_foresight.specs.Deals.{deal_of}
+use Rattle.container_pruning.specs.declared.deal.Deal.TheVariants as deals
+use Rattle.container_pruning.specs.Deals.{deal_of}
 use Rattle.queue_pairs.specs.declared.TheConstants.{NEVER}
-use Rattle.queue_pairs.specs.declared.table.Deal.{Deal}
-use Rattle.queue_pairs.specs.declared.table.Deal.TheVariants as did
+use Rattle.queue_pairs.specs.declared.table.QueueDeal.{QueueDeal}
+use Rattle.queue_pairs.specs.declared.table.QueueDeal.TheVariants as did
 use Rattle.queue_pairs.specs.declared.table.Table.{Table}
 use Rattle.queue_pairs.specs.declared.table.TimedCall.{TimedCall}
 use Rattle.queue_pairs.specs.Moments.{moment_of, IsHeldBy}
@@ -24,7 +24,7 @@ use Rattle.queue_pairs.proofs.Walking.{legal_orders_have_pairs}
 use Rattle.queue_refutation.specs.declared.counts.Counted.TheVariants as counted
 use Rattle.queue_refutation.specs.Counts.{puts_in, shows, may_take_out, is_counted, PutsAhead, TakesAhead, HasNoPairs}
 use Rattle.queue_refutation.specs.CountLaws.{TakesFollowPuts, FindsLeaveNothing}
-use Rattle.queue_refutation.specs.DeadEnds.{HasNoOrder}
+use Rattle.queue_refutation.specs.DeadEnds.{QueueHasNoOrder}
 use Rattle.queue_refutation.proofs.Counting.{bit, left_in, left-start, left-next, left-some}
 use Rattle.queue_refutation.proofs.Entries.{timed-is, timed-there, put-is, took-is, open-is, puts-read, takes-read, answered-last}
 use Rattle.queue_refutation.proofs.Leading.{pair-puts-due, pair-takes-due}
@@ -35,21 +35,21 @@ both : (a b : Bool) → cond a b false ≡ true → (a ≡ true) × (b ≡ true)
 both true b e = (refl, e)
 both false b e = absurd cc
 
-put-value : (v : ℕ) (d : Deal) → puts_in v d ≡ true → d ≡ did.Put v
+put-value : (v : ℕ) (d : QueueDeal) → puts_in v d ≡ true → d ≡ did.Put v
 put-value v (did.Put w) e = ap did.Put (eqb-true w v e)
 put-value v (did.Took w) e = absurd cc
 put-value v did.FoundNothing e = absurd cc
 put-value v did.OpenTake e = absurd cc
 put-value v did.Other e = absurd cc
 
-take-value : (v : ℕ) (d : Deal) → shows v d ≡ true → d ≡ did.Took v
+take-value : (v : ℕ) (d : QueueDeal) → shows v d ≡ true → d ≡ did.Took v
 take-value v (did.Put w) e = absurd cc
 take-value v (did.Took w) e = ap did.Took (eqb-true w v e)
 take-value v did.FoundNothing e = absurd cc
 take-value v did.OpenTake e = absurd cc
 take-value v did.Other e = absurd cc
 
-takes-out : (v : ℕ) (d : Deal) → may_take_out v d ≡ true → is_take d ≡ true
+takes-out : (v : ℕ) (d : QueueDeal) → may_take_out v d ≡ true → is_take d ≡ true
 takes-out v (did.Put w) e = absurd cc
 takes-out v (did.Took w) e = refl
 takes-out v did.FoundNothing e = absurd cc
@@ -447,7 +447,7 @@ find-refutes table place u m t at before few_t few ahead reading book is has =
 -- without pairs there is no order
 pub unpaired : (table : Table) (book : List Page)
     → ((reading : Reading) → IsTable reading book table → HasOneOpen book) → HasNoPairs table
-    → HasNoOrder table book
+    → QueueHasNoOrder table book
 unpaired table book one none reading init next is queue empty has =
     none reading book is
     (legal_orders_have_pairs reading init next book queue empty is.valid (one reading is) has)

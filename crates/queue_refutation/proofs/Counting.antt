@@ -8,7 +8,7 @@ use Rattle.list_laws.proofs.Places.{get_or-replicate_default}
 use Rattle.book_base.specs.declared.call.Call.{Call}
 use Rattle.book_base.specs.Book.{Page}
 use Rattle.history_rules.specs.Container.{Reading}
-use Rattle.queue_pairs.specs.declared.table.Deal.{Deal}
+use Rattle.queue_pairs.specs.declared.table.QueueDeal.{QueueDeal}
 use Rattle.queue_pairs.specs.declared.table.Table.{Table}
 use Rattle.queue_pairs.specs.declared.table.TimedCall.{TimedCall}
 use Rattle.queue_pairs.specs.Pairs.{IsNext}
@@ -209,7 +209,7 @@ left-start test table callers =
     (λ j. get_or-replicate_default callers j 0)
 
 -- Where the next call of a kind stands too, it is counted no more.
-pub left-next : (reading : Reading) (book : List Page) (table : Table) (only : Deal → Bool)
+pub left-next : (reading : Reading) (book : List Page) (table : Table) (only : QueueDeal → Bool)
     (kind : Call → Type 0) (test : TimedCall → Bool) (numbers : List ℕ) (call : Call)
     (t : TimedCall) → IsTable reading book table → IsRead reading book only kind
     → ((u : TimedCall) → test u ≡ true → only u.deal ≡ true) → IsNext kind numbers call

@@ -11,12 +11,12 @@ use Rattle.book_base.specs.Book.{Page, answers_of, IsCall, record_of}
 use Rattle.book_base.specs.Pruning.{HasOneOpen}
 use Rattle.book_base.proofs.GrowthLemmas.{below_calls}
 use Rattle.history_rules.specs.Container.{Reading}
-use Rattle.object_foresight.specs.Deals.{deal_of}
+use Rattle.container_pruning.specs.Deals.{deal_of}
 use Rattle.queue_pairs.specs.declared.TheConstants.{NEVER}
 use Rattle.queue_pairs.specs.declared.next_entries.NextEntries.{NextEntries}
 use Rattle.queue_pairs.specs.declared.next_entries.TimedPair.{TimedPair}
-use Rattle.queue_pairs.specs.declared.standing.Standing.{Standing}
-use Rattle.queue_pairs.specs.declared.table.Deal.TheVariants as did
+use Rattle.queue_pairs.specs.declared.standing.PairState.{PairState}
+use Rattle.queue_pairs.specs.declared.table.QueueDeal.TheVariants as did
 use Rattle.queue_pairs.specs.declared.table.Table.{Table}
 use Rattle.queue_pairs.specs.declared.table.TimedCall.{TimedCall}
 use Rattle.queue_pairs.specs.Moments.{moment_of}
@@ -25,8 +25,8 @@ use Rattle.queue_pairs.specs.Serving.{IsDueNoLater}
 use Rattle.queue_pairs.specs.Tables.{known_deal, put_at, take_at, timed_at, IsTimed, IsTable}
 use Rattle.queue_pairs.specs.NextEntries.{paired, pair_of, AreNextEntries, IsNextEntry, IsNextPair, IsPast, Serves}
 use Rattle.queue_pairs.proofs.Serving.{held_later}
-use Rattle.queue_refutation.specs.Closed.{IsOneOf, ServesFor, AreClosed, IsClosedAt}
-use Rattle.queue_refutation.specs.DeadEnds.{listed, HasNoOrder, Lead, IsOf, IsAny, FindsLeadOn, StandAtOnce, ClosedAt, IsServed}
+use Rattle.queue_refutation.specs.Closed.{IsOnePaired, PairServesFor, AreClosed, IsClosedAt}
+use Rattle.queue_refutation.specs.DeadEnds.{listed, QueueHasNoOrder, Lead, IsOf, IsAny, FindsLeadOn, StandAtOnce, ClosedAt, IsServed}
 use Rattle.queue_refutation.proofs.Entries.{next-put, next-take, put-is, took-is, open-is, timed-is, timed-there, held-first, answered-last, unanswered-last}
 use Rattle.queue_refutation.proofs.Passing.{is-overdue}
 use Rattle.queue_refutation.proofs.Refuting.{closed_starts_have_no_order}
@@ -51,11 +51,11 @@ same-deal reading book other mine call it own same deal =
     sym it.deal ∙ (ap known_deal deal ∙ (own.deal ∙ ap (deal_of reading book) (sym same)))
 
 -- A next pair that serves for another one serves for what that one stands for.
-pub serves-for : (reading : Reading) (book : List Page) (table : Table) (s : Standing)
+pub serves-for : (reading : Reading) (book : List Page) (table : Table) (s : PairState)
     (mine other : TimedPair) (pair : Pair) → IsTable reading book table
     → IsNextPair table s mine → IsNextPair table s other → Serves other mine
     → IsOf mine.put.call mine.take.call pair → MayPair reading book (paired s) pair
-    → ServesFor reading book (paired s) (pair_of other) pair
+    → PairServesFor reading book (paired s) (pair_of other) pair
 serves-for reading book table s mine other pair is own it serves of may =
     let own_put = next-put reading book table s.puts own.put.0 mine.put is own.put.2 in
     let own_take = next-take reading book table s.takes own.take.0 mine.take is own.take.2 in
@@ -102,7 +102,7 @@ serves-itself pair = record {
 }
 
 -- the pair of a next put and a next take, at the earliest moments, is a next pair
-pub next-pair : (table : Table) (s : Standing) (put take : TimedCall) (pair : TimedPair)
+pub next-pair : (table : Table) (s : PairState) (put take : TimedCall) (pair : TimedPair)
     → IsNextEntry (λ i n. put_at table i n) s.puts put
     → IsNextEntry (λ i n. take_at table i n) s.takes take
     → put.span.first < NEVER → take.span.first < NEVER → pair.put ≡ put → pair.take ≡ take
@@ -124,7 +124,7 @@ next-pair table s put take pair put_is take_is put_held take_held same_put same_
 -- ---- pairs that lead on
 
 -- a pair for which one serves that leads to these standings
-pub lead-served : (table : Table) (standings : List Paired) (s : Standing) (mine : TimedPair)
+pub lead-served : (table : Table) (standings : List Paired) (s : PairState) (mine : TimedPair)
     → IsNextPair table s mine → IsServed table standings s mine
     → Lead (IsOf mine.put.call mine.take.call) table standings s
 lead-served table standings s mine own served reading book pair is of may =
@@ -135,7 +135,7 @@ lead-served table standings s mine own served reading book pair is of may =
     )
 
 -- a pair with which some call is overdue
-pub lead-past : (table : Table) (standings : List Paired) (s : Standing)
+pub lead-past : (table : Table) (standings : List Paired) (s : PairState)
     (next_entries : NextEntries)
     (mine : TimedPair) → AreNextEntries table s next_entries → IsNextPair table s mine
     → mine.put_moment ≤ NEVER → mine.take_moment ≤ NEVER
@@ -151,7 +151,7 @@ lead-past table standings s next_entries mine h own few_put few_take past readin
     )
 
 -- a pair of which neither call is answered
-pub lead-idle : (table : Table) (standings : List Paired) (s : Standing) (put take : TimedCall)
+pub lead-idle : (table : Table) (standings : List Paired) (s : PairState) (put take : TimedCall)
     → IsNextEntry (λ i n. put_at table i n) s.puts put
     → IsNextEntry (λ i n. take_at table i n) s.takes take
     → NEVER ≤ put.span.last → NEVER ≤ take.span.last
@@ -167,7 +167,7 @@ lead-idle table standings s put take put_is take_is put_late take_late reading b
     })
 
 -- a pair of a call that no view holds may not stand
-pub lead-unheld_put : (table : Table) (standings : List Paired) (s : Standing)
+pub lead-unheld_put : (table : Table) (standings : List Paired) (s : PairState)
     (put take : TimedCall)
     → IsNextEntry (λ i n. put_at table i n) s.puts put → (put.span.first < NEVER → ⊥)
     → Lead (IsOf put.call take.call) table standings s
@@ -176,7 +176,7 @@ lead-unheld_put table standings s put take put_is not reading book pair is of ma
     absurd (not (held-first reading book put pair.put pair.put_moment the_put.timed of.0
     may.put_effect.first).1)
 
-pub lead-unheld_take : (table : Table) (standings : List Paired) (s : Standing)
+pub lead-unheld_take : (table : Table) (standings : List Paired) (s : PairState)
     (put take : TimedCall)
     → IsNextEntry (λ i n. take_at table i n) s.takes take → (take.span.first < NEVER → ⊥)
     → Lead (IsOf put.call take.call) table standings s
@@ -186,7 +186,7 @@ lead-unheld_take table standings s put take take_is not reading book pair is of 
     may.take_effect.first).1)
 
 -- a pair whose take doesn't take out what is put in may not stand
-pub lead-apart : (table : Table) (standings : List Paired) (s : Standing) (put take : TimedCall)
+pub lead-apart : (table : Table) (standings : List Paired) (s : PairState) (put take : TimedCall)
     → IsNextEntry (λ i n. put_at table i n) s.puts put
     → IsNextEntry (λ i n. take_at table i n) s.takes take
     → ((v : ℕ) → put.deal ≡ did.Put v → (take.deal ≡ did.Took v) ⊎ (take.deal ≡ did.OpenTake) → ⊥)
@@ -207,7 +207,7 @@ lead-apart table standings s put take put_is take_is not reading book pair is of
 
 -- ---- standings
 
-pub closed-by_all : (table : Table) (standings : List Paired) (s : Standing)
+pub closed-by_all : (table : Table) (standings : List Paired) (s : PairState)
     → length s.puts ≡ MAX_CALLERS → length s.takes ≡ MAX_CALLERS → s.put_moment ≤ s.take_moment
     → ((reading : Reading) (book : List Page) → IsTable reading book table
     → IsWhole reading book (paired s) → ⊥)
@@ -223,7 +223,7 @@ closed-by_all table standings s puts takes turn unfinished finds pairs reading b
   });
 }
 
-pub closed-at_once : (table : Table) (standings : List Paired) (s : Standing)
+pub closed-at_once : (table : Table) (standings : List Paired) (s : PairState)
     → length s.puts ≡ MAX_CALLERS → length s.takes ≡ MAX_CALLERS
     → StandAtOnce table standings s → ClosedAt table standings s
 closed-at_once table standings s puts takes at_once reading book is = record {
@@ -233,14 +233,15 @@ closed-at_once table standings s puts takes at_once reading book is = record {
 }
 
 -- a standing of a list is one of the list as it is paired
-pub listed-there : (keys : List Standing) (place : ℕ) (s : Standing) → slice_get keys place ≡ Some s
-    → IsOneOf (listed keys) (paired s)
+pub listed-there : (keys : List PairState) (place : ℕ) (s : PairState)
+    → slice_get keys place ≡ Some s
+    → IsOnePaired (listed keys) (paired s)
 listed-there keys place s at =
     (place, slice_get-map paired keys place ∙ ap (option_map paired) at)
 
 -- a list is closed where each standing leads to it alone
-pub all-closed : (table : Table) (keys : List Standing)
-    → ((place : ℕ) → place < length keys → (s : Standing) → slice_get keys place ≡ Some s
+pub all-closed : (table : Table) (keys : List PairState)
+    → ((place : ℕ) → place < length keys → (s : PairState) → slice_get keys place ≡ Some s
     → ClosedAt table (listed keys) s)
     → (reading : Reading) (book : List Page) → IsTable reading book table
     → AreClosed reading book (listed keys)
@@ -254,10 +255,10 @@ all-closed table keys each reading book is s one =
 -- a closed list with the start refutes
 pub refuted : (table : Table) (book : List Page) (standings : List Paired)
     → ((reading : Reading) → IsTable reading book table → HasOneOpen book)
-    → IsOneOf standings (none_paired MAX_CALLERS)
+    → IsOnePaired standings (none_paired MAX_CALLERS)
     → ((reading : Reading) (book : List Page) → IsTable reading book table
     → AreClosed reading book standings)
-    → HasNoOrder table book
+    → QueueHasNoOrder table book
 refuted table book standings one start closed reading init next is queue empty has =
     closed_starts_have_no_order reading init next book MAX_CALLERS standings queue empty is.valid
     (one reading is) (closed reading book is) start has

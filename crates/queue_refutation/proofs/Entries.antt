@@ -10,12 +10,12 @@ use Rattle.book_base.specs.Book.{Page, answers_of, calls_of, IsCall, record_of}
 use Rattle.book_base.proofs.PageLemmas.{caller_from_call}
 use Rattle.book_base.proofs.ViewLemmas.{answer_stands}
 use Rattle.history_rules.specs.Container.{Reading}
-use Rattle.object_foresight.specs.declared.deal.Deal.TheVariants as deals
-use Rattle.object_foresight.proofs.Dealing.{call_by_deal}
+use Rattle.container_pruning.specs.declared.deal.Deal.TheVariants as deals
+use Rattle.container_pruning.proofs.Dealing.{call_by_deal}
 use Rattle.queue_pairs.specs.declared.TheConstants.{NEVER}
-use Rattle.queue_pairs.specs.declared.standing.Standing.{Standing}
-use Rattle.queue_pairs.specs.declared.table.Deal.{Deal}
-use Rattle.queue_pairs.specs.declared.table.Deal.TheVariants as did
+use Rattle.queue_pairs.specs.declared.standing.PairState.{PairState}
+use Rattle.queue_pairs.specs.declared.table.QueueDeal.{QueueDeal}
+use Rattle.queue_pairs.specs.declared.table.QueueDeal.TheVariants as did
 use Rattle.queue_pairs.specs.declared.table.Table.{Table}
 use Rattle.queue_pairs.specs.declared.table.TimedCall.{TimedCall}
 use Rattle.queue_pairs.specs.Moments.{moment_of, IsHeldBy}
@@ -64,46 +64,47 @@ timed-there reading book table call is there =
 
 -- ---- what an entry's deal says
 
-only-some : (test : Deal → Bool) (o : Option TimedCall) (t : TimedCall) → only_by test o ≡ Some t
+only-some : (test : QueueDeal → Bool) (o : Option TimedCall) (t : TimedCall)
+    → only_by test o ≡ Some t
     → (o ≡ Some t) × (test t.deal ≡ true)
 only-some test None t e = absurd (none-some t e)
 only-some test (Some u) t e =
     let parts = cond_some (test u.deal) u t e in
     (ap Some parts.1, subst (λ (v : TimedCall). test v.deal ≡ true) parts.1 parts.0)
 
-only-none : (test : Deal → Bool) (t : TimedCall) → only_by test (Some t) ≡ None
+only-none : (test : QueueDeal → Bool) (t : TimedCall) → only_by test (Some t) ≡ None
     → test t.deal ≡ true → ⊥
 only-none test t e told = none-some t (sym e ∙ cond-true (test t.deal) (Some t) None told)
 
-is-put : (d : Deal) → is_put d ≡ true → (v : ℕ) × (d ≡ did.Put v)
+is-put : (d : QueueDeal) → is_put d ≡ true → (v : ℕ) × (d ≡ did.Put v)
 is-put (did.Put v) e = (v, refl)
 is-put (did.Took v) e = absurd cc
 is-put did.FoundNothing e = absurd cc
 is-put did.OpenTake e = absurd cc
 is-put did.Other e = absurd cc
 
-pub put-is : (d : Deal) (v : ℕ) → known_deal d ≡ deals.Put v → d ≡ did.Put v
+pub put-is : (d : QueueDeal) (v : ℕ) → known_deal d ≡ deals.Put v → d ≡ did.Put v
 put-is (did.Put w) v e = let same : w ≡ v = cc in ap did.Put same
 put-is (did.Took w) v e = absurd cc
 put-is did.FoundNothing v e = absurd cc
 put-is did.OpenTake v e = absurd cc
 put-is did.Other v e = absurd cc
 
-pub took-is : (d : Deal) (v : ℕ) → known_deal d ≡ deals.Took v → d ≡ did.Took v
+pub took-is : (d : QueueDeal) (v : ℕ) → known_deal d ≡ deals.Took v → d ≡ did.Took v
 took-is (did.Put w) v e = absurd cc
 took-is (did.Took w) v e = let same : w ≡ v = cc in ap did.Took same
 took-is did.FoundNothing v e = absurd cc
 took-is did.OpenTake v e = absurd cc
 took-is did.Other v e = absurd cc
 
-pub open-is : (d : Deal) → known_deal d ≡ deals.OpenTake → d ≡ did.OpenTake
+pub open-is : (d : QueueDeal) → known_deal d ≡ deals.OpenTake → d ≡ did.OpenTake
 open-is (did.Put w) e = absurd cc
 open-is (did.Took w) e = absurd cc
 open-is did.FoundNothing e = absurd cc
 open-is did.OpenTake e = refl
 open-is did.Other e = absurd cc
 
-is-take : (d : Deal) → is_take d ≡ true
+is-take : (d : QueueDeal) → is_take d ≡ true
     → (v : ℕ) × ((known_deal d ≡ deals.Took v) ⊎ (known_deal d ≡ deals.OpenTake))
 is-take (did.Put v) e = absurd cc
 is-take (did.Took v) e = (v, inl refl)
@@ -111,7 +112,7 @@ is-take did.FoundNothing e = absurd cc
 is-take did.OpenTake e = (0, inr refl)
 is-take did.Other e = absurd cc
 
-take-is : (d : Deal) (v : ℕ) → (known_deal d ≡ deals.Took v) ⊎ (known_deal d ≡ deals.OpenTake)
+take-is : (d : QueueDeal) (v : ℕ) → (known_deal d ≡ deals.Took v) ⊎ (known_deal d ≡ deals.OpenTake)
     → is_take d ≡ true
 take-is d v e = elim e [
   | inl took ↦ ap is_take (took-is d v took)
@@ -119,7 +120,8 @@ take-is d v e = elim e [
 ]
 
 -- The entries whose deals pass a test are those of the calls of a kind.
-pub record IsRead (reading : Reading) (book : List Page) (test : Deal → Bool) (kind : Call → Type 0)
+pub record IsRead (reading : Reading) (book : List Page) (test : QueueDeal → Bool)
+    (kind : Call → Type 0)
     : Type 0 where
   pub passes : (t : TimedCall) → IsTimed reading book t.call t → kind t.call → test t.deal ≡ true
   pub is : (t : TimedCall) → IsTimed reading book t.call t → test t.deal ≡ true → kind t.call
@@ -166,7 +168,7 @@ pub record IsNextCall (reading : Reading) (book : List Page) (kind : Call → Ty
   pub next : IsNext kind numbers t.call
 
 -- the entry of a call of a kind passes the test
-entry-passes : (reading : Reading) (book : List Page) (table : Table) (test : Deal → Bool)
+entry-passes : (reading : Reading) (book : List Page) (table : Table) (test : QueueDeal → Bool)
     (kind : Call → Type 0) (call : Call) → IsTable reading book table
     → IsRead reading book test kind → kind call
     → (t : TimedCall) × (timed_at table call.caller call.number ≡ Some t) × (test t.deal ≡ true)
@@ -178,7 +180,7 @@ entry-passes reading book table test kind call is read there =
     = subst (λ (c : Call). IsTimed reading book c entry.0) (sym at.call) at in
     (entry.0, entry.1, read.passes entry.0 mine (subst kind (sym at.call) there))
 
-pub next-is : (reading : Reading) (book : List Page) (table : Table) (test : Deal → Bool)
+pub next-is : (reading : Reading) (book : List Page) (table : Table) (test : QueueDeal → Bool)
     (kind : Call → Type 0) (numbers : List ℕ) (i : ℕ) (t : TimedCall)
     → IsTable reading book table → IsRead reading book test kind
     → IsFirstFrom (λ n. only_by test (timed_at table i n)) (get_or numbers i 0) (Some t)
@@ -204,7 +206,7 @@ next-is reading book table test kind numbers i t is read found =
       next = subst (IsNext kind numbers) (sym timed.call) next;
     }
 
-pub none-is : (reading : Reading) (book : List Page) (table : Table) (test : Deal → Bool)
+pub none-is : (reading : Reading) (book : List Page) (table : Table) (test : QueueDeal → Bool)
     (kind : Call → Type 0) (i from : ℕ) (call : Call)
     → IsTable reading book table → IsRead reading book test kind
     → IsFirstFrom (λ n. only_by test (timed_at table i n)) from None
@@ -240,7 +242,7 @@ entry-some at numbers i o t lt found e =
 
 -- ---- the calls of a pair that may stand next
 
-pub put-named : (reading : Reading) (book : List Page) (table : Table) (s : Standing) (i : ℕ)
+pub put-named : (reading : Reading) (book : List Page) (table : Table) (s : PairState) (i : ℕ)
     (o : Option TimedCall) (t : TimedCall) (pair : Pair) → IsTable reading book table
     → IsFirstFrom (λ n. put_at table i n) (get_or s.puts i 0) o → o ≡ Some t
     → pair.put.caller ≡ i → MayPair reading book (paired s) pair → pair.put ≡ t.call
@@ -250,7 +252,7 @@ put-named reading book table s i o t pair is found e mine may =
     next-same (IsPut reading book) s.puts t.call pair.put next.next may.put next.is
     (may.value, may.puts) (mine ∙ sym next.caller)
 
-pub take-named : (reading : Reading) (book : List Page) (table : Table) (s : Standing) (i : ℕ)
+pub take-named : (reading : Reading) (book : List Page) (table : Table) (s : PairState) (i : ℕ)
     (o : Option TimedCall) (t : TimedCall) (pair : Pair) → IsTable reading book table
     → IsFirstFrom (λ n. take_at table i n) (get_or s.takes i 0) o → o ≡ Some t
     → pair.take.caller ≡ i → MayPair reading book (paired s) pair → pair.take ≡ t.call
@@ -260,7 +262,7 @@ take-named reading book table s i o t pair is found e mine may =
     next-same (IsTake reading book) s.takes t.call pair.take next.next may.take next.is
     (may.value, may.takes) (mine ∙ sym next.caller)
 
-pub put-none : (reading : Reading) (book : List Page) (table : Table) (s : Standing) (i : ℕ)
+pub put-none : (reading : Reading) (book : List Page) (table : Table) (s : PairState) (i : ℕ)
     (o : Option TimedCall) (pair : Pair) → IsTable reading book table
     → IsFirstFrom (λ n. put_at table i n) (get_or s.puts i 0) o → o ≡ None
     → pair.put.caller ≡ i → MayPair reading book (paired s) pair → ⊥
@@ -271,7 +273,7 @@ put-none reading book table s i o pair is found e mine may =
     (may.value, may.puts) mine
     (omega (arith, may.put.outside, ap (λ (j : ℕ). get_or s.puts j 0) mine))
 
-pub take-none : (reading : Reading) (book : List Page) (table : Table) (s : Standing) (i : ℕ)
+pub take-none : (reading : Reading) (book : List Page) (table : Table) (s : PairState) (i : ℕ)
     (o : Option TimedCall) (pair : Pair) → IsTable reading book table
     → IsFirstFrom (λ n. take_at table i n) (get_or s.takes i 0) o → o ≡ None
     → pair.take.caller ≡ i → MayPair reading book (paired s) pair → ⊥

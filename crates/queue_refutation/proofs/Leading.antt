@@ -10,16 +10,16 @@ use Rattle.book_base.specs.Book.{Page, answers_of, IsCall, IsValid, record_of}
 use Rattle.book_base.specs.Pruning.{HasOneOpen}
 use Rattle.book_base.proofs.PageLemmas.{caller_from_call}
 use Rattle.history_rules.specs.Container.{Reading}
-use Rattle.object_foresight.specs.declared.deal.Deal.TheVariants as deals
-use Rattle.object_foresight.specs.Deals.{deal_of}
-use Rattle.object_foresight.proofs.Dealing.{call_by_deal}
+use Rattle.container_pruning.specs.declared.deal.Deal.TheVariants as deals
+use Rattle.container_pruning.specs.Deals.{deal_of}
+use Rattle.container_pruning.proofs.Dealing.{call_by_deal}
 use Rattle.queue_pairs.specs.Moments.{moment_of, IsHeldBy}
 use Rattle.queue_pairs.specs.Pairs.{Paired, Pair, Step, Pairs, FindNothing, IsPutOf, IsPut, IsTake, IsNext, after, AreSteps}
 use Rattle.queue_pairs.specs.Serving.{IsDueNoLater, GoesOnWith}
 use Rattle.queue_pairs.proofs.Walking.{open_is_unanswered}
 use Rattle.queue_pairs.proofs.Serving.{IsSame, same-refl, same-set, next-at, next-same, held_later, steps-earlier, find-idle, find-earlier, still-outside, outside-before, put-due, take-due, find-due}
 use Rattle.queue_pairs.proofs.Swapping.{earlier_put_serves, earlier_take_serves}
-use Rattle.queue_refutation.specs.Closed.{IsOneOf, HasPutBefore, IsOverdue, ServesFor, PairLeads, FindsLead, AllLead, IsClosedAt}
+use Rattle.queue_refutation.specs.Closed.{IsOnePaired, HasPutBefore, IsOverdue, PairServesFor, PairLeads, FindsLead, AllLead, IsClosedAt}
 use Rattle.queue_refutation.proofs.Dropping.{unanswered_pairs_are_idle}
 
 -- ---- the moments of a pair that stands next
@@ -201,7 +201,7 @@ serve-take reading book s pair p m steps valid one wide are deal next low turn e
 served : (reading : Reading) (book : List Page) (s : Paired) (pair other : Pair) (steps : List Step)
     → IsValid book → HasOneOpen book
     → length book ≤ length s.puts → length book ≤ length s.takes
-    → ServesFor reading book s other pair → AreSteps reading book s (Pairs pair ∷ steps)
+    → PairServesFor reading book s other pair → AreSteps reading book s (Pairs pair ∷ steps)
     → GoesOnWith reading book s other steps
 served reading book s pair other steps valid one wide_puts wide_takes serves are =
     let first = serve-put reading book s pair other.put other.put_moment steps valid one wide_puts
@@ -388,13 +388,13 @@ find-not-overdue reading book s m g steps valid low are overdue =
 -- found nothing.
 abbrev pub LeadsOn : Reading → List Page → List Paired → Paired → List Step → Type 0
 LeadsOn reading book standings s steps =
-    (next : Paired) × (other : List Step) × IsOneOf standings next
+    (next : Paired) × (other : List Step) × IsOnePaired standings next
     × AreSteps reading book next other
     × ((length other < length steps) ⊎ ((length other ≡ length steps) × (s.found < next.found)))
 
 pair-leads : (reading : Reading) (book : List Page) (standings : List Paired) (s : Paired)
     (pair : Pair) (steps : List Step) → IsValid book → HasOneOpen book
-    → IsOneOf standings s → length book ≤ length s.puts → length book ≤ length s.takes
+    → IsOnePaired standings s → length book ≤ length s.puts → length book ≤ length s.takes
     → PairLeads reading book standings s pair
     → AreSteps reading book s (Pairs pair ∷ steps)
     → LeadsOn reading book standings s (Pairs pair ∷ steps)
@@ -418,7 +418,7 @@ pair-leads reading book standings s pair steps valid one is wide_puts wide_takes
     ]
 
 finds-lead : (reading : Reading) (book : List Page) (standings : List Paired) (s : Paired) (m : ℕ)
-    (steps : List Step) → IsValid book → IsOneOf standings s
+    (steps : List Step) → IsValid book → IsOnePaired standings s
     → s.put_moment ≤ s.take_moment → FindsLead reading book standings s m
     → AreSteps reading book s (FindNothing m ∷ steps)
     → LeadsOn reading book standings s (FindNothing m ∷ steps)
@@ -440,7 +440,7 @@ finds-lead reading book standings s m steps valid is turn leads are =
     ]
 
 all-lead : (reading : Reading) (book : List Page) (standings : List Paired) (s : Paired)
-    (steps : List Step) → IsValid book → HasOneOpen book → IsOneOf standings s
+    (steps : List Step) → IsValid book → HasOneOpen book → IsOnePaired standings s
     → length book ≤ length s.puts → length book ≤ length s.takes → AllLead reading book standings s
     → AreSteps reading book s steps → LeadsOn reading book standings s steps
 all-lead reading book standings s [] valid one is wide_puts wide_takes h are
@@ -453,7 +453,7 @@ all-lead reading book standings s (FindNothing m ∷ steps) valid one is wide_pu
 
 -- What goes on from one of a closed list of standings goes on from one of them.
 pub leads-on : (reading : Reading) (book : List Page) (standings : List Paired) (s : Paired)
-    (steps : List Step) → IsValid book → HasOneOpen book → IsOneOf standings s
+    (steps : List Step) → IsValid book → HasOneOpen book → IsOnePaired standings s
     → IsClosedAt reading book standings s → AreSteps reading book s steps
     → LeadsOn reading book standings s steps
 leads-on reading book standings s steps valid one is h are =

@@ -12,12 +12,12 @@ use Rattle.book_base.specs.Book.{Page, answers_of, IsCall, record_of}
 use Rattle.book_base.proofs.PageLemmas.{caller_from_call}
 use Rattle.book_base.proofs.ViewLemmas.{answer_stands}
 use Rattle.history_rules.specs.Container.{Reading}
-use Rattle.object_foresight.specs.declared.deal.Deal.TheVariants as deals
-use Rattle.object_foresight.specs.Deals.{deal_of}
-use Rattle.object_foresight.proofs.Dealing.{call_by_deal}
+use Rattle.container_pruning.specs.declared.deal.Deal.TheVariants as deals
+use Rattle.container_pruning.specs.Deals.{deal_of}
+use Rattle.container_pruning.proofs.Dealing.{call_by_deal}
 use Rattle.queue_pairs.specs.declared.TheConstants.{NEVER}
 use Rattle.queue_pairs.specs.declared.next_entries.NextEntries.{NextEntries}
-use Rattle.queue_pairs.specs.declared.standing.Standing.{Standing}
+use Rattle.queue_pairs.specs.declared.standing.PairState.{PairState}
 use Rattle.queue_pairs.specs.declared.table.Table.{Table}
 use Rattle.queue_pairs.specs.declared.table.TimedCall.{TimedCall}
 use Rattle.queue_pairs.specs.Moments.{moment_of, IsHeldBy}
@@ -27,7 +27,7 @@ use Rattle.queue_pairs.specs.NextEntries.{paired, last_of, first_after, last_aft
 use Rattle.queue_pairs.proofs.Serving.{held_later, next-least}
 use Rattle.queue_pairs.proofs.Spanning.{moments-grow}
 use Rattle.queue_pairs.proofs.Walking.{open_is_unanswered}
-use Rattle.queue_refutation.specs.Closed.{IsOneOf, HasPutBefore, HasTakeBefore, HasFindBefore, IsOverdue, FindsLead, FindsStandAtOnce}
+use Rattle.queue_refutation.specs.Closed.{IsOnePaired, HasPutBefore, HasTakeBefore, HasFindBefore, IsOverdue, FindsLead, FindsStandAtOnce}
 use Rattle.queue_refutation.proofs.Entries.{puts-read, next-put, next-take, none-is, few-callers, held-first, answered-last}
 
 -- ---- values that are least
@@ -74,7 +74,7 @@ due-there found (Some t) m is few = elim (first-cases found t.span.first t.span.
 -- ---- what is due
 
 -- some put is due before a moment that is past the latest one of puts
-pub put-past : (reading : Reading) (book : List Page) (table : Table) (s : Standing)
+pub put-past : (reading : Reading) (book : List Page) (table : Table) (s : PairState)
     (next_entries : NextEntries) (m : ℕ) → IsTable reading book table
     → AreNextEntries table s next_entries
     → next_entries.put_limit < m → m ≤ NEVER → HasPutBefore reading book (paired s) m
@@ -95,7 +95,7 @@ put-past reading book table s next_entries m is h past few =
     )
 
 -- some take is
-pub take-past : (reading : Reading) (book : List Page) (table : Table) (s : Standing)
+pub take-past : (reading : Reading) (book : List Page) (table : Table) (s : PairState)
     (next_entries : NextEntries) (m : ℕ) → IsTable reading book table
     → AreNextEntries table s next_entries
     → next_entries.take_limit < m → m ≤ NEVER → HasTakeBefore reading book (paired s) m
@@ -131,7 +131,7 @@ out-later reading book t found timed later held =
     omega (arith, later, (timed.span.least found held).0)
 
 -- some take that finds nothing is
-pub find-past : (reading : Reading) (book : List Page) (table : Table) (s : Standing)
+pub find-past : (reading : Reading) (book : List Page) (table : Table) (s : PairState)
     (next_entries : NextEntries) (m : ℕ) → IsTable reading book table
     → AreNextEntries table s next_entries
     → next_entries.find_limit < m → m ≤ NEVER → HasFindBefore reading book (paired s) m
@@ -150,7 +150,7 @@ find-past reading book table s next_entries m is h past few =
       omega (arith, answered.2, entry.3),
     )
 
-pub is-overdue : (reading : Reading) (book : List Page) (table : Table) (s : Standing)
+pub is-overdue : (reading : Reading) (book : List Page) (table : Table) (s : PairState)
     (next_entries : NextEntries) (m n : ℕ) → IsTable reading book table
     → AreNextEntries table s next_entries
     → m ≤ NEVER → n ≤ NEVER → IsPast next_entries m n → IsOverdue reading book (paired s) m n
@@ -163,7 +163,7 @@ is-overdue reading book table s next_entries m n is h few_m few_n past = elim pa
 ]
 
 -- no put is due before the latest moment of puts
-pub puts-in-time : (reading : Reading) (book : List Page) (table : Table) (s : Standing)
+pub puts-in-time : (reading : Reading) (book : List Page) (table : Table) (s : PairState)
     (next_entries : NextEntries) (m : ℕ) → IsTable reading book table
     → AreNextEntries table s next_entries
     → m ≤ next_entries.put_limit → HasPutBefore reading book (paired s) m → ⊥
@@ -211,7 +211,7 @@ puts-in-time reading book table s next_entries m is h low due =
 
 -- ---- standings that aren't finished
 
-pub not-whole : (reading : Reading) (book : List Page) (table : Table) (s : Standing)
+pub not-whole : (reading : Reading) (book : List Page) (table : Table) (s : PairState)
     (next_entries : NextEntries) → IsTable reading book table → AreNextEntries table s next_entries
     → s.put_moment ≤ NEVER
     → ((NEVER ≤ next_entries.find_first) × (NEVER ≤ next_entries.take_limit)
@@ -246,7 +246,7 @@ not-whole reading book table s next_entries is h few not whole =
 -- ---- takes that find nothing
 
 -- all that find nothing at a moment stand, or the first moment of those that don't is no later
-finds-cases : (reading : Reading) (book : List Page) (table : Table) (s : Standing)
+finds-cases : (reading : Reading) (book : List Page) (table : Table) (s : PairState)
     (next_entries : NextEntries)
     (e : Call) (m : ℕ) → IsTable reading book table → AreNextEntries table s next_entries
     → deal_of reading book e ≡ deals.FoundNothing → IsHeldBy book e m
@@ -272,7 +272,7 @@ finds-cases reading book table s next_entries e m is h nothing held =
     ]
 
 -- where none is left, none finds nothing anew
-pub finds-none : (reading : Reading) (book : List Page) (table : Table) (s : Standing)
+pub finds-none : (reading : Reading) (book : List Page) (table : Table) (s : PairState)
     (next_entries : NextEntries) (standings : List Paired) (m : ℕ) → IsTable reading book table
     → AreNextEntries table s next_entries → NEVER ≤ next_entries.find_first
     → FindsLead reading book standings (paired s) m
@@ -284,7 +284,7 @@ finds-none reading book table s next_entries standings m is h none =
     ])
 
 -- the first moment of those that are left is later than that of those that stand
-first-later : (table : Table) (s : Standing) (next_entries : NextEntries)
+first-later : (table : Table) (s : PairState) (next_entries : NextEntries)
     → AreNextEntries table s next_entries
     → next_entries.find_first < NEVER → s.found < next_entries.find_first
 first-later table s next_entries h few =
@@ -294,12 +294,13 @@ first-later table s next_entries h few =
     omega (arith, entry.2, entry.3)
 
 -- those that find nothing lead on where the earliest moment of them does
-pub finds-some : (reading : Reading) (book : List Page) (table : Table) (s : Standing)
+pub finds-some : (reading : Reading) (book : List Page) (table : Table) (s : PairState)
     (next_entries : NextEntries) (standings : List Paired) (g m : ℕ) → IsTable reading book table
     → AreNextEntries table s next_entries → next_entries.find_first < NEVER
     → g ≡ max s.take_moment next_entries.find_first
     → MayFind reading book (paired s) m
-    → IsOneOf standings (after (paired s) (FindNothing g)) ⊎ IsOverdue reading book (paired s) g g
+    → IsOnePaired standings (after (paired s) (FindNothing g))
+    ⊎ IsOverdue reading book (paired s) g g
     → FindsLead reading book standings (paired s) m
 finds-some reading book table s next_entries standings g m is h few g_is may leads =
     let later : s.found < next_entries.find_first = first-later table s next_entries h few in
@@ -315,12 +316,12 @@ finds-some reading book table s next_entries standings g m is h few g_is may lea
     ]
 
 -- they stand at once
-pub finds-at-once : (reading : Reading) (book : List Page) (table : Table) (s : Standing)
+pub finds-at-once : (reading : Reading) (book : List Page) (table : Table) (s : PairState)
     (next_entries : NextEntries) (standings : List Paired) → IsTable reading book table
     → AreNextEntries table s next_entries
     → s.take_moment < NEVER → next_entries.find_first ≤ s.take_moment
     → s.take_moment ≤ next_entries.put_limit
-    → IsOneOf standings (after (paired s) (FindNothing s.take_moment))
+    → IsOnePaired standings (after (paired s) (FindNothing s.take_moment))
     → FindsStandAtOnce reading book standings (paired s)
 finds-at-once reading book table s next_entries standings is h few first in_time leads = record {
   more = omega (arith, first-later table s next_entries h (omega arith), first);

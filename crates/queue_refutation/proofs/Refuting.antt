@@ -1,5 +1,5 @@
--- No steps go on from standings that lead to one another alone: there would be ever fewer, or as
--- many after ever more takes found nothing.
+-- No steps go on to the end from standings that lead to one another alone: each would lead to one
+-- of them with fewer steps left, or with as many left and one more take that has found nothing.
 use Rattle.std.proofs.Common.{◌≡◌, ℕ, zero, suc, ◌+◌, ◌<◌, ◌≤◌, List, [], ◌∷◌, length, Some, max, ap, inl, inr, slice_get, arith}
 use Rattle.std.proofs.lemmas.List.{length-replicate}
 use Rattle.std.proofs.lemmas.Option.{same_Some, none-some}
@@ -8,7 +8,7 @@ use Rattle.book_base.specs.Pruning.{HasOneOpen}
 use Rattle.history_rules.specs.Container.{Reading}
 use Rattle.queue_pairs.specs.Pairs.{Paired, Step, AreSteps, none_paired}
 use Rattle.queue_pairs.proofs.Walking.{steps_from_order}
-use Rattle.queue_refutation.specs.Closed.{IsOneOf, AreClosed}
+use Rattle.queue_refutation.specs.Closed.{IsOnePaired, AreClosed}
 use Rattle.queue_refutation.specs.RefutationLaws.{ClosedStandingsAreDead, ClosedStartsHaveNoOrder}
 use Rattle.queue_refutation.proofs.Leading.{leads-on}
 
@@ -29,9 +29,9 @@ latest-bounds (t ∷ standings) (suc k) s at = omega (arith, latest-bounds stand
 -- nothing at
 dead-within : (reading : Reading) (book : List Page) (standings : List Paired) (few more : ℕ)
     → IsValid book → HasOneOpen book → AreClosed reading book standings
-    → ((s : Paired) (steps : List Step) → IsOneOf standings s → AreSteps reading book s steps
+    → ((s : Paired) (steps : List Step) → IsOnePaired standings s → AreSteps reading book s steps
     → length steps < few → ⊥)
-    → (s : Paired) (steps : List Step) → IsOneOf standings s → AreSteps reading book s steps
+    → (s : Paired) (steps : List Step) → IsOnePaired standings s → AreSteps reading book s steps
     → length steps ≤ few → latest standings ≤ s.found + more → ⊥
 dead-within reading book standings few zero valid one closed fewer s steps is are long found =
     let on = leads-on reading book standings s steps valid one is (closed s is) are in
@@ -50,7 +50,7 @@ dead-within reading book standings few (suc more) valid one closed fewer s steps
 
 dead-below : (reading : Reading) (book : List Page) (standings : List Paired) (few : ℕ)
     → IsValid book → HasOneOpen book → AreClosed reading book standings
-    → (s : Paired) (steps : List Step) → IsOneOf standings s → AreSteps reading book s steps
+    → (s : Paired) (steps : List Step) → IsOnePaired standings s → AreSteps reading book s steps
     → length steps < few → ⊥
 dead-below reading book standings zero valid one closed s steps is are long = omega (arith, long)
 dead-below reading book standings (suc few) valid one closed s steps is are long =

@@ -7,7 +7,7 @@ use Rattle.history_rules.specs.Container.{Reading}
 use Rattle.queue_pairs.specs.Pairs.{Paired, Pairs, FindNothing, MayFind, after}
 use Rattle.queue_pairs.specs.Serving.{IsDueNoLater}
 use Rattle.queue_pairs.proofs.Serving.{held_later}
-use Rattle.queue_refutation.specs.Closed.{IsOneOf, FindsLead, HasSuccessors}
+use Rattle.queue_refutation.specs.Closed.{IsOnePaired, FindsLead, HasSuccessors}
 use Rattle.queue_refutation.specs.RefutationLaws.{PairsServeForThemselves, SuccessorsSuffice}
 
 due-itself : (book : List Page) (call : Call) → IsDueNoLater book call call
@@ -31,7 +31,7 @@ pairs_serve_for_themselves reading book s pair may = record {
 }
 
 finds-lead : (reading : Reading) (book : List Page) (standings : List Paired) (s : Paired) (m : ℕ)
-    → MayFind reading book s m → IsOneOf standings (after s (FindNothing m))
+    → MayFind reading book s m → IsOnePaired standings (after s (FindNothing m))
     → FindsLead reading book standings s m
 finds-lead reading book standings s m may there =
     elim (cases_lt s.found m) [

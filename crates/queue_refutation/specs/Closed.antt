@@ -4,15 +4,15 @@ use Rattle.book_base.specs.declared.call.Call.{Call}
 use Rattle.book_base.specs.declared.call.Record.{Record}
 use Rattle.book_base.specs.Book.{Page, answers_of, record_of}
 use Rattle.history_rules.specs.Container.{Reading}
-use Rattle.object_foresight.specs.declared.deal.Deal.TheVariants as deals
-use Rattle.object_foresight.specs.Deals.{deal_of}
+use Rattle.container_pruning.specs.declared.deal.Deal.TheVariants as deals
+use Rattle.container_pruning.specs.Deals.{deal_of}
 use Rattle.queue_pairs.specs.Moments.{moment_of, IsHeldBy}
 use Rattle.queue_pairs.specs.Pairs.{Paired, Pair, Step, Pairs, FindNothing, IsPutOf, IsPut, IsTake, IsNext, MayPair, MayFind, MayStep, after, IsWhole}
 use Rattle.queue_pairs.specs.Serving.{IsDueNoLater}
 
 -- the standing is one of these
-abbrev pub IsOneOf : List Paired → Paired → Type 0
-IsOneOf standings s = (k : ℕ) × (slice_get standings k ≡ Some s)
+abbrev pub IsOnePaired : List Paired → Paired → Type 0
+IsOnePaired standings s = (k : ℕ) × (slice_get standings k ≡ Some s)
 
 -- Some answered put that doesn't stand is due before a moment.
 abbrev pub HasPutBefore : Reading → List Page → Paired → ℕ → Type 0
@@ -40,7 +40,7 @@ IsOverdue reading book s put_moment take_moment = HasPutBefore reading book s pu
 -- One pair serves for another where they stand next: its put puts in the same value, its take
 -- takes out the same or is unanswered too, each of them is next and takes effect no later, and
 -- each is due no later.
-pub record ServesFor (reading : Reading) (book : List Page) (s : Paired) (other pair : Pair)
+pub record PairServesFor (reading : Reading) (book : List Page) (s : Paired) (other pair : Pair)
     : Type 0 where
   pub puts : (v : ℕ) → IsPutOf reading book v pair.put → IsPutOf reading book v other.put
   pub takes : deal_of reading book other.take ≡ deal_of reading book pair.take
@@ -65,8 +65,8 @@ pub record IsUnanswered (book : List Page) (pair : Pair) : Type 0 where
 -- does so, or some call is overdue with that one; or neither of its calls is answered.
 abbrev pub PairLeads : Reading → List Page → List Paired → Paired → Pair → Type 0
 PairLeads reading book standings s pair =
-    ((other : Pair) × ServesFor reading book s other pair
-    × (IsOneOf standings (after s (Pairs other))
+    ((other : Pair) × PairServesFor reading book s other pair
+    × (IsOnePaired standings (after s (Pairs other))
     ⊎ IsOverdue reading book s other.put_moment other.take_moment))
     ⊎ IsUnanswered book pair
 
@@ -82,7 +82,7 @@ abbrev pub FindsLead : Reading → List Page → List Paired → Paired → ℕ 
 FindsLead reading book standings s m =
     NoneFindAt reading book s m
     ⊎ ((g : ℕ) × (s.found < g) × (g ≤ m)
-    × (IsOneOf standings (after s (FindNothing g)) ⊎ IsOverdue reading book s g g))
+    × (IsOnePaired standings (after s (FindNothing g)) ⊎ IsOverdue reading book s g g))
 
 -- All that may stand next where these calls stand leads to one of these standings, and something
 -- has to stand yet.
@@ -99,7 +99,7 @@ pub record FindsStandAtOnce (reading : Reading) (book : List Page) (standings : 
     (s : Paired) : Type 0 where
   pub more : s.found < s.take_moment
   pub in_time : HasPutBefore reading book s s.take_moment → ⊥
-  pub leads : IsOneOf standings (after s (FindNothing s.take_moment))
+  pub leads : IsOnePaired standings (after s (FindNothing s.take_moment))
 
 -- The standing leads to these alone, and it has a number for each caller.
 pub record IsClosedAt (reading : Reading) (book : List Page) (standings : List Paired)
@@ -110,7 +110,7 @@ pub record IsClosedAt (reading : Reading) (book : List Page) (standings : List P
 
 -- These standings are closed: each of them leads to them alone.
 abbrev pub AreClosed : Reading → List Page → List Paired → Type 0
-AreClosed reading book standings = (s : Paired) → IsOneOf standings s
+AreClosed reading book standings = (s : Paired) → IsOnePaired standings s
     → IsClosedAt reading book standings s
 
 -- The standing isn't finished, and these have what stands after each step that may stand next at
@@ -121,4 +121,5 @@ pub record HasSuccessors (reading : Reading) (book : List Page) (standings : Lis
   pub wide_takes : length book ≤ length s.takes
   pub in_turn : s.put_moment ≤ s.take_moment
   pub unfinished : IsWhole reading book s → ⊥
-  pub successors : (step : Step) → MayStep reading book s step → IsOneOf standings (after s step)
+  pub successors : (step : Step) → MayStep reading book s step
+      → IsOnePaired standings (after s step)

@@ -4,8 +4,8 @@ use Rattle.std.specs.Prelude.{ℕ, ◌<◌, Bool, true, false, nat_eq, nat_le, L
 use Rattle.std.specs.List.{sum_by}
 use Rattle.book_base.specs.Book.{Page}
 use Rattle.history_rules.specs.Container.{Reading}
-use Rattle.queue_pairs.specs.declared.table.Deal.{Deal}
-use Rattle.queue_pairs.specs.declared.table.Deal.TheVariants as did
+use Rattle.queue_pairs.specs.declared.table.QueueDeal.{QueueDeal}
+use Rattle.queue_pairs.specs.declared.table.QueueDeal.TheVariants as did
 use Rattle.queue_pairs.specs.declared.table.Table.{Table}
 use Rattle.queue_pairs.specs.declared.table.TimedCall.{TimedCall}
 use Rattle.queue_pairs.specs.Pairs.{HasPairs}
@@ -14,7 +14,7 @@ use Rattle.queue_refutation.specs.declared.counts.Counted.{Counted}
 use Rattle.queue_refutation.specs.declared.counts.Counted.TheVariants as counted
 
 -- a put of a value
-abbrev pub puts_in : ℕ → Deal → Bool
+abbrev pub puts_in : ℕ → QueueDeal → Bool
 puts_in v (did.Put w) = nat_eq w v
 puts_in v (did.Took w) = false
 puts_in v did.FoundNothing = false
@@ -22,7 +22,7 @@ puts_in v did.OpenTake = false
 puts_in v did.Other = false
 
 -- a take that shows a value
-abbrev pub shows : ℕ → Deal → Bool
+abbrev pub shows : ℕ → QueueDeal → Bool
 shows v (did.Put w) = false
 shows v (did.Took w) = nat_eq w v
 shows v did.FoundNothing = false
@@ -30,7 +30,7 @@ shows v did.OpenTake = false
 shows v did.Other = false
 
 -- a take that shows a value, or an unanswered one
-abbrev pub may_take_out : ℕ → Deal → Bool
+abbrev pub may_take_out : ℕ → QueueDeal → Bool
 may_take_out v (did.Put w) = false
 may_take_out v (did.Took w) = nat_eq w v
 may_take_out v did.FoundNothing = false

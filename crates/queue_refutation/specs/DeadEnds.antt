@@ -6,25 +6,25 @@ use Rattle.book_base.specs.Book.{Page}
 use Rattle.book_base.specs.Order.{HasLegalOrder}
 use Rattle.history_rules.specs.Container.{Reading, IsQueue}
 use Rattle.queue_pairs.specs.declared.next_entries.TimedPair.{TimedPair}
-use Rattle.queue_pairs.specs.declared.standing.Standing.{Standing}
+use Rattle.queue_pairs.specs.declared.standing.PairState.{PairState}
 use Rattle.queue_pairs.specs.declared.table.Table.{Table}
 use Rattle.queue_pairs.specs.Pairs.{Paired, Pair, Pairs, MayPair, MayFind, after}
 use Rattle.queue_pairs.specs.Tables.{IsTable}
 use Rattle.queue_pairs.specs.NextEntries.{paired, pair_of, IsNextPair, Serves}
-use Rattle.queue_refutation.specs.Closed.{IsOneOf, PairLeads, FindsLead, FindsStandAtOnce, IsClosedAt}
+use Rattle.queue_refutation.specs.Closed.{IsOnePaired, PairLeads, FindsLead, FindsStandAtOnce, IsClosedAt}
 
 -- the standings, as they are in memory
-abbrev pub listed : List Standing → List Paired
+abbrev pub listed : List PairState → List Paired
 listed standings = map paired standings
 
 -- A queue that begins with nothing, whose book has this table, has no legal order of it.
-abbrev pub HasNoOrder : Table → List Page → Type 0
-HasNoOrder table book = (reading : Reading) (init : List ℕ) (next : List ℕ → ℕ → List ℕ × ℕ)
+abbrev pub QueueHasNoOrder : Table → List Page → Type 0
+QueueHasNoOrder table book = (reading : Reading) (init : List ℕ) (next : List ℕ → ℕ → List ℕ × ℕ)
     → IsTable reading book table → IsQueue reading next → reading.values init ≡ []
     → HasLegalOrder init next book → ⊥
 
 -- Each pair that may stand next, and is one of these, leads to one of these standings, or to none.
-abbrev pub Lead : (Pair → Type 0) → Table → List Paired → Standing → Type 0
+abbrev pub Lead : (Pair → Type 0) → Table → List Paired → PairState → Type 0
 Lead these table standings s = (reading : Reading) (book : List Page) (pair : Pair)
     → IsTable reading book table → these pair → MayPair reading book (paired s) pair
     → PairLeads reading book standings (paired s) pair
@@ -50,22 +50,22 @@ abbrev pub IsAny : Pair → Type 0
 IsAny pair = Unit {0}
 
 -- Takes that find nothing and may stand next lead to one of these standings, or to none.
-abbrev pub FindsLeadOn : Table → List Paired → Standing → Type 0
+abbrev pub FindsLeadOn : Table → List Paired → PairState → Type 0
 FindsLeadOn table standings s = (reading : Reading) (book : List Page) (m : ℕ)
     → IsTable reading book table → MayFind reading book (paired s) m
     → FindsLead reading book standings (paired s) m
 
 -- Takes that find nothing stand at once, and lead to one of these standings.
-abbrev pub StandAtOnce : Table → List Paired → Standing → Type 0
+abbrev pub StandAtOnce : Table → List Paired → PairState → Type 0
 StandAtOnce table standings s = (reading : Reading) (book : List Page) → IsTable reading book table
     → FindsStandAtOnce reading book standings (paired s)
 
 -- The standing leads to these alone.
-abbrev pub ClosedAt : Table → List Paired → Standing → Type 0
+abbrev pub ClosedAt : Table → List Paired → PairState → Type 0
 ClosedAt table standings s = (reading : Reading) (book : List Page) → IsTable reading book table
     → IsClosedAt reading book standings (paired s)
 
 -- A pair of next calls that serves for this one leads to one of these standings.
-abbrev pub IsServed : Table → List Paired → Standing → TimedPair → Type 0
+abbrev pub IsServed : Table → List Paired → PairState → TimedPair → Type 0
 IsServed table standings s pair = (other : TimedPair) × IsNextPair table s other × Serves other pair
-    × IsOneOf standings (after (paired s) (Pairs (pair_of other)))
+    × IsOnePaired standings (after (paired s) (Pairs (pair_of other)))

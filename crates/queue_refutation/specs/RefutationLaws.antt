@@ -5,13 +5,13 @@ use Rattle.book_base.specs.Order.{HasLegalOrder}
 use Rattle.book_base.specs.Pruning.{HasOneOpen}
 use Rattle.history_rules.specs.Container.{Reading, IsQueue}
 use Rattle.queue_pairs.specs.Pairs.{Paired, Pair, Step, Pairs, MayPair, AreSteps, none_paired}
-use Rattle.queue_refutation.specs.Closed.{IsOneOf, ServesFor, IsUnanswered, AreClosed, HasSuccessors}
+use Rattle.queue_refutation.specs.Closed.{IsOnePaired, PairServesFor, IsUnanswered, AreClosed, HasSuccessors}
 
 -- No steps go on from any of a closed list of standings, in a valid book with one open.
 abbrev pub ClosedStandingsAreDead : Type 0
 ClosedStandingsAreDead = (reading : Reading) (book : List Page) (standings : List Paired)
     (s : Paired) (steps : List Step) → IsValid book → HasOneOpen book
-    → AreClosed reading book standings → IsOneOf standings s → AreSteps reading book s steps → ⊥
+    → AreClosed reading book standings → IsOnePaired standings s → AreSteps reading book s steps → ⊥
 
 -- So a queue's valid book with one open has no legal order where one of them is the start, at
 -- which nothing stands.
@@ -19,7 +19,7 @@ abbrev pub ClosedStartsHaveNoOrder : Type 0
 ClosedStartsHaveNoOrder = (reading : Reading) (init : List ℕ) (next : List ℕ → ℕ → List ℕ × ℕ)
     (book : List Page) (callers : ℕ) (standings : List Paired)
     → IsQueue reading next → reading.values init ≡ [] → IsValid book → HasOneOpen book
-    → AreClosed reading book standings → IsOneOf standings (none_paired callers)
+    → AreClosed reading book standings → IsOnePaired standings (none_paired callers)
     → HasLegalOrder init next book → ⊥
 
 -- Where steps go on with a pair of which neither call is answered, they go on without it.
@@ -32,10 +32,10 @@ UnansweredPairsAreIdle = (reading : Reading) (book : List Page) (s : Paired) (pa
 -- A pair that may stand next serves for itself.
 abbrev pub PairsServeForThemselves : Type 0
 PairsServeForThemselves = (reading : Reading) (book : List Page) (s : Paired) (pair : Pair)
-    → MayPair reading book s pair → ServesFor reading book s pair pair
+    → MayPair reading book s pair → PairServesFor reading book s pair pair
 
 -- So a list of standings is closed that has all successors of each.
 abbrev pub SuccessorsSuffice : Type 0
 SuccessorsSuffice = (reading : Reading) (book : List Page) (standings : List Paired)
-    → ((s : Paired) → IsOneOf standings s → HasSuccessors reading book standings s)
+    → ((s : Paired) → IsOnePaired standings s → HasSuccessors reading book standings s)
     → AreClosed reading book standings

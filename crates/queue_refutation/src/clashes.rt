@@ -1,11 +1,11 @@
 ghost use Rattle.std.specs.Prelude.{◌<◌, length, IfOk, IfSome, IsTrue};
 ghost use Rattle.queue_refutation.specs.Counts.{HasNoPairs};
-ghost use Rattle.queue_refutation.specs.DeadEnds.{HasNoOrder};
+ghost use Rattle.queue_refutation.specs.DeadEnds.{QueueHasNoOrder};
 
 use crate::counts::{puts_are_ahead, takes_are_ahead};
 use crate::one_open::has_one_open;
 use book_base::{Book, NoMemory};
-use queue_pairs::{Deal, NEVER, Table, TimedCall};
+use queue_pairs::{NEVER, QueueDeal, Table, TimedCall};
 use std::alloc::Global;
 
 // How many different values are counted at most. Where there are more, few calls share one, and
@@ -24,13 +24,15 @@ struct Moments {
     early_takes: Vec<u64>,
 }
 
-/// Whether counts of calls show that a queue's book has no legal order: by some moment more has
-/// been taken out than put in, or other values, or a take finds nothing where something was left.
+/// Whether counts of calls show that a queue's book has no legal order: by some moment a value has
+/// been taken out more often than it was put in; or takes of one value are ahead of its puts while
+/// puts of another one are ahead of its takes, which no queue allows; or a take finds nothing where
+/// a value was left.
 ///
 /// Where to count is looked for by lists of moments, which aren't trusted: what they say is counted
 /// once more.
 pub fn refute_by_counts(alloc: Global, table: &Table, book: &Book) -> Result<bool, NoMemory>
-    ensures { IfOk result (λ refuted. IsTrue refuted → HasNoOrder table.now book.now) }
+    ensures { IfOk result (λ refuted. IsTrue refuted → QueueHasNoOrder table.now book.now) }
 {
     if !has_one_open(table, book) {
         return Ok(false);
@@ -207,14 +209,14 @@ fn moments_of(alloc: Global, table: &Table) -> Result<Option<Vec<Moments>>, NoMe
     Ok(Some(moments))
 }
 
-// Adds the moments of a call that some view holds, and tells whether there is still room for its
-// value.
+// Adds the moments of a call that some view holds. It answers whether its value has a place among
+// the counted ones.
 fn add(alloc: Global, timed: TimedCall, moments: &mut Vec<Moments>) -> Result<bool, NoMemory> {
     if !timed.is_held() {
         return Ok(true);
     }
     match timed.deal {
-        Deal::Put(value) => {
+        QueueDeal::Put(value) => {
             let Some(place) = place_of(alloc, value, moments)? else {
                 return Ok(false);
             };
@@ -225,7 +227,7 @@ fn add(alloc: Global, timed: TimedCall, moments: &mut Vec<Moments>) -> Result<bo
             }
             Ok(true)
         }
-        Deal::Took(value) => {
+        QueueDeal::Took(value) => {
             let Some(place) = place_of(alloc, value, moments)? else {
                 return Ok(false);
             };
@@ -240,7 +242,7 @@ fn add(alloc: Global, timed: TimedCall, moments: &mut Vec<Moments>) -> Result<bo
 
 // Adds the moment of an unanswered take to those of each value.
 fn add_open(timed: TimedCall, moments: &mut Vec<Moments>) -> Result<(), NoMemory> {
-    if let Deal::OpenTake = timed.deal
+    if let QueueDeal::OpenTake = timed.deal
         && timed.is_held()
     {
         for place in 0..moments.len() {
@@ -250,7 +252,7 @@ fn add_open(timed: TimedCall, moments: &mut Vec<Moments>) -> Result<(), NoMemory
     Ok(())
 }
 
-// The place of a value, which is added where there is none and still room.
+// The place of a value, which is added where it has none and the limit of values isn't reached.
 fn place_of(
     alloc: Global,
     value: u64,

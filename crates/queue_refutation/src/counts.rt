@@ -2,7 +2,7 @@ ghost use Rattle.std.specs.Prelude.{◌≡◌, ℕ, ◌<◌, [], Some, IfSome, I
 ghost use Rattle.queue_pairs.specs.Tables.{rows_of};
 ghost use Rattle.queue_refutation.specs.Counts.{puts_in, shows, may_take_out, is_counted, count_in, PutsAhead, TakesAhead};
 
-use queue_pairs::{Deal, Table, TimedCall};
+use queue_pairs::{QueueDeal, Table, TimedCall};
 
 /// Which calls of a value are counted, up to a moment.
 #[derive(Clone, Copy)]
@@ -99,32 +99,32 @@ fn is_counted(timed: TimedCall, what: Counted, value: u64, moment: u64) -> bool
 }
 
 // Whether a call puts in a value.
-fn puts_in(deal: Deal, value: u64) -> bool
+fn puts_in(deal: QueueDeal, value: u64) -> bool
     ensures { result ≡ puts_in value deal }
 {
     match deal {
-        Deal::Put(other) => other == value,
+        QueueDeal::Put(other) => other == value,
         _ => false,
     }
 }
 
 // Whether a call is a take that shows a value.
-fn shows(deal: Deal, value: u64) -> bool
+fn shows(deal: QueueDeal, value: u64) -> bool
     ensures { result ≡ shows value deal }
 {
     match deal {
-        Deal::Took(other) => other == value,
+        QueueDeal::Took(other) => other == value,
         _ => false,
     }
 }
 
 // Whether a call is a take that shows a value, or an unanswered one.
-fn may_take_out(deal: Deal, value: u64) -> bool
+fn may_take_out(deal: QueueDeal, value: u64) -> bool
     ensures { result ≡ may_take_out value deal }
 {
     match deal {
-        Deal::Took(other) => other == value,
-        Deal::OpenTake => true,
+        QueueDeal::Took(other) => other == value,
+        QueueDeal::OpenTake => true,
         _ => false,
     }
 }

@@ -3,23 +3,23 @@ ghost use Rattle.book_base.specs.declared.TheConstants.{MAX_CALLERS, MAX_CALLS};
 ghost use Rattle.book_base.specs.Book.{Page};
 ghost use Rattle.history_rules.specs.Container.{Reading};
 ghost use Rattle.queue_pairs.specs.declared.TheConstants.{NEVER};
-ghost use Rattle.queue_pairs.specs.declared.standing.Standing.{Standing};
+ghost use Rattle.queue_pairs.specs.declared.standing.PairState.{PairState};
 ghost use Rattle.queue_pairs.specs.Pairs.{Pairs, after};
 ghost use Rattle.queue_pairs.specs.Tables.{put_at, take_at, IsTable};
 ghost use Rattle.queue_pairs.specs.NextEntries.{paired, pair_of, AreNextEntries, IsNextEntry, IsNextPair};
-ghost use Rattle.queue_refutation.specs.Closed.{IsOneOf, AreClosed};
-ghost use Rattle.queue_refutation.specs.DeadEnds.{listed, HasNoOrder, Lead, IsOf, IsOfTaker, IsOfPut, IsOfPutter, IsAny, FindsLeadOn, StandAtOnce, ClosedAt, IsServed};
+ghost use Rattle.queue_refutation.specs.Closed.{IsOnePaired, AreClosed};
+ghost use Rattle.queue_refutation.specs.DeadEnds.{listed, QueueHasNoOrder, Lead, IsOf, IsOfTaker, IsOfPut, IsOfPutter, IsAny, FindsLeadOn, StandAtOnce, ClosedAt, IsServed};
 
 use crate::one_open::has_one_open;
 use book_base::{Book, Call, MAX_CALLERS, MAX_CALLS};
 use indexmap::IndexSet;
-use queue_pairs::{Deal, NEVER, NextEntries, Standing, Table, TimedCall, TimedPair};
+use queue_pairs::{NEVER, NextEntries, PairState, QueueDeal, Table, TimedCall, TimedPair};
 
 /// Standings that a search entered, to be looked at once more. Where all that may stand next at
 /// each of them leads to one of them, or to none, no pairs go on from any.
 pub struct DeadEnds<'a> {
     pub table: &'a Table,
-    pub standings: &'a IndexSet<Standing>,
+    pub standings: &'a IndexSet<PairState>,
 }
 
 impl Drop for DeadEnds<'_> {
@@ -35,12 +35,12 @@ impl DeadEnds<'_> {
     /// Whether the standings show that a queue's book has no legal order: they have the start, and
     /// lead to one another alone. No clause says that they do so wherever there is none.
     pub fn refute(&self, book: &Book) -> bool
-        ensures { IsTrue result → HasNoOrder self.now.table.now book.now }
+        ensures { IsTrue result → QueueHasNoOrder self.now.table.now book.now }
     {
         if !has_one_open(self.table, book) {
             return false;
         }
-        if !self.has(&Standing::start()) {
+        if !self.has(&PairState::start()) {
             return false;
         }
         self.are_closed()
@@ -62,7 +62,7 @@ impl DeadEnds<'_> {
 
     // Whether the standing at a place leads to one of them alone.
     fn is_closed_at(&self, place: usize) -> bool
-        ensures { IsTrue result → (s : Standing)
+        ensures { IsTrue result → (s : PairState)
             → slice_get self.now.standings.now.keys place ≡ Some s
             → ClosedAt self.now.table.now (listed self.now.standings.now.keys) s }
     {
@@ -73,7 +73,7 @@ impl DeadEnds<'_> {
     }
 
     // Whether a standing leads to one of them alone.
-    fn is_closed(&self, standing: &Standing) -> bool
+    fn is_closed(&self, standing: &PairState) -> bool
         ensures { IsTrue result
             → ClosedAt self.now.table.now (listed self.now.standings.now.keys) standing.now }
     {
@@ -98,9 +98,9 @@ impl DeadEnds<'_> {
     }
 
     // Whether one of the standings is this one.
-    fn has(&self, standing: &Standing) -> bool
+    fn has(&self, standing: &PairState) -> bool
         ensures { IsTrue result
-            → IsOneOf (listed self.now.standings.now.keys) (paired standing.now) }
+            → IsOnePaired (listed self.now.standings.now.keys) (paired standing.now) }
     {
         match self.standings.get_full(standing) {
             Some((_, kept)) => kept.is_same(standing),
@@ -110,7 +110,7 @@ impl DeadEnds<'_> {
 
     // Whether takes that find nothing stand at once, which delays nothing, and lead to one of the
     // standings.
-    fn finds_stand_at_once(&self, standing: &Standing, next_entries: &NextEntries) -> bool
+    fn finds_stand_at_once(&self, standing: &PairState, next_entries: &NextEntries) -> bool
         requires next_entries { AreNextEntries self.now.table.now standing.now next_entries.now }
         requires few { standing.now.take_moment < NEVER }
         ensures { IsTrue result
@@ -127,7 +127,7 @@ impl DeadEnds<'_> {
 
     // Whether the takes that find nothing and may stand next lead to one of the standings, or to
     // none.
-    fn finds_lead(&self, standing: &Standing, next_entries: &NextEntries) -> bool
+    fn finds_lead(&self, standing: &PairState, next_entries: &NextEntries) -> bool
         requires next_entries { AreNextEntries self.now.table.now standing.now next_entries.now }
         requires few { standing.now.take_moment < NEVER }
         ensures { IsTrue result
@@ -144,7 +144,7 @@ impl DeadEnds<'_> {
     }
 
     // Whether each pair that may stand next leads to one of the standings, or to none.
-    fn pairs_lead(&self, standing: &Standing, next_entries: &NextEntries) -> bool
+    fn pairs_lead(&self, standing: &PairState, next_entries: &NextEntries) -> bool
         requires next_entries { AreNextEntries self.now.table.now standing.now next_entries.now }
         requires turn { standing.now.put_moment ≤ standing.now.take_moment }
         requires few { standing.now.take_moment < NEVER }
@@ -160,7 +160,7 @@ impl DeadEnds<'_> {
     }
 
     // Whether each pair of a caller's next put leads to one of the standings, or to none.
-    fn putter_leads(&self, standing: &Standing, next_entries: &NextEntries, caller: usize) -> bool
+    fn putter_leads(&self, standing: &PairState, next_entries: &NextEntries, caller: usize) -> bool
         requires next_entries { AreNextEntries self.now.table.now standing.now next_entries.now }
         requires turn { standing.now.put_moment ≤ standing.now.take_moment }
         requires few { standing.now.take_moment < NEVER }
@@ -175,7 +175,7 @@ impl DeadEnds<'_> {
     }
 
     // Whether each pair of a put that may stand next leads to one of the standings, or to none.
-    fn put_leads(&self, standing: &Standing, next_entries: &NextEntries, put: TimedCall) -> bool
+    fn put_leads(&self, standing: &PairState, next_entries: &NextEntries, put: TimedCall) -> bool
         requires next_entries { AreNextEntries self.now.table.now standing.now next_entries.now }
         requires turn { standing.now.put_moment ≤ standing.now.take_moment }
         requires few { standing.now.take_moment < NEVER }
@@ -194,7 +194,7 @@ impl DeadEnds<'_> {
     // Whether the pair of a put and a caller's next take leads to one of the standings, or to none.
     fn taker_leads(
         &self,
-        standing: &Standing,
+        standing: &PairState,
         next_entries: &NextEntries,
         put: TimedCall,
         caller: usize,
@@ -217,7 +217,7 @@ impl DeadEnds<'_> {
     // which neither call is answered is idle.
     fn calls_lead(
         &self,
-        standing: &Standing,
+        standing: &PairState,
         next_entries: &NextEntries,
         put: TimedCall,
         take: TimedCall,
@@ -248,7 +248,7 @@ impl DeadEnds<'_> {
     }
 
     // Whether a pair at its earliest moments leads to one of the standings, or to none.
-    fn pair_leads(&self, standing: &Standing, next_entries: &NextEntries, pair: &TimedPair) -> bool
+    fn pair_leads(&self, standing: &PairState, next_entries: &NextEntries, pair: &TimedPair) -> bool
         requires next_entries { AreNextEntries self.now.table.now standing.now next_entries.now }
         requires turn { standing.now.put_moment ≤ standing.now.take_moment }
         requires few { standing.now.take_moment < NEVER }
@@ -266,8 +266,8 @@ impl DeadEnds<'_> {
     }
 
     // Whether one of the standings stands after a pair.
-    fn leads(&self, standing: &Standing, pair: &TimedPair) -> bool
-        ensures { IsTrue result → IsOneOf (listed self.now.standings.now.keys)
+    fn leads(&self, standing: &PairState, pair: &TimedPair) -> bool
+        ensures { IsTrue result → IsOnePaired (listed self.now.standings.now.keys)
             (after (paired standing.now) (Pairs (pair_of pair.now))) }
     {
         if !is_small(pair.put.call) {
@@ -280,7 +280,7 @@ impl DeadEnds<'_> {
     }
 
     // Whether a pair of next calls that serves for this one leads to one of the standings.
-    fn is_served(&self, standing: &Standing, next_entries: &NextEntries, pair: &TimedPair) -> bool
+    fn is_served(&self, standing: &PairState, next_entries: &NextEntries, pair: &TimedPair) -> bool
         requires next_entries { AreNextEntries self.now.table.now standing.now next_entries.now }
         ensures { IsTrue result → IsServed self.now.table.now
             (listed self.now.standings.now.keys) standing.now pair.now }
@@ -297,7 +297,7 @@ impl DeadEnds<'_> {
     // standings.
     fn putter_serves(
         &self,
-        standing: &Standing,
+        standing: &PairState,
         next_entries: &NextEntries,
         pair: &TimedPair,
         caller: usize,
@@ -316,7 +316,7 @@ impl DeadEnds<'_> {
     // Whether a pair of a put serves for a given pair, and leads to one of the standings.
     fn put_serves(
         &self,
-        standing: &Standing,
+        standing: &PairState,
         next_entries: &NextEntries,
         pair: &TimedPair,
         put: TimedCall,
@@ -344,7 +344,7 @@ impl DeadEnds<'_> {
     // of the standings.
     fn taker_serves(
         &self,
-        standing: &Standing,
+        standing: &PairState,
         next_entries: &NextEntries,
         pair: &TimedPair,
         put: TimedCall,
@@ -367,7 +367,7 @@ impl DeadEnds<'_> {
     // standings.
     fn calls_serve(
         &self,
-        standing: &Standing,
+        standing: &PairState,
         pair: &TimedPair,
         put: TimedCall,
         take: TimedCall,
@@ -391,13 +391,14 @@ impl DeadEnds<'_> {
 }
 
 // Whether a take may take out what a put puts in.
-fn may_take(put: Deal, take: Deal) -> bool
-    ensures { (v : ℕ) → put ≡ Deal.Put v → (take ≡ Deal.Took v) ⊎ (take ≡ Deal.OpenTake)
+fn may_take(put: QueueDeal, take: QueueDeal) -> bool
+    ensures { (v : ℕ) → put ≡ QueueDeal.Put v → (take ≡ QueueDeal.Took v)
+        ⊎ (take ≡ QueueDeal.OpenTake)
         → IsTrue result }
 {
     match (put, take) {
-        (Deal::Put(value), Deal::Took(shown)) => value == shown,
-        (Deal::Put(_), Deal::OpenTake) => true,
+        (QueueDeal::Put(value), QueueDeal::Took(shown)) => value == shown,
+        (QueueDeal::Put(_), QueueDeal::OpenTake) => true,
         _ => false,
     }
 }

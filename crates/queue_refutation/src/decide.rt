@@ -1,15 +1,17 @@
 ghost use Rattle.std.specs.Prelude.{◌≡◌, [], IfOk, IsTrue};
 ghost use Rattle.book_base.specs.Decision.{IsRightDecision};
 ghost use Rattle.history_rules.specs.Container.{IsQueue};
-ghost use Rattle.queue_refutation.specs.DeadEnds.{HasNoOrder};
+ghost use Rattle.queue_refutation.specs.DeadEnds.{QueueHasNoOrder};
 
 use crate::clashes::refute_by_counts;
 use crate::dead_ends::DeadEnds;
 use book_base::{Book, Decision, NoMemory, SeqObject};
+use container_pruning::Reader;
 use indexmap::IndexSet;
-use object_foresight::Reader;
 use order_check::check_order;
-use queue_pairs::{Found, PairSearch, Standing, Surplus, Table, Walk, calls_in_order, places_of};
+use queue_pairs::{
+    PairSearch, PairState, PairWalk, PairsFound, Surplus, Table, calls_in_order, places_of,
+};
 use std::alloc::Global;
 
 // How many steps the search for pairs has, and how many it has once more, where unanswered takes
@@ -51,8 +53,8 @@ pub fn decide_queue<Q: SeqObject + Reader>(
         steps: STEPS,
     };
     match search.run()? {
-        Found::Pairs(walk) => order_of(alloc, queue, book, &table, &walk),
-        Found::DeadEnds(standings) => {
+        PairsFound::Pairs(walk) => order_of(alloc, queue, book, &table, &walk),
+        PairsFound::DeadEnds(standings) => {
             if refute(book, &table, &standings) {
                 return Ok(Decision::NoOrder);
             }
@@ -61,7 +63,7 @@ pub fn decide_queue<Q: SeqObject + Reader>(
             }
             Ok(Decision::Unsaid)
         }
-        Found::Unsaid => Ok(Decision::Unsaid),
+        PairsFound::Unsaid => Ok(Decision::Unsaid),
     }
 }
 
@@ -73,7 +75,7 @@ fn refute_anew(
     table: &Table,
     surplus: &Surplus,
 ) -> Result<bool, NoMemory>
-    ensures { IfOk result (λ refuted. IsTrue refuted → HasNoOrder table.now book.now) }
+    ensures { IfOk result (λ refuted. IsTrue refuted → QueueHasNoOrder table.now book.now) }
 {
     let search = PairSearch {
         alloc,
@@ -83,14 +85,14 @@ fn refute_anew(
         steps: STEPS_ANEW,
     };
     match search.run()? {
-        Found::DeadEnds(standings) => Ok(refute(book, table, &standings)),
-        Found::Pairs(_) | Found::Unsaid => Ok(false),
+        PairsFound::DeadEnds(standings) => Ok(refute(book, table, &standings)),
+        PairsFound::Pairs(_) | PairsFound::Unsaid => Ok(false),
     }
 }
 
 // Whether these standings show that there is no order.
-fn refute(book: &Book, table: &Table, standings: &IndexSet<Standing>) -> bool
-    ensures { IsTrue result → HasNoOrder table.now book.now }
+fn refute(book: &Book, table: &Table, standings: &IndexSet<PairState>) -> bool
+    ensures { IsTrue result → QueueHasNoOrder table.now book.now }
 {
     let ends = DeadEnds { table, standings };
     ends.refute(book)
@@ -102,7 +104,7 @@ fn order_of<Q: SeqObject + Reader>(
     queue: &Q,
     book: &Book,
     table: &Table,
-    walk: &Walk,
+    walk: &PairWalk,
 ) -> Result<Decision, NoMemory>
     ensures { IfOk result (IsRightDecision (Q.init queue.now) (Q.next queue.now) book.now) }
 {

@@ -10,8 +10,8 @@ ghost use Rattle.queue_refutation.specs.RefutationLaws.{
   UnansweredPairsAreIdle,
 };
 
-/// No pairs go on from any of a closed list of standings: there would be ever fewer steps, or
-/// as many after ever more takes have found nothing.
+/// No standing of a closed list can be gone on from to the end: each would lead to one of the list
+/// with fewer steps left, or with as many left and one more take that has found nothing.
 pub fn closed_standings_are_dead()
     // No steps go on from a closed list.
     ensures { ClosedStandingsAreDead }

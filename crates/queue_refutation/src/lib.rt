@@ -1,6 +1,6 @@
-//! Queues decided by pairs, without a search of orders: an order that pairs make is judged, and
-//! there is none where all that may stand next at each of a list of standings leads to one of them,
-//! or where counts of puts and takes clash.
+//! Decides a queue's book by pairs of its puts and takes, without a search of orders. An order that
+//! pairs make is judged. The book has no legal order where each standing of a list leads to
+//! standings of this list alone, or where counts of puts and takes contradict one another.
 #![tactic(auto)]
 
 mod clashes;

@@ -7,8 +7,8 @@ use selfcheck::{MemorySink, Status, SteadySource};
 use std::alloc::Global;
 use std::thread::Threads;
 
-/// The room of a sink, which each output fits in.
-const ROOM: usize = 1 << 16;
+/// The capacity of a sink, which each output fits in.
+const CAPACITY: usize = 1 << 16;
 
 /// A queue's two calls: 5 is enqueued, and then dequeued.
 const BOOK: &[u8] = b"book 2\n\
@@ -180,7 +180,7 @@ enum Wanted {
 
 /// A command, with its input and what it wrote.
 #[derive(Drop)]
-pub struct Command {
+pub struct TriedCommand {
     words: Vec<String>,
     source: SteadySource,
     sink: MemorySink,
@@ -188,16 +188,16 @@ pub struct Command {
     wanted: Wanted,
 }
 
-impl Command {
-    fn new(alloc: Global, words: &[&str], input: Vec<u8>, wanted: Wanted) -> Result<Command> {
+impl TriedCommand {
+    fn new(alloc: Global, words: &[&str], input: Vec<u8>, wanted: Wanted) -> Result<TriedCommand> {
         let mut texts = Vec::new(alloc);
         for word in words {
             texts.push(String::from_str(alloc, word)?)?;
         }
-        let sink = MemorySink::new(alloc, ROOM, Vec::new(alloc), ROOM).map_err(|_| anyhow!(
+        let sink = MemorySink::new(alloc, CAPACITY, Vec::new(alloc), CAPACITY).map_err(|_| anyhow!(
             "no memory for a sink"
         ))?;
-        Ok(Command {
+        Ok(TriedCommand {
             words: texts,
             source: SteadySource::new(input),
             sink,
@@ -207,7 +207,7 @@ impl Command {
     }
 
     /// The worked command of this name.
-    pub fn of_name(alloc: Global, name: &str) -> Result<Option<Command>> {
+    pub fn of_name(alloc: Global, name: &str) -> Result<Option<TriedCommand>> {
         let (words, input, wanted): (&[&str], &[u8], Wanted) = match name {
             "run" => (&["run", "lawful"], SCRIPT, Wanted::TwoDelivered),
             "replay" => (
@@ -253,17 +253,17 @@ impl Command {
             ),
             "upgrade" => (&["upgrade"], OLD_BOOK, Wanted::Text(Status::Fine, BOOK)),
             "sets" => (&["sets"], SET_BOOK, Wanted::Text(Status::Fine, b"legal\n")),
-            "verify" => return Command::verify(alloc, great_book(alloc)?),
-            "verify-rounds" => return Command::verify(alloc, book_of_rounds(alloc)?),
+            "verify" => return TriedCommand::verify(alloc, great_book(alloc)?),
+            "verify-rounds" => return TriedCommand::verify(alloc, book_of_rounds(alloc)?),
             _ => return Ok(None),
         };
-        Ok(Some(Command::new(alloc, words, input.to_vec(alloc)?, wanted)?))
+        Ok(Some(TriedCommand::new(alloc, words, input.to_vec(alloc)?, wanted)?))
     }
 
     // `verify` on a book that has a legal order.
-    fn verify(alloc: Global, book: Vec<u8>) -> Result<Option<Command>> {
+    fn verify(alloc: Global, book: Vec<u8>) -> Result<Option<TriedCommand>> {
         let wanted = Wanted::Text(Status::Fine, b"legal\n");
-        Ok(Some(Command::new(alloc, &["verify"], book, wanted)?))
+        Ok(Some(TriedCommand::new(alloc, &["verify"], book, wanted)?))
     }
 
     /// Calls the top call.

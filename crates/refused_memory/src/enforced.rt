@@ -5,7 +5,7 @@ use std::alloc::Global;
 use std::marker::Brand;
 use std::sync::ledger::Blank;
 use std::thread::Threads;
-use whole_calls::{Calls, End, Found, Turns, queue_calls};
+use whole_calls::{CallFindings, Calls, End, Turns, queue_calls};
 
 /// The reply of a dequeue that finds 5.
 const VALUE_5: u64 = 8_589_934_597;
@@ -92,7 +92,7 @@ impl Enforced {
 
 impl Wanted {
     // Whether a call found this: its reply is delivered with this order, or it wasn't judged.
-    fn is_found(&self, found: &Found, order: &[Place]) -> bool {
+    fn is_found(&self, found: &CallFindings, order: &[Place]) -> bool {
         let is_ended = match &found.end {
             End::Delivered(places) => found.live && places.as_slice() == order,
             End::Illegal => false,
@@ -112,7 +112,7 @@ impl Wanted {
 
 // What came of two calls, the one after the other. Whatever became of the first, its record is in
 // the order of the second.
-fn came_of(first: &Found, second: &Found, wanted: [Wanted; 2]) -> Came {
+fn came_of(first: &CallFindings, second: &CallFindings, wanted: [Wanted; 2]) -> Came {
     let [a, b] = wanted;
     let order = [a.place(), b.place()];
     if !a.is_found(first, &order[..1]) || !b.is_found(second, &order) {

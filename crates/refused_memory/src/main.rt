@@ -8,7 +8,7 @@
 //! | Line | Meaning |
 //! |---|---|
 //! | `WORK: CAME` | no allocation after the work was refused |
-//! | `WORK: CAME, and N suffix it` | the work had all memory that it wanted, and N more allocations were had before one was refused |
+//! | `WORK: CAME, and N behind it` | the work had all memory that it wanted, and N more allocations were had before one was refused |
 //! | `WORK: refused before` | an allocation before the work was refused |
 //!
 //! CAME is the ordinary answer, want of memory with nothing written, or a call without a judgement,
@@ -28,14 +28,14 @@ use came::Came;
 use memory::{use_up, use_up_all};
 use std::process::ExitCode;
 use std::thread::Threads;
-use work::Work;
+use work::MemoryWork;
 
 // Does the work that a line names. Whether what came of it is right.
 fn try_line<R: Print + AllocGlobal + Threads + Sync>(rt: &R, line: &str) -> Result<bool> {
     let (name, rest) = line.split_once(' ').context("a number")?;
     let (before, deed) = rest.split_once(' ').context("a deed")?;
     let before = before.parse::<u64>().context("a number")?;
-    let mut work = Work::prepare(rt.alloc(), name)?;
+    let mut work = MemoryWork::prepare(rt.alloc(), name)?;
     if !use_up(rt.alloc(), before) {
         println!(rt; "{name}: refused before")?;
         return Ok(true);
@@ -43,9 +43,9 @@ fn try_line<R: Print + AllocGlobal + Threads + Sync>(rt: &R, line: &str) -> Resu
     if deed == "do" {
         work.act(rt);
     }
-    let suffix = use_up_all(rt.alloc());
+    let more = use_up_all(rt.alloc());
     let came = work.came(rt.alloc());
-    match suffix {
+    match more {
         None => println!(rt; "{name}: {came}")?,
         Some(count) => println!(rt; "{name}: {came}, and {count} behind it")?,
     }

@@ -1,5 +1,5 @@
 use crate::came::Came;
-use crate::command::Command;
+use crate::command::TriedCommand;
 use crate::enforced::Enforced;
 use crate::ran::Ran;
 use anyhow::{Context, Result};
@@ -9,25 +9,25 @@ use whole_calls::Turns;
 
 /// A worked thing that takes memory.
 #[derive(Drop)]
-pub enum Work {
+pub enum MemoryWork {
     /// A command, by the top call.
-    Command(Command),
+    Command(TriedCommand),
     /// Two calls that check themselves.
     Enforced(Enforced),
     /// A whole run on a bench that can be looked at.
     Ran(Ran),
 }
 
-impl Work {
+impl MemoryWork {
     /// The work of this name, with all that it works on.
-    pub fn prepare(alloc: Global, name: &str) -> Result<Work> {
+    pub fn prepare(alloc: Global, name: &str) -> Result<MemoryWork> {
         match name {
-            "enforce" => Ok(Work::Enforced(Enforced::new(Turns::EnqueueFirst))),
-            "enforce-turned" => Ok(Work::Enforced(Enforced::new(Turns::DequeueFirst))),
-            "run_over" => Ok(Work::Ran(Ran::new(alloc)?)),
+            "enforce" => Ok(MemoryWork::Enforced(Enforced::new(Turns::EnqueueFirst))),
+            "enforce-turned" => Ok(MemoryWork::Enforced(Enforced::new(Turns::DequeueFirst))),
+            "run_over" => Ok(MemoryWork::Ran(Ran::new(alloc)?)),
             _ => {
-                let command = Command::of_name(alloc, name)?;
-                Ok(Work::Command(command.context("a work")?))
+                let command = TriedCommand::of_name(alloc, name)?;
+                Ok(MemoryWork::Command(command.context("a work")?))
             }
         }
     }
@@ -35,18 +35,18 @@ impl Work {
     /// Does it.
     pub fn act<R: AllocGlobal + Threads + Sync>(&mut self, rt: &R) {
         match self {
-            Work::Command(command) => command.act(rt),
-            Work::Enforced(calls) => calls.act(rt, rt.alloc()),
-            Work::Ran(run) => run.act(rt, rt.alloc()),
+            MemoryWork::Command(command) => command.act(rt),
+            MemoryWork::Enforced(calls) => calls.act(rt, rt.alloc()),
+            MemoryWork::Ran(run) => run.act(rt, rt.alloc()),
         }
     }
 
     /// What came of it.
     pub fn came(&self, alloc: Global) -> Came {
         match self {
-            Work::Command(command) => command.came(alloc),
-            Work::Enforced(calls) => calls.came(),
-            Work::Ran(run) => run.came(),
+            MemoryWork::Command(command) => command.came(alloc),
+            MemoryWork::Enforced(calls) => calls.came(),
+            MemoryWork::Ran(run) => run.came(),
         }
     }
 }

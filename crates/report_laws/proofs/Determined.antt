@@ -3,10 +3,10 @@ use Rattle.std.proofs.Common.{◌≡◌, ℕ, suc, List, [], ◌∷◌, length, 
 use Rattle.book_base.specs.declared.call.Call.{Call}
 use Rattle.book_base.specs.Book.{Page}
 use Rattle.world_core.specs.Calls.{Made, book_of}
-use Rattle.call_lines.specs.declared.line.LineEnd.{LineEnd}
-use Rattle.call_lines.specs.declared.line.LineEnd.TheVariants.{Pending, Unchecked, Delivered, Error}
-use Rattle.call_lines.specs.declared.line.Line.{Line}
-use Rattle.call_lines.specs.Lines.{reached_of, made_of, calls_of, book_of_lines, line_at, IsJudged}
+use Rattle.report_lines.specs.declared.line.LineEnd.{LineEnd}
+use Rattle.report_lines.specs.declared.line.LineEnd.TheVariants.{Pending, Unchecked, Delivered, Error}
+use Rattle.report_lines.specs.declared.line.Line.{Line}
+use Rattle.report_lines.specs.Lines.{reached_of, made_of, calls_of, book_of_lines, line_at, IsJudged}
 use Rattle.report_laws.specs.Reporting.{LocalsDetermineLines}
 
 module _ (init : List ℕ) (next : List ℕ → ℕ → List ℕ × ℕ) (book : List Page) where

@@ -5,9 +5,9 @@ use Rattle.book_base.specs.Cut.{IsWithin}
 use Rattle.book_base.specs.Book.{Page}
 use Rattle.book_laws.proofs.BookAtLaws.{smaller_has_one}
 use Rattle.world_core.specs.Shape.{Shape}
-use Rattle.call_lines.specs.declared.line.Line.{Line}
-use Rattle.call_lines.specs.Lines.{book_of_lines, delivered_at, error_at}
-use Rattle.call_lines.specs.Lawful.{delivered_cut, IsLawful}
+use Rattle.report_lines.specs.declared.line.Line.{Line}
+use Rattle.report_lines.specs.Lines.{book_of_lines, delivered_at, error_at}
+use Rattle.report_lines.specs.Lawful.{delivered_cut, IsLawful}
 use Rattle.report_laws.specs.Reporting.{ErrorsAreFinal}
 use Rattle.report_laws.proofs.Lines.{seen_from_delivered, seen_from_error}
 

@@ -11,12 +11,12 @@ use Rattle.book_base.specs.Book.{answered}
 use Rattle.world_core.specs.Calls.{Made}
 use Rattle.world_books.proofs.Validity.{published_cuts_are_within}
 use Rattle.world_books.proofs.Judging.{seen_cuts_fit}
-use Rattle.call_lines.specs.declared.line.LineEnd.{LineEnd}
-use Rattle.call_lines.specs.declared.line.LineEnd.TheVariants.{Pending, Unchecked, Delivered, Error}
-use Rattle.call_lines.specs.declared.line.Line.{Line}
-use Rattle.call_lines.specs.Lines.{reached_of, made_of, is_error}
-use Rattle.call_lines.specs.Phases.{Mark, Seen, mark_of, mark_under_way, marks_after, marks_of}
-use Rattle.call_lines.specs.Allotments.{phases_of}
+use Rattle.report_lines.specs.declared.line.LineEnd.{LineEnd}
+use Rattle.report_lines.specs.declared.line.LineEnd.TheVariants.{Pending, Unchecked, Delivered, Error}
+use Rattle.report_lines.specs.declared.line.Line.{Line}
+use Rattle.report_lines.specs.Lines.{reached_of, made_of, is_error}
+use Rattle.report_lines.specs.Phases.{Mark, Seen, mark_of, mark_under_way, marks_after, marks_of}
+use Rattle.report_lines.specs.Allotments.{phases_of}
 use Rattle.report_laws.specs.Reporting.{SeenCutsAreInTheBook, LinesBeforeTheLastAreDelivered}
 use Rattle.report_laws.proofs.Stepping.{length-marks_after}
 use Rattle.report_laws.proofs.Worlds.{sees, same_book}

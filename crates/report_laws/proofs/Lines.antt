@@ -8,11 +8,11 @@ use Rattle.book_base.specs.declared.call.Call.{Call}
 use Rattle.book_base.specs.declared.call.Record.{Record}
 use Rattle.world_core.specs.Calls.{Has_seen, Made}
 use Rattle.world_books.specs.Verdicts.{HasSeenCut}
-use Rattle.call_lines.specs.declared.line.LineEnd.{LineEnd}
-use Rattle.call_lines.specs.declared.line.LineEnd.TheVariants.{Pending, Unchecked, Delivered, Error}
-use Rattle.call_lines.specs.declared.line.Line.{Line}
-use Rattle.call_lines.specs.Lines.{reached_of, made_of, calls_of, lines_at, line_at, seen_in, delivered_in, error_in, seen_at, delivered_at, error_at}
-use Rattle.call_lines.specs.Lawful.{delivered_cuts}
+use Rattle.report_lines.specs.declared.line.LineEnd.{LineEnd}
+use Rattle.report_lines.specs.declared.line.LineEnd.TheVariants.{Pending, Unchecked, Delivered, Error}
+use Rattle.report_lines.specs.declared.line.Line.{Line}
+use Rattle.report_lines.specs.Lines.{reached_of, made_of, calls_of, lines_at, line_at, seen_in, delivered_in, error_in, seen_at, delivered_at, error_at}
+use Rattle.report_lines.specs.Lawful.{delivered_cuts}
 use Rattle.report_laws.proofs.Pieces.{from_flat_map, in_flat_map, from_filter_map, in_filter_map}
 
 -- the calls of a caller among those of all lines

@@ -19,7 +19,7 @@ use Rattle.world_laws.proofs.Instants.{given_cuts_were_counts}
 use Rattle.world_books.specs.Verdicts.{HasSeenCut}
 use Rattle.world_books.proofs.Judging.{no_run_has_this_error_seen}
 use Rattle.world_books.proofs.Pages.{slice_get-made}
-use Rattle.call_lines.specs.Lines.{calls_of, error_at}
+use Rattle.report_lines.specs.Lines.{calls_of, error_at}
 use Rattle.report_laws.specs.Reporting.{SeenCutsWerePublished, LinearizableRunsHaveNoError}
 use Rattle.report_laws.proofs.Lines.{has_seen_cut, seen_from_error}
 use Rattle.report_laws.proofs.Worlds.{illegal_at, sees}

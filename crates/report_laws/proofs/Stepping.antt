@@ -3,8 +3,8 @@ use Rattle.std.proofs.Common.{◌≡◌, ℕ, zero, suc, ◌+◌, ◌*◌, ◌/�
 use Rattle.std.proofs.lemmas.Bool.{ne_eqb}
 use Rattle.std.proofs.lemmas.List.{length-append, length-replicate, append-nil, replicate-append-replicate}
 use Rattle.world_core.specs.Calls.{Reached, Is_announced, Has_record, Has_seen, Made}
-use Rattle.call_lines.specs.Phases.{Mark, Announced, Recorded, Seen, begun, mark_of, mark_under_way, marks_after, operations_of, marks_of}
-use Rattle.call_lines.specs.Progress.{with_last, with_seen}
+use Rattle.report_lines.specs.Phases.{Mark, Announced, Recorded, Seen, begun, mark_of, mark_under_way, marks_after, operations_of, marks_of}
+use Rattle.report_lines.specs.Progress.{with_last, with_seen}
 use Rattle.report_laws.specs.Steps.{ViewingIsAPhase, SeeingIsAPhase}
 
 -- the operations stay

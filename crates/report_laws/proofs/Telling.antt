@@ -4,9 +4,9 @@ use Rattle.std.proofs.lemmas.List.{length-append, length-map, length-take, lengt
 use Rattle.std.proofs.lemmas.List.Concat.{flat_map-append}
 use Rattle.book_base.specs.declared.call.Record.{Record}
 use Rattle.world_core.specs.Calls.{Reached, Is_announced, Has_record, Has_seen, Made, records_of}
-use Rattle.call_lines.specs.Phases.{Mark, Announced, Seen, begun, asked, answered, mark_of, operations_of, marks_of, Progress, IsProgressAfter, answers_in, IsTold}
-use Rattle.call_lines.specs.Progress.{with_last, with_seen}
-use Rattle.call_lines.proofs.Accounts.{the_last_call_goes_on}
+use Rattle.report_lines.specs.Phases.{Mark, Announced, Seen, begun, asked, answered, mark_of, operations_of, marks_of, Progress, IsProgressAfter, answers_in, IsTold}
+use Rattle.report_lines.specs.Progress.{with_last, with_seen}
+use Rattle.report_lines.proofs.Accounts.{the_last_call_goes_on}
 use Rattle.report_laws.specs.Telling.{ToldAsAnnounced, ToldAsAsked, ToldAsViewed, ToldAsPublished, ToldAsSeen}
 use Rattle.report_laws.proofs.Stepping.{operations_of-with_last, marks_with, length-marks_after}
 

@@ -11,8 +11,8 @@ use Rattle.world_core.specs.Schedules.{pair, two_calls, tenfold, silent}
 use Rattle.world_books.specs.Cases.{locals_after, both_answered}
 use Rattle.world_books.proofs.Validity.{books_are_valid}
 use Rattle.world_books.proofs.Worked.{both_together, delivered, silent_error}
-use Rattle.call_lines.specs.declared.line.Line.{Line}
-use Rattle.call_lines.specs.Lines.{book_of_lines, lines_at, IsJudged, AreLinesOf}
+use Rattle.report_lines.specs.declared.line.Line.{Line}
+use Rattle.report_lines.specs.Lines.{book_of_lines, lines_at, IsJudged, AreLinesOf}
 use Rattle.report_laws.specs.Cases.{both_delivered, both_failed, stopped, nothing}
 
 -- what holds of two lines holds of each line of two callers with one line each

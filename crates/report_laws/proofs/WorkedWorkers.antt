@@ -9,10 +9,10 @@ use Rattle.world_core.specs.Calls.{AreTogether, local_at}
 use Rattle.world_core.specs.Schedules.{pair, two_calls, tenfold, local_at as local_after}
 use Rattle.world_books.specs.Cases.{locals_after, both_answered}
 use Rattle.world_books.proofs.WorkedGathering.{gathered}
-use Rattle.call_lines.specs.declared.line.LineEnd.TheVariants.{Delivered}
-use Rattle.call_lines.specs.declared.line.Line.{Line}
-use Rattle.call_lines.specs.Cases.{call, unchecked, delivered}
-use Rattle.call_lines.specs.Workers.{IsJudgedBy, HasWorked}
+use Rattle.report_lines.specs.declared.line.LineEnd.TheVariants.{Delivered}
+use Rattle.report_lines.specs.declared.line.Line.{Line}
+use Rattle.report_lines.specs.Cases.{call, unchecked, delivered}
+use Rattle.report_lines.specs.Workers.{IsJudgedBy, HasWorked}
 use Rattle.report_laws.specs.Working.{HaveWorked}
 use Rattle.report_laws.specs.Cases.{five_and_six, fifty, sixty, one_unchecked, one_judging}
 use Rattle.report_laws.proofs.Worked.{second_is_legal}

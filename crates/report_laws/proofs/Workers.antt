@@ -11,13 +11,13 @@ use Rattle.world_core.specs.Local.{Local}
 use Rattle.world_core.specs.Calls.{Made, AreTogether, calls_in, book_of, book_in, local_at}
 use Rattle.world_laws.proofs.Locals.{locals_have_phases}
 use Rattle.world_books.proofs.Gathered.{gathered_is_the_book_at, gathered_stays}
-use Rattle.call_lines.specs.declared.line.LineEnd.{LineEnd}
-use Rattle.call_lines.specs.declared.line.LineEnd.TheVariants.{Pending, Unchecked, Delivered, Error}
-use Rattle.call_lines.specs.declared.line.Line.{Line}
-use Rattle.call_lines.specs.Lines.{made_of, calls_of, lines_at, is_error, any_error, IsJudged}
-use Rattle.call_lines.specs.Phases.{Mark, begun, mark_of, marks_after, operations_of, marks_of, HasMade}
-use Rattle.call_lines.specs.Allotments.{phases_of}
-use Rattle.call_lines.specs.Workers.{IsJudgedBy}
+use Rattle.report_lines.specs.declared.line.LineEnd.{LineEnd}
+use Rattle.report_lines.specs.declared.line.LineEnd.TheVariants.{Pending, Unchecked, Delivered, Error}
+use Rattle.report_lines.specs.declared.line.Line.{Line}
+use Rattle.report_lines.specs.Lines.{made_of, calls_of, lines_at, is_error, any_error, IsJudged}
+use Rattle.report_lines.specs.Phases.{Mark, begun, mark_of, marks_after, operations_of, marks_of, HasMade}
+use Rattle.report_lines.specs.Allotments.{phases_of}
+use Rattle.report_lines.specs.Workers.{IsJudgedBy}
 use Rattle.report_laws.specs.Working.{VerdictsStay, WorkersGoThrough, WorkersHalt, WorkersKeepToTheirAllotments, WorkersLeaveTheLines, WorkersAreLawful}
 use Rattle.report_laws.proofs.Stepping.{length-marks_after}
 use Rattle.report_laws.proofs.Lines.{caller_within}

@@ -18,11 +18,11 @@ use Rattle.world_laws.proofs.Locals.{locals_have_phases}
 use Rattle.world_books.specs.Verdicts.{HasSeenCut, AreSeenCuts, AreDelivered, HasAllDelivered}
 use Rattle.world_books.proofs.Validity.{books_are_valid}
 use Rattle.world_books.proofs.Judging.{seen_cuts_fit, no_run_has_this_error_seen, delivered_calls_stand_in_one}
-use Rattle.call_lines.specs.declared.line.Line.{Line}
-use Rattle.call_lines.specs.Lines.{made_of, calls_of, book_of_lines, lines_at, seen_at, delivered_at, error_at, AreLinesOf, IsJudged}
-use Rattle.call_lines.specs.Phases.{published_by}
-use Rattle.call_lines.specs.Allotments.{phases_of, published_in}
-use Rattle.call_lines.specs.Lawful.{AreSeen, delivered_cuts, delivered_cut, IsLawful}
+use Rattle.report_lines.specs.declared.line.Line.{Line}
+use Rattle.report_lines.specs.Lines.{made_of, calls_of, book_of_lines, lines_at, seen_at, delivered_at, error_at, AreLinesOf, IsJudged}
+use Rattle.report_lines.specs.Phases.{published_by}
+use Rattle.report_lines.specs.Allotments.{phases_of, published_in}
+use Rattle.report_lines.specs.Lawful.{AreSeen, delivered_cuts, delivered_cut, IsLawful}
 use Rattle.report_laws.specs.Reporting.{HaveMade, WorldsAreLawful}
 use Rattle.report_laws.proofs.Lines.{has_seen_cut, delivered_line, error_line, seen_from_delivered, seen_from_error, from_delivered_cuts, in_delivered_cuts}
 

@@ -4,8 +4,8 @@ use Rattle.book_base.specs.declared.call.Record.{Record}
 use Rattle.world_core.specs.World.{Step}
 use Rattle.world_core.specs.Schedules.{announced_both, published_one, judged_both, two_calls}
 use Rattle.world_books.specs.Cases.{gathering}
-use Rattle.call_lines.specs.declared.line.Line.{Line}
-use Rattle.call_lines.specs.Cases.{answer, pending, unchecked, delivered, failed}
+use Rattle.report_lines.specs.declared.line.Line.{Line}
+use Rattle.report_lines.specs.Cases.{answer, pending, unchecked, delivered, failed}
 
 -- The operations of the two callers.
 abbrev pub five_and_six : List (List ℕ)

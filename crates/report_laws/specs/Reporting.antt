@@ -12,12 +12,12 @@ use Rattle.world_core.specs.World.{Step, IsRun, end_of}
 use Rattle.world_core.specs.History.{IsLinearizable, history_of}
 use Rattle.world_core.specs.Calls.{AreTogether, local_at}
 use Rattle.world_laws.specs.Cuts.{WereOwnCounts}
-use Rattle.call_lines.specs.declared.line.LineEnd.TheVariants.{Delivered}
-use Rattle.call_lines.specs.declared.line.Line.{Line}
-use Rattle.call_lines.specs.Lines.{book_of_lines, lines_at, seen_at, delivered_at, error_at, AreLinesOf}
-use Rattle.call_lines.specs.Phases.{HasMade}
-use Rattle.call_lines.specs.Allotments.{operations_at, phases_of}
-use Rattle.call_lines.specs.Lawful.{IsAllotted, IsLawful}
+use Rattle.report_lines.specs.declared.line.LineEnd.TheVariants.{Delivered}
+use Rattle.report_lines.specs.declared.line.Line.{Line}
+use Rattle.report_lines.specs.Lines.{book_of_lines, lines_at, seen_at, delivered_at, error_at, AreLinesOf}
+use Rattle.report_lines.specs.Phases.{HasMade}
+use Rattle.report_lines.specs.Allotments.{operations_at, phases_of}
+use Rattle.report_lines.specs.Lawful.{IsAllotted, IsLawful}
 
 -- Each caller has the lines of its allotment, and its local has made the phases that these tell of.
 pub record HaveMade (s : Shape) (operations : List (List ℕ)) (allotments : List ℕ)

@@ -1,8 +1,8 @@
 -- A caller's phases, one by one: what each does to how far the caller has come.
 use Rattle.std.specs.Prelude.{ℕ, ◌+◌, ◌*◌, ◌<◌, List, [], length, slice_index}
 use Rattle.book_base.specs.declared.call.Record.{Record}
-use Rattle.call_lines.specs.Phases.{Progress, no_progress, IsProgressAfter}
-use Rattle.call_lines.specs.Progress.{after_announcing, after_viewing, after_publishing, after_seeing}
+use Rattle.report_lines.specs.Phases.{Progress, no_progress, IsProgressAfter}
+use Rattle.report_lines.specs.Progress.{after_announcing, after_viewing, after_publishing, after_seeing}
 
 -- Before its first phase a caller has no calls.
 abbrev pub NoPhaseIsMade : Type 0

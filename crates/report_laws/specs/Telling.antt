@@ -1,8 +1,8 @@
 -- A caller's phases, one by one: what an object that tells its pairs tells after each.
 use Rattle.std.specs.Prelude.{ℕ, ◌+◌, ◌*◌, List, [], ◌∷◌, ◌++◌, slice_index}
 use Rattle.book_base.specs.declared.call.Record.{Record}
-use Rattle.call_lines.specs.Phases.{Progress, IsProgressAfter, IsTold}
-use Rattle.call_lines.specs.Progress.{after_announcing, after_viewing, after_seeing}
+use Rattle.report_lines.specs.Phases.{Progress, IsProgressAfter, IsTold}
+use Rattle.report_lines.specs.Progress.{after_announcing, after_viewing, after_seeing}
 
 -- Before the first phase it tells nothing.
 abbrev pub NothingIsTold : Type 0

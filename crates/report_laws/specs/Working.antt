@@ -5,13 +5,13 @@ use Rattle.world_core.specs.Shape.{Shape}
 use Rattle.world_core.specs.Local.{Local}
 use Rattle.world_core.specs.Calls.{AreTogether, calls_in, local_at}
 use Rattle.world_books.specs.Gathering.{HasPeekedAll}
-use Rattle.call_lines.specs.declared.line.LineEnd.{LineEnd}
-use Rattle.call_lines.specs.declared.line.Line.{Line}
-use Rattle.call_lines.specs.Lines.{made_of, lines_at, is_error, any_error, AreLinesOf}
-use Rattle.call_lines.specs.Phases.{HasMade}
-use Rattle.call_lines.specs.Allotments.{operations_at}
-use Rattle.call_lines.specs.Lawful.{IsAllotted, IsLawful}
-use Rattle.call_lines.specs.Workers.{IsJudgedBy, HasWorked}
+use Rattle.report_lines.specs.declared.line.LineEnd.{LineEnd}
+use Rattle.report_lines.specs.declared.line.Line.{Line}
+use Rattle.report_lines.specs.Lines.{made_of, lines_at, is_error, any_error, AreLinesOf}
+use Rattle.report_lines.specs.Phases.{HasMade}
+use Rattle.report_lines.specs.Allotments.{operations_at}
+use Rattle.report_lines.specs.Lawful.{IsAllotted, IsLawful}
+use Rattle.report_lines.specs.Workers.{IsJudgedBy, HasWorked}
 
 -- A verdict by a gathered book stays one while its caller goes on.
 abbrev pub VerdictsStay : Type 0

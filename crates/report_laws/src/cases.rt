@@ -6,10 +6,10 @@ ghost use Rattle.world_core.specs.Schedules.{pair, two_calls, tenfold, silent, l
 ghost use Rattle.world_core.specs.World.{IsRun};
 ghost use Rattle.world_core.specs.Calls.{AreTogether};
 ghost use Rattle.world_books.specs.Cases.{locals_after};
-ghost use Rattle.call_lines.specs.declared.line.LineEnd.TheVariants.{Delivered};
-ghost use Rattle.call_lines.specs.Lines.{lines_at, AreLinesOf};
-ghost use Rattle.call_lines.specs.Lawful.{IsAllotted, AreSeen, IsLawful};
-ghost use Rattle.call_lines.specs.Workers.{IsJudgedBy};
+ghost use Rattle.report_lines.specs.declared.line.LineEnd.TheVariants.{Delivered};
+ghost use Rattle.report_lines.specs.Lines.{lines_at, AreLinesOf};
+ghost use Rattle.report_lines.specs.Lawful.{IsAllotted, AreSeen, IsLawful};
+ghost use Rattle.report_lines.specs.Workers.{IsJudgedBy};
 ghost use Rattle.report_laws.specs.Reporting.{HaveMade};
 ghost use Rattle.report_laws.specs.Working.{HaveWorked};
 ghost use Rattle.report_laws.specs.Cases.{five_and_six, both_delivered, both_failed, first_failed, seen_otherwise, sixty, stopped, nothing, one_unchecked, second_begun, one_judging};

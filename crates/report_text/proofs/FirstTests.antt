@@ -24,9 +24,9 @@ use Rattle.book_text.specs.Entries.{BeginWithNone}
 use Rattle.book_text.proofs.CallTexts.{test_turn, test_late}
 use Rattle.client_scripts.proofs.SharpScripts.{small_has}
 use Rattle.client_scripts.specs.ScriptRules.{grouped, IsNamedCall}
-use Rattle.call_lines.specs.declared.line.Line.{Line}
-use Rattle.call_lines.specs.declared.line.LineEnd.{LineEnd}
-use Rattle.call_lines.specs.declared.line.LineEnd.TheVariants.{Pending, Unchecked, Delivered, Error}
+use Rattle.report_lines.specs.declared.line.Line.{Line}
+use Rattle.report_lines.specs.declared.line.LineEnd.{LineEnd}
+use Rattle.report_lines.specs.declared.line.LineEnd.TheVariants.{Pending, Unchecked, Delivered, Error}
 use Rattle.text_fields.specs.Counts.{pair_words}
 use Rattle.report_text.specs.ReportRules.{book_so_far, IsAnswer, SaysLine, IsAfterView, LineFails}
 use Rattle.report_text.specs.Parts.{IsNoAnswer, IsPrefix, IsPrefixRefused, SayVerdict, IsNoVerdict, answer_in, MayTell, IsAnswerRefused, AreWordsRefused, IsMisfit}

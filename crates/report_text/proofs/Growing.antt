@@ -8,13 +8,13 @@ use Rattle.list_laws.proofs.Options.{and_then_some}
 use Rattle.book_base.specs.declared.call.Call.{Call}
 use Rattle.book_base.specs.declared.call.Record.{Record}
 use Rattle.book_base.specs.Book.{page_of, record_of}
-use Rattle.call_lines.specs.declared.line.Line.{Line}
-use Rattle.call_lines.specs.Lines.{line_at, seen_in, seen_at}
+use Rattle.report_lines.specs.declared.line.Line.{Line}
+use Rattle.report_lines.specs.Lines.{line_at, seen_in, seen_at}
 use Rattle.client_scripts.specs.ScriptRules.{grouped}
 use Rattle.report_text.specs.ReportRules.{book_so_far}
 use Rattle.report_text.proofs.Pushing.{records_in}
 
--- the first so many of a longer list are a longer prefix
+-- the first c lines of a longer list begin with the first c of the list
 take-longer : (c : ℕ) (xs ys : List Line) → (zs : List Line) × (take c (xs ++ ys) ≡ take c xs ++ zs)
 take-longer zero xs ys = ([], refl)
 take-longer (suc c) [] ys = (take (suc c) ys, refl)

@@ -12,10 +12,10 @@ use Rattle.text_fields.specs.Lines.{Unread, line_at, words_of}
 use Rattle.text_fields.specs.Faults.{IsFirstFault, StopsFor}
 use Rattle.text_fields.proofs.Sharp.{goes_line, stops_line}
 use Rattle.world_core.specs.Calls.{records_of}
-use Rattle.call_lines.specs.declared.line.LineEnd.{LineEnd}
-use Rattle.call_lines.specs.declared.line.LineEnd.TheVariants.{Pending, Unchecked, Delivered, Error}
-use Rattle.call_lines.specs.declared.line.Line.{Line}
-use Rattle.call_lines.specs.Lines.{reached_of}
+use Rattle.report_lines.specs.declared.line.LineEnd.{LineEnd}
+use Rattle.report_lines.specs.declared.line.LineEnd.TheVariants.{Pending, Unchecked, Delivered, Error}
+use Rattle.report_lines.specs.declared.line.Line.{Line}
+use Rattle.report_lines.specs.Lines.{reached_of}
 use Rattle.client_scripts.specs.ScriptRules.{grouped}
 use Rattle.report_text.specs.declared.draft.Draft.{Draft}
 use Rattle.report_text.specs.ReportRules.{book_so_far, SaysLine, Fits, InLines, report_rules}

@@ -17,8 +17,8 @@ use Rattle.book_text.specs.CallLines.{calls_from}
 use Rattle.book_text.proofs.CallTexts.{stops_then}
 use Rattle.client_scripts.proofs.DueCalls.{next_due}
 use Rattle.client_scripts.specs.ScriptRules.{grouped}
-use Rattle.call_lines.specs.declared.line.Line.{Line}
-use Rattle.call_lines.specs.Lines.{line_at, seen_in, seen_at}
+use Rattle.report_lines.specs.declared.line.Line.{Line}
+use Rattle.report_lines.specs.Lines.{line_at, seen_in, seen_at}
 use Rattle.reports.specs.declared.report.Own.{Own}
 use Rattle.reports.specs.Findings.{sizes}
 use Rattle.reports.specs.ReportLayout.{lines_in}

@@ -14,10 +14,10 @@ use Rattle.book_base.proofs.GrowthLemmas.{page_of-set_same}
 use Rattle.book_text.specs.CallLines.{with_line}
 use Rattle.book_text.proofs.Pages.{page_with}
 use Rattle.world_core.specs.Calls.{records_of}
-use Rattle.call_lines.specs.declared.line.LineEnd.{LineEnd}
-use Rattle.call_lines.specs.declared.line.LineEnd.TheVariants.{Pending, Unchecked, Delivered, Error}
-use Rattle.call_lines.specs.declared.line.Line.{Line}
-use Rattle.call_lines.specs.Lines.{reached_of, line_at, seen_in, seen_at}
+use Rattle.report_lines.specs.declared.line.LineEnd.{LineEnd}
+use Rattle.report_lines.specs.declared.line.LineEnd.TheVariants.{Pending, Unchecked, Delivered, Error}
+use Rattle.report_lines.specs.declared.line.Line.{Line}
+use Rattle.report_lines.specs.Lines.{reached_of, line_at, seen_in, seen_at}
 use Rattle.client_scripts.specs.ScriptRules.{grouped}
 use Rattle.report_text.specs.ReportRules.{part_page, book_so_far, IsPendingAt, IsSeenBefore}
 use Rattle.report_text.specs.Drafts.{StandBefore}

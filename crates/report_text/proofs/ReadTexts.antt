@@ -23,8 +23,8 @@ use Rattle.book_text.specs.CallLines.{calls_from, all_calls}
 use Rattle.book_text.specs.Grammar.{end_words}
 use Rattle.client_scripts.specs.Grammar.{by_number}
 use Rattle.client_scripts.specs.ScriptRules.{grouped}
-use Rattle.call_lines.specs.declared.line.Line.{Line}
-use Rattle.call_lines.specs.Lines.{made_of, book_of_lines, lines_at, line_at, seen_at, delivered_in}
+use Rattle.report_lines.specs.declared.line.Line.{Line}
+use Rattle.report_lines.specs.Lines.{made_of, book_of_lines, lines_at, line_at, seen_at, delivered_in}
 use Rattle.reports.specs.Findings.{Findings, sizes, IsReport}
 use Rattle.reports.specs.Grammar.{line_words, call_line, caller_lines, report_lines, IsWrittenText}
 use Rattle.report_text.specs.ReportRules.{book_so_far, EndsTooEarly, ReportDue, InHead, InLines, AtEnd, after_head, SaysLine, Fits, ReportPasses, report_rules, IsReportText}

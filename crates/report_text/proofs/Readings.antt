@@ -17,7 +17,7 @@ use Rattle.book_text.specs.BookRules.{whole_text}
 use Rattle.book_text.specs.Ending.{IsEnded, IsNoEnd}
 use Rattle.book_text.proofs.Lifts.{goes_within, fault_within}
 use Rattle.book_text.proofs.Endings.{goes_end, stops_end}
-use Rattle.call_lines.specs.declared.line.Line.{Line}
+use Rattle.report_lines.specs.declared.line.Line.{Line}
 use Rattle.client_scripts.specs.ScriptRules.{grouped}
 use Rattle.reports.specs.Findings.{Findings}
 use Rattle.report_text.specs.ReportRules.{InHead, InLines, AtEnd, after_head, ReportPasses, ReportFails, report_wanted, report_rules, IsReportText, IsNoReportText, IsFirstReportFault}

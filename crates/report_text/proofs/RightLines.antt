@@ -19,10 +19,10 @@ use Rattle.book_text.proofs.EntryTexts.{same_after, after_place, pairs_not_bad, 
 use Rattle.book_text.proofs.CallTexts.{pairs_once}
 use Rattle.client_scripts.proofs.SharpScripts.{small_has}
 use Rattle.client_scripts.specs.ScriptRules.{grouped}
-use Rattle.call_lines.specs.declared.line.LineEnd.{LineEnd}
-use Rattle.call_lines.specs.declared.line.LineEnd.TheVariants.{Pending, Unchecked, Delivered, Error}
-use Rattle.call_lines.specs.declared.line.Line.{Line}
-use Rattle.call_lines.specs.Lines.{seen_in}
+use Rattle.report_lines.specs.declared.line.LineEnd.{LineEnd}
+use Rattle.report_lines.specs.declared.line.LineEnd.TheVariants.{Pending, Unchecked, Delivered, Error}
+use Rattle.report_lines.specs.declared.line.Line.{Line}
+use Rattle.report_lines.specs.Lines.{seen_in}
 use Rattle.reports.specs.Grammar.{ending_words, line_words, seen_words}
 use Rattle.report_text.specs.ReportRules.{book_so_far, IsCut, IsAnswer, IsFormed, SaysLine, IsAfterView, BeginAsVerdict, EndsTooEarly}
 use Rattle.report_text.specs.Parts.{answer_in, MayTell, FitsCuts}

@@ -24,10 +24,10 @@ use Rattle.text_fields.proofs.HeadTexts.{plain, head_sharp}
 use Rattle.book_text.specs.CallLines.{place_words}
 use Rattle.book_text.proofs.SharpBooks.{solid_pairs}
 use Rattle.client_scripts.proofs.SharpScripts.{small_has}
-use Rattle.call_lines.specs.declared.line.LineEnd.{LineEnd}
-use Rattle.call_lines.specs.declared.line.LineEnd.TheVariants.{Pending, Unchecked, Delivered, Error}
-use Rattle.call_lines.specs.declared.line.Line.{Line}
-use Rattle.call_lines.specs.Lines.{reached_of}
+use Rattle.report_lines.specs.declared.line.LineEnd.{LineEnd}
+use Rattle.report_lines.specs.declared.line.LineEnd.TheVariants.{Pending, Unchecked, Delivered, Error}
+use Rattle.report_lines.specs.declared.line.Line.{Line}
+use Rattle.report_lines.specs.Lines.{reached_of}
 use Rattle.book_base.specs.Book.{Page}
 use Rattle.reports.specs.Grammar.{ending_words, seen_words}
 use Rattle.report_text.specs.ReportRules.{book_so_far, IsCut, IsAnswer, IsFormed, SaysLine, Fits, LineFails, ReportDue, InHead, InLines, AtEnd, after_head, ReportPasses, ReportFails, report_wanted, report_rules}

@@ -18,10 +18,10 @@ use Rattle.book_text.specs.CallLines.{with_line}
 use Rattle.book_base.proofs.GrowthLemmas.{IsValid-with_operation, IsValid-with_answer, IsValid-unanswered_book, records-with_operation, record_of-with_answer_cases, page_of-unanswered_book}
 use Rattle.seq_objects.specs.declared.kind.Kind.{Kind}
 use Rattle.world_core.specs.Calls.{Made, records_of, page_with}
-use Rattle.call_lines.specs.declared.line.LineEnd.{LineEnd}
-use Rattle.call_lines.specs.declared.line.LineEnd.TheVariants.{Pending, Unchecked, Delivered, Error}
-use Rattle.call_lines.specs.declared.line.Line.{Line}
-use Rattle.call_lines.specs.Lines.{made_of, book_of_lines, reached_of, line_at, seen_in, seen_at, delivered_in}
+use Rattle.report_lines.specs.declared.line.LineEnd.{LineEnd}
+use Rattle.report_lines.specs.declared.line.LineEnd.TheVariants.{Pending, Unchecked, Delivered, Error}
+use Rattle.report_lines.specs.declared.line.Line.{Line}
+use Rattle.report_lines.specs.Lines.{made_of, book_of_lines, reached_of, line_at, seen_in, seen_at, delivered_in}
 use Rattle.client_scripts.specs.ScriptRules.{grouped}
 use Rattle.reports.specs.Findings.{sizes}
 use Rattle.report_text.specs.ReportRules.{part_page, book_so_far, IsCut, IsAnswer, IsFormed, SaysLine, IsPendingAt, EndsTooEarly, Fits}

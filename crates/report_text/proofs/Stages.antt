@@ -10,7 +10,7 @@ use Rattle.text_fields.proofs.Sharp.{goes_then}
 use Rattle.book_text.specs.BookRules.{whole_text}
 use Rattle.book_text.specs.CallLines.{all_calls}
 use Rattle.book_text.specs.Ending.{IsEnded}
-use Rattle.call_lines.specs.declared.line.Line.{Line}
+use Rattle.report_lines.specs.declared.line.Line.{Line}
 use Rattle.client_scripts.specs.ScriptRules.{grouped}
 use Rattle.reports.specs.Findings.{sizes}
 use Rattle.report_text.specs.ReportRules.{InHead, InLines, AtEnd, report_rules, IsReportText}

@@ -25,7 +25,7 @@ use Rattle.book_text.specs.CallLines.{place_words, IsAfterOperation, IsAfterRepl
 use Rattle.book_text.proofs.EntryTexts.{after_place, pairs_not_words}
 use Rattle.book_text.proofs.EntryTexts as entry
 use Rattle.client_scripts.proofs.SharpScripts.{small_has}
-use Rattle.call_lines.specs.declared.line.Line.{Line}
+use Rattle.report_lines.specs.declared.line.Line.{Line}
 use Rattle.report_text.specs.ReportRules.{book_so_far, IsAfterView, BeginAsVerdict, LineFails}
 use Rattle.report_text.proofs.PairTexts.{AreSame, pairs_apart, pairs_good}
 

@@ -25,10 +25,10 @@ use Rattle.book_text.specs.Grammar.{end_words}
 use Rattle.book_text.proofs.WrittenTexts.{numbers_from_places}
 use Rattle.client_scripts.specs.Grammar.{by_number}
 use Rattle.client_scripts.specs.ScriptRules.{grouped}
-use Rattle.call_lines.specs.declared.line.LineEnd.{LineEnd}
-use Rattle.call_lines.specs.declared.line.LineEnd.TheVariants.{Pending, Unchecked, Delivered, Error}
-use Rattle.call_lines.specs.declared.line.Line.{Line}
-use Rattle.call_lines.specs.Lines.{book_of_lines, lines_at, line_at, reached_of, seen_in, seen_at, delivered_in}
+use Rattle.report_lines.specs.declared.line.LineEnd.{LineEnd}
+use Rattle.report_lines.specs.declared.line.LineEnd.TheVariants.{Pending, Unchecked, Delivered, Error}
+use Rattle.report_lines.specs.declared.line.Line.{Line}
+use Rattle.report_lines.specs.Lines.{book_of_lines, lines_at, line_at, reached_of, seen_in, seen_at, delivered_in}
 use Rattle.world_core.specs.Calls.{records_of}
 use Rattle.reports.specs.Findings.{Findings, sizes, IsReport}
 use Rattle.reports.specs.Grammar.{line_words, call_line, caller_lines, report_lines, IsWrittenText}

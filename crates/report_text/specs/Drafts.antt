@@ -2,9 +2,9 @@
 use Rattle.std.specs.Prelude.{◌≡◌, ◌⊎◌, ℕ, ◌+◌, ◌≤◌, List, length, take, sum, min, max, slice_index, slice_set}
 use Rattle.book_base.specs.declared.call.Call.{Call}
 use Rattle.book_base.specs.Cut.{Holds, IsWithin}
-use Rattle.call_lines.specs.declared.line.LineEnd.{LineEnd}
-use Rattle.call_lines.specs.declared.line.LineEnd.TheVariants.{Pending, Unchecked, Delivered, Error}
-use Rattle.call_lines.specs.declared.line.Line.{Line}
+use Rattle.report_lines.specs.declared.line.LineEnd.{LineEnd}
+use Rattle.report_lines.specs.declared.line.LineEnd.TheVariants.{Pending, Unchecked, Delivered, Error}
+use Rattle.report_lines.specs.declared.line.Line.{Line}
 use Rattle.client_scripts.specs.ScriptRules.{grouped}
 use Rattle.report_text.specs.declared.draft.Draft.{Draft}
 use Rattle.report_text.specs.ReportRules.{book_so_far, IsPendingAt, IsSeenBefore}

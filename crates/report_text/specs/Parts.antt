@@ -17,11 +17,11 @@ use Rattle.text_fields.specs.Lines.{Unread}
 use Rattle.text_fields.specs.Counts.{pair_words, HasBadPair, HasWordAfterPairs, NoPairFirst}
 use Rattle.text_fields.specs.Faults.{GoesTo, IsFirstTest, StopsFor}
 use Rattle.book_text.specs.CallLines.{place_words, calls_from, all_calls, LacksViewWord, view_test, with_line}
-use Rattle.call_lines.specs.declared.line.LineEnd.{LineEnd}
-use Rattle.call_lines.specs.declared.line.LineEnd.TheVariants.{Pending, Unchecked, Delivered, Error}
-use Rattle.call_lines.specs.declared.line.Line.{Line}
+use Rattle.report_lines.specs.declared.line.LineEnd.{LineEnd}
+use Rattle.report_lines.specs.declared.line.LineEnd.TheVariants.{Pending, Unchecked, Delivered, Error}
+use Rattle.report_lines.specs.declared.line.Line.{Line}
 use Rattle.std.specs.List.{flat_map}
-use Rattle.call_lines.specs.Lines.{seen_in}
+use Rattle.report_lines.specs.Lines.{seen_in}
 use Rattle.report_text.specs.declared.draft.Draft.{Draft}
 use Rattle.reports.specs.Grammar.{seen_words}
 use Rattle.report_text.specs.ReportRules.{book_so_far, IsCut, IsAnswer, BeginAsVerdict, IsWrongCut, IsSeenBefore, EndsTooEarly, LineFails, InLines, report_rules}

@@ -26,18 +26,18 @@ use Rattle.book_text.specs.CallLines.{place_words, all_calls, IsAfterOperation, 
 use Rattle.book_text.specs.Grammar.{end_words}
 use Rattle.book_text.specs.BookRules.{whole_text}
 use Rattle.world_core.specs.Calls.{records_of}
-use Rattle.call_lines.specs.declared.line.LineEnd.{LineEnd}
-use Rattle.call_lines.specs.declared.line.LineEnd.TheVariants.{Pending, Unchecked, Delivered, Error}
-use Rattle.call_lines.specs.declared.line.Line.{Line}
-use Rattle.call_lines.specs.Lines.{reached_of, line_at, seen_in, seen_at, delivered_in}
+use Rattle.report_lines.specs.declared.line.LineEnd.{LineEnd}
+use Rattle.report_lines.specs.declared.line.LineEnd.TheVariants.{Pending, Unchecked, Delivered, Error}
+use Rattle.report_lines.specs.declared.line.Line.{Line}
+use Rattle.report_lines.specs.Lines.{reached_of, line_at, seen_in, seen_at, delivered_in}
 use Rattle.client_scripts.specs.ScriptRules.{grouped, IsNamedCall}
 use Rattle.reports.specs.Findings.{Findings}
 use Rattle.reports.specs.Grammar.{line_words}
 
 -- ---- what the lines so far say
 
--- The page of a caller that has so many calls, of which these have their lines: the others have the
--- operation 0 and no answer.
+-- The page of a caller that has this many calls, of which these have their lines: the others have
+-- the operation 0 and no answer.
 abbrev pub part_page : ℕ → List Line → Page
 part_page count own = record {
   operations = map (λ line. line.op) own ++ replicate (count - length own) 0;

@@ -2,12 +2,12 @@
 
 ghost use Rattle.std.specs.Prelude.{◌≡◌, ◌↔◌, ◌<◌, length, is_some, IsTrue, IfSome, IfNone};
 ghost use Rattle.book_base.specs.Cut.{Holds, IsWithin};
-ghost use Rattle.call_lines.specs.Lines.{seen_in, delivered_in};
+ghost use Rattle.report_lines.specs.Lines.{seen_in, delivered_in};
 ghost use Rattle.report_text.specs.Drafts.{lowered, limits_with, AreSeenWith, AreJoined, FitsKept};
 ghost use Rattle.report_text.specs.Parts.{AlwaysFits, IsAlwaysMisfit};
 
 use book_base::{Book, Call, Cut, What};
-use call_lines::{Line, LineEnd};
+use report_lines::{Line, LineEnd};
 
 /// What the lines so far come to, as far as further lines are tried by it.
 #[derive(Drop)]
@@ -59,8 +59,8 @@ fn join(seen: &mut Cut, cut: &Cut)
     }
 }
 
-/// The first test that the line of this call fails beside the lines before it, but for those of
-/// its view. Its caller has so many calls.
+/// The first test that the line of this call fails beside the lines before it, but for those of its
+/// view. Its caller has this many calls.
 pub(crate) fn misfit(limits: &Cut, seen: &Cut, call: Call, count: u64, line: &Line) -> Option<What>
     requires caller { call.caller < length limits.now }
     requires wide { length seen.now ≡ length limits.now }

@@ -12,7 +12,7 @@ ghost use Rattle.report_text.specs.Parts.{SayAnswer, IsNoAnswer, IsPrefix, IsPre
 
 use book_base::{Book, Call, Cut, OpWord, ReadFault, Record, TextFault, What};
 use book_text::{refusal, take_operation, take_place, take_word};
-use call_lines::{Line, LineEnd};
+use report_lines::{Line, LineEnd};
 use seq_objects::{Kind, reply_from_word};
 use text_fields::{Words, read_pairs};
 

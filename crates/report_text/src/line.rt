@@ -9,7 +9,7 @@ ghost use Rattle.report_text.specs.Parts.{LineIsRead, LineIsStopped};
 use crate::draft::{Draft, misfit};
 use crate::fields::read_fields;
 use book_base::{Call, ReadFault, TextFault};
-use call_lines::Line;
+use report_lines::Line;
 use seq_objects::Kind;
 use text_fields::Lines;
 

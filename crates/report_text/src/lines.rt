@@ -11,7 +11,7 @@ ghost use Rattle.report_text.specs.Parts.{LinesAreRead, LinesAreStopped, AreAllR
 use crate::draft::Draft;
 use crate::line::read_line;
 use book_base::{Book, Call, Cut, ReadFault};
-use call_lines::Line;
+use report_lines::Line;
 use reports::Own;
 use seq_objects::Kind;
 use std::alloc::Global;

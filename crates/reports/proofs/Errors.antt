@@ -8,10 +8,10 @@ use Rattle.list_laws.proofs.Prefixes.{slice_get-take_within}
 use Rattle.std.proofs.lemmas.Option.{none-some}
 use Rattle.list_laws.proofs.Options.{none_from_is_some, and_then_some}
 use Rattle.book_base.specs.declared.call.Call.{Call}
-use Rattle.call_lines.specs.declared.line.LineEnd.{LineEnd}
-use Rattle.call_lines.specs.declared.line.LineEnd.TheVariants.{Pending, Unchecked, Delivered, Error}
-use Rattle.call_lines.specs.declared.line.Line.{Line}
-use Rattle.call_lines.specs.Lines.{lines_at, seen_in, seen_at, error_in, error_at, is_error, any_error}
+use Rattle.report_lines.specs.declared.line.LineEnd.{LineEnd}
+use Rattle.report_lines.specs.declared.line.LineEnd.TheVariants.{Pending, Unchecked, Delivered, Error}
+use Rattle.report_lines.specs.declared.line.Line.{Line}
+use Rattle.report_lines.specs.Lines.{lines_at, seen_in, seen_at, error_in, error_at, is_error, any_error}
 use Rattle.reports.specs.Findings.{IsReport, Findings, IsInBook, HasFirstError, HasFirstErrorIn}
 
 -- where none of some lines is an error, none of them saw a cut as one

@@ -11,10 +11,10 @@ use Rattle.book_base.proofs.GrowthLemmas.{within_announced, below_calls}
 use Rattle.book_text.specs.CallLines.{with_line}
 use Rattle.book_text.proofs.Pages.{page_to, page_of-middle, with_line-middle, length-operations_to, page_to-more, page_to-all}
 use Rattle.world_core.specs.Calls.{Made, records_of, page_with as page_of_calls}
-use Rattle.call_lines.specs.declared.line.LineEnd.{LineEnd}
-use Rattle.call_lines.specs.declared.line.LineEnd.TheVariants.{Pending, Unchecked, Delivered, Error}
-use Rattle.call_lines.specs.declared.line.Line.{Line}
-use Rattle.call_lines.specs.Lines.{reached_of, made_of, book_of_lines, lines_at, delivered_in}
+use Rattle.report_lines.specs.declared.line.LineEnd.{LineEnd}
+use Rattle.report_lines.specs.declared.line.LineEnd.TheVariants.{Pending, Unchecked, Delivered, Error}
+use Rattle.report_lines.specs.declared.line.Line.{Line}
+use Rattle.report_lines.specs.Lines.{reached_of, made_of, book_of_lines, lines_at, delivered_in}
 use Rattle.reports.specs.Findings.{sizes, Findings, IsReport}
 use Rattle.reports.specs.Filling.{answer_in, with_line_of, HaveRecords, AreOfABook, MayTake, filled_to}
 

@@ -8,8 +8,8 @@ use Rattle.book_base.specs.declared.call.Call.{Call}
 use Rattle.book_base.proofs.ViewLemmas.{same_call}
 use Rattle.book_base.specs.BookAt.{IsBookAt}
 use Rattle.book_laws.proofs.BookAt.{books_at_are_one}
-use Rattle.call_lines.specs.declared.line.Line.{Line}
-use Rattle.call_lines.specs.Lines.{lines_at, error_in, error_at, is_error, any_error, book_of_lines}
+use Rattle.report_lines.specs.declared.line.Line.{Line}
+use Rattle.report_lines.specs.Lines.{lines_at, error_in, error_at, is_error, any_error, book_of_lines}
 use Rattle.reports.specs.Findings.{StandsBefore, IsFirstError, HasFirstErrorIn}
 use Rattle.reports.specs.Errors.{SomeErrorIsFirst, FirstErrorsAreErrors, FirstErrorIsOne, WitnessIsOne}
 use Rattle.reports.proofs.Errors.{no_error_in, no_error_of, first_of_all}

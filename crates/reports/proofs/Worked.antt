@@ -4,9 +4,9 @@ use Rattle.std.proofs.lemmas.Option.{same_Some, none-some}
 use Rattle.book_base.specs.declared.call.Record.{Record}
 use Rattle.book_base.specs.Cut.{Holds, IsWithin, AreComparable}
 use Rattle.book_base.specs.Book.{answers_of, calls_of, record_of, IsValid}
-use Rattle.call_lines.specs.declared.line.Line.{Line}
-use Rattle.call_lines.specs.Lines.{book_of_lines, seen_at, lines_at, error_at, delivered_in}
-use Rattle.call_lines.specs.Cases.{call, first, second, third, worked_lines}
+use Rattle.report_lines.specs.declared.line.Line.{Line}
+use Rattle.report_lines.specs.Lines.{book_of_lines, seen_at, lines_at, error_at, delivered_in}
+use Rattle.report_lines.specs.Cases.{call, first, second, third, worked_lines}
 use Rattle.reports.specs.Findings.{AreSeen, IsReport, StandsBefore, IsFirstError}
 use Rattle.reports.specs.Cases.{worked}
 

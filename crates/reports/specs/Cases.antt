@@ -3,8 +3,8 @@
 use Rattle.std.specs.Prelude.{◌^◌, List, [], ◌∷◌}
 use Rattle.book_base.specs.Book.{Page}
 use Rattle.seq_objects.specs.declared.kind.Kind.TheVariants.{Queue}
-use Rattle.call_lines.specs.declared.line.Line.{Line}
-use Rattle.call_lines.specs.Cases.{answer, pending, unchecked, delivered, failed, first, second, page, worked_lines}
+use Rattle.report_lines.specs.declared.line.Line.{Line}
+use Rattle.report_lines.specs.Cases.{answer, pending, unchecked, delivered, failed, first, second, page, worked_lines}
 use Rattle.reports.specs.Findings.{Findings}
 
 -- What a queue's callers found.

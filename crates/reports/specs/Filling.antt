@@ -8,9 +8,9 @@ use Rattle.book_base.specs.Refusal.{MayAnswer}
 use Rattle.text_fields.specs.Counts.{AreAtMost}
 use Rattle.book_text.specs.CallLines.{with_line}
 use Rattle.world_core.specs.Calls.{records_of}
-use Rattle.call_lines.specs.declared.line.LineEnd.{LineEnd}
-use Rattle.call_lines.specs.declared.line.Line.{Line}
-use Rattle.call_lines.specs.Lines.{reached_of, book_of_lines, lines_at, line_at}
+use Rattle.report_lines.specs.declared.line.LineEnd.{LineEnd}
+use Rattle.report_lines.specs.declared.line.Line.{Line}
+use Rattle.report_lines.specs.Lines.{reached_of, book_of_lines, lines_at, line_at}
 use Rattle.reports.specs.Findings.{sizes}
 
 -- the record that the end of a line tells, where it tells one
@@ -40,7 +40,7 @@ pub record MayTake (book : List Page) (call : Call) (line : Line) : Type 0 where
   pub wide : (r : Record) → answer_in line.end ≡ Some r → length r.view ≡ length book
   pub may : (r : Record) → answer_in line.end ≡ Some r → MayAnswer book call.caller r.view
 
--- The book of all lines, of which those of the first so many callers are put in: each call of
--- another one has the operation word 0, and no answer.
+-- The book of all lines, of which those of this many first callers are put in: each call of another
+-- one has the operation word 0, and no answer.
 abbrev pub filled_to : ℕ → List (List Line) → List Page
 filled_to n lines = book_of_lines (take n lines) ++ unanswered_book (sizes (drop n lines))

@@ -10,8 +10,8 @@ use Rattle.book_base.specs.BookAt.{IsBookAt}
 use Rattle.seq_objects.specs.declared.kind.Kind.{Kind}
 use Rattle.text_fields.specs.declared.TheConstants.{TEXT_CALLERS, TEXT_CALLS}
 use Rattle.text_fields.specs.Counts.{AreAtMost}
-use Rattle.call_lines.specs.declared.line.Line.{Line}
-use Rattle.call_lines.specs.Lines.{book_of_lines, lines_at, line_at, delivered_in, error_in, seen_at, error_at, any_error}
+use Rattle.report_lines.specs.declared.line.Line.{Line}
+use Rattle.report_lines.specs.Lines.{book_of_lines, lines_at, line_at, delivered_in, error_in, seen_at, error_at, any_error}
 
 -- what a report says
 pub record Findings : Type 0 where

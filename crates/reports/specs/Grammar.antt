@@ -9,9 +9,9 @@ use Rattle.text_fields.specs.Counts.{pair_words}
 use Rattle.text_fields.specs.Head.{head_lines}
 use Rattle.book_text.specs.CallLines.{place_words, answer_words}
 use Rattle.book_text.specs.Grammar.{end_words}
-use Rattle.call_lines.specs.declared.line.LineEnd.{LineEnd}
-use Rattle.call_lines.specs.declared.line.LineEnd.TheVariants.{Pending, Unchecked, Delivered, Error}
-use Rattle.call_lines.specs.declared.line.Line.{Line}
+use Rattle.report_lines.specs.declared.line.LineEnd.{LineEnd}
+use Rattle.report_lines.specs.declared.line.LineEnd.TheVariants.{Pending, Unchecked, Delivered, Error}
+use Rattle.report_lines.specs.declared.line.Line.{Line}
 use Rattle.client_scripts.specs.Grammar.{by_number}
 use Rattle.reports.specs.Findings.{Findings, sizes, IsReport}
 

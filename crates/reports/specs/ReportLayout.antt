@@ -1,7 +1,7 @@
 -- How a report lies in memory.
 use Rattle.std.specs.Prelude.{List, map}
 use Rattle.seq_objects.specs.declared.kind.Kind.{Kind}
-use Rattle.call_lines.specs.declared.line.Line.{Line}
+use Rattle.report_lines.specs.declared.line.Line.{Line}
 use Rattle.reports.specs.declared.report.Own.{Own}
 use Rattle.reports.specs.Findings.{Findings}
 

@@ -1,7 +1,7 @@
 -- How many lines a report has, by their ends.
 use Rattle.std.specs.Prelude.{ℕ, Bool, List, sum_by, count_by, length, is_some}
-use Rattle.call_lines.specs.declared.line.Line.{Line}
-use Rattle.call_lines.specs.Lines.{delivered_in, is_error}
+use Rattle.report_lines.specs.declared.line.Line.{Line}
+use Rattle.report_lines.specs.Lines.{delivered_in, is_error}
 use Rattle.reports.specs.declared.counts.Counts.{Counts}
 
 -- the line is delivered

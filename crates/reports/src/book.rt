@@ -4,14 +4,14 @@ ghost use Rattle.std.specs.Prelude.{◌≡◌, ◌+◌, ◌<◌, ◌≤◌, leng
 ghost use Rattle.book_base.specs.declared.TheConstants.{MAX_CALLERS};
 ghost use Rattle.book_base.specs.Book.{IsCall, with_answer};
 ghost use Rattle.book_base.specs.Refusal.{MayAnswer};
-ghost use Rattle.call_lines.specs.Lines.{book_of_lines, lines_at};
+ghost use Rattle.report_lines.specs.Lines.{book_of_lines, lines_at};
 ghost use Rattle.reports.specs.Findings.{sizes, IsReport};
 ghost use Rattle.reports.specs.ReportLayout.{lines_in};
 ghost use Rattle.reports.specs.Filling.{answer_in, with_line_of, AreOfABook, MayTake, filled_to};
 
 use crate::report::{Own, Report};
 use book_base::{Book, BookFault, Call, Cut, NoMemory, Record};
-use call_lines::{Line, LineEnd};
+use report_lines::{Line, LineEnd};
 use std::alloc::Global;
 
 impl Report {

@@ -2,8 +2,8 @@
 
 ghost use Rattle.std.specs.Prelude.{◌≡◌, ◌∷◌, [], true, replicate, IfOk};
 ghost use Rattle.std.specs.List.{list_any};
-ghost use Rattle.call_lines.specs.Lines.{any_error};
-ghost use Rattle.call_lines.specs.Cases.{call, pending, worked_lines};
+ghost use Rattle.report_lines.specs.Lines.{any_error};
+ghost use Rattle.report_lines.specs.Cases.{call, pending, worked_lines};
 ghost use Rattle.reports.specs.Findings.{IsReport, IsFirstError, IsWitness};
 ghost use Rattle.reports.specs.ReportLayout.{lines_in};
 ghost use Rattle.reports.specs.Tally.{counts_of};
@@ -11,7 +11,7 @@ ghost use Rattle.reports.specs.Cases.{of_queue, worked, worked_witness, after_pe
 
 use crate::report::{Own, Report};
 use book_base::{Cut, NoMemory, Record};
-use call_lines::{Line, LineEnd};
+use report_lines::{Line, LineEnd};
 use seq_objects::Kind;
 use std::alloc::Global;
 

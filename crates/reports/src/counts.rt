@@ -1,11 +1,11 @@
 //! How many lines a report has, by their ends.
 
 ghost use Rattle.std.specs.Prelude.{◌≡◌, count_by};
-ghost use Rattle.call_lines.specs.Lines.{is_error};
+ghost use Rattle.report_lines.specs.Lines.{is_error};
 ghost use Rattle.reports.specs.Tally.{is_delivered, counts_of};
 
 use crate::report::Report;
-use call_lines::{Line, LineEnd};
+use report_lines::{Line, LineEnd};
 
 /// How many lines a report has.
 #[derive(Clone, Copy, Debug, PartialEq, Eq)]

@@ -1,11 +1,11 @@
 ghost use Rattle.std.specs.Prelude.{◌≡◌, ◌<◌, length, Some};
 ghost use Rattle.std.specs.List.{list_any};
-ghost use Rattle.call_lines.specs.Lines.{lines_at, line_at, any_error};
+ghost use Rattle.report_lines.specs.Lines.{lines_at, line_at, any_error};
 ghost use Rattle.reports.specs.Findings.{IsReport, HasLine};
 ghost use Rattle.reports.specs.ReportLayout.{lines_in, findings_in};
 
 use book_base::Call;
-use call_lines::{Line, LineEnd};
+use report_lines::{Line, LineEnd};
 use seq_objects::Kind;
 use std::marker::Model;
 

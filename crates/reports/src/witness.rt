@@ -1,12 +1,12 @@
 //! The witness of a report: the book that the first error saw.
 
 ghost use Rattle.std.specs.Prelude.{◌≡◌, false, IfOk, IfSome, IfNone};
-ghost use Rattle.call_lines.specs.Lines.{error_in, any_error};
+ghost use Rattle.report_lines.specs.Lines.{error_in, any_error};
 ghost use Rattle.reports.specs.Findings.{IsInBook, IsWitness, HasNoError, HasFirstError, HasFirstErrorIn};
 
 use crate::report::Report;
 use book_base::{Book, Cut, NoMemory};
-use call_lines::{Line, LineEnd};
+use report_lines::{Line, LineEnd};
 use std::alloc::Global;
 
 impl Report {

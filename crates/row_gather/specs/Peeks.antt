@@ -23,7 +23,7 @@ module _ {P : Type 0} where
     pub caller : IsCallerOf meaning r c
     pub unscanned : (local_with c).scan ≡ None
 
-  -- The caller d is c after peeks alone.
+  -- The caller d is the caller c after peeks alone.
   pub record PeeksAlone (meaning : P → ℕ → ℕ → Meaning) (r : Rows P) (c d : Caller P)
       (before after : ℕ) : Type 0 where
     pub still : IsStill meaning r c d

@@ -42,7 +42,8 @@ moved_else n v who i event ne =
     get_or-set_other v who i (Some (local_after n (the (has v who)) event)) None ne
 
 -- an event of a caller whose local is with the seat id
-record Stands (s : Shape) (n : ℕ) (t : State (Unit {0}) View) (r : Ruled s n t) (id : ℕ) (v : View)
+record IsWithSeat (s : Shape) (n : ℕ) (t : State (Unit {0}) View) (r : Ruled s n t)
+    (id : ℕ) (v : View)
     (who : ℕ) (l : Local) : Type 0 where
   at : get_elem? t.views id ≡ some v
   here : has v who ≡ Some l
@@ -51,7 +52,7 @@ record Stands (s : Shape) (n : ℕ) (t : State (Unit {0}) View) (r : Ruled s n t
   caller : who < s.callers
 
 module _ (s : Shape) (n : ℕ) (t : State (Unit {0}) View) (r : Ruled s n t) (id : ℕ) (v : View)
-    (who : ℕ) (l : Local) (event : Event) (h : Stands s n t r id v who l) where
+    (who : ℕ) (l : Local) (event : Event) (h : IsWithSeat s n t r id v who l) where
   abbrev step : Step
   step = record { who = who; event = event }
 
@@ -140,7 +141,7 @@ does s n slots id me who word l f event here m t r long at low =
     let x : ℕ = slice_index t.words word in
     let mine = r.held who id me.0 l at here in
     let allowed = m.allowed r.counted x low in
-    let stands : Stands s n t r id me.0 who l = record {
+    let stands : IsWithSeat s n t r id me.0 who l = record {
       at = at;
       here = here;
       mine = mine.0;

@@ -6,3 +6,6 @@ pub mod Benching
 pub mod Moving
 pub mod Making
 pub mod Working
+pub mod Staged
+pub mod Due
+pub mod StagedRows

@@ -119,7 +119,7 @@ module _ {P : Type 0} where
   StaysWith c d = (meaning : P → ℕ → ℕ → Meaning) (r : Rows P) → IsCallerOf meaning r c
       → IsCallerOf meaning r d
 
-  -- The caller d is c after a step: one of these rows, with the same number.
+  -- The caller d is the caller c after a step: one of these rows, with the same number.
   abbrev pub IsStill : (P → ℕ → ℕ → Meaning) → Rows P → Caller P → Caller P → Type 0
   IsStill meaning r c d = IsCallerOf meaning r d × (who_of d ≡ who_of c)
 

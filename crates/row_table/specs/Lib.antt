@@ -9,3 +9,4 @@ pub mod Worlds
 pub mod Found
 pub mod ObjectSteps
 pub mod Progress
+pub mod Staging

@@ -6,7 +6,7 @@ use Rattle.world_core.specs.Event.{Event, Begins_none, Begins_scan, Look, Peek, 
 
 -- What a caller has made and was told: its operations and counts, its replies, and its object
 -- steps.
-pub record Work : Type 0 where
+pub record CallWork : Type 0 where
   pub operations : List ℕ
   pub announced : ℕ
   pub published : ℕ
@@ -14,7 +14,7 @@ pub record Work : Type 0 where
   pub object_steps : List (List Object_step)
 
 -- What a caller with this local has made and was told.
-abbrev pub work_of : Local → Work
+abbrev pub work_of : Local → CallWork
 work_of l = record {
   operations = l.operations;
   announced = l.announced;

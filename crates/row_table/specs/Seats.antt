@@ -17,7 +17,7 @@ View = List (Option Local)
 abbrev pub has : View → ℕ → Option Local
 has v i = slice_index_or v i None
 
--- A local that is there. Instead of none stands the one at the start.
+-- The local that there is, and the local at the start where there is none.
 abbrev pub the : Option Local → Local
 the None = fresh
 the (Some l) = l

@@ -1,8 +1,9 @@
 //! The table of rows, on atomic words: each step of a caller is one event of the world, for every
-//! program.
+//! program; and whole rows, staged word by word and then counted.
 #![tactic(auto)]
 
 mod action;
+mod announcement;
 mod bench;
 mod caller;
 pub mod laws;
@@ -11,14 +12,18 @@ mod notes;
 mod object_steps;
 mod phase;
 mod plays;
+mod publication;
 mod row_steps;
 mod rows;
+mod staged_words;
 mod stance;
 mod steps;
 mod world;
 
+pub use announcement::announce_row;
 pub use bench::Bench;
 pub use caller::Caller;
+pub use publication::publish_row;
 pub use rows::Rows;
 pub use steps::Steps;
 pub use world::World;

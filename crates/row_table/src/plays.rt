@@ -44,7 +44,7 @@ impl<P: Program> TableRule<(), Holding, Key<P>> for Worlds<P> {
 
 /// In which world a step is made, whose event it is, and which, by the word found. A call at
 /// `Brand` picks it.
-pub trait Deed {
+pub trait StepEvent {
     ghost shape: { Shape };
 
     ghost who: { ℕ };
@@ -52,7 +52,7 @@ pub trait Deed {
     ghost event: { ℕ → Event };
 }
 
-impl Deed for Brand {
+impl StepEvent for Brand {
     ghost shape = { record { callers = 0; cap = 0; program = outside } };
 
     ghost who = { 0 };
@@ -65,7 +65,7 @@ pub struct Does<J> {
     deed: PhantomData<J>,
 }
 
-impl<J: Deed> Play<(), Holding> for Does<J> {
+impl<J: StepEvent> Play<(), Holding> for Does<J> {
     ghost then = { λ st me found after. Tells J.shape J.who J.event me found after };
 }
 
@@ -74,7 +74,7 @@ pub struct Writes<J> {
     deed: PhantomData<J>,
 }
 
-impl<J: Deed> Play<(), Holding> for Writes<J> {
+impl<J: StepEvent> Play<(), Holding> for Writes<J> {
     ghost then = { λ st me _ after. TellsOfSome J.shape J.who J.event me after };
 }
 
@@ -83,7 +83,7 @@ pub struct Learns<J> {
     deed: PhantomData<J>,
 }
 
-impl<J: Deed> Play<(), Holding> for Learns<J> {
+impl<J: StepEvent> Play<(), Holding> for Learns<J> {
     ghost then = { λ st me _ after. Shows J.shape me after };
 }
 
@@ -92,7 +92,7 @@ pub struct Leaves<J> {
     deed: PhantomData<J>,
 }
 
-impl<J: Deed> Split<Holding> for Leaves<J> {
+impl<J: StepEvent> Split<Holding> for Leaves<J> {
     ghost left = { λ v. slice_set v J.who None };
 
     ghost right = { λ v. only J.who (the (has v J.who)) };

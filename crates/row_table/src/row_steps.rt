@@ -37,7 +37,7 @@ impl<P: Program> Rows<P> {
         requires begins { MayBegin P.meaning self.now caller.old region j }
         // The caller is still one of these rows, with the same number.
         ensures caller { IsStill P.meaning self.now caller.old caller.new }
-        // The caller's local is the one before after one look, which found the answered count and
+        // The caller's local is its earlier one after one look, which found the answered count and
         // began what the caller meant it to.
         ensures event { HasDone self.now caller.old caller.new
             (event.Look region j result (opening_of caller.old)) }
@@ -81,7 +81,7 @@ impl<P: Program> Rows<P> {
             (event.knows_row self.now.callers (local_with caller.old) region j row) }
         // The caller is still one of these rows, with the same number.
         ensures caller { IsStill P.meaning self.now caller.old caller.new }
-        // The caller's local is the one before after one peek, which found the answered word at
+        // The caller's local is its earlier one after one peek, which found the answered word at
         // that place.
         ensures event { HasDone self.now caller.old caller.new
             (event.Peek region j row place result) }
@@ -107,7 +107,7 @@ impl<P: Program> Rows<P> {
         requires due { MayStage P.meaning self.now caller.old region place word }
         // The caller is still one of these rows, with the same number.
         ensures caller { IsStill P.meaning self.now caller.old caller.new }
-        // The caller's local is the one before after it staged this word at this place.
+        // The caller's local is its earlier one after this word was staged at this place.
         ensures event { HasDone self.now caller.old caller.new (event.Stage region place word) }
         // The caller's stance stays.
         ensures stance { stance_of caller.new ≡ stance_of caller.old }
@@ -129,7 +129,7 @@ impl<P: Program> Rows<P> {
             (event.is_row_staged self.now.callers (local_with caller.old) Region.N) }
         // The caller is still one of these rows, with the same number.
         ensures caller { IsStill P.meaning self.now caller.old caller.new }
-        // The caller's local is the one before after the announcement of its call.
+        // The caller's local is its earlier one after the announcement of its call.
         ensures event { HasDone self.now caller.old caller.new event.Announce }
         // The caller's stance stays.
         ensures stance { stance_of caller.new ≡ stance_of caller.old }
@@ -150,7 +150,7 @@ impl<P: Program> Rows<P> {
             (event.is_row_staged self.now.callers (local_with caller.old) Region.M) }
         // The caller is still one of these rows, with the same number.
         ensures caller { IsStill P.meaning self.now caller.old caller.new }
-        // The caller's local is the one before after the publication of its record.
+        // The caller's local is its earlier one after the publication of its record.
         ensures event { HasDone self.now caller.old caller.new event.Publish }
         // The caller's stance stays.
         ensures stance { stance_of caller.new ≡ stance_of caller.old }

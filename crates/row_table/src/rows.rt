@@ -13,7 +13,7 @@ use crate::bench::{Bench, Kept};
 use crate::caller::{Caller, CallerSeat};
 use crate::layout::{embedded_place, row_words};
 use crate::notes::Notes;
-use crate::plays::{Deed, Does, Holding, Key, Learns, Leaves, Returns, Worlds, Writes};
+use crate::plays::{Does, Holding, Key, Learns, Leaves, Returns, StepEvent, Worlds, Writes};
 use crate::stance::Stance;
 use crate::world::World;
 use atomic_table::{Closed, Seat, Table};
@@ -77,7 +77,12 @@ impl<P: Program> Rows<P> {
     ghost use Rattle.world_core.specs.Calls.{AreTogether};
 
     // A load that is this action of the caller of a seat.
-    pub(crate) fn load_as<J: Deed>(&self, seat: &mut CallerSeat, action: Action, word: usize) -> u64
+    pub(crate) fn load_as<J: StepEvent>(
+        &self,
+        seat: &mut CallerSeat,
+        action: Action,
+        word: usize,
+    ) -> u64
         requires seat { IsSeatOf P.meaning self.now seat.old }
         requires word { word < self.now.table.shared.table_id.words }
         requires deed { (J.shape ≡ shape_of P.meaning self.now) × (J.who ≡ seat.old.who)
@@ -92,7 +97,7 @@ impl<P: Program> Rows<P> {
     }
 
     // A store that is this action of the caller of a seat.
-    pub(crate) fn store_as<J: Deed>(
+    pub(crate) fn store_as<J: StepEvent>(
         &self,
         seat: &mut CallerSeat,
         action: Action,
@@ -115,7 +120,7 @@ impl<P: Program> Rows<P> {
     }
 
     // An addition that is this action of the caller of a seat.
-    pub(crate) fn add_as<J: Deed>(
+    pub(crate) fn add_as<J: StepEvent>(
         &self,
         seat: &mut CallerSeat,
         action: Action,
@@ -138,7 +143,7 @@ impl<P: Program> Rows<P> {
     }
 
     // A compare-exchange that is this action of the caller of a seat.
-    pub(crate) fn exchange_as<J: Deed>(
+    pub(crate) fn exchange_as<J: StepEvent>(
         &self,
         seat: &mut CallerSeat,
         action: Action,
@@ -162,7 +167,7 @@ impl<P: Program> Rows<P> {
     }
 
     // The locals on the bench are those of one reachable world.
-    fn learn_as<J: Deed>(&self, bench: &mut Bench<P>)
+    fn learn_as<J: StepEvent>(&self, bench: &mut Bench<P>)
         requires shape { J.shape ≡ shape_of P.meaning self.now }
         requires bench { bench.old.seat.table_id ≡ self.now.table.shared.table_id }
         ensures seat { (bench.new.seat.table_id ≡ bench.old.seat.table_id)
@@ -175,7 +180,7 @@ impl<P: Program> Rows<P> {
     }
 
     // The seat of a caller that leaves the bench.
-    fn leave_as<J: Deed>(&self, seat: &mut Seat<(), Holding>, who: u32) -> CallerSeat
+    fn leave_as<J: StepEvent>(&self, seat: &mut Seat<(), Holding>, who: u32) -> CallerSeat
         requires who { J.who ≡ who }
         requires seat { seat.old.table_id ≡ self.now.table.shared.table_id }
         requires here { has seat.old.me.0 who ≡ Some (the (has seat.old.me.0 who)) }

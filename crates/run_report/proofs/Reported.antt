@@ -8,9 +8,9 @@ use Rattle.world_core.specs.Shape.{Shape, Meaning}
 use Rattle.world_core.specs.Programs.{outside}
 use Rattle.world_core.specs.Calls.{AreTogether}
 use Rattle.text_fields.specs.declared.version.Version.TheVariants.{Second}
-use Rattle.call_lines.specs.declared.line.Line.{Line}
-use Rattle.call_lines.specs.Lines.{AreLinesOf}
-use Rattle.call_lines.specs.Lawful.{IsLawful}
+use Rattle.report_lines.specs.declared.line.Line.{Line}
+use Rattle.report_lines.specs.Lines.{AreLinesOf}
+use Rattle.report_lines.specs.Lawful.{IsLawful}
 use Rattle.report_laws.specs.Working.{HaveWorked}
 use Rattle.report_laws.proofs.Workers.{workers_leave_the_lines, workers_are_lawful}
 use Rattle.row_table.specs.declared.rows.Rows.{Rows}
@@ -18,11 +18,11 @@ use Rattle.row_table.specs.declared.bench.Bench.{Bench}
 use Rattle.row_table.specs.Callers.{shape_of, locals_on, IsBenchOf}
 use Rattle.row_table.proofs.Parting.{whole_is_together}
 use Rattle.client_scripts.specs.Plans.{Plan, IsPlan}
-use Rattle.call_phases.specs.Asking.{Fits, PassCount}
-use Rattle.call_phases.specs.Ends.{Sequential, SaysJudged}
-use Rattle.bench_clients.specs.Places.{AreInOrder}
-use Rattle.bench_clients.specs.Starts.{course_of}
-use Rattle.bench_clients.specs.Returns.{AreBack}
+use Rattle.client_calls.specs.Asking.{Fits, PassCount}
+use Rattle.client_calls.specs.Ends.{Sequential, SaysJudged}
+use Rattle.script_workers.specs.Places.{AreInOrder}
+use Rattle.script_workers.specs.Starts.{course_of}
+use Rattle.script_workers.specs.Returns.{AreBack}
 use Rattle.reports.specs.declared.report.Own.{Own}
 use Rattle.reports.specs.ReportLayout.{lines_in, findings_in}
 use Rattle.reports.specs.Findings.{Findings, IsReport}
@@ -63,37 +63,36 @@ module _ {P T : Type 0} (meaning : P → ℕ → ℕ → Meaning) (r : Rows P) (
   lawful = workers_are_lawful object.init object.next
       (shape_of meaning r) plan.operations allotments (locals_on b) lines together have
 
-  pub reported : (f : Findings) → f ≡ findings_in plan.kind items
-      → IsReportOf object.init object.next (shape_of meaning r) (locals_on b) plan allotments f
-  reported f same = subst (λ (h : Findings). IsReportOf object.init object.next (shape_of meaning r)
-      (locals_on b) plan allotments h) (sym same) (record {
-        kind = refl;
-        together = together;
-        lines = of;
-        made = λ i low. (have.worked i low).made;
-        asked = λ i low. keeps_asked meaning r fit count (course_of plan allotments object) b passes
-            lines i (back.back i (omega (arith, low, callers)));
-        lawful = lawful;
-      })
-
-  pub free_of : (f : Findings) → f ≡ findings_in plan.kind items → (i : ℕ)
-      → i < length plan.operations → IsFreeAgain b allotments f i
-  free_of f same i low =
-      subst (λ (h : Findings). IsFreeAgain b allotments h i) (sym same)
-      (free_again meaning r fit count (course_of plan allotments object) b passes lines plan.kind i
-      (back.back i low))
-
   pub fits : All (λ (own : Own). All (λ (line : Line). HasWord line.end) own.lines.items) items
       → IsReport (findings_in plan.kind items)
   fits words = is_report object.init object.next (shape_of meaning r) (locals_on b) plan allotments
       lines valid callers together of lawful (words_of_all items words)
 
-  pub told_of : (f : Findings) → f ≡ findings_in plan.kind items
-      → length passes ≡ length plan.operations → AreInOrder (IsCountedIn count allotments f) passes
-  told_of f same all i pass there =
-      subst (λ (h : Findings). IsCountedIn count allotments h i pass) (sym same)
-      (told_in meaning r fit count (course_of plan allotments object) b passes lines plan.kind i
-      pass there (back.back i (omega (arith, all, slice_get_within passes i pass there))))
+  -- what the findings that are made of these lines say
+  abbrev Say : Findings → Type 0
+  Say f = IsReportOf object.init object.next (shape_of meaning r) (locals_on b) plan allotments f
+      × ((i : ℕ) → i < length plan.operations → IsFreeAgain b allotments f i)
+      × AreInOrder (IsCountedIn count allotments f) passes
+
+  pub reported : (f : Findings) → f ≡ findings_in plan.kind items
+      → length passes ≡ length plan.operations → Say f
+  reported f same all =
+      let course = course_of plan allotments object in
+      subst Say (sym same) (
+        record {
+          kind = refl;
+          together = together;
+          lines = of;
+          made = λ i low. (have.worked i low).made;
+          asked = λ i low. keeps_asked meaning r fit count course b passes lines i
+              (back.back i (omega (arith, low, callers)));
+          lawful = lawful;
+        },
+        λ i low. free_again meaning r fit count course b passes lines plan.kind i
+            (back.back i low),
+        λ i pass there. told_in meaning r fit count course b passes lines plan.kind i pass there
+            (back.back i (omega (arith, all, slice_get_within passes i pass there))),
+      )
 
 -- the shape of the world of rows with the greatest cap
 pub outside_shapes : (callers cap n : ℕ) → callers ≡ n → cap ≡ 256

@@ -6,7 +6,7 @@ use Rattle.std.proofs.lemmas.List.Elements.{All-head, All-tail, recursion_from_A
 use Rattle.reports.specs.declared.report.Own.{Own}
 use Rattle.reports.specs.ReportLayout.{lines_in}
 use Rattle.std.proofs.lemmas.Bool.{cases_lt}
-use Rattle.std.proofs.lemmas.List.{length-map, length-take}
+use Rattle.std.proofs.lemmas.List.{length-map, length-take, get_or_past}
 use Rattle.std.proofs.lemmas.Option.{none-some, same_Some}
 use Rattle.book_base.specs.declared.call.Call.{Call}
 use Rattle.book_base.specs.declared.call.Record.{Record}
@@ -18,15 +18,15 @@ use Rattle.world_core.specs.Local.{Local}
 use Rattle.world_core.specs.Calls.{AreTogether}
 use Rattle.text_fields.specs.declared.version.Version.TheVariants.{Second}
 use Rattle.text_fields.specs.Counts.{AreAtMost}
-use Rattle.call_lines.specs.declared.line.Line.{Line}
-use Rattle.call_lines.specs.declared.line.LineEnd.{LineEnd}
-use Rattle.call_lines.specs.declared.line.LineEnd.TheVariants.{Pending, Unchecked, Delivered, Error}
-use Rattle.call_lines.specs.Lines.{made_of, lines_at, line_at, book_of_lines, delivered_in, AreLinesOf}
-use Rattle.call_lines.specs.Phases.{operations_of}
-use Rattle.call_lines.specs.Allotments.{operations_at}
-use Rattle.call_lines.specs.Lawful.{IsLawful}
+use Rattle.report_lines.specs.declared.line.Line.{Line}
+use Rattle.report_lines.specs.declared.line.LineEnd.{LineEnd}
+use Rattle.report_lines.specs.declared.line.LineEnd.TheVariants.{Pending, Unchecked, Delivered, Error}
+use Rattle.report_lines.specs.Lines.{made_of, lines_at, line_at, book_of_lines, delivered_in, AreLinesOf}
+use Rattle.report_lines.specs.Phases.{operations_of}
+use Rattle.report_lines.specs.Allotments.{operations_at}
+use Rattle.report_lines.specs.Lawful.{IsLawful}
 use Rattle.report_laws.proofs.Fitting.{seen_cuts_are_in_the_book, lines_before_the_last_are_delivered}
-use Rattle.bench_clients.proofs.Starts.{operations_within}
+use Rattle.script_workers.proofs.Starts.{operations_within}
 use Rattle.client_scripts.specs.Plans.{Plan, IsPlan}
 use Rattle.reports.specs.Findings.{IsReport, sizes}
 use Rattle.run_report.specs.Replies.{HasWord}
@@ -111,9 +111,7 @@ words_of_all (own ∷ lines) h =
 
 -- after the last caller there are no lines
 pub none_after : (lines : List (List Line)) (i : ℕ) → length lines ≤ i → lines_at lines i ≡ []
-none_after [] i high = refl
-none_after (own ∷ lines) zero high = absurd (omega (arith, high))
-none_after (own ∷ lines) (suc i) high = none_after lines i (omega (arith, high))
+none_after lines i high = get_or_past lines i [] high
 
 module _ (init : List ℕ) (next : List ℕ → ℕ → List ℕ × ℕ) (s : Shape) (locals : List Local)
     (plan : Plan) (allotments : List ℕ) (lines : List (List Line)) (valid : IsPlan Second plan)

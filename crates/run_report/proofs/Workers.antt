@@ -1,16 +1,16 @@
 -- What the callers leave that are back on their bench is what workers leave.
 use Rattle.std.proofs.Common.{◌≡◌, ◌∙◌, sym, subst, ap, refl, ℕ, zero, suc, ◌%◌, ◌<◌, false, List, [], ◌∷◌, Some, None, length, map, arith, slice_get, slice_index}
 use Rattle.std.specs.Prelude.{Option, Result, Ok, Err, slice_index_or, IfSome, IfOk}
-use Rattle.std.proofs.lemmas.Option.{none-some, same_Some, slice_get_within}
+use Rattle.std.proofs.lemmas.Option.{none-some, same_Some, slice_get_within, get_or_from_slice_get}
 use Rattle.seq_objects.specs.declared.kind.Kind.{Kind}
 use Rattle.world_core.specs.Shape.{Meaning}
 use Rattle.world_core.specs.Local.{Local, fresh}
 use Rattle.world_core.specs.Calls.{Made, calls_in, local_at}
-use Rattle.call_lines.specs.declared.line.Line.{Line}
-use Rattle.call_lines.specs.Lines.{made_of, lines_at, any_error}
-use Rattle.call_lines.specs.Phases.{IsTold, asked}
-use Rattle.call_lines.specs.Allotments.{operations_at, phases_of}
-use Rattle.call_lines.specs.Workers.{HasWorked}
+use Rattle.report_lines.specs.declared.line.Line.{Line}
+use Rattle.report_lines.specs.Lines.{made_of, lines_at, any_error}
+use Rattle.report_lines.specs.Phases.{IsTold, asked}
+use Rattle.report_lines.specs.Allotments.{operations_at, phases_of}
+use Rattle.report_lines.specs.Workers.{HasWorked}
 use Rattle.report_laws.specs.Working.{HaveWorked}
 use Rattle.row_table.specs.Seats.{View, has, the}
 use Rattle.row_table.specs.declared.rows.Rows.{Rows}
@@ -18,17 +18,17 @@ use Rattle.row_table.specs.declared.bench.Bench.{Bench}
 use Rattle.row_table.specs.declared.stance.Stance.{Stance}
 use Rattle.row_table.specs.Callers.{shape_of, locals_on, IsBenchOf, HoldsAll}
 use Rattle.reports.specs.Findings.{Findings}
-use Rattle.call_phases.specs.Asking.{Fits, PassCount, fits_own, own_count}
-use Rattle.call_phases.specs.Ends.{SaysJudged}
-use Rattle.call_phases.specs.Finishing.{KeepsAsked}
-use Rattle.call_phases.proofs.Told.{if_some_as}
-use Rattle.call_phases.proofs.Worked.{judging_clients_have_worked}
+use Rattle.client_calls.specs.Asking.{Fits, PassCount, fits_own, own_count}
+use Rattle.client_calls.specs.Ends.{SaysJudged}
+use Rattle.client_calls.specs.Finishing.{KeepsAsked}
+use Rattle.client_calls.proofs.Told.{if_some_as}
+use Rattle.client_calls.proofs.Worked.{judging_clients_have_worked}
 use Rattle.run_report.specs.Reporting.{IsFreeAgain, IsToldIn, IsCountIn, IsCountedIn}
-use Rattle.bench_clients.specs.Places.{AreInOrder}
-use Rattle.bench_clients.specs.Starts.{Course, MayBegin, AreFreshPasses}
+use Rattle.script_workers.specs.Places.{AreInOrder}
+use Rattle.script_workers.specs.Starts.{Course, MayBegin, AreFreshPasses}
 use Rattle.client_scripts.specs.Plans.{Plan}
 use Rattle.run_report.specs.Passes.{IsOwnPass, IsUnusedPass, AreUnusedPasses}
-use Rattle.bench_clients.specs.Returns.{IsCountOf, IsBack, AreBack, IsBackOn}
+use Rattle.script_workers.specs.Returns.{IsCountOf, IsBack, AreBack, IsBackOn}
 
 -- the local of a view at a caller that it has
 pub the_local : (v : View) (i : ℕ) (l : Local) → has v i ≡ Some l
@@ -40,9 +40,7 @@ the_local (x ∷ v) (suc i) l here = the_local v i l here
 -- the lines at a caller
 pub lines_here : (lines : List (List Line)) (i : ℕ) (own : List Line) → slice_get lines i ≡ Some own
     → lines_at lines i ≡ own
-lines_here [] i own here = absurd (none-some own here)
-lines_here (x ∷ lines) zero own here = same_Some x own here
-lines_here (x ∷ lines) (suc i) own here = lines_here lines i own here
+lines_here lines i own here = get_or_from_slice_get lines i own [] here
 
 module _ {P T : Type 0} (meaning : P → ℕ → ℕ → Meaning) (r : Rows P) (fit : Fits T)
     (count : T → Option PassCount) (course : Course) (b : Bench P) (passes : List T)
@@ -160,7 +158,7 @@ fresh_passes r is_own caller made cap told operations passes tells unused = reco
         fits_caller = (h.own, h.of);
         counts = record {
           none = h.none;
-          has_room = h.enough;
+          has_capacity = h.enough;
           silent = none_told (told pass) (λ pairs is. tells pass pairs h.own is ∙ h.none);
         };
       };

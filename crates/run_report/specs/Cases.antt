@@ -4,7 +4,7 @@ use Rattle.seq_objects.specs.declared.kind.Kind.TheVariants.{Queue}
 use Rattle.world_core.specs.World.{Step}
 use Rattle.world_core.specs.Schedules.{pair, silent}
 use Rattle.world_books.specs.Cases.{locals_after}
-use Rattle.call_lines.specs.Allotments.{allotments_of}
+use Rattle.report_lines.specs.Allotments.{allotments_of}
 use Rattle.client_scripts.specs.Plans.{Plan}
 use Rattle.report_laws.specs.Cases.{five_and_six, stopped}
 use Rattle.run_report.specs.Reporting.{IsReportOf}

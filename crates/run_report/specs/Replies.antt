@@ -1,7 +1,7 @@
 -- The replies of lines are words.
 use Rattle.std.specs.Prelude.{◌<◌, ◌^◌}
-use Rattle.call_lines.specs.declared.line.LineEnd.{LineEnd}
-use Rattle.call_lines.specs.declared.line.LineEnd.TheVariants.{Pending, Unchecked, Delivered, Error}
+use Rattle.report_lines.specs.declared.line.LineEnd.{LineEnd}
+use Rattle.report_lines.specs.declared.line.LineEnd.TheVariants.{Pending, Unchecked, Delivered, Error}
 
 -- The reply of a line, where its end has one, is a word of 64 bits.
 abbrev pub HasWord : LineEnd → Type 0

@@ -5,16 +5,16 @@ use Rattle.world_core.specs.Shape.{Shape}
 use Rattle.world_core.specs.Programs.{outside}
 use Rattle.world_core.specs.Local.{Local}
 use Rattle.world_core.specs.Calls.{AreTogether, local_at}
-use Rattle.call_lines.specs.Lines.{made_of, lines_at, any_error, AreLinesOf}
-use Rattle.call_lines.specs.Phases.{HasMade, IsTold, asked}
-use Rattle.call_lines.specs.Allotments.{operations_at, phases_of}
-use Rattle.call_lines.specs.Lawful.{IsLawful}
+use Rattle.report_lines.specs.Lines.{made_of, lines_at, any_error, AreLinesOf}
+use Rattle.report_lines.specs.Phases.{HasMade, IsTold, asked}
+use Rattle.report_lines.specs.Allotments.{operations_at, phases_of}
+use Rattle.report_lines.specs.Lawful.{IsLawful}
 use Rattle.row_table.specs.declared.bench.Bench.{Bench}
 use Rattle.row_table.specs.Benches.{fresh_stance}
 use Rattle.row_table.specs.Callers.{stance_on}
 use Rattle.client_scripts.specs.Plans.{Plan}
-use Rattle.call_phases.specs.Asking.{PassCount}
-use Rattle.call_phases.specs.Finishing.{KeepsAsked}
+use Rattle.client_calls.specs.Asking.{PassCount}
+use Rattle.client_calls.specs.Finishing.{KeepsAsked}
 use Rattle.reports.specs.Findings.{Findings}
 
 -- The shape of the world of n callers with the greatest cap, whose object is outside.

@@ -1,17 +1,17 @@
 ghost use Rattle.std.specs.Prelude.{◌≡◌, ℕ, ◌<◌, length, vec_len, IfOk};
 ghost use Rattle.row_table.specs.Callers.{shape_of, locals_on, IsBenchOf, HoldsAll};
-ghost use Rattle.bench_clients.specs.Places.{AreInOrder};
-ghost use Rattle.bench_clients.specs.Starts.{run_allotments, MayBegin, AreFreshPasses};
-ghost use Rattle.bench_clients.specs.Returns.{IsBackOn};
+ghost use Rattle.script_workers.specs.Places.{AreInOrder};
+ghost use Rattle.script_workers.specs.Starts.{run_allotments, MayBegin, AreFreshPasses};
+ghost use Rattle.script_workers.specs.Returns.{IsBackOn};
 ghost use Rattle.run_report.specs.Reporting.{IsReportOf, IsFreeAgain, IsCountedIn};
 
 use crate::report::report_of;
-use bench_clients::{end_all, run_workers, start_all};
 use book_base::{NoMemory, SeqObject};
-use call_phases::{Asks, Judging, Shared};
+use client_calls::{Asks, Judging, Shared};
 use client_scripts::Script;
 use reports::Report;
 use row_table::Bench;
+use script_workers::{Pace, end_all, run_workers, start_all};
 use std::alloc::Global;
 use std::thread::Threads;
 use world_core::Program;
@@ -81,6 +81,8 @@ pub fn run_asked<
     let ending = Judging { alloc, sequential };
     let (mut workers, lines) = start_all(alloc, shared, bench, passes, script, &ending)?;
     run_workers(rt, shared, &mut workers);
-    let lines = end_all(shared, script, &ending, workers, lines, bench, passes)?;
-    Ok(report_of(shared, bench, sequential, passes, script, lines))
+    let pace = Pace::Alone;
+    let lines = end_all(shared, script, &ending, pace, workers, lines, bench, passes)?;
+    let report = report_of(shared, bench, sequential, passes, script, pace, lines);
+    Ok(report)
 }

@@ -1,21 +1,21 @@
 ghost use Rattle.std.specs.Prelude.{◌≡◌, ℕ, ◌<◌, length, vec_len, IfOk};
 ghost use Rattle.row_table.specs.Callers.{shape_of, locals_on, IsBenchOf, HoldsAll};
-ghost use Rattle.call_phases.specs.Asking.{fits_own, own_count};
-ghost use Rattle.bench_clients.specs.Places.{AreInOrder};
-ghost use Rattle.bench_clients.specs.Starts.{replay_allotments, MayBegin};
-ghost use Rattle.bench_clients.specs.Returns.{IsBackOn};
+ghost use Rattle.client_calls.specs.Asking.{fits_own, own_count};
+ghost use Rattle.script_workers.specs.Places.{AreInOrder};
+ghost use Rattle.script_workers.specs.Starts.{replay_allotments, MayBegin};
+ghost use Rattle.script_workers.specs.Returns.{IsBackOn};
 ghost use Rattle.run_report.specs.Passes.{IsOwnPass, AreUnusedPasses};
 ghost use Rattle.run_report.specs.Reporting.{IsReportOf, IsFreeAgain, IsToldIn};
 
 use crate::passes::passes_are_fresh;
 use crate::report::report_of;
-use bench_clients::{end_all, start_all, take_turns};
 use book_base::{NoMemory, SeqObject};
-use call_phases::{Judging, OutsideObject, Shared};
+use client_calls::{Judging, OutsideObject, Shared};
 use client_scripts::Script;
 use drv_wrapper::BlackBox;
 use reports::Report;
 use row_table::{Bench, Rows};
+use script_workers::{Pace, end_all, start_all, take_turns};
 use std::alloc::Global;
 use std::marker::Brand;
 use std::sync::ledger::Blank;
@@ -85,7 +85,10 @@ pub fn replay_over<S: SeqObject, B: BlackBox>(
     let shared = Shared { rows, asks: &asks };
     let (mut workers, lines) = start_all(alloc, &shared, bench, passes, script, &ending)?;
     take_turns::<_, _, _, _, Brand>(&shared, script, &ending, &mut workers, Blank::new(1));
-    let lines = end_all(&shared, script, &ending, workers, lines, bench, passes)?;
-    let report = report_of(&shared, bench, sequential, passes, script, lines);
+    let pace = Pace::ByTurns;
+    let lines = end_all(
+        &shared, script, &ending, pace, workers, lines, bench, passes,
+    )?;
+    let report = report_of(&shared, bench, sequential, passes, script, pace, lines);
     Ok(report)
 }

@@ -1,20 +1,21 @@
-ghost use Rattle.std.specs.Prelude.{◌≡◌, ℕ, ◌<◌, ◌^◌, false, List, length, vec_len};
+ghost use Rattle.std.specs.Prelude.{◌≡◌, ℕ, ◌<◌, ◌^◌, false, length, vec_len};
 ghost use Rattle.std.specs.List.{All};
 ghost use Rattle.row_table.specs.Callers.{shape_of, locals_on, IsBenchOf};
-ghost use Rattle.call_phases.specs.Ends.{SaysJudged};
+ghost use Rattle.client_calls.specs.Ends.{SaysJudged};
 ghost use Rattle.reports.specs.ReportLayout.{lines_in};
-ghost use Rattle.bench_clients.specs.Places.{AreInOrder};
-ghost use Rattle.bench_clients.specs.Starts.{object_by, course_of};
-ghost use Rattle.bench_clients.specs.Returns.{AreBack};
+ghost use Rattle.script_workers.specs.Places.{AreInOrder};
+ghost use Rattle.script_workers.specs.Starts.{object_by, allotments_by, course_of};
+ghost use Rattle.script_workers.specs.Returns.{AreBack};
 ghost use Rattle.run_report.specs.Replies.{HasWord};
 ghost use Rattle.run_report.specs.Reporting.{IsReportOf, IsFreeAgain, IsCountedIn};
 
 use book_base::SeqObject;
-use call_lines::{Line, LineEnd};
-use call_phases::{Asks, Shared};
+use client_calls::{Asks, Shared};
 use client_scripts::Script;
+use report_lines::{Line, LineEnd};
 use reports::{Own, Report};
 use row_table::Bench;
+use script_workers::Pace;
 use world_core::Program;
 
 // A word is one of 64 bits.
@@ -55,16 +56,16 @@ fn read_replies(lines: &[Own])
 }
 
 /// The report of callers that are back on their bench with their passes, and left these lines, by
-/// the allotments that they had.
+/// the allotments that they had at this pace.
 pub(crate) fn report_of<P: Program, T, S: SeqObject, A: Asks<Program = P, Pass = T>>(
     _shared: &Shared<A, P>,
     _bench: &Bench<P>,
     _sequential: &S,
     _passes: &Vec<T>,
     script: &Script,
+    _pace: Pace,
     lines: Vec<Own>,
 ) -> Report
-    ghost allotments: { List ℕ }
     requires callers { _shared.now.rows.now.callers ≡ length script.now.operations }
     requires bench { IsBenchOf P.meaning _shared.now.rows.now _bench.now }
     requires all_passes { vec_len _passes.now ≡ length script.now.operations }
@@ -72,14 +73,16 @@ pub(crate) fn report_of<P: Program, T, S: SeqObject, A: Asks<Program = P, Pass =
     requires lines { AreBack P.meaning _shared.now.rows.now SaysJudged
         (A.fits _shared.now.asks.now) A.count
         (length script.now.operations) (length script.now.operations)
-        (course_of script.now allotments (object_by S.init S.next _sequential.now))
+        (course_of script.now (allotments_by _pace script.now)
+        (object_by S.init S.next _sequential.now))
         _bench.now _passes.now.items (lines_in lines.items) false }
     ensures report { IsReportOf (S.init _sequential.now) (S.next _sequential.now)
         (shape_of P.meaning _shared.now.rows.now)
-        (locals_on _bench.now) script.now allotments result }
+        (locals_on _bench.now) script.now (allotments_by _pace script.now) result }
     ensures free { (i : ℕ) → i < length script.now.operations
-        → IsFreeAgain _bench.now allotments result i }
-    ensures counted { AreInOrder (IsCountedIn A.count allotments result) _passes.now.items }
+        → IsFreeAgain _bench.now (allotments_by _pace script.now) result i }
+    ensures counted { AreInOrder (IsCountedIn A.count (allotments_by _pace script.now) result)
+        _passes.now.items }
 {
     let _callers = script.callers();
     read_replies(&lines);

@@ -1,16 +1,16 @@
 ghost use Rattle.std.specs.Prelude.{◌≡◌, ℕ, ◌<◌, length, vec_len, IfOk};
 ghost use Rattle.row_table.specs.Callers.{shape_of, locals_on, IsBenchOf, HoldsAll};
-ghost use Rattle.call_phases.specs.Asking.{fits_own, own_count};
-ghost use Rattle.bench_clients.specs.Places.{AreInOrder};
-ghost use Rattle.bench_clients.specs.Starts.{run_allotments, MayBegin};
-ghost use Rattle.bench_clients.specs.Returns.{IsBackOn};
+ghost use Rattle.client_calls.specs.Asking.{fits_own, own_count};
+ghost use Rattle.script_workers.specs.Places.{AreInOrder};
+ghost use Rattle.script_workers.specs.Starts.{run_allotments, MayBegin};
+ghost use Rattle.script_workers.specs.Returns.{IsBackOn};
 ghost use Rattle.run_report.specs.Passes.{IsOwnPass, AreUnusedPasses};
 ghost use Rattle.run_report.specs.Reporting.{IsReportOf, IsFreeAgain, IsToldIn};
 
 use crate::asked::run_asked;
 use crate::passes::passes_are_fresh;
 use book_base::{NoMemory, SeqObject};
-use call_phases::{OutsideObject, Shared};
+use client_calls::{OutsideObject, Shared};
 use client_scripts::Script;
 use drv_wrapper::BlackBox;
 use reports::Report;

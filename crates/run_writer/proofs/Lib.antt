@@ -1,3 +1,5 @@
+pub mod Deliveries
+pub mod CertificateLaws
 pub mod RunLemmas
 pub mod RunningLemmas
 pub mod Statuses

@@ -11,10 +11,10 @@ use Rattle.book_base.specs.BookAt.{IsBookAt}
 use Rattle.book_base.specs.Order.{IsLegalOrder}
 use Rattle.book_laws.proofs.BookAt.{books_at_are_one}
 use Rattle.book_text.specs.Grammar.{book_lines}
-use Rattle.call_lines.specs.declared.line.Line.{Line}
-use Rattle.call_lines.specs.Lines.{book_of_lines, lines_at, error_in, error_at, is_error, any_error}
+use Rattle.report_lines.specs.declared.line.Line.{Line}
+use Rattle.report_lines.specs.Lines.{book_of_lines, lines_at, error_in, error_at, is_error, any_error}
 use Rattle.reports.specs.Findings.{Findings, StandsBefore, IsFirstError, IsWitness}
-use Rattle.report_certificates.proofs.CertificateLaws.{certificates_are_read, certificates_have_one_book}
+use Rattle.run_writer.proofs.CertificateLaws.{certificates_are_read, certificates_have_one_book}
 use Rattle.seq_objects.specs.declared.kind.Kind.{Kind}
 use Rattle.seq_objects.specs.Objects.{kind_init, kind_next}
 use Rattle.text_fields.specs.declared.version.Version.TheVariants.{Second}
@@ -23,7 +23,7 @@ use Rattle.run_writer.specs.declared.form.Form.{Form}
 use Rattle.run_writer.specs.declared.form.Form.TheVariants.{Report, Counts, Certificate}
 use Rattle.byte_streams.specs.declared.status.Status.{Status}
 use Rattle.byte_streams.proofs.WritingLemmas.{EndsWriting-weaker}
-use Rattle.call_phases.specs.Ends.{Sequential}
+use Rattle.client_calls.specs.Ends.{Sequential}
 use Rattle.run_writer.specs.Runs.{IsWitnessText, IsRunOutput, RunEnds, object_of_kind, FormsWriteOneText, CertificatesAreLegal, CertificatesAreOfTheirKind, CertificatesTellOneBook}
 
 -- what is written of a report is written of a run with such a report, by an object that is the same

@@ -3,8 +3,8 @@ use Rattle.std.proofs.Common.{◌≡◌, ◌∙◌, refl, ap, subst, inr, ◌⊎
 use Rattle.std.specs.List.{list_any}
 use Rattle.world_core.specs.Shape.{Meaning, Shape}
 use Rattle.world_core.specs.Local.{Local}
-use Rattle.call_lines.specs.declared.line.Line.{Line}
-use Rattle.call_lines.specs.Lines.{any_error}
+use Rattle.report_lines.specs.declared.line.Line.{Line}
+use Rattle.report_lines.specs.Lines.{any_error}
 use Rattle.report_laws.proofs.Determined.{locals_determine_lines}
 use Rattle.seq_objects.specs.declared.kind.Kind.{Kind}
 use Rattle.seq_objects.specs.Objects.{kind_init, kind_next}
@@ -13,9 +13,9 @@ use Rattle.reports.specs.Findings.{Findings}
 use Rattle.row_table.specs.declared.rows.Rows.{Rows}
 use Rattle.row_table.specs.declared.bench.Bench.{Bench}
 use Rattle.row_table.specs.Callers.{shape_of, locals_on}
-use Rattle.call_phases.specs.Ends.{Sequential}
+use Rattle.client_calls.specs.Ends.{Sequential}
 use Rattle.run_report.specs.Reporting.{IsReportOf, IsFreeAgain}
-use Rattle.report_certificates.proofs.CertificateLaws.{lawful_reports_have_an_order}
+use Rattle.run_writer.proofs.CertificateLaws.{lawful_reports_have_an_order}
 use Rattle.run_writer.specs.declared.form.Form.{Form}
 use Rattle.run_writer.specs.declared.form.Form.TheVariants.{Report, Counts, Certificate}
 use Rattle.byte_streams.specs.declared.status.Status.{Status}

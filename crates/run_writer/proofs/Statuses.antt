@@ -6,8 +6,8 @@ use Rattle.std.proofs.lemmas.Bool.{cases_Bool}
 use Rattle.byte_streams.specs.declared.status.Status.{Status}
 use Rattle.byte_streams.specs.declared.status.Status.TheVariants.{Fine, Found}
 use Rattle.seq_objects.specs.declared.kind.Kind.TheVariants.{Queue}
-use Rattle.call_lines.specs.Cases.{pending}
-use Rattle.call_lines.specs.Lines.{any_error}
+use Rattle.report_lines.specs.Cases.{pending}
+use Rattle.report_lines.specs.Lines.{any_error}
 use Rattle.reports.specs.Findings.{Findings}
 use Rattle.reports.specs.Cases.{of_queue, worked}
 use Rattle.reports.specs.Tally.{counts_of}

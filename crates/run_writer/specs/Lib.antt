@@ -1,2 +1,4 @@
+pub mod Certificates
+pub mod CertificateLaws
 pub mod Running
 pub mod Runs

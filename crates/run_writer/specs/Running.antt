@@ -2,14 +2,14 @@
 use Rattle.std.specs.Prelude.{◌≡◌, ◌⊎◌, ℕ, ◌<◌, List, Option, true, false, length}
 use Rattle.std.specs.List.{list_any}
 use Rattle.world_core.specs.Shape.{Meaning}
-use Rattle.call_lines.specs.Lines.{any_error}
+use Rattle.report_lines.specs.Lines.{any_error}
 use Rattle.row_table.specs.declared.rows.Rows.{Rows}
 use Rattle.row_table.specs.declared.bench.Bench.{Bench}
 use Rattle.row_table.specs.Callers.{shape_of, locals_on}
 use Rattle.client_scripts.specs.Plans.{Plan}
 use Rattle.reports.specs.Findings.{Findings}
-use Rattle.bench_clients.specs.Places.{AreInOrder}
-use Rattle.call_phases.specs.Ends.{Sequential}
+use Rattle.script_workers.specs.Places.{AreInOrder}
+use Rattle.client_calls.specs.Ends.{Sequential}
 use Rattle.run_report.specs.Reporting.{IsReportOf, IsFreeAgain, IsToldIn}
 use Rattle.byte_streams.specs.declared.status.Status.{Status}
 use Rattle.byte_streams.specs.declared.status.Status.TheVariants.{Fine, Found, WriteFault, NoMemory}

@@ -5,17 +5,17 @@ use Rattle.book_base.specs.declared.call.Place.{Place}
 use Rattle.book_base.specs.Book.{Page}
 use Rattle.book_base.specs.Order.{IsLegalOrder}
 use Rattle.book_text.specs.Grammar as books
-use Rattle.call_lines.specs.Lines.{any_error}
+use Rattle.report_lines.specs.Lines.{any_error}
 use Rattle.seq_objects.specs.declared.kind.Kind.{Kind}
 use Rattle.seq_objects.specs.Objects.{kind_init, kind_next}
-use Rattle.call_phases.specs.Ends.{Sequential}
-use Rattle.bench_clients.specs.Starts.{object_by}
+use Rattle.client_calls.specs.Ends.{Sequential}
+use Rattle.script_workers.specs.Starts.{object_by}
 use Rattle.reports.specs.declared.counts.Counts.{Counts}
 use Rattle.reports.specs.Findings.{Findings, IsWitness}
 use Rattle.reports.specs.Grammar as reports
 use Rattle.reports.specs.Tally.{counts_of}
 use Rattle.certificate_text.specs.CertificateRules.{IsCertificateText}
-use Rattle.report_certificates.specs.Certificates.{HasDeliveredOrder, IsCertificate}
+use Rattle.run_writer.specs.Certificates.{HasDeliveredOrder, IsCertificate}
 use Rattle.text_fields.specs.declared.version.Version.TheVariants.{Second}
 use Rattle.run_writer.specs.declared.form.Form.{Form}
 use Rattle.run_writer.specs.declared.form.Form.TheVariants.{Report, Counts as Numbers, Certificate}

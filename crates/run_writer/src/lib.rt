@@ -1,12 +1,21 @@
 //! Whole runs and replays of a script over any object behind the trait, and what is written of
-//! them.
+//! them: the report, its counts, or its certificate, the book of what was delivered with a legal
+//! order of it.
 #![tactic(auto)]
 
+mod certificate;
+mod certificate_laws;
+mod delivered;
 mod form;
 mod laws;
 mod report_output;
 mod run;
 
+pub use certificate::report_certificate;
+pub use certificate_laws::{
+    certificates_tell_of_what_was_delivered, lawful_reports_have_certificates,
+};
+pub use delivered::{delivered_book, delivered_cut};
 pub use form::Form;
 pub use laws::{a_report_and_its_counts_have_one_text, certificates_are_legal_and_tell_one_book};
 pub use report_output::write_report;

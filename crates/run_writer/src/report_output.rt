@@ -2,16 +2,16 @@
 
 ghost use Rattle.std.specs.Prelude.{◌≡◌, ◌⊎◌, ◌≤◌, ◌++◌, ℕ, List, true, false, IfOk, OnOk};
 ghost use Rattle.std.specs.List.{list_any};
-ghost use Rattle.call_lines.specs.Lines.{any_error};
-ghost use Rattle.bench_clients.specs.Starts.{object_by};
+ghost use Rattle.report_lines.specs.Lines.{any_error};
+ghost use Rattle.script_workers.specs.Starts.{object_by};
 ghost use Rattle.byte_streams.specs.Fault.{LeavesSink};
 ghost use Rattle.run_writer.specs.Runs.{IsWitnessText, IsWritten, HasForm, IsRunOutput, RunEnds, counts_text, status_of};
 
+use crate::certificate::report_certificate;
 use crate::form::Form;
 use book_base::{NoMemory, SeqObject};
 use book_writer::write_book;
 use byte_streams::{Sink, Status, write_text};
-use report_certificates::report_certificate;
 use report_text::report_text;
 use reports::{Counts, Report};
 use seq_objects::put_number;

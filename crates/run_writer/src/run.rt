@@ -2,11 +2,11 @@
 
 ghost use Rattle.std.specs.Prelude.{◌≡◌, ◌⊎◌, ◌<◌, ℕ, None, length, vec_len};
 ghost use Rattle.row_table.specs.Callers.{IsBenchOf, HoldsAll};
-ghost use Rattle.call_phases.specs.Asking.{fits_own, own_count};
+ghost use Rattle.client_calls.specs.Asking.{fits_own, own_count};
 ghost use Rattle.core_objects.specs.CoreObjects.{AreOpenedWith, ArePassesFor};
-ghost use Rattle.bench_clients.specs.Places.{AreInOrder};
-ghost use Rattle.bench_clients.specs.Starts.{object_by, run_allotments, replay_allotments, MayBegin};
-ghost use Rattle.bench_clients.specs.Returns.{IsBackOn};
+ghost use Rattle.script_workers.specs.Places.{AreInOrder};
+ghost use Rattle.script_workers.specs.Starts.{object_by, run_allotments, replay_allotments, MayBegin};
+ghost use Rattle.script_workers.specs.Returns.{IsBackOn};
 ghost use Rattle.core_runs.specs.Inside.{fits_inside};
 ghost use Rattle.run_report.specs.Passes.{IsOwnPass, AreUnusedPasses};
 ghost use Rattle.run_report.specs.Reporting.{IsFreeAgain};

@@ -179,9 +179,10 @@ opening_of_script bytes plan told =
     (object_words plan.kind) (callers_words (length counts)) rest))
 
 -- so a script that leaves two callers isn't crowded
-pub roomy_script : (bytes : List ℕ) (plan : Plan) → IsScriptText Second bytes plan → LeavesTwo plan
+pub capacious_script : (bytes : List ℕ) (plan : Plan) → IsScriptText Second bytes plan
+    → LeavesTwo plan
     → IsCrowded bytes → ⊥
-roomy_script bytes plan told few crowded =
+capacious_script bytes plan told few crowded =
     omega (
       arith,
       few,
@@ -205,7 +206,7 @@ pub monitor_input_or_fault : (bytes : List ℕ) (fault : TextFault) → IsMonito
     → IsFirstMonitorFault bytes fault → ⊥
 unfolding IsMonitorInput IsFirstMonitorFault
 monitor_input_or_fault bytes fault told (inl crowded) =
-    roomy_script bytes told.0 told.1 told.2 crowded.0
+    capacious_script bytes told.0 told.1 told.2 crowded.0
 monitor_input_or_fault bytes fault told (inr other) =
     no_first_fault Second bytes told.0 fault told.1 other.1
 

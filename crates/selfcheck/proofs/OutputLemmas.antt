@@ -25,7 +25,7 @@ use Rattle.run_writer.specs.Runs.{counts_text, object_of_kind}
 use Rattle.named_runs.specs.BehaviourRuns.{IsNamedRunReport, IsNamedReplayReport}
 use Rattle.selfcheck.specs.ScriptInput.{soak_plan}
 use Rattle.text_fields.specs.Refusal.{refusal_text}
-use Rattle.selfcheck.specs.Output.{Form, BookForm, CertificateForm, OldForm, SetForm, ScriptForm, MonitorForm, NoForm, form_of, IsTextOf, IsFirstFaultOf, IsTaken, IsVerdict, IsSketchText, IsDrawn, IsJudgement, IsRewritten, IsSetVerdict, IsAnswerOf, IsRefusal, IsOutputOf, HasOneStatus, RunsInside, SoaksDeliverAll, IsDetermined, RefuseWhatIsNotTaken, IsOutput, ReadsFor, Reads, Ends, IsUnfinished, input_of}
+use Rattle.selfcheck.specs.Output.{InputForm, BookForm, CertificateForm, OldForm, SetForm, ScriptForm, MonitorForm, NoForm, form_of, IsTextOf, IsFirstFaultOf, IsTaken, IsVerdict, IsSketchText, IsDrawn, IsJudgement, IsRewritten, IsSetVerdict, IsAnswerOf, IsRefusal, IsOutputOf, HasOneStatus, RunsInside, SoaksDeliverAll, IsDetermined, RefuseWhatIsNotTaken, IsOutput, ReadsFor, Reads, Ends, IsUnfinished, input_of}
 use Rattle.selfcheck.specs.Orders.{order_fault_text}
 use Rattle.byte_streams.specs.Told.{AppendsPart}
 use Rattle.byte_streams.specs.Writing.{EndsWriting}
@@ -46,7 +46,7 @@ use Rattle.selfcheck.proofs.UpgradeLemmas.{old_or_fault, one_old_fault, old-from
 -- ---- forms of texts: one case a form
 
 -- a text of the form has no first fault
-text_or_fault : (form : Form) (bytes : List ℕ) (fault : TextFault) → IsTextOf form bytes
+text_or_fault : (form : InputForm) (bytes : List ℕ) (fault : TextFault) → IsTextOf form bytes
     → IsFirstFaultOf form bytes fault → ⊥
 text_or_fault BookForm bytes fault book first = book_or_fault bytes fault book first
 text_or_fault CertificateForm bytes fault certificate first =
@@ -58,7 +58,7 @@ text_or_fault MonitorForm bytes fault told first = monitor_input_or_fault bytes 
 text_or_fault NoForm bytes fault none first = first
 
 -- bytes have one first fault
-one_fault_of : (form : Form) (bytes : List ℕ) (a b : TextFault) → IsFirstFaultOf form bytes a
+one_fault_of : (form : InputForm) (bytes : List ℕ) (a b : TextFault) → IsFirstFaultOf form bytes a
     → IsFirstFaultOf form bytes b → a ≡ b
 one_fault_of BookForm bytes a b p q = one_first_fault Second bytes a b p q
 one_fault_of CertificateForm bytes a b p q = one_fault bytes a b p q

@@ -2,8 +2,8 @@
 use Rattle.std.proofs.Common.{◌≡◌, ◌∙◌, ap, ◌⊎◌, ℕ, Bool, true, false, List, inl, inr, if◌then◌else◌}
 use Rattle.std.specs.List.{list_any}
 use Rattle.book_base.specs.declared.fault.TextFault.{TextFault}
-use Rattle.call_lines.specs.Lines.{any_error}
-use Rattle.call_phases.specs.Ends.{Sequential}
+use Rattle.report_lines.specs.Lines.{any_error}
+use Rattle.client_calls.specs.Ends.{Sequential}
 use Rattle.client_scripts.specs.Plans.{Plan}
 use Rattle.client_scripts.specs.ScriptRules.{IsFirstScriptFault}
 use Rattle.client_scripts.proofs.Readings.{no_first_fault}

@@ -5,16 +5,16 @@ use Rattle.std.specs.Fmt.{digits}
 use Rattle.std.specs.List.{list_any, sum_by, count_by}
 use Rattle.std.proofs.lemmas.Bool.{or_parts, cond-false}
 use Rattle.std.proofs.lemmas.List.Sums.{sum_by-cons}
-use Rattle.call_lines.specs.declared.line.Line.{Line}
-use Rattle.call_lines.specs.declared.line.LineEnd.{LineEnd}
-use Rattle.call_lines.specs.declared.line.LineEnd.TheVariants.{Pending, Unchecked, Delivered, Error}
-use Rattle.call_lines.specs.Lines.{made_of, reached_of, lines_at, delivered_in, error_in, is_error, any_error}
-use Rattle.call_lines.specs.Phases.{mark_of, Seen, marks_of, marks_after}
-use Rattle.call_lines.specs.Allotments.{phases_of}
+use Rattle.report_lines.specs.declared.line.Line.{Line}
+use Rattle.report_lines.specs.declared.line.LineEnd.{LineEnd}
+use Rattle.report_lines.specs.declared.line.LineEnd.TheVariants.{Pending, Unchecked, Delivered, Error}
+use Rattle.report_lines.specs.Lines.{made_of, reached_of, lines_at, delivered_in, error_in, is_error, any_error}
+use Rattle.report_lines.specs.Phases.{mark_of, Seen, marks_of, marks_after}
+use Rattle.report_lines.specs.Allotments.{phases_of}
 use Rattle.reports.specs.Findings.{Findings}
 use Rattle.reports.specs.Tally.{is_delivered, counts_of}
 use Rattle.faulty_objects.specs.declared.behaviour.Behaviour.TheVariants.{Lawful}
-use Rattle.bench_clients.specs.Starts.{run_allotments}
+use Rattle.script_workers.specs.Starts.{run_allotments}
 use Rattle.run_writer.specs.Runs.{counts_text}
 use Rattle.run_writer.proofs.RunLemmas.{no_error_of}
 use Rattle.named_runs.specs.BehaviourRuns.{IsNamedRunReport}

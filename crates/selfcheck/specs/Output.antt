@@ -33,17 +33,17 @@ use Rattle.byte_streams.specs.Told.{HasRead, AppendsPart, read_of}
 use Rattle.selfcheck.specs.Upgrade.{IsOldInput, IsFirstOldFault, IsUpgraded}
 
 -- a form of texts that a command may want; one that reads no source wants none
-pub data Form : Type 0 where
-  BookForm : Form
-  CertificateForm : Form
-  OldForm : Form
-  SetForm : Form
-  ScriptForm : Form
-  MonitorForm : Form
-  NoForm : Form
+pub data InputForm : Type 0 where
+  BookForm : InputForm
+  CertificateForm : InputForm
+  OldForm : InputForm
+  SetForm : InputForm
+  ScriptForm : InputForm
+  MonitorForm : InputForm
+  NoForm : InputForm
 
 -- the form of text that a command wants
-abbrev pub form_of : Command → Form
+abbrev pub form_of : Command → InputForm
 form_of Verify = BookForm
 form_of Sketch = BookForm
 form_of Order = CertificateForm
@@ -56,7 +56,7 @@ form_of (Monitor behaviour) = MonitorForm
 form_of (Soak number) = NoForm
 
 -- the bytes are a text of this form
-abbrev pub IsTextOf : Form → List ℕ → Type 0
+abbrev pub IsTextOf : InputForm → List ℕ → Type 0
 IsTextOf BookForm bytes = IsTextOfBook bytes
 IsTextOf CertificateForm bytes = IsTextOfCertificate bytes
 IsTextOf OldForm bytes = IsOldInput bytes
@@ -66,7 +66,7 @@ IsTextOf MonitorForm bytes = IsMonitorInput bytes
 IsTextOf NoForm bytes = bytes ≡ []
 
 -- the first fault of bytes that are no text of this form
-abbrev pub IsFirstFaultOf : Form → List ℕ → TextFault → Type 0
+abbrev pub IsFirstFaultOf : InputForm → List ℕ → TextFault → Type 0
 IsFirstFaultOf BookForm bytes fault = IsFirstBookFault Second bytes fault
 IsFirstFaultOf CertificateForm bytes fault = IsFirstCertificateFault bytes fault
 IsFirstFaultOf OldForm bytes fault = IsFirstOldFault bytes fault

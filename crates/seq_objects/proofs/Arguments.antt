@@ -4,7 +4,7 @@ use Rattle.std.specs.List.{join_with_byte}
 use Rattle.std.proofs.lemmas.Bool.{and_from, eq-eqb}
 use Rattle.seq_objects.specs.declared.entry.Arity.{Arity}
 use Rattle.seq_objects.specs.declared.entry.Arity.TheVariants.{Nullary, Unary, Binary}
-use Rattle.seq_objects.specs.Words.{Entry, is_operation_of, code_of, argument_of, extra_of, word_of, has_arguments, argument_words, further}
+use Rattle.seq_objects.specs.Words.{OperationEntry, is_operation_of, code_of, argument_of, extra_of, word_of, has_arguments, argument_words, further}
 use Rattle.seq_objects.specs.EntryView.{text_of, spaced_arguments, IsWrittenWith}
 
 -- The parts of a word are those that it is made of.
@@ -16,7 +16,7 @@ word_of-parts code argument extra code_small argument_small =
     (omega arith, omega arith, omega arith)
 
 -- A word that has the code of an entry and the arguments of its arity is an operation of the entry.
-is_operation : (e : Entry) (argument extra : ℕ) → e.code < 2 ^ 32 → argument < 2 ^ 32
+is_operation : (e : OperationEntry) (argument extra : ℕ) → e.code < 2 ^ 32 → argument < 2 ^ 32
     → has_arguments e.arity (word_of e.code argument extra) ≡ true
     → is_operation_of (word_of e.code argument extra) e ≡ true
 is_operation e argument extra code_small argument_small has =
@@ -26,7 +26,8 @@ is_operation e argument extra code_small argument_small has =
     (eq-eqb (code_of (word_of e.code argument extra)) e.code parts.0) has
 
 -- What is read where an entry has no argument.
-pub IsWrittenWith-none : (e : Entry) (words : List (List ℕ)) → e.code < 2 ^ 32 → e.arity ≡ Nullary
+pub IsWrittenWith-none : (e : OperationEntry) (words : List (List ℕ)) → e.code < 2 ^ 32
+    → e.arity ≡ Nullary
     → IsWrittenWith e words (word_of e.code 0 0) 0
 IsWrittenWith-none e words small arity =
     let word : ℕ = word_of e.code 0 0 in
@@ -53,7 +54,8 @@ spaced name Unary word = refl
 spaced name Binary word = refl
 
 -- What is read where an entry has one argument.
-pub IsWrittenWith-one : (e : Entry) (second : List ℕ) (third : Option (List ℕ)) (argument : ℕ)
+pub IsWrittenWith-one : (e : OperationEntry) (second : List ℕ) (third : Option (List ℕ))
+    (argument : ℕ)
     → e.code < 2 ^ 32 → e.arity ≡ Unary → argument < 2 ^ 32 → decimal argument ≡ second
     → IsWrittenWith e (further (Some second) third) (word_of e.code argument 0) 1
 IsWrittenWith-one e second third argument small arity argument_small spelled =
@@ -71,6 +73,6 @@ IsWrittenWith-one e second third argument small arity argument_small spelled =
     }
 
 -- The text of an entry's word is its name, and each argument after a space.
-pub text_of-spaced : (e : Entry) (word : ℕ)
+pub text_of-spaced : (e : OperationEntry) (word : ℕ)
     → text_of e word ≡ e.name ++ spaced_arguments e.arity word
 text_of-spaced e word = spaced e.name e.arity word

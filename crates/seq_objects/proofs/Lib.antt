@@ -14,7 +14,6 @@ pub mod SetKeys
 pub mod MapKeys
 pub mod Narrowing
 pub mod Lengths
-pub mod CountOnce
 pub mod LeastFirst
 pub mod HoldsLast
 pub mod LastFirst

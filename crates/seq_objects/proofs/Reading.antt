@@ -8,7 +8,7 @@ use Rattle.std.proofs.lemmas.List.Elements.{Contains-get_or}
 use Rattle.std.proofs.lemmas.List.Sorted.{Contains-permutation, IsPermutation-reverse}
 use Rattle.list_laws.proofs.Options.{if_some}
 use Rattle.history_rules.specs.Container.{Puts, Takes, Neither, GivesFirst, IsQueue, IsStack}
-use Rattle.object_foresight.specs.Foreseen.{HoldsItsWords}
+use Rattle.container_pruning.specs.FoundRules.{HoldsItsWords}
 use Rattle.seq_objects.specs.declared.queue.QueueOperation.{QueueOperation}
 use Rattle.seq_objects.specs.declared.queue.QueueOperation.TheVariants.{Enqueue, Dequeue}
 use Rattle.seq_objects.specs.declared.stack.StackOperation.{StackOperation}

@@ -8,7 +8,7 @@ use Rattle.book_base.specs.OperationWord.{IsOperationWord}
 use Rattle.seq_objects.specs.declared.kind.Kind.{Kind}
 use Rattle.seq_objects.specs.declared.entry.Arity.{Arity}
 use Rattle.seq_objects.specs.declared.entry.Arity.TheVariants.{Nullary, Unary, Binary}
-use Rattle.seq_objects.specs.Words.{Entry, entries, entry_of, is_known_word, code_of, argument_of, extra_of, has_arguments, argument_words, words_by_entry, whole_digits, operation_words, operation_text, Spells}
+use Rattle.seq_objects.specs.Words.{OperationEntry, entries, entry_of, is_known_word, code_of, argument_of, extra_of, has_arguments, argument_words, words_by_entry, whole_digits, operation_words, operation_text, Spells}
 use Rattle.seq_objects.specs.EntryView.{entry_named, text_of, IsWrittenWith, LacksArguments}
 use Rattle.list_laws.proofs.Finds.{IsIn}
 use Rattle.list_laws.proofs.Options.{cases_Option, none_from_is_some}
@@ -16,7 +16,8 @@ use Rattle.seq_objects.proofs.Tables.{is_plain_name, is_plain_name-entry, marked
 use Rattle.seq_objects.proofs.WholeDigits.{whole_digits-once}
 
 -- The words of an operation of an entry.
-pub operation_words-known : (kind : Kind) (word : ℕ) (e : Entry) → entry_of kind word ≡ Some e
+pub operation_words-known : (kind : Kind) (word : ℕ) (e : OperationEntry)
+    → entry_of kind word ≡ Some e
     → operation_words kind word ≡ e.name ∷ argument_words e.arity word
 unfolding operation_words
 operation_words-known kind word e known = ap (λ o. words_by_entry o word) known
@@ -47,7 +48,7 @@ Spells-unknown kind first digits others word begins spelled unknown =
     }
 
 -- The name of an entry, and its arguments after it, spell a word of this entry.
-pub Spells-known : (kind : Kind) (first : List ℕ) (others : List (List ℕ)) (e : Entry)
+pub Spells-known : (kind : Kind) (first : List ℕ) (others : List (List ℕ)) (e : OperationEntry)
     (word used : ℕ)
     → entry_named kind first ≡ Some e → IsWrittenWith e others word used
     → Spells kind (first ∷ others) word used
@@ -64,11 +65,12 @@ Spells-known kind first others e word used named written =
 
 -- What the words say where the kind knows the operation.
 pub record IsNamed (first : List ℕ) (others : List (List ℕ)) (word used : ℕ)
-    (e : Entry) : Type 0 where
+    (e : OperationEntry) : Type 0 where
   pub name : e.name ≡ first
   pub written : IsWrittenWith e others word used
 
-Spells-entry : (kind : Kind) (first : List ℕ) (others : List (List ℕ)) (word used : ℕ) (e : Entry)
+Spells-entry : (kind : Kind) (first : List ℕ) (others : List (List ℕ)) (word used : ℕ)
+    (e : OperationEntry)
     → entry_of kind word ≡ Some e → Spells kind (first ∷ others) word used
     → IsNamed first others word used e
 Spells-entry kind first others word used e known spells =
@@ -99,7 +101,7 @@ Spells-marked kind first others word used unknown spells =
 pub Spells-cases : (kind : Kind) (first : List ℕ) (others : List (List ℕ)) (word used : ℕ)
     → Spells kind (first ∷ others) word used →
     ((first ≡ 35 ∷ whole_digits word) × (used ≡ 0) × (is_known_word kind word ≡ false))
-    ⊎ ((e : Entry) × IsIn e (entries kind) × IsNamed first others word used e)
+    ⊎ ((e : OperationEntry) × IsIn e (entries kind) × IsNamed first others word used e)
 unfolding is_known_word
 Spells-cases kind first others word used spells =
     elim (cases_Option (entry_of kind word)) [
@@ -111,7 +113,8 @@ Spells-cases kind first others word used spells =
     ]
 
 -- A name of an entry doesn't begin with '#'.
-named-marked : (kind : Kind) (first : List ℕ) (e : Entry) (rest : List ℕ) → IsIn e (entries kind)
+named-marked : (kind : Kind) (first : List ℕ) (e : OperationEntry) (rest : List ℕ)
+    → IsIn e (entries kind)
     → e.name ≡ first → first ≡ 35 ∷ rest → ⊥
 named-marked kind first e rest inside name begins =
     marked-name rest
@@ -145,7 +148,8 @@ not-Spells-unnamed kind first others unmarked none op used spells =
     ]
 
 -- The name of an entry spells nothing where its arguments don't follow.
-pub not-Spells-lacking : (kind : Kind) (first : List ℕ) (others : List (List ℕ)) (e : Entry)
+pub not-Spells-lacking : (kind : Kind) (first : List ℕ) (others : List (List ℕ))
+    (e : OperationEntry)
     → ((rest : List ℕ) → first ≢ 35 ∷ rest) → entry_named kind first ≡ Some e
     → LacksArguments e others → (op used : ℕ) → Spells kind (first ∷ others) op used → ⊥
 not-Spells-lacking kind first others e unmarked found lacks op used spells =
@@ -161,7 +165,8 @@ not-Spells-lacking kind first others e unmarked found lacks op used spells =
     ]
 
 -- The text of an operation of an entry.
-pub operation_text-known : (kind : Kind) (word : ℕ) (e : Entry) → entry_of kind word ≡ Some e
+pub operation_text-known : (kind : Kind) (word : ℕ) (e : OperationEntry)
+    → entry_of kind word ≡ Some e
     → operation_text kind word ≡ text_of e word
 unfolding operation_text
 operation_text-known kind word e known =
@@ -196,7 +201,7 @@ same_arguments Binary a b x y a_has b_has same =
     )
 
 -- Two words that are operations of one entry, and begin one list of words, are one.
-one_operation : (a b a_used b_used : ℕ) (e : Entry) (words : List (List ℕ))
+one_operation : (a b a_used b_used : ℕ) (e : OperationEntry) (words : List (List ℕ))
     → IsWrittenWith e words a a_used → IsWrittenWith e words b b_used → a ≡ b
 one_operation a b a_used b_used e words a_is b_is =
     let a_parts = and_parts (code_of a == e.code) (has_arguments e.arity a) a_is.operation in
@@ -232,7 +237,7 @@ Spells-once kind (first ∷ others) a b a_used b_used a_small b_small a_spells b
             let found : Some b_named.0 ≡ Some a_named.0 =
             sym (entry_named-name kind first b_named.0 b_named.1 b_named.2.name)
             ∙ entry_named-name kind first a_named.0 a_named.1 a_named.2.name in
-            let e : Entry = a_named.0 in
+            let e : OperationEntry = a_named.0 in
             let same : b_named.0 ≡ e = same_Some b_named.0 e found in
             let b_here : IsWrittenWith e others b b_used =
             subst (λ f. IsWrittenWith f others b b_used) same b_named.2.written in

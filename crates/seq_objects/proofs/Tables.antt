@@ -7,7 +7,7 @@ use Rattle.std.proofs.lemmas.Option.{none-some}
 use Rattle.std.proofs.lemmas.Slice.Eq.{bytes_eq-Decides}
 use Rattle.seq_objects.specs.declared.kind.Kind.{Kind}
 use Rattle.seq_objects.specs.declared.kind.Kind.TheVariants.{Queue, Stack, Register, Counter, IntSet, Pqueue, CasRegister, Map}
-use Rattle.seq_objects.specs.Words.{kind_name, all_kinds, Entry, entries, entry_of, is_operation_of, code_of, has_arguments}
+use Rattle.seq_objects.specs.Words.{kind_name, all_kinds, OperationEntry, entries, entry_of, is_operation_of, code_of, has_arguments}
 use Rattle.seq_objects.specs.EntryView.{entry_named}
 use Rattle.list_laws.proofs.Finds.{IsIn, find_inside, find_only, list_all-inside, are_distinct, are_distinct-inside}
 
@@ -24,14 +24,14 @@ is_plain_name (first ∷ rest) = not (first == 35) && list_all is_printed (first
 pub marked-name : (rest : List ℕ) → is_plain_name (35 ∷ rest) ≡ true → ⊥
 marked-name rest plain = cc
 
-abbrev same_code : Entry → Entry → Bool
+abbrev same_code : OperationEntry → OperationEntry → Bool
 same_code a b = a.code == b.code
 
-abbrev same_name : Entry → Entry → Bool
+abbrev same_name : OperationEntry → OperationEntry → Bool
 same_name a b = bytes_eq a.name b.name
 
 -- What each kind's table keeps.
-abbrev is_table : List Entry → Bool
+abbrev is_table : List OperationEntry → Bool
 is_table es =
     list_all (λ e. is_plain_name e.name) es
     && (are_distinct same_code es && are_distinct same_name es)
@@ -84,18 +84,19 @@ table_parts kind =
     (both.0, distinct.0, distinct.1)
 
 -- The name of an entry is a word that doesn't begin with '#'.
-pub is_plain_name-entry : (kind : Kind) (e : Entry) → IsIn e (entries kind)
+pub is_plain_name-entry : (kind : Kind) (e : OperationEntry) → IsIn e (entries kind)
     → is_plain_name e.name ≡ true
 is_plain_name-entry kind e inside =
     list_all-inside (λ f. is_plain_name f.name) (entries kind) e (table_parts kind).0 inside
 
-code-operation : (word : ℕ) (e : Entry) → is_operation_of word e ≡ true → code_of word ≡ e.code
+code-operation : (word : ℕ) (e : OperationEntry) → is_operation_of word e ≡ true
+    → code_of word ≡ e.code
 code-operation word e operation =
     eqb-true (code_of word) e.code
     (and_parts (code_of word == e.code) (has_arguments e.arity word) operation).0
 
 -- The entry of a word is the one that the word is an operation of.
-pub entry_of-operation : (kind : Kind) (word : ℕ) (e : Entry) → IsIn e (entries kind)
+pub entry_of-operation : (kind : Kind) (word : ℕ) (e : OperationEntry) → IsIn e (entries kind)
     → is_operation_of word e ≡ true → entry_of kind word ≡ Some e
 unfolding entry_of
 entry_of-operation kind word e inside operation =
@@ -105,13 +106,13 @@ entry_of-operation kind word e inside operation =
     (eq-eqb f.code e.code
     (sym (code-operation word f f_operation) ∙ code-operation word e operation)))
 
-pub entry_of-inside : (kind : Kind) (word : ℕ) (e : Entry) → entry_of kind word ≡ Some e
+pub entry_of-inside : (kind : Kind) (word : ℕ) (e : OperationEntry) → entry_of kind word ≡ Some e
     → IsIn e (entries kind) × (is_operation_of word e ≡ true)
 unfolding entry_of
 entry_of-inside kind word e found = find_inside (is_operation_of word) (entries kind) e found
 
 -- The entry with a name is the one of this name.
-pub entry_named-name : (kind : Kind) (name : List ℕ) (e : Entry) → IsIn e (entries kind)
+pub entry_named-name : (kind : Kind) (name : List ℕ) (e : OperationEntry) → IsIn e (entries kind)
     → e.name ≡ name → entry_named kind name ≡ Some e
 unfolding entry_named
 entry_named-name kind name e inside same =
@@ -122,7 +123,8 @@ entry_named-name kind name e inside same =
     (entries kind) f e (table_parts kind).2 f_in inside
     ((bytes_eq-Decides f.name e.name).1 ((bytes_eq-Decides f.name name).0 f_same ∙ sym same)))
 
-pub entry_named-inside : (kind : Kind) (name : List ℕ) (e : Entry) → entry_named kind name ≡ Some e
+pub entry_named-inside : (kind : Kind) (name : List ℕ) (e : OperationEntry)
+    → entry_named kind name ≡ Some e
     → IsIn e (entries kind) × (e.name ≡ name)
 unfolding entry_named
 entry_named-inside kind name e found =

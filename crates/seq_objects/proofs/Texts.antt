@@ -11,7 +11,7 @@ use Rattle.seq_objects.specs.declared.kind.Kind.{Kind}
 use Rattle.book_base.specs.OperationWord.{IsOperationWord, low_of, high_of}
 use Rattle.seq_objects.specs.declared.entry.Arity.{Arity}
 use Rattle.seq_objects.specs.declared.entry.Arity.TheVariants.{Nullary, Unary, Binary}
-use Rattle.seq_objects.specs.Words.{kind_name, all_kinds, Entry, entry_of, argument_of, extra_of, argument_words, whole_digits, operation_words, operation_text, Spells, IsPrinted, IsWord}
+use Rattle.seq_objects.specs.Words.{kind_name, all_kinds, OperationEntry, entry_of, argument_of, extra_of, argument_words, whole_digits, operation_words, operation_text, Spells, IsPrinted, IsWord}
 use Rattle.seq_objects.specs.Replies.{reply_word}
 use Rattle.seq_objects.proofs.ReplyTexts.{reply_word-cases, named-plain}
 use Rattle.list_laws.proofs.Options.{cases_Option}
@@ -87,7 +87,7 @@ operation_words-IsWord kind word small = elim (cases_Option (entry_of kind word)
       subst (λ ws. All IsWord ws) (sym (operation_words-unknown kind word none))
       (All-cons IsWord (35 ∷ whole_digits word) [] marked (All-nil IsWord))
   | inr known ↦
-      let e : Entry = known.0 in
+      let e : OperationEntry = known.0 in
       let name =
       IsWord-name e.name (is_plain_name-entry kind e (entry_of-inside kind word e known.1).0) in
       subst (λ ws. All IsWord ws) (sym (operation_words-known kind word e known.1)) (All-cons IsWord

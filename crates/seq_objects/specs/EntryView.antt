@@ -1,22 +1,22 @@
 -- An entry of a kind's table, as the definitions of words see it.
 use Rattle.std.specs.Prelude.{◌≡◌, ◌≢◌, ℕ, true, List, [], ◌∷◌, ◌++◌, length, find, Option, bytes_eq, decimal}
 use Rattle.std.specs.List.{join_with_byte}
-use Rattle.seq_objects.specs.declared.entry.Entry as code
+use Rattle.seq_objects.specs.declared.entry.OperationEntry as code
 use Rattle.seq_objects.specs.declared.kind.Kind.{Kind}
 use Rattle.seq_objects.specs.declared.entry.Arity.{Arity}
 use Rattle.seq_objects.specs.declared.entry.Arity.TheVariants.{Nullary, Unary, Binary}
-use Rattle.seq_objects.specs.Words.{Entry, entries, is_operation_of, argument_of, extra_of, argument_words}
+use Rattle.seq_objects.specs.Words.{OperationEntry, entries, is_operation_of, argument_of, extra_of, argument_words}
 
 -- An entry without where its name lies in memory.
-abbrev pub shown : code.Entry → Entry
+abbrev pub shown : code.OperationEntry → OperationEntry
 shown entry = record { name = entry.name.now; code = entry.code; arity = entry.arity }
 
 -- The entry with this name in a kind's table.
-unfoldable pub entry_named : Kind → List ℕ → Option Entry
+unfoldable pub entry_named : Kind → List ℕ → Option OperationEntry
 entry_named kind name = find (λ entry. bytes_eq entry.name name) (entries kind)
 
 -- The text of a word of an entry.
-abbrev pub text_of : Entry → ℕ → List ℕ
+abbrev pub text_of : OperationEntry → ℕ → List ℕ
 text_of entry word = join_with_byte 32 (entry.name ∷ argument_words entry.arity word)
 
 -- The arguments of a word, each after a space.
@@ -26,13 +26,14 @@ spaced_arguments Unary word = 32 ∷ decimal (argument_of word)
 spaced_arguments Binary word = (32 ∷ decimal (argument_of word)) ++ 32 ∷ decimal (extra_of word)
 
 -- Words begin with the arguments of a word of an entry, which are this many.
-pub record IsWrittenWith (entry : Entry) (words : List (List ℕ)) (word used : ℕ) : Type 0 where
+pub record IsWrittenWith (entry : OperationEntry) (words : List (List ℕ))
+    (word used : ℕ) : Type 0 where
   pub operation : is_operation_of word entry ≡ true
   pub suffix : List (List ℕ)
   pub whole : words ≡ argument_words entry.arity word ++ suffix
   pub count : length (argument_words entry.arity word) ≡ used
 
 -- Words don't begin with the arguments of a word of an entry.
-pub record LacksArguments (entry : Entry) (words : List (List ℕ)) : Type 0 where
+pub record LacksArguments (entry : OperationEntry) (words : List (List ℕ)) : Type 0 where
   pub lacking : (word : ℕ) (suffix : List (List ℕ)) → is_operation_of word entry ≡ true
       → words ≢ argument_words entry.arity word ++ suffix

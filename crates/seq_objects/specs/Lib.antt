@@ -16,7 +16,6 @@ pub mod WorkedSteps
 pub mod MapLaws
 pub mod Readings
 pub mod Keys
-pub mod Counts
 pub mod PqueueReading
 pub mod RegisterReading
 pub mod Seen

@@ -1,13 +1,13 @@
 -- How a priority queue is read: as puts and takes of values.
 use Rattle.std.specs.Prelude.{map, Option, Some, None}
-use Rattle.history_rules.specs.Container.{Deed, Puts, Takes, Neither, Reading}
+use Rattle.history_rules.specs.Container.{Effect, Puts, Takes, Neither, Reading}
 use Rattle.seq_objects.specs.declared.pqueue.PqueueOperation.{PqueueOperation}
 use Rattle.seq_objects.specs.declared.pqueue.PqueueOperation.TheVariants.{Insert, Min}
 use Rattle.seq_objects.specs.PqueueSteps.{pqueue_operation}
 use Rattle.seq_objects.specs.Readings.{value_of, shown_value}
 
 -- an insert puts in, a min takes
-abbrev pub pqueue_deed : Option PqueueOperation → Deed
+abbrev pub pqueue_deed : Option PqueueOperation → Effect
 pqueue_deed (Some (Insert value)) = Puts value
 pqueue_deed (Some Min) = Takes
 pqueue_deed None = Neither

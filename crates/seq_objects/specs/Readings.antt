@@ -1,7 +1,7 @@
 -- How queues and stacks are read: as puts and takes of values. A word of a list is the value that
 -- its low 32 bits are, which is what a reply shows of it.
 use Rattle.std.specs.Prelude.{ℕ, ◌%◌, ◌^◌, map, reverse, Option, Some, None, if◌then◌else◌}
-use Rattle.history_rules.specs.Container.{Deed, Puts, Takes, Neither, Reading}
+use Rattle.history_rules.specs.Container.{Effect, Puts, Takes, Neither, Reading}
 use Rattle.seq_objects.specs.declared.queue.QueueOperation.{QueueOperation}
 use Rattle.seq_objects.specs.declared.queue.QueueOperation.TheVariants.{Enqueue, Dequeue}
 use Rattle.seq_objects.specs.declared.stack.StackOperation.{StackOperation}
@@ -19,7 +19,7 @@ abbrev pub shown_value : ℕ → Option ℕ
 shown_value reply = if is_value reply then Some (value_of reply) else None
 
 -- an enqueue puts in, a dequeue takes
-abbrev pub queue_deed : Option QueueOperation → Deed
+abbrev pub queue_deed : Option QueueOperation → Effect
 queue_deed (Some (Enqueue value)) = Puts value
 queue_deed (Some Dequeue) = Takes
 queue_deed None = Neither
@@ -33,7 +33,7 @@ queue_reading = record {
 }
 
 -- a push puts in, a pop takes
-abbrev pub stack_deed : Option StackOperation → Deed
+abbrev pub stack_deed : Option StackOperation → Effect
 stack_deed (Some (Push value)) = Puts value
 stack_deed (Some Pop) = Takes
 stack_deed None = Neither

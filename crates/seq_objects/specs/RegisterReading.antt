@@ -1,6 +1,6 @@
 -- How a register is read: as puts and takes of the value that it holds. A take leaves the value.
 use Rattle.std.specs.Prelude.{ℕ, List, map, Option, Some, None}
-use Rattle.history_rules.specs.Container.{Deed, Puts, Takes, Neither, Reading}
+use Rattle.history_rules.specs.Container.{Effect, Puts, Takes, Neither, Reading}
 use Rattle.seq_objects.specs.declared.register.RegisterOperation.{RegisterOperation}
 use Rattle.seq_objects.specs.declared.register.RegisterOperation.TheVariants.{Write, Read}
 use Rattle.seq_objects.specs.Items.{first_or_zero}
@@ -12,7 +12,7 @@ abbrev pub held_in : List ℕ → ℕ
 held_in list = value_of (first_or_zero list)
 
 -- a write puts in, a read takes
-abbrev pub register_deed : Option RegisterOperation → Deed
+abbrev pub register_deed : Option RegisterOperation → Effect
 register_deed (Some (Write value)) = Puts value
 register_deed (Some Read) = Takes
 register_deed None = Neither

@@ -35,89 +35,89 @@ is_first_kind Map = false
 
 -- An entry of a kind's table: the name of an operation, its code, and how many numbers follow the
 -- name.
-pub record Entry : Type 0 where
+pub record OperationEntry : Type 0 where
   pub name : List ℕ
   pub code : ℕ
   pub arity : Arity
 
 -- The entry of an operation that one number follows.
-abbrev pub with_argument : List ℕ → ℕ → Entry
+abbrev pub with_argument : List ℕ → ℕ → OperationEntry
 with_argument name code = record { name = name; code = code; arity = Unary }
 
 -- The entry of an operation that two numbers follow.
-abbrev pub with_extra : List ℕ → ℕ → Entry
+abbrev pub with_extra : List ℕ → ℕ → OperationEntry
 with_extra name code = record { name = name; code = code; arity = Binary }
 
 -- The entry of an operation that is its name alone.
-abbrev pub name_alone : List ℕ → ℕ → Entry
+abbrev pub name_alone : List ℕ → ℕ → OperationEntry
 name_alone name code = record { name = name; code = code; arity = Nullary }
 
 -- The entry of a queue's put.
-abbrev pub enq : Entry
+abbrev pub enq : OperationEntry
 enq = with_argument (codes "enq") 1
 
 -- The entry of a queue's take.
-abbrev pub deq : Entry
+abbrev pub deq : OperationEntry
 deq = name_alone (codes "deq") 2
 
 -- The entry of a stack's put.
-abbrev pub push : Entry
+abbrev pub push : OperationEntry
 push = with_argument (codes "push") 1
 
 -- The entry of a stack's take.
-abbrev pub pop : Entry
+abbrev pub pop : OperationEntry
 pop = name_alone (codes "pop") 2
 
 -- The entry of a register's write.
-abbrev pub write : Entry
+abbrev pub write : OperationEntry
 write = with_argument (codes "write") 1
 
 -- The entry of a register's read.
-abbrev pub read : Entry
+abbrev pub read : OperationEntry
 read = name_alone (codes "read") 2
 
 -- The entry of a counter's increment.
-abbrev pub inc : Entry
+abbrev pub inc : OperationEntry
 inc = name_alone (codes "inc") 1
 
 -- The entry of a set's insertion.
-abbrev pub add : Entry
+abbrev pub add : OperationEntry
 add = with_argument (codes "add") 1
 
 -- The entry of a set's removal.
-abbrev pub remove : Entry
+abbrev pub remove : OperationEntry
 remove = with_argument (codes "remove") 2
 
 -- The entry of a set's look for a value.
-abbrev pub has : Entry
+abbrev pub has : OperationEntry
 has = with_argument (codes "has") 3
 
 -- The entry of a priority queue's insertion.
-abbrev pub insert : Entry
+abbrev pub insert : OperationEntry
 insert = with_argument (codes "insert") 1
 
 -- The entry of a priority queue's take.
-abbrev pub min : Entry
+abbrev pub min : OperationEntry
 min = name_alone (codes "min") 2
 
 -- The entry of a register's compare-and-set.
-abbrev pub cas : Entry
+abbrev pub cas : OperationEntry
 cas = with_extra (codes "cas") 3
 
 -- The entry of a map's put.
-abbrev pub put : Entry
+abbrev pub put : OperationEntry
 put = with_extra (codes "put") 1
 
 -- The entry of a map's get.
-abbrev pub get : Entry
+abbrev pub get : OperationEntry
 get = with_argument (codes "get") 2
 
 -- The entry of a map's delete.
-abbrev pub del : Entry
+abbrev pub del : OperationEntry
 del = with_argument (codes "del") 3
 
 -- The table of operations: the entries that a kind knows.
-unfoldable pub entries : Kind → List Entry
+unfoldable pub entries : Kind → List OperationEntry
 entries Queue = enq ∷ deq ∷ []
 entries Stack = push ∷ pop ∷ []
 entries Register = write ∷ read ∷ []
@@ -151,11 +151,11 @@ has_arguments Unary word = extra_of word == 0
 has_arguments Binary word = nat_lt (extra_of word) (2 ^ 32)
 
 -- Whether a word is an operation of this entry: it has the entry's code, and the entry's arguments.
-abbrev pub is_operation_of : ℕ → Entry → Bool
+abbrev pub is_operation_of : ℕ → OperationEntry → Bool
 is_operation_of word entry = (code_of word == entry.code) && has_arguments entry.arity word
 
 -- The entry of a word, where the kind knows the word.
-unfoldable pub entry_of : Kind → ℕ → Option Entry
+unfoldable pub entry_of : Kind → ℕ → Option OperationEntry
 entry_of kind word = find (is_operation_of word) (entries kind)
 
 -- Whether a kind knows a word: the word is an operation of an entry of the kind's table.
@@ -177,7 +177,7 @@ whole_digits word =
 
 -- The words of a text that stand for an operation word: the name and the arguments, or '#' and the
 -- whole word in digits where no entry has the word.
-abbrev pub words_by_entry : Option Entry → ℕ → List (List ℕ)
+abbrev pub words_by_entry : Option OperationEntry → ℕ → List (List ℕ)
 words_by_entry (Some entry) word = entry.name ∷ argument_words entry.arity word
 words_by_entry None word = (codes "#" ++ whole_digits word) ∷ []
 

@@ -1,20 +1,15 @@
-ghost use Rattle.std.specs.Prelude.{[], ◌∷◌, ◌≡◌, ◌↔◌, length, IsTrue};
-ghost use Rattle.book_base.specs.Foresight.{Leaves};
-ghost use Rattle.book_base.specs.Pruning.{IsForced, IsReached, MarksAllNext, MarksSuffice, IsMarkedWithin};
+ghost use Rattle.std.specs.Prelude.{[], ◌∷◌, ◌≡◌, ◌↔◌, IsTrue};
+ghost use Rattle.book_base.specs.PruningRules.{Leaves};
 ghost use Rattle.seq_objects.specs.declared.kind.Kind.TheVariants as kinds;
 ghost use Rattle.seq_objects.specs.Words.{is_known_word};
 ghost use Rattle.seq_objects.specs.Items.{length-one};
-ghost use Rattle.seq_objects.specs.Items as items;
-ghost use Rattle.seq_objects.specs.Counts.{counter_next, IsNarrowedToCount};
 ghost use Rattle.seq_objects.specs.CounterSteps.{counter_operation, counter_after, length-counter_after, counter_after-unknown};
 
-use crate::counts::{narrow_to_count, sight_of_counts};
 use crate::entry::INC;
 use crate::items::{first_or_zero, set_only};
 use crate::kind::Kind;
 use crate::reply::{is_value, value_reply};
-use book_base::{BAD, Book, Cut, Marks, NoMemory, OpWord, SeqObject, Sight, State};
-use std::alloc::Global;
+use book_base::{BAD, OpWord, SeqObject, State};
 
 /// How many counts there are.
 const COUNTS: u64 = 1 << 32;
@@ -85,41 +80,5 @@ impl SeqObject for Counter {
             Some(CounterOperation::Increment) => !is_value(reply),
             None => true,
         }
-    }
-
-    fn prepare(&self, alloc: Global, book: &Book) -> Result<Option<Sight>, NoMemory> {
-        Ok(Some(sight_of_counts(alloc, book)?))
-    }
-
-    /// Only what may go next at the present count is tried.
-    fn narrow(
-        &self,
-        sight: &Sight,
-        book: &Book,
-        cut: &Cut,
-        words: &[u64],
-        forced: u32,
-        marks: Marks,
-    ) -> Marks
-        // The cut has a count for each caller of the book.
-        requires wide { length cut.now ≡ length book.now }
-        // Some order of a counter reaches the cut and the list, and makes a legal order with all
-        // that goes on from there.
-        requires reached { IsReached (0 ∷ []) counter_next book.now cut.now words.now }
-        // Of all answered calls outside the cut the forced caller's first one has the least view.
-        requires forced { IsForced book.now cut.now forced }
-        // The callers are marked whose next calls may come next after the cut, and no others.
-        requires marks { MarksAllNext book.now cut.now marks }
-        // Each caller that the answer marks was marked.
-        ensures fewer { IsMarkedWithin result marks }
-        // All that goes on from here goes on by the next call of a caller that the answer marks as
-        // well, with no more places.
-        ensures suffice { MarksSuffice book.now counter_next cut.now words.now result }
-        // Those of the marked callers keep their marks whose next calls may go next at the present
-        // count.
-        ensures narrowed { IsNarrowedToCount book.now cut.now (items.first_or_zero words.now) marks
-            result }
-    {
-        narrow_to_count(sight, book, cut, words, forced, marks)
     }
 }

@@ -21,103 +21,103 @@ pub enum Arity {
 /// An entry of a kind's table: the name of an operation, its code, and how many numbers follow the
 /// name.
 #[derive(Clone, Copy)]
-pub struct Entry {
+pub struct OperationEntry {
     pub name: &'static str,
     pub code: u32,
     pub arity: Arity,
 }
 
-pub const ENQ: Entry = Entry {
+pub const ENQ: OperationEntry = OperationEntry {
     name: "enq",
     code: 1,
     arity: Arity::Unary,
 };
 
-pub const DEQ: Entry = Entry {
+pub const DEQ: OperationEntry = OperationEntry {
     name: "deq",
     code: 2,
     arity: Arity::Nullary,
 };
 
-pub const PUSH: Entry = Entry {
+pub const PUSH: OperationEntry = OperationEntry {
     name: "push",
     code: 1,
     arity: Arity::Unary,
 };
 
-pub const POP: Entry = Entry {
+pub const POP: OperationEntry = OperationEntry {
     name: "pop",
     code: 2,
     arity: Arity::Nullary,
 };
 
-pub const WRITE: Entry = Entry {
+pub const WRITE: OperationEntry = OperationEntry {
     name: "write",
     code: 1,
     arity: Arity::Unary,
 };
 
-pub const READ: Entry = Entry {
+pub const READ: OperationEntry = OperationEntry {
     name: "read",
     code: 2,
     arity: Arity::Nullary,
 };
 
-pub const INC: Entry = Entry {
+pub const INC: OperationEntry = OperationEntry {
     name: "inc",
     code: 1,
     arity: Arity::Nullary,
 };
 
-pub const ADD: Entry = Entry {
+pub const ADD: OperationEntry = OperationEntry {
     name: "add",
     code: 1,
     arity: Arity::Unary,
 };
 
-pub const REMOVE: Entry = Entry {
+pub const REMOVE: OperationEntry = OperationEntry {
     name: "remove",
     code: 2,
     arity: Arity::Unary,
 };
 
-pub const HAS: Entry = Entry {
+pub const HAS: OperationEntry = OperationEntry {
     name: "has",
     code: 3,
     arity: Arity::Unary,
 };
 
-pub const INSERT: Entry = Entry {
+pub const INSERT: OperationEntry = OperationEntry {
     name: "insert",
     code: 1,
     arity: Arity::Unary,
 };
 
-pub const MIN: Entry = Entry {
+pub const MIN: OperationEntry = OperationEntry {
     name: "min",
     code: 2,
     arity: Arity::Nullary,
 };
 
-pub const CAS: Entry = Entry {
+pub const CAS: OperationEntry = OperationEntry {
     name: "cas",
     code: 3,
     arity: Arity::Binary,
 };
 
-pub const PUT: Entry = Entry {
+pub const PUT: OperationEntry = OperationEntry {
     name: "put",
     code: 1,
     arity: Arity::Binary,
 };
 
-pub const GET: Entry = Entry {
+pub const GET: OperationEntry = OperationEntry {
     name: "get",
     code: 2,
     arity: Arity::Unary,
 };
 
-pub const DEL: Entry = Entry {
+pub const DEL: OperationEntry = OperationEntry {
     name: "del",
     code: 3,
     arity: Arity::Unary,
@@ -125,7 +125,7 @@ pub const DEL: Entry = Entry {
 
 /// The table of operations that a kind knows.
 #[tactic(auto, unfolding(crate::specs::Words::entries))]
-pub fn entries(kind: Kind) -> &'static [Entry]
+pub fn entries(kind: Kind) -> &'static [OperationEntry]
     ensures { map shown result.now ≡ words.entries kind }
 {
     match kind {
@@ -183,7 +183,7 @@ impl Arity {
     }
 }
 
-impl Entry {
+impl OperationEntry {
     /// Whether a word is an operation of this entry.
     pub fn has(&self, word: OpWord) -> bool
         ensures { result ≡ words.is_operation_of word (shown self.now) }
@@ -239,14 +239,14 @@ fn put_arguments(out: &mut Vec<u8>, arity: Arity, word: OpWord) -> Result<(), No
 }
 
 /// The entry of a word, where the kind knows the word.
-pub fn entry_of(kind: Kind, word: OpWord) -> Option<Entry>
+pub fn entry_of(kind: Kind, word: OpWord) -> Option<OperationEntry>
     ensures { option_map shown result ≡ words.entry_of kind word }
 {
     entries(kind).iter().find(|entry| entry.has(word)).copied()
 }
 
 /// The entry with this name in a kind's table.
-pub fn entry_named(kind: Kind, name: &[u8]) -> Option<Entry>
+pub fn entry_named(kind: Kind, name: &[u8]) -> Option<OperationEntry>
     ensures { option_map shown result ≡ entry_named kind name.now }
 {
     entries(kind)

@@ -1,5 +1,5 @@
 ghost use Rattle.std.specs.Prelude.{◌≡◌, ◌≢◌, ℕ, ◌∷◌, ◌++◌, true, false, ◌↔◌, IfSome, IfNone, IsTrue, OnOk, OnErr, option_copied};
-ghost use Rattle.book_base.specs.Foresight.{Leaves};
+ghost use Rattle.book_base.specs.PruningRules.{Leaves};
 ghost use Rattle.book_base.specs.OperationWord.{IsOperationWord};
 ghost use Rattle.seq_objects.specs.declared.kind.Kind.{Kind};
 ghost use Rattle.seq_objects.specs.Objects.{kind_init, kind_next, length-kind_init, length-kind_next, kind_next-unknown};
@@ -17,7 +17,9 @@ use crate::queue::Queue;
 use crate::register::Register;
 use crate::stack::Stack;
 use crate::whole::{put_whole, whole};
-use book_base::{Book, Cut, Decision, Foresight, Marks, NoMemory, OpWord, SeqObject, Sight, State};
+use book_base::{
+    Book, Cut, Decision, Marks, NoMemory, OpWord, PruningRules, SeqObject, Sight, State,
+};
 use queue_refutation::decide_queue;
 use stack_levels::decide_stack;
 use std::alloc::Global;
@@ -184,16 +186,16 @@ impl SeqObject for Kind {
 
     /// What the object knows of a book before a search. Queues and stacks alone know anything.
     #[tactic(auto, unfolding(crate::specs::Objects::kind_next))]
-    fn foresee(&self, alloc: Global, book: &Book) -> Result<Foresight, NoMemory> {
+    fn find_pruning_rules(&self, alloc: Global, book: &Book) -> Result<PruningRules, NoMemory> {
         match self {
-            Kind::Queue => Queue.foresee(alloc, book),
-            Kind::Stack => Stack.foresee(alloc, book),
+            Kind::Queue => Queue.find_pruning_rules(alloc, book),
+            Kind::Stack => Stack.find_pruning_rules(alloc, book),
             Kind::Register
             | Kind::Counter
             | Kind::IntSet
             | Kind::Pqueue
             | Kind::CasRegister
-            | Kind::Map => Ok(Foresight::none(alloc)),
+            | Kind::Map => Ok(PruningRules::none(alloc)),
         }
     }
 

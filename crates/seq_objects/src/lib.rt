@@ -3,7 +3,6 @@
 
 mod cas_register;
 mod counter;
-mod counts;
 mod digits;
 mod entry;
 mod int_set;

@@ -1,5 +1,5 @@
 ghost use Rattle.std.specs.Prelude.{◌≡◌, ◌<◌, [], length, ◌↔◌, IsTrue};
-ghost use Rattle.book_base.specs.Foresight.{Leaves};
+ghost use Rattle.book_base.specs.PruningRules.{Leaves};
 ghost use Rattle.book_base.specs.Pruning.{HasOneOpen, IsForced, MarksAllNext, MarksSuffice, IsMarkedWithin};
 ghost use Rattle.seq_objects.specs.declared.kind.Kind.TheVariants as kinds;
 ghost use Rattle.seq_objects.specs.Words.{is_known_word};

@@ -1,5 +1,5 @@
 ghost use Rattle.std.specs.Prelude.{[], ◌≡◌, ◌↔◌, IsTrue};
-ghost use Rattle.book_base.specs.Foresight.{Leaves};
+ghost use Rattle.book_base.specs.PruningRules.{Leaves};
 ghost use Rattle.seq_objects.specs.declared.kind.Kind.TheVariants as kinds;
 ghost use Rattle.seq_objects.specs.Words.{is_known_word};
 ghost use Rattle.seq_objects.specs.Items.{length-none};
@@ -12,7 +12,7 @@ use crate::items::{insert_in_order, take_first};
 use crate::kind::Kind;
 use crate::reply::{DONE, is_value, shown_value};
 use book_base::{BAD, Book, Cut, Marks, NoMemory, OpWord, SeqObject, Sight, State};
-use object_foresight::{Reader, Role};
+use container_pruning::{Reader, Role};
 use std::alloc::Global;
 use value_pruning::{narrow_least_first, sight_of_values};
 

@@ -1,5 +1,5 @@
 ghost use Rattle.std.specs.Prelude.{[], ◌≡◌, ◌↔◌, IsTrue};
-ghost use Rattle.book_base.specs.Foresight.{Leaves};
+ghost use Rattle.book_base.specs.PruningRules.{Leaves};
 ghost use Rattle.seq_objects.specs.declared.kind.Kind.TheVariants as kinds;
 ghost use Rattle.seq_objects.specs.Words.{is_known_word};
 ghost use Rattle.seq_objects.specs.Items.{length-none};
@@ -10,8 +10,8 @@ use crate::entry::{DEQ, ENQ, argument_of};
 use crate::items::take_first;
 use crate::kind::Kind;
 use crate::reply::{DONE, is_value, shown_value};
-use book_base::{BAD, Book, Foresight, NoMemory, OpWord, SeqObject, State};
-use object_foresight::{Reader, Role, foresee_queue};
+use book_base::{BAD, Book, NoMemory, OpWord, PruningRules, SeqObject, State};
+use container_pruning::{Reader, Role, queue_pruning_rules};
 use std::alloc::Global;
 
 /// A first-in first-out queue.
@@ -88,8 +88,8 @@ impl SeqObject for Queue {
         }
     }
 
-    fn foresee(&self, alloc: Global, book: &Book) -> Result<Foresight, NoMemory> {
-        foresee_queue(alloc, self, book)
+    fn find_pruning_rules(&self, alloc: Global, book: &Book) -> Result<PruningRules, NoMemory> {
+        queue_pruning_rules(alloc, self, book)
     }
 
     fn leaves(&self, op: OpWord, reply: u64) -> bool

@@ -1,5 +1,5 @@
 ghost use Rattle.std.specs.Prelude.{[], ◌≡◌, ◌↔◌, IsTrue};
-ghost use Rattle.book_base.specs.Foresight.{Leaves};
+ghost use Rattle.book_base.specs.PruningRules.{Leaves};
 ghost use Rattle.seq_objects.specs.declared.kind.Kind.TheVariants as kinds;
 ghost use Rattle.seq_objects.specs.Words.{is_known_word};
 ghost use Rattle.seq_objects.specs.Items.{length-none};
@@ -11,8 +11,8 @@ use crate::entry::{POP, PUSH, argument_of};
 use crate::items::take_last;
 use crate::kind::Kind;
 use crate::reply::{DONE, is_value, shown_value};
-use book_base::{BAD, Book, Cut, Foresight, Marks, NoMemory, OpWord, SeqObject, Sight, State};
-use object_foresight::{Reader, Role, foresee_stack};
+use book_base::{BAD, Book, Cut, Marks, NoMemory, OpWord, PruningRules, SeqObject, Sight, State};
+use container_pruning::{Reader, Role, stack_pruning_rules};
 use stack_pruning::narrow_last_first;
 use std::alloc::Global;
 use value_pruning::sight_of_values;
@@ -93,8 +93,8 @@ impl SeqObject for Stack {
         }
     }
 
-    fn foresee(&self, alloc: Global, book: &Book) -> Result<Foresight, NoMemory> {
-        foresee_stack(alloc, self, book)
+    fn find_pruning_rules(&self, alloc: Global, book: &Book) -> Result<PruningRules, NoMemory> {
+        stack_pruning_rules(alloc, self, book)
     }
 
     fn leaves(&self, op: OpWord, reply: u64) -> bool

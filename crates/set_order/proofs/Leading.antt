@@ -11,7 +11,7 @@ use Rattle.book_base.specs.Book.{Page, calls_of, IsSmall, IsCall}
 use Rattle.book_base.specs.Order.{call_at, step_at}
 use Rattle.book_base.specs.Next.{HoldsAnswered}
 use Rattle.frontier_check.proofs.Leading.{sum_small}
-use Rattle.set_order.specs.declared.walk.Level.{Level}
+use Rattle.set_order.specs.declared.walk.SetLevel.{SetLevel}
 use Rattle.set_order.specs.SetOrder.{operations_of, IsLegalSetOrder, HasLegalSetOrder}
 use Rattle.set_order.specs.Search.{no_calls, raised_by, MayStandIn, MayStandTogether, SetsContinue, IsDeadEnd, IsLevel, Leads, order_of}
 use Rattle.set_order.proofs.Raising.{all_so, raised-length, raised-sum, raised-within}
@@ -29,7 +29,7 @@ zeros book i = get_or-replicate_default (length book) i 0
 
 -- what stands at a level stands there in other words for the same cut and list
 moved_level : (served : List ℕ → List ℕ → Option (List ℕ × List ℕ)) (book : List Page)
-    (cut new_cut list new_list : List ℕ) (level : Level) (after : List ℕ)
+    (cut new_cut list new_list : List ℕ) (level : SetLevel) (after : List ℕ)
     → cut ≡ new_cut → list ≡ new_list → IsLevel served book new_cut new_list level after
     → IsLevel served book cut list level after
 moved_level served book cut new_cut list new_list level after e f h =
@@ -38,7 +38,7 @@ moved_level served book cut new_cut list new_list level after e f h =
 
 -- one level more
 pub leads-push : (served : List ℕ → List ℕ → Option (List ℕ × List ℕ)) (book : List Page)
-    (cut list : List ℕ) (levels : List Level) (to_cut to_list : List ℕ) (level : Level)
+    (cut list : List ℕ) (levels : List SetLevel) (to_cut to_list : List ℕ) (level : SetLevel)
     (after : List ℕ)
     → Leads served book cut list levels to_cut to_list
     → IsLevel served book to_cut to_list level after
@@ -58,7 +58,7 @@ leads-push served book cut list (first ∷ levels) to_cut to_list level after
 
 -- where a walk stood before its last level
 pub record Back (served : List ℕ → List ℕ → Option (List ℕ × List ℕ)) (book : List Page)
-    (cut list : List ℕ) (levels : List Level) (level : Level)
+    (cut list : List ℕ) (levels : List SetLevel) (level : SetLevel)
     (to_cut to_list : List ℕ) : Type 0 where
   pub leads : Leads served book cut list levels level.counts.items level.words.items
   pub here : IsLevel served book level.counts.items level.words.items level to_list
@@ -66,7 +66,7 @@ pub record Back (served : List ℕ → List ℕ → Option (List ℕ × List ℕ
 
 -- one level fewer
 pub leads-pop : (served : List ℕ → List ℕ → Option (List ℕ × List ℕ)) (book : List Page)
-    (cut list : List ℕ) (levels : List Level) (level : Level) (to_cut to_list : List ℕ)
+    (cut list : List ℕ) (levels : List SetLevel) (level : SetLevel) (to_cut to_list : List ℕ)
     → Leads served book cut list (levels ++ level ∷ []) to_cut to_list
     → Back served book cut list levels level to_cut to_list
 leads-pop served book cut list [] level to_cut to_list (after, at, (cut_is, list_is)) = record {
@@ -83,7 +83,7 @@ leads-pop served book cut list (first ∷ levels) level to_cut to_list (between,
 
 -- what the levels lead to goes on from where they begin
 leads-continue : (served : List ℕ → List ℕ → Option (List ℕ × List ℕ)) (book : List Page)
-    (cut list : List ℕ) (levels : List Level) (to_cut to_list : List ℕ)
+    (cut list : List ℕ) (levels : List SetLevel) (to_cut to_list : List ℕ)
     → Leads served book cut list levels to_cut to_list → HoldsAnswered book to_cut
     → SetsContinue served book cut list (order_of levels)
 leads-continue served book cut list [] to_cut to_list (same_cut, same_list) all =
@@ -96,7 +96,7 @@ leads-continue served book cut list (first ∷ levels) to_cut to_list (between, 
 
 -- The levels that lead to a cut with all answered calls make a legal set order.
 pub legal-from_leads : (init : List ℕ) (served : List ℕ → List ℕ → Option (List ℕ × List ℕ))
-    (book : List Page) (levels : List Level) (cut list : List ℕ)
+    (book : List Page) (levels : List SetLevel) (cut list : List ℕ)
     → Leads served book (no_calls book) init levels cut list → HoldsAnswered book cut
     → IsLegalSetOrder init served book (order_of levels)
 legal-from_leads init served book levels cut list leads all =
@@ -119,7 +119,7 @@ Grows served = (list ops after replies : List ℕ) → served list ops ≡ Some 
     → length after ≤ length list + length ops
 
 -- how far levels lead
-pub record Reach (book : List Page) (cut list : List ℕ) (levels : List Level)
+pub record Reach (book : List Page) (cut list : List ℕ) (levels : List SetLevel)
     (to_cut to_list : List ℕ) : Type 0 where
   pub wide : length to_cut ≡ length cut
   pub deep : sum cut + length levels ≤ sum to_cut
@@ -154,7 +154,7 @@ one_step served book cut list places after grows wide within may =
     }
 
 leads-reach : (served : List ℕ → List ℕ → Option (List ℕ × List ℕ)) (book : List Page)
-    (cut list : List ℕ) (levels : List Level) (to_cut to_list : List ℕ) → Grows served
+    (cut list : List ℕ) (levels : List SetLevel) (to_cut to_list : List ℕ) → Grows served
     → length book ≤ length cut → ((i : ℕ) → get_or cut i 0 ≤ calls_of book i)
     → Leads served book cut list levels to_cut to_list → Reach book cut list levels to_cut to_list
 leads-reach served book cut list [] to_cut to_list grows wide within (same_cut, same_list) =
@@ -180,16 +180,16 @@ leads-reach served book cut list (first ∷ levels) to_cut to_list grows wide wi
     }
 
 -- What is known of where a walk from the start stands.
-pub record Standing (book : List Page) (levels : List Level) (cut list : List ℕ) : Type 0 where
+pub record WalkFacts (book : List Page) (levels : List SetLevel) (cut list : List ℕ) : Type 0 where
   pub wide : length cut ≡ length book
   pub depth : length levels ≤ MAX_CALLERS * MAX_CALLS
   pub words : length list ≤ MAX_CALLERS * MAX_CALLS + 1
   pub within : (i : ℕ) → get_or cut i 0 ≤ calls_of book i
 
 pub standing : (init : List ℕ) (served : List ℕ → List ℕ → Option (List ℕ × List ℕ))
-    (book : List Page) (levels : List Level) (cut list : List ℕ)
+    (book : List Page) (levels : List SetLevel) (cut list : List ℕ)
     → IsSmall book → length init ≤ 1 → Grows served
-    → Leads served book (no_calls book) init levels cut list → Standing book levels cut list
+    → Leads served book (no_calls book) init levels cut list → WalkFacts book levels cut list
 standing init served book levels cut list small begins grows leads =
     let long : length (no_calls book) ≡ length book = length-replicate (length book) 0 in
     let reach = leads-reach served book (no_calls book) init levels cut list grows (omega arith)

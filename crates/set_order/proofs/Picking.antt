@@ -6,7 +6,7 @@ use Rattle.std.proofs.lemmas.Bool.{cond-true, cond-false, eq-eqb, cases_Bool, eq
 use Rattle.std.proofs.lemmas.List.{drop_more}
 use Rattle.std.proofs.Math.Nat.{pow-succ'}
 use Rattle.set_order.specs.SetOrder.{RiseFrom}
-use Rattle.set_order.specs.Search.{picked, IsOneOf}
+use Rattle.set_order.specs.Search.{picked, IsOneCaller}
 
 doubled : (n : ℕ) → 2 ^ suc n ≡ 2 * 2 ^ n
 doubled n = pow-succ' 2 n
@@ -44,7 +44,7 @@ picked-even number i callers =
     ∙ ap (λ (n : ℕ). picked n callers) half
 
 one_of-above : (low : ℕ) (callers : List ℕ) (j : ℕ) → RiseFrom low callers
-    → IsOneOf callers j → low ≤ j
+    → IsOneCaller callers j → low ≤ j
 one_of-above low [] j rise h = absurd h
 one_of-above low (i ∷ callers) j rise h = elim h [
   | inl here ↦ omega (arith, rise.0)
@@ -53,7 +53,7 @@ one_of-above low (i ∷ callers) j rise h = elim h [
 
 -- callers above the first one stand among the others
 without_first : (i : ℕ) (callers : List ℕ) (low : ℕ) (part : List ℕ) → i < low → RiseFrom low part
-    → AllByRecursion (IsOneOf (i ∷ callers)) part → AllByRecursion (IsOneOf callers) part
+    → AllByRecursion (IsOneCaller (i ∷ callers)) part → AllByRecursion (IsOneCaller callers) part
 without_first i callers low [] above rise all = tt
 without_first i callers low (j ∷ part) above rise all = (
   elim all.0 [
@@ -87,7 +87,7 @@ picked-without i callers part h = record {
 
 -- Each rising part of rising callers is one that a number picks.
 pub picked-each : (low : ℕ) (callers : List ℕ) (from : ℕ) (part : List ℕ) → RiseFrom low callers
-    → RiseFrom from part → AllByRecursion (IsOneOf callers) part → IsPicked callers part
+    → RiseFrom from part → AllByRecursion (IsOneCaller callers) part → IsPicked callers part
 picked-each low [] from [] rise rises all = record { number = 0; below = omega arith; picks = refl }
 picked-each low [] from (j ∷ part) rise rises all = absurd all.0
 picked-each low (i ∷ callers) from [] rise rises all = record {

@@ -17,7 +17,7 @@ use Rattle.book_base.specs.Next.{next_call, HoldsAnswered, MayComeNext}
 use Rattle.book_laws.proofs.LegalOrder.{same_place}
 use Rattle.set_order.specs.Serving.{ServesTo, NeverRepliesFrom}
 use Rattle.set_order.specs.SetOrder.{callers_of, operations_of, replies_of, RiseFrom}
-use Rattle.set_order.specs.Search.{raised_by, picked, MayStandIn, MayStandTogether, IsDeadEnd, CannotStand, IsOneOf, LeadsNowhere, AreCandidates, IsOpen, next_operations, ArePlaced, HasWrongReply}
+use Rattle.set_order.specs.Search.{raised_by, picked, MayStandIn, MayStandTogether, IsDeadEnd, CannotStand, IsOneCaller, LeadsNowhere, AreCandidates, IsOpen, next_operations, ArePlaced, HasWrongReply}
 use Rattle.set_order.proofs.Raising.{all_at, all_so, raised-new, raised-length}
 use Rattle.set_order.proofs.SetOrders.{next-from_each}
 use Rattle.set_order.proofs.Picking.{picked-each, picked-none, picked-some, picked-few, picked-rise, picked-all}
@@ -138,7 +138,7 @@ long_enough places some = omega (arith, length-map places (λ (p : Place). p.cal
 -- the callers of a set that may stand next are candidates
 all_among : (book : List Page) (cut callers : List ℕ) (places : List Place)
     → AreCandidates book cut callers → AllByRecursion (MayStandIn book cut) places
-    → AllByRecursion (IsOneOf callers) (callers_of places)
+    → AllByRecursion (IsOneCaller callers) (callers_of places)
 all_among book cut callers [] h each = tt
 all_among book cut callers (place ∷ places) h each = (
   h.all place.caller (subst (λ (c : Call). MayComeNext book cut c)
@@ -246,7 +246,7 @@ pub record AreCandidatesBelow (book : List Page) (cut : List ℕ) (below : ℕ)
   pub rise : RiseFrom 0 callers
   pub small : AllByRecursion (λ i. i < below) callers
   pub may_come : AllByRecursion (λ i. MayComeNext book cut (next_call cut i)) callers
-  pub all : (i : ℕ) → i < below → MayComeNext book cut (next_call cut i) → IsOneOf callers i
+  pub all : (i : ℕ) → i < below → MayComeNext book cut (next_call cut i) → IsOneCaller callers i
   pub few : length callers ≤ below
 
 rise-push : (low : ℕ) (callers : List ℕ) (i : ℕ) → low ≤ i → RiseFrom low callers
@@ -255,14 +255,15 @@ rise-push low [] i above rise small = (above, tt)
 rise-push low (j ∷ callers) i above rise small =
     (rise.0, rise-push (j + 1) callers i (omega (arith, small.0)) rise.1 small.1)
 
-one_of-old : (callers : List ℕ) (i j : ℕ) → IsOneOf callers j → IsOneOf (callers ++ i ∷ []) j
+one_of-old : (callers : List ℕ) (i j : ℕ) → IsOneCaller callers j
+    → IsOneCaller (callers ++ i ∷ []) j
 one_of-old [] i j h = absurd h
 one_of-old (k ∷ callers) i j h = elim h [
   | inl here ↦ inl here
   | inr later ↦ inr (one_of-old callers i j later)
 ]
 
-one_of-new : (callers : List ℕ) (i : ℕ) → IsOneOf (callers ++ i ∷ []) i
+one_of-new : (callers : List ℕ) (i : ℕ) → IsOneCaller (callers ++ i ∷ []) i
 one_of-new [] i = inl refl
 one_of-new (k ∷ callers) i = inr (one_of-new callers i)
 
@@ -280,7 +281,7 @@ candidates-more book cut caller callers h may = record {
       elim (cases_lt i caller) [
         | inl early ↦ one_of-old callers caller i (h.all i early comes)
         | inr here ↦ let same : i ≡ caller = omega arith in
-            subst (λ (j : ℕ). IsOneOf (callers ++ caller ∷ []) j) (sym same)
+            subst (λ (j : ℕ). IsOneCaller (callers ++ caller ∷ []) j) (sym same)
             (one_of-new callers caller)
       ];
   few = omega (arith, h.few, length_push callers caller);

@@ -9,12 +9,12 @@ use Rattle.book_base.specs.Order.{step_at}
 use Rattle.book_base.proofs.PageLemmas.{caller_from_call}
 use Rattle.book_base.specs.Next.{next_call, HoldsAnswered, MayComeNext}
 use Rattle.std.proofs.lemmas.Option.{none-some}
-use Rattle.frontier_check.specs.declared.memo.Entry.{Entry}
+use Rattle.frontier_check.specs.declared.memo.MemoEntry.{MemoEntry}
 use Rattle.frontier_check.specs.declared.memo.Memo.{Memo}
 use Rattle.frontier_check.specs.Memo.{IsMemo, Remembers}
-use Rattle.set_order.specs.declared.walk.Level.{Level}
-use Rattle.set_order.specs.declared.walk.Walk.{Walk}
-use Rattle.set_order.specs.declared.walk.TheConstants.{ROOM}
+use Rattle.set_order.specs.declared.walk.SetLevel.{SetLevel}
+use Rattle.set_order.specs.declared.walk.SetWalk.{SetWalk}
+use Rattle.set_order.specs.declared.walk.TheConstants.{CAPACITY}
 use Rattle.set_order.specs.SetOrder.{callers_of, operations_of, IsLegalSetOrder, HasLegalSetOrder}
 use Rattle.set_order.specs.Search.{no_calls, raised_by, picked, MayStandIn, MayStandTogether, IsDeadEnd, LeadsNowhere, IsOpen, IsLevel, Leads, IsWalk, order_of, weigh, weight}
 use Rattle.set_order.proofs.Raising.{all_so}
@@ -25,12 +25,13 @@ use Rattle.set_order.proofs.Weighing.{weigh-push, weigh-skip, weigh-pop}
 
 -- what a walk leads to, in the words of another with the same levels, counts and list
 same_leads : (served : List ℕ → List ℕ → Option (List ℕ × List ℕ)) (book : List Page)
-    (cut list : List ℕ) (levels new_levels : List Level) (to_cut new_cut to_list new_list : List ℕ)
+    (cut list : List ℕ) (levels new_levels : List SetLevel)
+    (to_cut new_cut to_list new_list : List ℕ)
     → new_levels ≡ levels → new_cut ≡ to_cut → new_list ≡ to_list
     → Leads served book cut list levels to_cut to_list
     → Leads served book cut list new_levels new_cut new_list
 same_leads served book cut list levels new_levels to_cut new_cut to_list new_list e f k h =
-    subst (λ (ls : List Level). Leads served book cut list ls new_cut new_list) (sym e)
+    subst (λ (ls : List SetLevel). Leads served book cut list ls new_cut new_list) (sym e)
     (subst (λ (c : List ℕ). Leads served book cut list levels c new_list) (sym f)
     (subst (λ (l : List ℕ). Leads served book cut list levels to_cut l) (sym k) h))
 
@@ -46,7 +47,7 @@ same_open served book cut new_cut list new_list callers new_callers left new_lef
     (subst (λ (m : ℕ). IsOpen served book cut list callers m) (sym n) h)))
 
 -- The new walk differs from the old one in what is left and in its memo alone.
-pub record IsSameWalk (old new : Walk) : Type 0 where
+pub record IsSameWalk (old new : SetWalk) : Type 0 where
   pub levels : new.levels ≡ old.levels
   pub counts : new.counts ≡ old.counts
   pub here : new.here ≡ old.here
@@ -54,15 +55,15 @@ pub record IsSameWalk (old new : Walk) : Type 0 where
 
 -- a number leads nowhere
 pub walk-skip : (init : List ℕ) (served : List ℕ → List ℕ → Option (List ℕ × List ℕ))
-    (book : List Page) (old new : Walk) → IsWalk init served book old
+    (book : List Page) (old new : SetWalk) → IsWalk init served book old
     → LeadsNowhere served book old.counts.items old.here.words (picked old.left old.callers.items)
     → IsSameWalk old new → new.memo ≡ old.memo → new.left + 1 ≡ old.left
     → IsWalk init served book new × (weight new < weight old)
 walk-skip init served book old new h nowhere same memo left =
-    let weights : weight new ≡ weigh ROOM old.levels.items new.left =
-    ap (λ v. weigh ROOM v.items new.left) same.levels in
-    let before : weight old ≡ weigh ROOM old.levels.items (new.left + 1) =
-    ap (λ (n : ℕ). weigh ROOM old.levels.items n) (sym left) in (
+    let weights : weight new ≡ weigh CAPACITY old.levels.items new.left =
+    ap (λ v. weigh CAPACITY v.items new.left) same.levels in
+    let before : weight old ≡ weigh CAPACITY old.levels.items (new.left + 1) =
+    ap (λ (n : ℕ). weigh CAPACITY old.levels.items n) (sym left) in (
       record {
         leads = same_leads served book (no_calls book) init old.levels.items new.levels.items
             old.counts.items new.counts.items old.here.words new.here.words
@@ -79,12 +80,12 @@ walk-skip init served book old new h nowhere same memo left =
         callers = ap (λ m. m.callers) memo ∙ h.callers;
         room = ap (λ s. s.room) same.here ∙ h.room;
       },
-      omega (arith, weights, before, weigh-skip ROOM old.levels.items new.left),
+      omega (arith, weights, before, weigh-skip CAPACITY old.levels.items new.left),
     )
 
 -- one more dead end is remembered
 pub walk-remember : (init : List ℕ) (served : List ℕ → List ℕ → Option (List ℕ × List ℕ))
-    (book : List Page) (old new : Walk) → IsWalk init served book old → old.left ≡ 0
+    (book : List Page) (old new : SetWalk) → IsWalk init served book old → old.left ≡ 0
     → IsSameWalk old new → new.left ≡ old.left → IsMemo new.memo
     → new.memo.callers ≡ old.memo.callers
     → ((cut list : List ℕ) → Remembers new.memo cut list → Remembers old.memo cut list
@@ -114,13 +115,13 @@ walk-remember init served book old new h none same left memo callers only = (
     callers = callers ∙ h.callers;
     room = ap (λ s. s.room) same.here ∙ h.room;
   },
-  ap (λ v. weigh ROOM v.items new.left) same.levels
-      ∙ ap (λ (n : ℕ). weigh ROOM old.levels.items n) left,
+  ap (λ v. weigh CAPACITY v.items new.left) same.levels
+      ∙ ap (λ (n : ℕ). weigh CAPACITY old.levels.items n) left,
 )
 
 -- a set leads to a remembered dead end
 pub nowhere-from_memo : (init : List ℕ) (served : List ℕ → List ℕ → Option (List ℕ × List ℕ))
-    (book : List Page) (old : Walk) (places : List Place) (after cut list : List ℕ)
+    (book : List Page) (old : SetWalk) (places : List Place) (after cut list : List ℕ)
     → IsWalk init served book old → callers_of places ≡ picked old.left old.callers.items
     → MayStandTogether served book old.counts.items old.here.words places after
     → cut ≡ raised_by old.counts.items places → list ≡ after → Remembers old.memo cut list
@@ -134,7 +135,7 @@ nowhere-from_memo init served book old places after cut list h is stands cut_is 
 
 -- a set leads to a cut and a list that are a dead end
 pub nowhere-from_lost : (init : List ℕ) (served : List ℕ → List ℕ → Option (List ℕ × List ℕ))
-    (book : List Page) (old : Walk) (places : List Place) (after cut list : List ℕ)
+    (book : List Page) (old : SetWalk) (places : List Place) (after cut list : List ℕ)
     → callers_of places ≡ picked old.left old.callers.items
     → MayStandTogether served book old.counts.items old.here.words places after
     → cut ≡ raised_by old.counts.items places → list ≡ after → IsDeadEnd served book cut list
@@ -148,7 +149,7 @@ nowhere-from_lost init served book old places after cut list is stands cut_is li
 
 -- What a set that is put next adds to a walk.
 pub record IsDeeper (served : List ℕ → List ℕ → Option (List ℕ × List ℕ)) (book : List Page)
-    (old new : Walk) (level : Level) : Type 0 where
+    (old new : SetWalk) (level : SetLevel) : Type 0 where
   pub levels : new.levels.items ≡ old.levels.items ++ level ∷ []
   pub words : level.words.items ≡ old.here.words
   pub level_counts : level.counts.items ≡ old.counts.items
@@ -161,7 +162,7 @@ pub record IsDeeper (served : List ℕ → List ℕ → Option (List ℕ × List
   pub memo : new.memo ≡ old.memo
 
 deeper-leads : (init : List ℕ) (served : List ℕ → List ℕ → Option (List ℕ × List ℕ))
-    (book : List Page) (old new : Walk) (level : Level) → IsWalk init served book old
+    (book : List Page) (old new : SetWalk) (level : SetLevel) → IsWalk init served book old
     → IsDeeper served book old new level
     → Leads served book (no_calls book) init new.levels.items new.counts.items new.here.words
 deeper-leads init served book old new level h d =
@@ -181,7 +182,7 @@ deeper-leads init served book old new level h d =
     old.counts.items old.here.words level new.here.words h.leads here)
 
 pub walk-deeper : (init : List ℕ) (served : List ℕ → List ℕ → Option (List ℕ × List ℕ))
-    (book : List Page) (old new : Walk) (level : Level) → IsSmall book → length init ≤ 1
+    (book : List Page) (old new : SetWalk) (level : SetLevel) → IsSmall book → length init ≤ 1
     → Grows served
     → IsWalk init served book old → IsDeeper served book old new level
     → IsOpen served book new.counts.items new.here.words new.callers.items new.left
@@ -190,11 +191,11 @@ pub walk-deeper : (init : List ℕ) (served : List ℕ → List ℕ → Option (
 walk-deeper init served book old new level small begins grows h d here few =
     let s = standing init served book old.levels.items old.counts.items old.here.words small begins
     grows h.leads in
-    let same : weight new ≡ weigh ROOM (old.levels.items ++ level ∷ []) new.left =
-    ap (λ (ls : List Level). weigh ROOM ls new.left) d.levels in
-    let more : weigh ROOM old.levels.items (level.left + 1) ≡ weight old =
-    ap (λ (n : ℕ). weigh ROOM old.levels.items n) d.level_left in
-    let deep : length old.levels.items < ROOM = omega (arith, s.depth) in (
+    let same : weight new ≡ weigh CAPACITY (old.levels.items ++ level ∷ []) new.left =
+    ap (λ (ls : List SetLevel). weigh CAPACITY ls new.left) d.levels in
+    let more : weigh CAPACITY old.levels.items (level.left + 1) ≡ weight old =
+    ap (λ (n : ℕ). weigh CAPACITY old.levels.items n) d.level_left in
+    let deep : length old.levels.items < CAPACITY = omega (arith, s.depth) in (
       record {
         leads = deeper-leads init served book old new level h d;
         here = here;
@@ -203,11 +204,11 @@ walk-deeper init served book old new level small begins grows h d here few =
         callers = ap (λ m. m.callers) d.memo ∙ h.callers;
         room = d.room ∙ h.room;
       },
-      omega (arith, same, more, weigh-push ROOM old.levels.items level new.left deep few),
+      omega (arith, same, more, weigh-push CAPACITY old.levels.items level new.left deep few),
     )
 
 pub walk-found : (init : List ℕ) (served : List ℕ → List ℕ → Option (List ℕ × List ℕ))
-    (book : List Page) (old new : Walk) (level : Level) → IsWalk init served book old
+    (book : List Page) (old new : SetWalk) (level : SetLevel) → IsWalk init served book old
     → IsDeeper served book old new level → HoldsAnswered book new.counts.items
     → IsLegalSetOrder init served book (order_of new.levels.items)
 walk-found init served book old new level h d all =
@@ -216,7 +217,8 @@ walk-found init served book old new level h d all =
 
 -- one level back from a dead end
 pub walk-back : (init : List ℕ) (served : List ℕ → List ℕ → Option (List ℕ × List ℕ))
-    (book : List Page) (old new : Walk) (level : Level) → IsWalk init served book old → old.left ≡ 0
+    (book : List Page) (old new : SetWalk) (level : SetLevel) → IsWalk init served book old
+    → old.left ≡ 0
     → old.levels.items ≡ new.levels.items ++ level ∷ [] → new.counts ≡ level.counts → new.here.words
     ≡ level.words.items → new.here.room ≡ old.here.room → new.callers ≡ level.callers
     → new.left ≡ level.left → new.memo ≡ old.memo → IsWalk init served book new
@@ -225,7 +227,8 @@ walk-back init served book old new level h none levels counts here room callers 
     let back = leads-pop served book
     (no_calls book) init new.levels.items level old.counts.items old.here.words
     (subst
-    (λ (ls : List Level). Leads served book (no_calls book) init ls old.counts.items old.here.words)
+    (λ (ls : List SetLevel).
+    Leads served book (no_calls book) init ls old.counts.items old.here.words)
     levels h.leads) in
     let dead : IsDeadEnd served book (raised_by level.counts.items level.set) old.here.words =
     subst (λ (c : List ℕ). IsDeadEnd served book c old.here.words) back.to_cut_is
@@ -236,11 +239,11 @@ walk-back init served book old new level h none levels counts here room callers 
     (picked (level.left + 1) level.callers.items) =
     nowhere-from_dead served book level.counts.items level.words.items level.set old.here.words
     (picked (level.left + 1) level.callers.items) back.here.chosen back.here.stands dead in
-    let same : weight new ≡ weigh ROOM new.levels.items level.left =
-    ap (λ (n : ℕ). weigh ROOM new.levels.items n) left in
-    let old_is : weight old ≡ weigh ROOM (new.levels.items ++ level ∷ []) 0 =
-    ap (λ (ls : List Level). weigh ROOM ls old.left) levels
-    ∙ ap (λ (n : ℕ). weigh ROOM (new.levels.items ++ level ∷ []) n) none in (
+    let same : weight new ≡ weigh CAPACITY new.levels.items level.left =
+    ap (λ (n : ℕ). weigh CAPACITY new.levels.items n) left in
+    let old_is : weight old ≡ weigh CAPACITY (new.levels.items ++ level ∷ []) 0 =
+    ap (λ (ls : List SetLevel). weigh CAPACITY ls old.left) levels
+    ∙ ap (λ (n : ℕ). weigh CAPACITY (new.levels.items ++ level ∷ []) n) none in (
       record {
         leads = same_leads served book (no_calls book) init new.levels.items new.levels.items
             level.counts.items new.counts.items level.words.items new.here.words
@@ -255,20 +258,21 @@ walk-back init served book old new level h none levels counts here room callers 
         callers = ap (λ m. m.callers) memo ∙ h.callers;
         room = room ∙ h.room;
       },
-      omega (arith, same, old_is, weigh-pop ROOM new.levels.items level),
+      omega (arith, same, old_is, weigh-pop CAPACITY new.levels.items level),
     )
 
--- the words of the last level fit the room
+-- the words of the last level fit the capacity
 pub last_level : (init : List ℕ) (served : List ℕ → List ℕ → Option (List ℕ × List ℕ))
-    (book : List Page) (old : Walk) (levels : List Level) (level : Level) → IsSmall book
+    (book : List Page) (old : SetWalk) (levels : List SetLevel) (level : SetLevel) → IsSmall book
     → length init ≤ 1
     → Grows served → IsWalk init served book old
-    → old.levels.items ≡ levels ++ level ∷ [] → length level.words.items ≤ ROOM
+    → old.levels.items ≡ levels ++ level ∷ [] → length level.words.items ≤ CAPACITY
 last_level init served book old levels level small begins grows h is =
     let back =
     leads-pop served book (no_calls book) init levels level old.counts.items old.here.words
     (subst
-    (λ (ls : List Level). Leads served book (no_calls book) init ls old.counts.items old.here.words)
+    (λ (ls : List SetLevel).
+    Leads served book (no_calls book) init ls old.counts.items old.here.words)
     is h.leads) in
     let s = standing init served book levels level.counts.items level.words.items small begins grows
     back.leads in
@@ -276,11 +280,11 @@ last_level init served book old levels level small begins grows h is =
 
 -- a dead end at the start
 pub walk-none : (init : List ℕ) (served : List ℕ → List ℕ → Option (List ℕ × List ℕ))
-    (book : List Page) (walk : Walk) → IsWalk init served book walk → walk.left ≡ 0
+    (book : List Page) (walk : SetWalk) → IsWalk init served book walk → walk.left ≡ 0
     → walk.levels.items ≡ [] → HasLegalSetOrder init served book → ⊥
 walk-none init served book walk h none levels =
     let leads : Leads served book (no_calls book) init [] walk.counts.items walk.here.words =
-    subst (λ (ls : List Level).
+    subst (λ (ls : List SetLevel).
     Leads served book (no_calls book) init ls walk.counts.items walk.here.words) levels h.leads in
     none-from_dead init served book
     (subst (λ (c : List ℕ). IsDeadEnd served book c init) (sym leads.0)
@@ -291,13 +295,13 @@ walk-none init served book walk h none levels =
 
 -- the start
 pub walk-start : (init : List ℕ) (served : List ℕ → List ℕ → Option (List ℕ × List ℕ))
-    (book : List Page) (walk : Walk) → walk.levels.items ≡ [] → walk.counts.items ≡ no_calls book
-    → walk.here.words ≡ init → walk.here.room ≡ ROOM → IsMemo walk.memo
+    (book : List Page) (walk : SetWalk) → walk.levels.items ≡ [] → walk.counts.items ≡ no_calls book
+    → walk.here.words ≡ init → walk.here.room ≡ CAPACITY → IsMemo walk.memo
     → walk.memo.callers ≡ length book → ((cut list : List ℕ) → Remembers walk.memo cut list → ⊥)
     → IsOpen served book walk.counts.items walk.here.words walk.callers.items walk.left
     → IsWalk init served book walk
 walk-start init served book walk levels counts here room memo callers none start = record {
-  leads = subst (λ (ls : List Level). Leads served book (no_calls book) init ls walk.counts.items
+  leads = subst (λ (ls : List SetLevel). Leads served book (no_calls book) init ls walk.counts.items
       walk.here.words) (sym levels) (sym counts, sym here);
   here = start;
   dead = λ cut list there. absurd (none cut list there);
@@ -312,7 +316,7 @@ pub record SetFits (counts : List ℕ) (places : List Place) : Type 0 where
   pub numbers : AllByRecursion (λ place. place.number < MAX_CALLS) places
 
 pub set_fits : (init : List ℕ) (served : List ℕ → List ℕ → Option (List ℕ × List ℕ))
-    (book : List Page) (walk : Walk) (places : List Place) (after : List ℕ) → IsSmall book
+    (book : List Page) (walk : SetWalk) (places : List Place) (after : List ℕ) → IsSmall book
     → length init ≤ 1
     → Grows served → IsWalk init served book walk
     → MayStandTogether served book walk.counts.items walk.here.words places after
@@ -353,14 +357,14 @@ part_fits book cut part wide h counts callers e f =
     subst (λ (c : List ℕ). PartFits book c callers) (sym e)
     (subst (λ (x : List ℕ). PartFits book cut x) (sym f) fits)
 
--- the list after a set fits the room
+-- the list after a set fits the capacity
 pub after_fits : (init : List ℕ) (served : List ℕ → List ℕ → Option (List ℕ × List ℕ))
-    (book : List Page) (walk : Walk) (places : List Place) (after : List ℕ) → IsSmall book
+    (book : List Page) (walk : SetWalk) (places : List Place) (after : List ℕ) → IsSmall book
     → length init ≤ 1
     → Grows served → IsWalk init served book walk
     → callers_of places ≡ picked walk.left walk.callers.items
     → MayStandTogether served book walk.counts.items walk.here.words places after
-    → length after ≤ ROOM
+    → length after ≤ CAPACITY
 after_fits init served book walk places after small begins grows h is may =
     let s = standing init served book walk.levels.items walk.counts.items walk.here.words small
     begins grows h.leads in
@@ -383,14 +387,14 @@ after_fits init served book walk places after small begins grows h is may =
     )
 
 -- what is known of a walk with a part that is to be tried
-pub record Trial (book : List Page) (walk : Walk) : Type 0 where
+pub record Trial (book : List Page) (walk : SetWalk) : Type 0 where
   pub wide : length walk.counts.items ≡ length book
   pub part : IsPart book walk.counts.items (picked walk.left walk.callers.items)
   pub few : length (picked walk.left walk.callers.items) ≤ MAX_CALLERS
-  pub words : length walk.here.words + MAX_CALLERS ≤ ROOM
+  pub words : length walk.here.words + MAX_CALLERS ≤ CAPACITY
 
 pub walk-part : (init : List ℕ) (served : List ℕ → List ℕ → Option (List ℕ × List ℕ))
-    (book : List Page) (walk : Walk) → IsSmall book → length init ≤ 1 → Grows served
+    (book : List Page) (walk : SetWalk) → IsSmall book → length init ≤ 1 → Grows served
     → IsWalk init served book walk → 1 ≤ walk.left → Trial book walk
 walk-part init served book walk small begins grows h left =
     let s = standing init served book walk.levels.items walk.counts.items walk.here.words small
@@ -410,4 +414,4 @@ walk-part init served book walk small begins grows h left =
 pub nothing_remembered : (memo : Memo) → memo.entries.items ≡ [] → (cut list : List ℕ)
     → Remembers memo cut list → ⊥
 nothing_remembered memo none cut list there =
-    none-some there.1 (sym (ap (λ (xs : List Entry). slice_get xs there.0) none) ∙ there.2)
+    none-some there.1 (sym (ap (λ (xs : List MemoEntry). slice_get xs there.0) none) ∙ there.2)

@@ -2,7 +2,7 @@
 use Rattle.std.proofs.Common.{◌≡◌, ℕ, zero, suc, ◌+◌, ◌-◌, ◌*◌, ◌^◌, ◌<◌, ◌≤◌, List, [], ◌∷◌, ◌++◌, length, sym, ap, arith}
 use Rattle.std.proofs.Math.Nat.{mul-le-mul_right}
 use Rattle.book_base.specs.declared.TheConstants.{MAX_CALLERS}
-use Rattle.set_order.specs.declared.walk.Level.{Level}
+use Rattle.set_order.specs.declared.walk.SetLevel.{SetLevel}
 use Rattle.set_order.specs.Search.{ways, weigh}
 
 ways_positive : (depth : ℕ) → 1 ≤ ways depth
@@ -25,7 +25,7 @@ lighter left fresh above below e positive few =
     omega arith
 
 -- what goes down by a number weighs less than the number
-pub weigh-push : (depth : ℕ) (levels : List Level) (level : Level) (fresh : ℕ)
+pub weigh-push : (depth : ℕ) (levels : List SetLevel) (level : SetLevel) (fresh : ℕ)
     → length levels < depth → fresh < 2 ^ MAX_CALLERS
     → weigh depth (levels ++ level ∷ []) fresh < weigh depth levels (level.left + 1)
 unfolding weigh
@@ -35,14 +35,14 @@ weigh-push depth (first ∷ levels) level fresh h few =
     omega (arith, weigh-push (depth - 1) levels level fresh (omega arith) few)
 
 -- a number fewer weighs less
-pub weigh-skip : (depth : ℕ) (levels : List Level) (left : ℕ)
+pub weigh-skip : (depth : ℕ) (levels : List SetLevel) (left : ℕ)
     → weigh depth levels left < weigh depth levels (left + 1)
 unfolding weigh
 weigh-skip depth [] left = omega (arith, ways_positive depth)
 weigh-skip depth (first ∷ levels) left = omega (arith, weigh-skip (depth - 1) levels left)
 
 -- what is left of a level weighs less than the level and what is below it
-pub weigh-pop : (depth : ℕ) (levels : List Level) (level : Level)
+pub weigh-pop : (depth : ℕ) (levels : List SetLevel) (level : SetLevel)
     → weigh depth levels level.left < weigh depth (levels ++ level ∷ []) 0
 unfolding weigh
 weigh-pop depth [] level = omega (arith, ways_positive (depth - 1))

@@ -8,11 +8,11 @@ use Rattle.book_base.specs.Book.{Page, operation_of, record_of}
 use Rattle.book_base.specs.Order.{call_at}
 use Rattle.book_base.specs.Next.{next_call, HoldsAnswered, MayComeNext}
 use Rattle.frontier_check.specs.Memo.{IsMemo, Remembers}
-use Rattle.set_order.specs.declared.walk.Level.{Level}
-use Rattle.set_order.specs.declared.walk.Walk.{Walk}
-use Rattle.set_order.specs.declared.walk.Outcome.{Outcome}
-use Rattle.set_order.specs.declared.walk.Outcome.TheVariants.{Found, NoneLeft, GoesOn}
-use Rattle.set_order.specs.declared.walk.TheConstants.{ROOM}
+use Rattle.set_order.specs.declared.walk.SetLevel.{SetLevel}
+use Rattle.set_order.specs.declared.walk.SetWalk.{SetWalk}
+use Rattle.set_order.specs.declared.walk.StepOutcome.{StepOutcome}
+use Rattle.set_order.specs.declared.walk.StepOutcome.TheVariants.{Found, NoneLeft, GoesOn}
+use Rattle.set_order.specs.declared.walk.TheConstants.{CAPACITY}
 use Rattle.set_order.specs.SetOrder.{callers_of, operations_of, replies_of, RiseFrom, IsLegalSetOrder, HasLegalSetOrder}
 
 -- the cut that holds no call of a book
@@ -61,15 +61,15 @@ picked number (i ∷ callers) =
     if number % 2 == 1 then i ∷ picked (number / 2) callers else picked (number / 2) callers
 
 -- the caller is one of these
-abbrev pub IsOneOf : List ℕ → ℕ → Type 0
-IsOneOf [] i = ⊥
-IsOneOf (j ∷ callers) i = (i ≡ j) ⊎ IsOneOf callers i
+abbrev pub IsOneCaller : List ℕ → ℕ → Type 0
+IsOneCaller [] i = ⊥
+IsOneCaller (j ∷ callers) i = (i ≡ j) ⊎ IsOneCaller callers i
 
 -- Callers whose next calls are all that may come next.
 pub record AreCandidates (book : List Page) (cut callers : List ℕ) : Type 0 where
   pub rise : RiseFrom 0 callers
   pub may_come : AllByRecursion (λ i. MayComeNext book cut (next_call cut i)) callers
-  pub all : (i : ℕ) → MayComeNext book cut (next_call cut i) → IsOneOf callers i
+  pub all : (i : ℕ) → MayComeNext book cut (next_call cut i) → IsOneCaller callers i
 
 -- No set of these callers may stand next.
 abbrev pub CannotStand : (List ℕ → List ℕ → Option (List ℕ × List ℕ)) → List Page → List ℕ → List ℕ
@@ -96,7 +96,7 @@ pub record IsOpen (served : List ℕ → List ℕ → Option (List ℕ × List �
 
 -- A level stands at a cut and a list: its set stands next there, and leads to a list.
 pub record IsLevel (served : List ℕ → List ℕ → Option (List ℕ × List ℕ)) (book : List Page)
-    (cut list : List ℕ) (level : Level) (after : List ℕ) : Type 0 where
+    (cut list : List ℕ) (level : SetLevel) (after : List ℕ) : Type 0 where
   pub counts : level.counts.items ≡ cut
   pub words : level.words.items ≡ list
   pub open_here : IsOpen served book cut list level.callers.items (level.left + 1)
@@ -105,30 +105,30 @@ pub record IsLevel (served : List ℕ → List ℕ → Option (List ℕ × List 
 
 -- The levels lead from a cut and a list to others.
 abbrev pub Leads : (List ℕ → List ℕ → Option (List ℕ × List ℕ)) → List Page → List ℕ → List ℕ
-    → List Level → List ℕ → List ℕ → Type 0
+    → List SetLevel → List ℕ → List ℕ → Type 0
 Leads served book cut list [] to_cut to_list = (cut ≡ to_cut) × (list ≡ to_list)
 Leads served book cut list (level ∷ levels) to_cut to_list =
     (after : List ℕ) × IsLevel served book cut list level after
     × Leads served book (raised_by cut level.set) after levels to_cut to_list
 
 -- all remembered pairs are dead ends
-abbrev pub AllDead : (List ℕ → List ℕ → Option (List ℕ × List ℕ)) → List Page → Walk → Type 0
+abbrev pub AllDead : (List ℕ → List ℕ → Option (List ℕ × List ℕ)) → List Page → SetWalk → Type 0
 AllDead served book walk = (cut list : List ℕ) → Remembers walk.memo cut list
     → IsDeadEnd served book cut list
 
 -- A walk from the object's first list on.
 pub record IsWalk (init : List ℕ) (served : List ℕ → List ℕ → Option (List ℕ × List ℕ))
-    (book : List Page) (walk : Walk) : Type 0 where
+    (book : List Page) (walk : SetWalk) : Type 0 where
   pub leads : Leads served book
       (no_calls book) init walk.levels.items walk.counts.items walk.here.words
   pub here : IsOpen served book walk.counts.items walk.here.words walk.callers.items walk.left
   pub dead : AllDead served book walk
   pub memo : IsMemo walk.memo
   pub callers : walk.memo.callers ≡ length book
-  pub room : walk.here.room ≡ ROOM
+  pub room : walk.here.room ≡ CAPACITY
 
 -- the sets of levels, in order
-abbrev pub order_of : List Level → List (List Place)
+abbrev pub order_of : List SetLevel → List (List Place)
 order_of levels = map (λ level. level.set) levels
 
 -- how many ways there may be of this many sets
@@ -138,18 +138,18 @@ ways (suc depth) = (2 ^ MAX_CALLERS + 2) * ways depth
 
 -- how much may be left to try, where at most this many sets follow the first cut: each number of a
 -- level weighs more than all that may come below it
-unfoldable pub weigh : ℕ → List Level → ℕ → ℕ
+unfoldable pub weigh : ℕ → List SetLevel → ℕ → ℕ
 weigh depth [] left = (left + 1) * ways depth
 weigh depth (level ∷ levels) left = (level.left + 1) * ways depth + weigh (depth - 1) levels left
 
 -- the weight of a walk
-abbrev pub weight : Walk → ℕ
-weight walk = weigh ROOM walk.levels.items walk.left
+abbrev pub weight : SetWalk → ℕ
+weight walk = weigh CAPACITY walk.levels.items walk.left
 
 -- What came of a step is so: a legal set order is found, there is none, or the walk goes on with
 -- less weight than before.
 abbrev pub IsRightOutcome : List ℕ → (List ℕ → List ℕ → Option (List ℕ × List ℕ)) → List Page → ℕ
-    → Walk → Outcome → Type 0
+    → SetWalk → StepOutcome → Type 0
 IsRightOutcome init served book before walk Found =
     IsLegalSetOrder init served book (order_of walk.levels.items)
 IsRightOutcome init served book before walk NoneLeft = HasLegalSetOrder init served book → ⊥

@@ -9,7 +9,7 @@ ghost use Rattle.set_order.specs.Search.{raised_by, picked, MayStandTogether, Ar
 
 use crate::place_set::PlaceSet;
 use crate::set_object::SetObject;
-use crate::walk::{Level, Outcome, ROOM, Walk, greatest, part_of, raised, sets};
+use crate::walk::{CAPACITY, SetLevel, SetWalk, StepOutcome, greatest, part_of, raised, sets};
 use book_base::{Book, Call, MAX_CALLERS, NoMemory, OpWord, Place, State};
 use frontier_check::{Memo, load};
 use std::alloc::Global;
@@ -46,13 +46,13 @@ impl<O: SetObject> SetSearch<'_, O> {
         if self.holds_answered(&counts) {
             return Ok(Some(Vec::new(self.alloc)));
         }
-        let mut here = State::with_room(self.alloc, ROOM)?;
-        let mut spare = State::with_room(self.alloc, ROOM)?;
+        let mut here = State::with_room(self.alloc, CAPACITY)?;
+        let mut spare = State::with_room(self.alloc, CAPACITY)?;
         let mut replies = State::with_room(self.alloc, MAX_CALLERS as u64)?;
         self.object.reset(&mut here);
         let candidates = self.candidates(&counts)?;
         let left = greatest(&candidates);
-        let mut walk = Walk {
+        let mut walk = SetWalk {
             levels: Vec::new(self.alloc),
             counts,
             here,
@@ -66,7 +66,7 @@ impl<O: SetObject> SetSearch<'_, O> {
     // Goes on with a walk until it has found a legal set order, or all is tried.
     fn go_on(
         &self,
-        walk: &mut Walk,
+        walk: &mut SetWalk,
         spare: &mut State,
         replies: &mut State,
     ) -> Result<Option<Vec<PlaceSet>>, NoMemory>
@@ -74,7 +74,7 @@ impl<O: SetObject> SetSearch<'_, O> {
         requires small { IsSmall self.now.book.now }
         requires walk { IsWalk (O.init self.now.object.now)
             (O.served self.now.object.now) self.now.book.now walk.old }
-        requires spare { spare.old.room ≡ ROOM }
+        requires spare { spare.old.room ≡ CAPACITY }
         requires replies { replies.old.room ≡ MAX_CALLERS }
         ensures found { IfOk result
             (λ found. IfSome found (λ order. IsLegalSetOrder (O.init self.now.object.now)
@@ -84,9 +84,9 @@ impl<O: SetObject> SetSearch<'_, O> {
     {
         'steps: loop {
             match self.advance(walk, spare, replies)? {
-                Outcome::Found => return Ok(Some(sets(self.alloc, &walk.levels)?)),
-                Outcome::NoneLeft => return Ok(None),
-                Outcome::GoesOn => {}
+                StepOutcome::Found => return Ok(Some(sets(self.alloc, &walk.levels)?)),
+                StepOutcome::NoneLeft => return Ok(None),
+                StepOutcome::GoesOn => {}
             }
         }
     }
@@ -95,17 +95,17 @@ impl<O: SetObject> SetSearch<'_, O> {
     // dead end.
     fn advance(
         &self,
-        walk: &mut Walk,
+        walk: &mut SetWalk,
         spare: &mut State,
         replies: &mut State,
-    ) -> Result<Outcome, NoMemory>
+    ) -> Result<StepOutcome, NoMemory>
         requires valid { IsValid self.now.book.now }
         requires small { IsSmall self.now.book.now }
         requires walk { IsWalk (O.init self.now.object.now)
             (O.served self.now.object.now) self.now.book.now walk.old }
-        requires spare { spare.old.room ≡ ROOM }
+        requires spare { spare.old.room ≡ CAPACITY }
         requires replies { replies.old.room ≡ MAX_CALLERS }
-        ensures spare { spare.new.room ≡ ROOM }
+        ensures spare { spare.new.room ≡ CAPACITY }
         ensures replies { replies.new.room ≡ MAX_CALLERS }
         ensures outcome { IfOk result (IsRightOutcome (O.init self.now.object.now)
             (O.served self.now.object.now) self.now.book.now (weight walk.old) walk.new) }
@@ -118,7 +118,7 @@ impl<O: SetObject> SetSearch<'_, O> {
         match self.next_set(walk, spare, replies)? {
             None => {
                 walk.left -= 1;
-                Ok(Outcome::GoesOn)
+                Ok(StepOutcome::GoesOn)
             }
             Some(set) => self.enter(walk, spare, set),
         }
@@ -128,7 +128,7 @@ impl<O: SetObject> SetSearch<'_, O> {
     // spare state has the list after it then.
     fn next_set(
         &self,
-        walk: &Walk,
+        walk: &SetWalk,
         spare: &mut State,
         replies: &mut State,
     ) -> Result<Option<PlaceSet>, NoMemory>
@@ -136,9 +136,9 @@ impl<O: SetObject> SetSearch<'_, O> {
         requires walk { IsWalk (O.init self.now.object.now)
             (O.served self.now.object.now) self.now.book.now walk.now }
         requires left { 1 ≤ walk.now.left }
-        requires spare { spare.old.room ≡ ROOM }
+        requires spare { spare.old.room ≡ CAPACITY }
         requires replies { replies.old.room ≡ MAX_CALLERS }
-        ensures spare { spare.new.room ≡ ROOM }
+        ensures spare { spare.new.room ≡ CAPACITY }
         ensures replies { replies.new.room ≡ MAX_CALLERS }
         ensures callers { IfOk result (λ found.
             IfSome found (λ set. callers_of set ≡ picked walk.now.left walk.now.callers.items)) }
@@ -218,13 +218,18 @@ impl<O: SetObject> SetSearch<'_, O> {
 
     // Puts a set next, unless that leads to a dead end: a remembered one, or one where an answered
     // call is lost. The spare state has the list after it.
-    fn enter(&self, walk: &mut Walk, spare: &State, set: PlaceSet) -> Result<Outcome, NoMemory>
+    fn enter(
+        &self,
+        walk: &mut SetWalk,
+        spare: &State,
+        set: PlaceSet,
+    ) -> Result<StepOutcome, NoMemory>
         requires valid { IsValid self.now.book.now }
         requires small { IsSmall self.now.book.now }
         requires walk { IsWalk (O.init self.now.object.now)
             (O.served self.now.object.now) self.now.book.now walk.old }
         requires left { 1 ≤ walk.old.left }
-        requires spare { spare.now.room ≡ ROOM }
+        requires spare { spare.now.room ≡ CAPACITY }
         requires callers { callers_of set ≡ picked walk.old.left walk.old.callers.items }
         requires stands { MayStandTogether (O.served self.now.object.now) self.now.book.now
             walk.old.counts.items walk.old.here.words set spare.now.words }
@@ -234,11 +239,11 @@ impl<O: SetObject> SetSearch<'_, O> {
         let counts = raised(self.alloc, &walk.counts, set.places())?;
         if walk.memo.remembers(&counts, spare.words()) {
             walk.left -= 1;
-            return Ok(Outcome::GoesOn);
+            return Ok(StepOutcome::GoesOn);
         }
         if self.is_lost(&counts, spare) {
             walk.left -= 1;
-            return Ok(Outcome::GoesOn);
+            return Ok(StepOutcome::GoesOn);
         }
         self.descend(walk, spare, set, counts)
     }
@@ -246,17 +251,17 @@ impl<O: SetObject> SetSearch<'_, O> {
     // Puts a set next, with the counts and the list after it.
     fn descend(
         &self,
-        walk: &mut Walk,
+        walk: &mut SetWalk,
         spare: &State,
         set: PlaceSet,
         counts: Vec<u16>,
-    ) -> Result<Outcome, NoMemory>
+    ) -> Result<StepOutcome, NoMemory>
         requires valid { IsValid self.now.book.now }
         requires small { IsSmall self.now.book.now }
         requires walk { IsWalk (O.init self.now.object.now)
             (O.served self.now.object.now) self.now.book.now walk.old }
         requires left { 1 ≤ walk.old.left }
-        requires spare { spare.now.room ≡ ROOM }
+        requires spare { spare.now.room ≡ CAPACITY }
         requires callers { callers_of set ≡ picked walk.old.left walk.old.callers.items }
         requires stands { MayStandTogether (O.served self.now.object.now) self.now.book.now
             walk.old.counts.items walk.old.here.words set spare.now.words }
@@ -268,7 +273,7 @@ impl<O: SetObject> SetSearch<'_, O> {
         let callers = self.candidates(&counts)?;
         let words = Vec::from_slice(self.alloc, walk.here.words())?;
         let left = mem::replace(&mut walk.left, greatest(&callers)) - 1;
-        let level = Level {
+        let level = SetLevel {
             counts: mem::replace(&mut walk.counts, counts),
             words,
             set,
@@ -278,14 +283,14 @@ impl<O: SetObject> SetSearch<'_, O> {
         walk.here.copy_from(spare);
         walk.levels.push(level)?;
         if ended {
-            Ok(Outcome::Found)
+            Ok(StepOutcome::Found)
         } else {
-            Ok(Outcome::GoesOn)
+            Ok(StepOutcome::GoesOn)
         }
     }
 
     // Leaves a dead end: goes back by one level.
-    fn retreat(&self, walk: &mut Walk) -> Outcome
+    fn retreat(&self, walk: &mut SetWalk) -> StepOutcome
         requires small { IsSmall self.now.book.now }
         requires walk { IsWalk (O.init self.now.object.now)
             (O.served self.now.object.now) self.now.book.now walk.old }
@@ -294,9 +299,9 @@ impl<O: SetObject> SetSearch<'_, O> {
             (O.served self.now.object.now) self.now.book.now (weight walk.old) walk.new result }
     {
         let Some(level) = walk.levels.pop() else {
-            return Outcome::NoneLeft;
+            return StepOutcome::NoneLeft;
         };
-        let Level {
+        let SetLevel {
             counts,
             words,
             set: _,
@@ -307,7 +312,7 @@ impl<O: SetObject> SetSearch<'_, O> {
         load(&mut walk.here, &words);
         walk.callers = callers;
         walk.left = left;
-        Outcome::GoesOn
+        StepOutcome::GoesOn
     }
 
     // Whether the cut with these counts holds all answered calls.

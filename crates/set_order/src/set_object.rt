@@ -13,7 +13,7 @@ pub trait SetObject {
     /// may not be served together.
     ghost served: { Self → List ℕ → List ℕ → Option (List ℕ × List ℕ) };
 
-    /// Makes the list the one that the object begins with. The room stays.
+    /// Makes the list the one that the object begins with. The capacity stays.
     fn reset(&self, state: &mut State)
         // The state has room for one word.
         requires { 1 ≤ state.old.room }
@@ -21,7 +21,7 @@ pub trait SetObject {
 
     /// Serves operations at once: the list becomes the next one, and `replies` the reply to each of
     /// them in turn. Where they may not be served together the answer is `false`, and the state
-    /// stays. Both rooms stay, and no memory is taken.
+    /// stays. Both capacities stay, and no memory is taken.
     fn serve(&self, state: &mut State, ops: &[OpWord], replies: &mut State) -> bool
         // There is at least one operation.
         requires some { 1 ≤ length ops.now }
@@ -37,9 +37,9 @@ pub trait SetObject {
         ensures refused { IsFalse result ↔ (served self.now state.old.words ops.now ≡ None) }
         // The state stays where the answer is `false`.
         ensures unchanged { IsFalse result → state.new ≡ state.old }
-        // The room of the state stays.
+        // The capacity of the state stays.
         ensures room { state.new.room ≡ state.old.room }
-        // The room of the replies stays.
+        // The capacity of the replies stays.
         ensures replies { replies.new.room ≡ replies.old.room };
 
     /// Whether an operation may still get this reply, alone or beside others, at this list or after

@@ -8,13 +8,13 @@ use book_base::{MAX_CALLERS, MAX_CALLS, NoMemory, Place, State};
 use frontier_check::Memo;
 use std::alloc::Global;
 
-/// Room for as many words as a book has calls, one more, and those of one set.
-pub const ROOM: u64 = MAX_CALLERS as u64 * MAX_CALLS + 1 + MAX_CALLERS as u64;
+/// A capacity of as many words as a book has calls, one more, and those of one set.
+pub const CAPACITY: u64 = MAX_CALLERS as u64 * MAX_CALLS + 1 + MAX_CALLERS as u64;
 
 /// A cut and a list on the way to where a search stands: the counts, the list's words, the set that
 /// was put next there, the candidates, and up to which number their parts are still to be tried.
 #[derive(Drop)]
-pub struct Level {
+pub struct SetLevel {
     pub counts: Vec<u16>,
     pub words: Vec<u64>,
     pub set: PlaceSet,
@@ -26,8 +26,8 @@ pub struct Level {
 /// candidates for the next set, up to which number their parts are still to be tried, and the dead
 /// ends that were left.
 #[derive(Drop)]
-pub struct Walk {
-    pub levels: Vec<Level>,
+pub struct SetWalk {
+    pub levels: Vec<SetLevel>,
     pub counts: Vec<u16>,
     pub here: State,
     pub callers: Vec<u32>,
@@ -37,7 +37,7 @@ pub struct Walk {
 
 /// What came of one more step of a search.
 #[derive(Drop)]
-pub enum Outcome {
+pub enum StepOutcome {
     /// The levels have the sets of a legal set order.
     Found,
     /// There is none.
@@ -47,7 +47,7 @@ pub enum Outcome {
 }
 
 /// The sets of levels, in order.
-pub fn sets(alloc: Global, levels: &[Level]) -> Result<Vec<PlaceSet>, NoMemory>
+pub fn sets(alloc: Global, levels: &[SetLevel]) -> Result<Vec<PlaceSet>, NoMemory>
     ensures { IfOk result (λ order. order.items ≡ order_of levels.now) }
 {
     let mut order = Vec::with_capacity(alloc, levels.len())?;

@@ -24,8 +24,8 @@ pub record IsLongestOf (seats : List LogSeat) (longest : List Entry) : Type 0 wh
   pub stands : Contains seats from
   pub is : log_of from ≡ longest
 
--- Of the seats of n callers, those after some prefix came back: a view has their hands, and this is
--- the longest of their logs.
+-- A suffix of the seats of n callers came back: a view has their hands, and this is the longest of
+-- their logs.
 pub record IsClosing (n : ℕ) (all rest : List LogSeat) (v : View)
     (longest : List Entry) : Type 0 where
   pub gathered : List LogSeat

@@ -7,8 +7,8 @@ use Rattle.std.proofs.lemmas.List.Elements.{All-cons, All-nil, All-weaker}
 use Rattle.shared_log.specs.Holders.{has, only}
 use Rattle.shared_log.proofs.Holding.{only_here, length-only, with_here, with_else}
 
--- Of the seats of n callers, those after some prefix came back: a view has what each knows, and
--- nothing of the others.
+-- A suffix of the seats of n callers came back: a view has what each of them knows, and nothing of
+-- the others.
 pub record IsComing {S A : Type 0} (caller : S → ℕ) (known : S → A) (n : ℕ)
     (all rest gathered : List S) (v : List (Option A)) : Type 0 where
   pub split : all ≡ rest ++ gathered

@@ -3,7 +3,7 @@ ghost use Rattle.std.specs.Prelude.{◌≡◌, ◌+◌, ◌*◌, ◌<◌, ◌≤
 ghost use Rattle.book_base.specs.declared.TheConstants.{MAX_CALLERS, MAX_CALLS};
 ghost use Rattle.shared_log.specs.Words as words;
 
-/// How many calls all callers make at most: this many places the log has.
+/// How many calls all callers make at most, and so how many places the log has.
 pub fn place_count(n: u32, cap: u64) -> usize
     requires few { n ≤ MAX_CALLERS }
     requires short { cap ≤ MAX_CALLS }

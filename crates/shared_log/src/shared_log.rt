@@ -31,7 +31,7 @@ pub struct SharedLog {
     ghost few: { (1 ≤ callers) × (callers ≤ MAX_CALLERS) × (1 ≤ cap) × (cap ≤ MAX_CALLS) },
 }
 
-// An empty log with room for all calls, for each of some callers.
+// An empty log with capacity for all calls, for each of some callers.
 fn empty_logs(alloc: Global, n: u32, places: usize) -> Result<Vec<Vec<Entry>>, AllocError>
     ensures count { IfOk result (λ logs. vec_len logs ≡ n) }
     ensures empty { IfOk result

@@ -4,7 +4,7 @@ use Rattle.shared_words.specs.declared.shared_words.SharedWords.{SharedWords}
 use Rattle.shared_words.specs.declared.word_seat.WordSeat.{WordSeat}
 use Rattle.shared_words.specs.declared.words_pass.WordsPass.{WordsPass}
 use Rattle.shared_words.specs.Deeds.{Deed, AreCalls}
-use Rattle.shared_words.specs.Passes.{caller_of_seat, deeds_of, seat_in, caller_of_pass, pairs_in, cap_of_pass, room_of_pass, IsSeatOf, IsPassOf}
+use Rattle.shared_words.specs.Passes.{caller_of_seat, deeds_of, seat_in, caller_of_pass, pairs_in, cap_of_pass, capacity_of_pass, IsSeatOf, IsPassOf}
 
 -- one more call at the end
 pub AreCalls-push : (call : ℕ → ℕ → List Deed → List Deed → Type 0) (pairs : List (ℕ × ℕ))
@@ -23,7 +23,7 @@ pub called : {U : Type 0} (may : ℕ → Deed → Type 0)
     → IsPassOf may call w p → IsSeatOf may w s → caller_of_seat s ≡ caller_of_pass p
     → call (caller_of_pass p) op reply (deeds_of p.seat) (deeds_of s)
     → pairs_in new ≡ pairs_in p ++ (op, reply) ∷ [] → seat_in new ≡ s
-    → cap_of_pass new ≡ cap_of_pass p → room_of_pass p ≤ room_of_pass new
+    → cap_of_pass new ≡ cap_of_pass p → capacity_of_pass p ≤ capacity_of_pass new
     → IsPassOf may call w new
 called may call w p new s op reply own seat who one noted same cap more =
     let room = own.room in

@@ -2,7 +2,7 @@
 use Rattle.std.proofs.Common.{◌≡◌, ℕ, ◌<◌, List, [], ◌∷◌, ◌++◌, length, map, get_or, slice_set, Some, None, refl, sym, ap, ◌∙◌, subst}
 use Rattle.std.specs.List.{All, range_with_len}
 use Rattle.std.proofs.lemmas.List.{nil_from_length}
-use Rattle.std.proofs.lemmas.List.Elements.{All-nil, All-head, All-weaker}
+use Rattle.std.proofs.lemmas.List.Elements.{All-nil, All-head, All-map, All-weaker}
 use mathlib.Core.Option.{some}
 use mathlib.Core.List.{IsPrefix}
 use lib.ListN.{get_elem?}
@@ -14,11 +14,12 @@ use Rattle.shared_words.specs.declared.shared_words.SharedWords.{SharedWords}
 use Rattle.shared_words.specs.declared.words_pass.WordsPass.{WordsPass}
 use Rattle.shared_words.specs.Deeds.{Deed, AreCalls}
 use Rattle.shared_words.specs.Histories.{Access, View, deeds_by, IsLawful}
-use Rattle.shared_words.specs.Passes.{seat_in, deeds_of, caller_of_pass, history_in, pairs_in, IsSeatOf, IsPassOf, IsOneHistory, AreOfOneHistory}
+use Rattle.shared_words.specs.Passes.{seat_in, deeds_of, caller_of_pass, history_in, pairs_in, transcript_of, IsSeatOf, IsPassOf, IsOneHistory}
+use Rattle.shared_words.specs.Transcripts.{Transcript, AreOfOneHistory}
 use Rattle.shared_words.specs.Rule.{HaveOneHistory, Ruled}
 use Rattle.shared_words.proofs.Histories.{lawful_none}
 
--- Of the passes of n callers, those after some prefix came back.
+-- A suffix of the passes of n callers came back.
 pub record IsClosing (n : ℕ) (all rest : List WordsPass) (v : View) : Type 0 where
   pub gathered : List WordsPass
   pub coming : IsComing caller_of_pass history_in n all rest gathered v
@@ -133,20 +134,31 @@ both : (P Q R : WordsPass → Type 0) → ((p : WordsPass) → P p → Q p → R
     → (passes : List WordsPass) → All P passes → All Q passes → All R passes
 both P Q R gives passes ps qs k d low = gives (get_or passes k d) (ps k d low) (qs k d low)
 
+-- the transcripts are of the passes' callers
+callers_told : (passes : List WordsPass)
+    → map (λ (t : Transcript). t.caller) (map transcript_of passes) ≡ map caller_of_pass passes
+callers_told [] = refl
+callers_told (p ∷ passes) = ap (λ (ids : List ℕ). caller_of_pass p ∷ ids) (callers_told passes)
+
 pub of_one_history : {U : Type 0} (may : ℕ → Deed → Type 0)
     (call : ℕ → ℕ → ℕ → List Deed → List Deed → Type 0) (w : SharedWords U) (n : ℕ)
     (history : List Access) (passes : List WordsPass)
+    → map caller_of_pass passes ≡ range_with_len 0 n
     → All (IsPassOf may call w) passes → IsOneHistory may n history passes
-    → AreOfOneHistory may call n history passes
-of_one_history may call w n history passes own one =
+    → AreOfOneHistory may call n history (map transcript_of passes)
+of_one_history may call w n history passes all own one =
     record {
+      all = callers_told passes ∙ all;
       callers = one.callers;
       lawful = one.lawful;
       calls =
-          both (IsPassOf may call w) (λ p. deeds_by (caller_of_pass p) history ≡ deeds_of p.seat)
+          All-map
+          (λ (t : Transcript). AreCalls (call t.caller) t.pairs [] (deeds_by t.caller history))
+          transcript_of passes
+          (both (IsPassOf may call w) (λ p. deeds_by (caller_of_pass p) history ≡ deeds_of p.seat)
           (λ p.
           AreCalls (call (caller_of_pass p)) (pairs_in p) [] (deeds_by (caller_of_pass p) history))
-          (λ p is same. calls_from call history p is.calls same) passes own one.deeds;
+          (λ p is same. calls_from call history p is.calls same) passes own one.deeds);
     }
 
 -- the seats of passes that are these words'

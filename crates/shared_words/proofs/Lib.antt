@@ -5,3 +5,4 @@ pub mod Parting
 pub mod Dealing
 pub mod Closing
 pub mod Calling
+pub mod Worked

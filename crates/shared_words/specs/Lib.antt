@@ -1,4 +1,6 @@
 pub mod Deeds
 pub mod Histories
+pub mod Transcripts
 pub mod Rule
 pub mod Passes
+pub mod Cases

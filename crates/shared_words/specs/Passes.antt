@@ -7,6 +7,7 @@ use Rattle.shared_words.specs.declared.word_seat.WordSeat.{WordSeat}
 use Rattle.shared_words.specs.declared.words_pass.WordsPass.{WordsPass}
 use Rattle.shared_words.specs.Deeds.{Deed, AreCalls}
 use Rattle.shared_words.specs.Histories.{Access, known, deeds_by, IsLawful}
+use Rattle.shared_words.specs.Transcripts.{Transcript}
 
 -- The caller of a seat, the history up to the last access of this caller, and its deeds.
 abbrev pub caller_of_seat : WordSeat → ℕ
@@ -36,11 +37,15 @@ made_with p = length (pairs_in p)
 abbrev pub cap_of_pass : WordsPass → ℕ
 cap_of_pass p = p.cap
 
-abbrev pub room_of_pass : WordsPass → ℕ
-room_of_pass p = vec_capacity p.pairs
+abbrev pub capacity_of_pass : WordsPass → ℕ
+capacity_of_pass p = vec_capacity p.pairs
 
 abbrev pub history_in : WordsPass → List Access
 history_in p = history_of p.seat
+
+-- What a pass tells of its calls.
+abbrev pub transcript_of : WordsPass → Transcript
+transcript_of p = record { caller = caller_of_pass p; pairs = pairs_in p }
 
 -- The pass has made no call, and may make this many.
 pub record IsFreshPass (calls : ℕ) (p : WordsPass) : Type 0 where
@@ -56,17 +61,6 @@ pub record IsOneHistory (may : ℕ → Deed → Type 0) (n : ℕ) (history : Lis
   pub lawful : IsLawful may history
   pub prefixes : All (λ p. IsPrefix (history_in p) history) passes
   pub deeds : All (λ p. deeds_by (caller_of_pass p) history ≡ deeds_of p.seat) passes
-
--- The calls that some passes tell are of one history of all accesses of n callers: it is lawful,
--- and the pairs of each pass are calls of which each is as given, made of just the deeds that its
--- caller has there.
-pub record AreOfOneHistory (may : ℕ → Deed → Type 0)
-    (call : ℕ → ℕ → ℕ → List Deed → List Deed → Type 0) (n : ℕ) (history : List Access)
-    (passes : List WordsPass) : Type 0 where
-  pub callers : All (λ a. a.caller < n) history
-  pub lawful : IsLawful may history
-  pub calls : All (λ p. AreCalls (call (caller_of_pass p))
-      (pairs_in p) [] (deeds_by (caller_of_pass p) history)) passes
 
 module _ {U : Type 0} where
   -- How many callers some words have, how many calls each may make, and how many words there are.
@@ -91,7 +85,7 @@ module _ {U : Type 0} where
       (w : SharedWords U) (p : WordsPass) : Type 0 where
     pub seat : IsSeatOf may w p.seat
     pub cap : cap_of_pass p ≡ cap_of w
-    pub room : cap_of w ≤ room_of_pass p
+    pub room : cap_of w ≤ capacity_of_pass p
     pub calls : AreCalls (call (caller_of_pass p)) (pairs_in p) [] (deeds_of p.seat)
 
   -- It is new: it knows of no access.
@@ -99,6 +93,6 @@ module _ {U : Type 0} where
     pub table : p.seat.seat.table_id ≡ w.table.shared.table_id
     pub caller : caller_of_pass p < callers_of w
     pub cap : cap_of_pass p ≡ cap_of w
-    pub room : cap_of w ≤ room_of_pass p
+    pub room : cap_of w ≤ capacity_of_pass p
     pub pairs : pairs_in p ≡ []
     pub history : history_in p ≡ []

@@ -31,7 +31,7 @@ pub struct SharedWords<U: Usage> {
     ghost few: { (callers ≤ MAX_CALLERS) × (cap ≤ MAX_CALLS) },
 }
 
-// An empty list of pairs with room for all calls, for each of some callers.
+// An empty list of pairs with capacity for all calls, for each of some callers.
 fn empty_pairs(alloc: Global, n: u32, cap: u64) -> Result<Vec<Vec<(OpWord, u64)>>, AllocError>
     requires { cap ≤ MAX_CALLS }
     ensures count { IfOk result (λ all. vec_len all ≡ n) }
@@ -206,7 +206,7 @@ impl<U: Usage> SharedWords<U> {
         passes
     }
 
-    /// So many words for `n` callers with `cap` calls each, and a pass for each caller, in order.
+    /// This many words for `n` callers with `cap` calls each, and a pass for each caller, in order.
     pub fn open(
         alloc: Global,
         n: u32,

@@ -13,7 +13,7 @@ pub struct WordsPass {
 }
 
 impl WordsPass {
-    ghost use Rattle.shared_words.specs.Passes.{seat_in, cap_of_pass, made_with, pairs_in, room_of_pass};
+    ghost use Rattle.shared_words.specs.Passes.{seat_in, cap_of_pass, made_with, pairs_in, capacity_of_pass};
 
     /// The caller's calls so far, each as its operation and its reply.
     pub fn pairs(&self) -> &[(OpWord, u64)]
@@ -26,14 +26,14 @@ impl WordsPass {
     /// A call is noted with its reply. It takes no memory.
     pub fn note(&mut self, op: OpWord, reply: u64)
         // The pass has memory for one call more.
-        requires { made_with self.old < room_of_pass self.old }
+        requires { made_with self.old < capacity_of_pass self.old }
         // The calls are those before and this one.
         ensures pairs { pairs_in self.new ≡ pairs_in self.old ++ (op, reply) ∷ [] }
         // The seat is as it was.
         ensures seat { seat_in self.new ≡ seat_in self.old }
         // The cap is as it was, and there is no less memory.
         ensures same { (cap_of_pass self.new ≡ cap_of_pass self.old)
-            × (room_of_pass self.old ≤ room_of_pass self.new) }
+            × (capacity_of_pass self.old ≤ capacity_of_pass self.new) }
     {
         self.pairs.push((op, reply)).unwrap();
     }

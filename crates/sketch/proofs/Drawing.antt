@@ -4,7 +4,7 @@ use Rattle.std.proofs.lemmas.Bool.{cases_eq, cases_lt}
 use Rattle.std.proofs.lemmas.List.{length-set, length-map, length-replicate}
 use Rattle.std.proofs.lemmas.List.Sums.{sum_by-set}
 use Rattle.std.proofs.lemmas.Option.{same_Some, slice_get_within, none-some}
-use Rattle.list_laws.proofs.Ordered.{IsOrderedBy-push, Stands-push_cases, Stands-push_old, Stands-push_new}
+use Rattle.list_laws.proofs.Ordered.{IsOrderedBy-push, IsMember-push_cases, IsMember-push_old, IsMember-push_new}
 use Rattle.list_laws.proofs.Places.{get_or-replicate_default}
 use Rattle.list_laws.proofs.Totals.{sum-within}
 use Rattle.book_base.specs.declared.call.Call.{Call}
@@ -160,16 +160,16 @@ sketch_more book drawn events x part next h =
     let there = inside book drawn part x next.is_event in
     record {
       whole = λ (e : Event). (
-        λ stands. elim (Stands-push_cases events x e stands) [
+        λ stands. elim (IsMember-push_cases events x e stands) [
           | inl old ↦ drawn_old drawn x e there ((h.whole e).0 old)
           | inr new ↦
               subst (IsDrawn (with_event drawn x)) (sym new) (drawn_new drawn x there next.follows)
         ],
         λ (is : IsDrawn (with_event drawn x) e).
             elim (drawn_cases drawn x e there next.follows is) [
-              | inl old ↦ Stands-push_old events x e ((h.whole e).1 old)
+              | inl old ↦ IsMember-push_old events x e ((h.whole e).1 old)
               | inr new ↦ subst (λ (y : Event). (k : ℕ) × (slice_get (events ++ x ∷ []) k ≡ Some y))
-                  (sym new) (Stands-push_new events x)
+                  (sym new) (IsMember-push_new events x)
             ],
       );
       ordered = IsOrderedBy-push (ComesBefore book) events x h.ordered

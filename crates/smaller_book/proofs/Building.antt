@@ -198,7 +198,7 @@ operation_of-with_operation_other book call other op apart =
     ap (λ (q : Page). slice_get q.operations other.number)
     (page_of-set_other book call.caller other.caller p apart)
 
--- The operations of a caller's first so many calls are put in.
+-- The operations of this many first calls of a caller are put in.
 pub record PutsTo (book : List Page) (numbers : List ℕ) (caller : ℕ) (n : ℕ)
     (old new : List Page) : Type 0 where
   pub callers : length new ≡ length old

@@ -3,17 +3,17 @@ use Rattle.std.proofs.Common.{◌≡◌, ℕ, ◌∙◌, Bool, true, false, ◌=
 use Rattle.std.proofs.lemmas.Bool.{cases_Bool, cond-false, true≢false, and_parts, eqb-true, eq-eqb}
 use Rattle.seq_objects.specs.declared.kind.Kind.TheVariants as kinds
 use Rattle.seq_objects.specs.Words as words
-use Rattle.seq_objects.specs.Words.{Entry, entries, entry_of, is_known_word, is_operation_of, code_of, has_arguments, argument_of}
+use Rattle.seq_objects.specs.Words.{OperationEntry, entries, entry_of, is_known_word, is_operation_of, code_of, has_arguments, argument_of}
 use Rattle.smaller_book.specs.Keys.{value_shown, value_moved, key_by_kind}
 
 -- the code of an operation
-has_code : (word : ℕ) (entry : Entry) → is_operation_of word entry ≡ true
+has_code : (word : ℕ) (entry : OperationEntry) → is_operation_of word entry ≡ true
     → code_of word ≡ entry.code
 has_code word entry is = eqb-true (code_of word) entry.code
     (and_parts (code_of word == entry.code) (has_arguments entry.arity word) is).0
 
 -- a word of two entries is of the first one where it has its code
-of_two : (word : ℕ) (put taking : Entry) → put.code ≡ 1 → taking.code ≡ 2
+of_two : (word : ℕ) (put taking : OperationEntry) → put.code ≡ 1 → taking.code ≡ 2
     → is_some (find (is_operation_of word) (put ∷ taking ∷ [])) ≡ true
     → (code_of word == 1) ≡ is_operation_of word put
 of_two word put taking one two known = elim (cases_Bool (is_operation_of word put)) [
@@ -33,7 +33,7 @@ of_two word put taking one two known = elim (cases_Bool (is_operation_of word pu
 ]
 
 -- what is read by the code is what the entry says
-moved_by_code : (word : ℕ) (reply : Option ℕ) (put : Entry)
+moved_by_code : (word : ℕ) (reply : Option ℕ) (put : OperationEntry)
     → (code_of word == 1) ≡ is_operation_of word put
     → (if code_of word == 1 then Some (argument_of word) else value_shown reply)
     ≡ value_moved put word reply

@@ -10,7 +10,7 @@ use Rattle.book_laws.proofs.LegalOrder.{answer_stands}
 use Rattle.seq_objects.specs.declared.kind.Kind.{Kind}
 use Rattle.seq_objects.specs.declared.kind.Kind.TheVariants as kinds
 use Rattle.seq_objects.specs.Words as words
-use Rattle.seq_objects.specs.Words.{Entry, is_known_word, is_operation_of, argument_of}
+use Rattle.seq_objects.specs.Words.{OperationEntry, is_known_word, is_operation_of, argument_of}
 use Rattle.seq_objects.specs.Objects.{kind_next}
 use Rattle.smaller_book.specs.Keys.{value_shown, value_moved, key_by_kind, key_of_step, key_of_call, is_among, all_without, items_without, HasOneWithoutKeys}
 use Rattle.smaller_book.proofs.Following.{word_at, AgreesAt, IsFollowed, has_one_in_part}
@@ -18,7 +18,7 @@ use Rattle.smaller_book.proofs.KeySteps.{Restricts, keeps_keys}
 use Rattle.smaller_book.proofs.KeyRows.{named_stays, unnamed_goes}
 
 -- A key that an operation is about without a reply is its key with each reply.
-moved_with : (keys : ℕ → Bool) (put : Entry) (word reply : ℕ)
+moved_with : (keys : ℕ → Bool) (put : OperationEntry) (word reply : ℕ)
     → is_among keys (value_moved put word None) ≡ true
     → is_among keys (value_moved put word (Some reply)) ≡ true
 moved_with keys put word reply among = elim (cases_Bool (is_operation_of word put)) [

@@ -10,7 +10,7 @@ use Rattle.history_rules.specs.Container.{one_if, times}
 use Rattle.seq_objects.specs.declared.kind.Kind.{Kind}
 use Rattle.seq_objects.specs.declared.kind.Kind.TheVariants as kinds
 use Rattle.seq_objects.specs.Words as words
-use Rattle.seq_objects.specs.Words.{Entry, entries, entry_of, is_known_word, is_operation_of, code_of, has_arguments, argument_of, extra_of}
+use Rattle.seq_objects.specs.Words.{OperationEntry, entries, entry_of, is_known_word, is_operation_of, code_of, has_arguments, argument_of, extra_of}
 use Rattle.seq_objects.specs.Replies.{reply_done, reply_none, reply_value, reply_bad, reply_no, reply_yes}
 use Rattle.seq_objects.specs.Items.{first_taken, last_taken, inserted, place_of, place_for}
 use Rattle.seq_objects.specs.QueueSteps.{queue_after}
@@ -70,7 +70,7 @@ argument_value word = omega arith
 
 -- How a container of values makes its steps: an operation puts an item into the list, and another
 -- one takes one.
-record IsContainer (kind : Kind) (put taking : Entry) (put_into : List ℕ → ℕ → List ℕ)
+record IsContainer (kind : Kind) (put taking : OperationEntry) (put_into : List ℕ → ℕ → List ℕ)
     (taken : List ℕ → List ℕ × ℕ) : Type 0 where
   puts : (list : List ℕ) (word : ℕ) → is_operation_of word put ≡ true
       → kind_next kind list word ≡ (put_into list (argument_of word), reply_done)
@@ -109,7 +109,7 @@ stays keys item = not (keys (value_of item))
 abbrev pub IsRest : (ℕ → Bool) → (List ℕ → Type 0) → List ℕ → List ℕ → Type 0
 IsRest keys formed whole few = formed whole × (few ≡ filter (stays keys) whole)
 
-module _ (kind : Kind) (keys : ℕ → Bool) (formed : List ℕ → Type 0) (put taking : Entry)
+module _ (kind : Kind) (keys : ℕ → Bool) (formed : List ℕ → Type 0) (put taking : OperationEntry)
     (put_into : List ℕ → ℕ → List ℕ) (taken : List ℕ → List ℕ × ℕ)
     (container : IsContainer kind put taking put_into taken)
     (split : IsSplitBy (stays keys) formed put_into taken) where

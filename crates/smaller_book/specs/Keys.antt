@@ -8,7 +8,7 @@ use Rattle.book_base.specs.Pruning.{HasOneOpen}
 use Rattle.seq_objects.specs.declared.kind.Kind.{Kind}
 use Rattle.seq_objects.specs.declared.kind.Kind.TheVariants as kinds
 use Rattle.seq_objects.specs.Words as words
-use Rattle.seq_objects.specs.Words.{Entry, is_known_word, is_operation_of, argument_of}
+use Rattle.seq_objects.specs.Words.{OperationEntry, is_known_word, is_operation_of, argument_of}
 use Rattle.seq_objects.specs.Readings.{value_of, shown_value}
 use Rattle.seq_objects.specs.MapSteps.{key_of}
 use Rattle.seq_objects.specs.MapLaws.{HasKeysOnce}
@@ -21,7 +21,7 @@ value_shown None = None
 value_shown (Some reply) = shown_value reply
 
 -- the value that an operation of this entry puts in, or that the reply to another operation shows
-abbrev pub value_moved : Entry → ℕ → Option ℕ → Option ℕ
+abbrev pub value_moved : OperationEntry → ℕ → Option ℕ → Option ℕ
 value_moved put word reply =
     if is_operation_of word put then Some (argument_of word) else value_shown reply
 

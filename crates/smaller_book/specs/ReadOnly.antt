@@ -2,7 +2,7 @@
 use Rattle.std.specs.Prelude.{◌≡◌, ℕ, ◌<◌, ◌⊎◌, List, length, slice_index, unwrap_or, IsSomeAnd}
 use Rattle.book_base.specs.declared.call.Call.{Call}
 use Rattle.book_base.specs.Book.{Page, IsCall, operation_of, record_of}
-use Rattle.book_base.specs.Foresight.{Leaves}
+use Rattle.book_base.specs.PruningRules.{Leaves}
 use Rattle.smaller_book.specs.Part.{AreRising, IsNamed, IsPart, CarriesOver}
 
 -- The call is answered, and its operation leaves every list of the object with this reply.

@@ -1,7 +1,7 @@
 //! Worked cases: which calls a part has, what its views count, and which calls may be left out.
 
 ghost use Rattle.std.specs.Prelude.{◌≡◌, [], ◌∷◌, Some, None};
-ghost use Rattle.book_base.specs.Foresight.{Leaves};
+ghost use Rattle.book_base.specs.PruningRules.{Leaves};
 ghost use Rattle.book_base.specs.Pruning.{HasOneOpen};
 ghost use Rattle.book_laws.specs.Cases.{line_next, tenfold_next, mistaken, overtaken};
 ghost use Rattle.seq_objects.specs.declared.kind.Kind.TheVariants as kinds;

@@ -34,7 +34,7 @@ pub fn without_halves(alloc: Global, kind: Kind, book: &Book) -> Result<Option<S
     Ok(found)
 }
 
-// The book without more keys still: of this many keys after one another at a time.
+// The book without further keys: this many neighbouring keys are left out at a time.
 fn without_chunks(
     alloc: Global,
     kind: Kind,

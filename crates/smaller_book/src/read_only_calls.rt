@@ -15,7 +15,7 @@ use book_base::{Book, Call, MAX_CALLS, NoMemory};
 use seq_objects::Kind;
 use std::alloc::Global;
 
-/// The book without a read-only call and isn't needed for the book to have no legal order.
+/// The book without a read-only call that isn't needed for the book to have no legal order.
 pub fn without_read_only(
     alloc: Global,
     kind: Kind,

@@ -7,7 +7,7 @@ ghost use Rattle.smaller_witness.specs.Output.{SaysLegal};
 ghost use Rattle.witness_texts.specs.Texts.{IsSmallerWitness};
 
 use book_base::ReadFault;
-use byte_streams::{Answer, Program, StdSink, StdSource, run_program};
+use byte_streams::{Answer, StdSink, StdSource, TextProgram, run_program};
 use std::alloc::Global;
 use std::process::ExitCode;
 use witness_texts::smaller_text;
@@ -16,7 +16,7 @@ use witness_texts::smaller_text;
 #[derive(Clone, Copy)]
 struct Shrinker;
 
-impl Program for Shrinker {
+impl TextProgram for Shrinker {
     ghost is_fine = { λ _ bytes text. SaysLegal bytes text };
 
     ghost is_found = { λ _ bytes text. IsSmallerWitness bytes text };

@@ -12,16 +12,16 @@ use Rattle.book_base.specs.declared.marks.Marks.{Marks}
 use Rattle.book_base.specs.Book.{Page, IsValid, operation_of}
 use Rattle.book_base.specs.Next.{next_call, raised}
 use Rattle.book_base.specs.Pruning.{HasOneOpen, IsMarked, MarksSuffice}
-use Rattle.history_rules.specs.Container.{Deed, Reading}
-use Rattle.object_foresight.specs.declared.reader.Role.{Role}
-use Rattle.object_foresight.specs.Deals.{deed_of}
+use Rattle.history_rules.specs.Container.{Effect, Reading}
+use Rattle.container_pruning.specs.declared.reader.Role.{Role}
+use Rattle.container_pruning.specs.Deals.{deed_of}
 use Rattle.history_rules.specs.Calls.{IsNeverTaken}
 use Rattle.value_pruning.specs.HoldsLast.{IsRead}
 use Rattle.stack_pruning.specs.LastFirst.{GivesLastFirst, HasTop}
 use Rattle.stack_levels.specs.declared.table.Level.{Level}
 use Rattle.stack_levels.specs.declared.table.Node.{Node}
-use Rattle.stack_levels.specs.Levels.{Layer, Nodes, IsOneOf, DeedLeads, CallLeads, IsFollowed, IsClosedAt, IsKeptLayer, no_calls}
-use Rattle.stack_levels.specs.LevelLaws.{HasNoOrder}
+use Rattle.stack_levels.specs.Levels.{Layer, Nodes, IsOneLevel, DeedLeads, CallLeads, IsFollowed, IsClosedAt, IsKeptLayer, no_calls}
+use Rattle.stack_levels.specs.LevelLaws.{StackHasNoOrder}
 use Rattle.stack_levels.specs.Tables.{layer_of, layers_of, cut_at, nodes_of, Begins}
 use Rattle.stack_levels.proofs.Refuting.{no_order_where_closed}
 
@@ -63,7 +63,7 @@ never_taken reading book n v unread call takes =
 
 -- what holds of the level at each index holds of each level
 pub each_one : (P : ℕ → Type 0) (levels : List ℕ)
-    → ((j : ℕ) → j < length levels → P (get_or levels j 0)) → (p : ℕ) → IsOneOf levels p → P p
+    → ((j : ℕ) → j < length levels → P (get_or levels j 0)) → (p : ℕ) → IsOneLevel levels p → P p
 each_one P levels each p one =
     subst P (get_or_from_slice_get levels one.0 p 0 one.1)
     (each one.0 (slice_get_within levels one.0 p one.1))
@@ -108,7 +108,8 @@ call_leads reading book layers nodes node layer cut new call op role its known d
       op,
       known,
       subst (λ (c : List ℕ). DeedLeads layers nodes node.level layer c (reading.deed op)) after
-          (subst (λ (d : Deed). DeedLeads layers nodes node.level layer (take (length book) new) d)
+          (subst
+          (λ (d : Effect). DeedLeads layers nodes node.level layer (take (length book) new) d)
           (sym (ap deed_of is) ∙ deed) leads),
     )
 
@@ -121,7 +122,7 @@ pub refuted : (reading : Reading) (book : List Page) (levels : List Level) (node
     → ((k : ℕ) (node : Node) → slice_get nodes k ≡ Some node
     → IsClosedAt reading book (layers_of levels) (nodes_of book nodes) node.level
     (cut_at book node))
-    → HasNoOrder reading book
+    → StackHasNoOrder reading book
 refuted reading book levels nodes valid one begins kept closed =
     no_order_where_closed reading book (layers_of levels) (nodes_of book nodes) valid one (record {
       bottom = begins.bottom;

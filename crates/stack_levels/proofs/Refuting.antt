@@ -13,7 +13,7 @@ use Rattle.book_base.specs.Order.{call_at}
 use Rattle.book_base.specs.Next.{next_call, raised, MayComeNext, MayStandNext, Continues}
 use Rattle.book_base.specs.Pruning.{HasOneOpen}
 use Rattle.book_laws.proofs.LegalOrder.{raised_same, raised_more, same_call, within_cut, continues_from_legal_order}
-use Rattle.history_rules.specs.Container.{Deed, Puts, Takes, Reading}
+use Rattle.history_rules.specs.Container.{Effect, Puts, Takes, Reading}
 use Rattle.history_rules.specs.Calls.{IsNeverTaken}
 use Rattle.pruning_laws.specs.Twins.{IsTwin}
 use Rattle.pruning_laws.proofs.Exchanging.{twin_serves}
@@ -23,8 +23,8 @@ use Rattle.value_pruning.proofs.Placing.{all-weaker, cases_deed}
 use Rattle.value_pruning.proofs.Taking.{word_at, word_is}
 use Rattle.stack_pruning.specs.LastFirst.{GivesLastFirst, EndsWith, IsKept, IsItem, HasTop}
 use Rattle.stack_pruning.proofs.Stepping.{all-append, all-prefix, all_next}
-use Rattle.stack_levels.specs.Levels.{Layer, Nodes, IsAmong, IsOneOf, TakeLeads, DeedLeads, CallLeads, ShowsAnother, LeavesTop, ServesFor, IsFollowed, IsKeptLayer, no_calls, IsClosed}
-use Rattle.stack_levels.specs.LevelLaws.{HasNoOrder, ClosedTablesHaveNoOrder}
+use Rattle.stack_levels.specs.Levels.{Layer, Nodes, IsAmong, IsOneLevel, TakeLeads, DeedLeads, CallLeads, ShowsAnother, LeavesTop, ServesAtLevel, IsFollowed, IsKeptLayer, no_calls, IsClosed}
+use Rattle.stack_levels.specs.LevelLaws.{StackHasNoOrder, ClosedTablesHaveNoOrder}
 
 -- ---- lists, with their tops first
 
@@ -39,7 +39,7 @@ abbrev Ends : List Layer → List ℕ → ℕ → Type 0
 Ends layers [] l = (layer : Layer) × (slice_get layers l ≡ Some layer) × (layer.top.last ≡ None)
 Ends layers (v ∷ below) l = (layer : Layer) × (slice_get layers l ≡ Some layer)
     × (layer.top.last ≡ Some v)
-    × ((p : ℕ) × IsOneOf layer.parents p × Ends layers below p)
+    × ((p : ℕ) × IsOneLevel layer.parents p × Ends layers below p)
 
 -- the last word of a list that a level ends
 ends_last : (layers : List Layer) (tops : List ℕ) (l : ℕ) (layer : Layer)
@@ -70,7 +70,7 @@ all-kept reading book layers are cut (v ∷ below) l layer at ends kept =
     let never : IsNeverTaken reading book v =
     subst (λ (o : Option ℕ). IfSome o (IsNeverTaken reading book)) last is.word in
     let p : ℕ = ends.3.0 in
-    let under = is.below p (subst (λ (x : Layer). IsOneOf x.parents p) same ends.3.1) in
+    let under = is.below p (subst (λ (x : Layer). IsOneLevel x.parents p) same ends.3.1) in
     all-append (IsKept reading book cut) (upright below) v
     (all-kept reading book layers are cut below p under.0 under.1 ends.3.2 under.2)
     (λ (read : IsRead reading book cut v). never read.0 read.1.0)
@@ -148,12 +148,12 @@ take-leads reading next bound is layers nodes (v ∷ below) l op layer after tak
     let same : ends.0 ≡ layer = same_Some ends.0 layer (sym ends.1 ∙ at) in
     let last : layer.top.last ≡ Some v = sym (ap (λ (x : Layer). x.top.last) same) ∙ ends.2 in
     let p : ℕ = ends.3.0 in
-    let all : (q : ℕ) → IsOneOf layer.parents q → nodes q after =
+    let all : (q : ℕ) → IsOneLevel layer.parents q → nodes q after =
     subst (λ (o : Option ℕ). TakeLeads nodes l o layer.parents after) last leads in (
       below,
       p,
       ends.3.2,
-      all p (subst (λ (x : Layer). IsOneOf x.parents p) same ends.3.1),
+      all p (subst (λ (x : Layer). IsOneLevel x.parents p) same ends.3.1),
       is.take (upright below) v op takes,
     )
 
@@ -188,17 +188,17 @@ leads_on reading next bound is book layers nodes cut tops l layer place rest wid
     } in it in
     elim (cases_deed (reading.deed op)) [
       | inl put ↦
-          let by = subst (λ (d : Deed). DeedLeads layers nodes l layer after d) put.1 leads.2 in
+          let by = subst (λ (d : Effect). DeedLeads layers nodes l layer after d) put.1 leads.2 in
           to (put.0 ∷ tops) by.0 (by.1, by.2, by.3, (l, by.4, ends)) by.5
           (is.put (upright tops) op put.0 put.1)
       | inr other ↦ elim other [
         | inl takes ↦
             let by = take-leads reading next bound is layers nodes tops l op layer after takes at
-            ends (subst (λ (d : Deed). DeedLeads layers nodes l layer after d) takes leads.2) in
+            ends (subst (λ (d : Effect). DeedLeads layers nodes l layer after d) takes leads.2) in
             to by.0 by.1 by.2 by.3 by.4
         | inr neither ↦
             to tops l ends
-            (subst (λ (d : Deed). DeedLeads layers nodes l layer after d) neither leads.2)
+            (subst (λ (d : Effect). DeedLeads layers nodes l layer after d) neither leads.2)
             (is.neither (upright tops) op neither)
       ]
     ]
@@ -273,7 +273,8 @@ is_twin : (reading : Reading) (next : List ℕ → ℕ → List ℕ × ℕ) (bou
     → GivesLastFirst reading next bound → (book : List Page) (layers : List Layer)
     (cut tops : List ℕ) (l : ℕ) (layer : Layer) (a b : Call) → slice_get layers l ≡ Some layer
     → Ends layers tops l → AllByRecursion (IsItem reading book cut bound) (upright tops)
-    → MayComeNext book cut a → MayComeNext book cut b → ServesFor reading book layer.top.last a b
+    → MayComeNext book cut a → MayComeNext book cut b
+    → ServesAtLevel reading book layer.top.last a b
     → IsTwin book next cut (upright tops) a b
 is_twin reading next bound is book layers cut tops l layer a b at ends items first second serves =
     record {
@@ -367,7 +368,7 @@ never_goes reading next bound is book valid one layers nodes table (suc few) cut
 -- A closed table of whatever pairs leaves no order.
 pub no_order_where_closed : (reading : Reading) (book : List Page) (layers : List Layer)
     (nodes : Nodes) → IsValid book → HasOneOpen book
-    → IsClosed reading book layers nodes → HasNoOrder reading book
+    → IsClosed reading book layers nodes → StackHasNoOrder reading book
 no_order_where_closed reading book layers nodes valid one table next bound is has =
     let wide : length book ≤ length (no_calls book) =
     omega (arith, length-replicate {A = ℕ} (length book) 0) in

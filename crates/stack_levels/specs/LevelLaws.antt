@@ -8,8 +8,8 @@ use Rattle.stack_pruning.specs.LastFirst.{GivesLastFirst}
 use Rattle.stack_levels.specs.Levels.{Layer, IsAmong, IsClosed}
 
 -- No object that gives its last value first and begins with nothing has a legal order of a book.
-abbrev pub HasNoOrder : Reading → List Page → Type 0
-HasNoOrder reading book = (next : List ℕ → ℕ → List ℕ × ℕ) (bound : ℕ)
+abbrev pub StackHasNoOrder : Reading → List Page → Type 0
+StackHasNoOrder reading book = (next : List ℕ → ℕ → List ℕ × ℕ) (bound : ℕ)
     → GivesLastFirst reading next bound
     → HasLegalOrder [] next book → ⊥
 
@@ -18,4 +18,4 @@ abbrev pub ClosedTablesHaveNoOrder : Type 0
 ClosedTablesHaveNoOrder =
     (reading : Reading) (book : List Page) (layers : List Layer) (pairs : List (ℕ × List ℕ))
     → IsValid book → HasOneOpen book → IsClosed reading book layers (IsAmong pairs)
-    → HasNoOrder reading book
+    → StackHasNoOrder reading book

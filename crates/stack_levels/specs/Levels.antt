@@ -7,7 +7,7 @@ use Rattle.book_base.specs.declared.marks.Marks.{Marks}
 use Rattle.book_base.specs.Book.{Page, IsAnswered, operation_of, record_of}
 use Rattle.book_base.specs.Next.{next_call, raised, MayComeNext}
 use Rattle.book_base.specs.Pruning.{IsMarked, MarksSuffice, ViewsAreWithin}
-use Rattle.history_rules.specs.Container.{Deed, Puts, Takes, Neither, Reading}
+use Rattle.history_rules.specs.Container.{Effect, Puts, Takes, Neither, Reading}
 use Rattle.history_rules.specs.Calls.{IsNeverTaken, TakesShowing}
 use Rattle.stack_pruning.specs.declared.top.Top.{Top}
 use Rattle.stack_pruning.specs.LastFirst.{GivesLastFirst, HasTop}
@@ -19,8 +19,8 @@ pub record Layer : Type 0 where
   pub parents : List ℕ
 
 -- a level is one of these
-abbrev pub IsOneOf : List ℕ → ℕ → Type 0
-IsOneOf levels l = (k : ℕ) × (slice_get levels k ≡ Some l)
+abbrev pub IsOneLevel : List ℕ → ℕ → Type 0
+IsOneLevel levels l = (k : ℕ) × (slice_get levels k ≡ Some l)
 
 -- Pairs of a level, by its number, and a cut.
 abbrev pub Nodes : Type 1
@@ -34,14 +34,14 @@ IsAmong pairs l cut = (k : ℕ) × (slice_get pairs k ≡ Some (l, cut))
 -- bottom nowhere else
 abbrev pub TakeLeads : Nodes → ℕ → Option ℕ → List ℕ → List ℕ → Type 0
 TakeLeads nodes l None parents after = nodes l after
-TakeLeads nodes l (Some v) parents after = (p : ℕ) → IsOneOf parents p → nodes p after
+TakeLeads nodes l (Some v) parents after = (p : ℕ) → IsOneLevel parents p → nodes p after
 
 -- where what a call does leads from a level: a put leads to a level of its value that has this
 -- level below it, and what is neither put nor take stays
-abbrev pub DeedLeads : List Layer → Nodes → ℕ → Layer → List ℕ → Deed → Type 0
+abbrev pub DeedLeads : List Layer → Nodes → ℕ → Layer → List ℕ → Effect → Type 0
 DeedLeads layers nodes l layer after (Puts v) = (m : ℕ) × (above : Layer)
     × (slice_get layers m ≡ Some above)
-    × (above.top.last ≡ Some v) × IsOneOf above.parents l × nodes m after
+    × (above.top.last ≡ Some v) × IsOneLevel above.parents l × nodes m after
 DeedLeads layers nodes l layer after Takes = TakeLeads nodes l layer.top.last layer.parents after
 DeedLeads layers nodes l layer after Neither = nodes l after
 
@@ -75,7 +75,7 @@ TakesForOpen reading book last a b = (v : ℕ) × (last ≡ Some v)
     × (IsAnswered book b → ⊥)
 
 -- A call serves for another caller's one of the same operation, at each list with this last word.
-pub record ServesFor (reading : Reading) (book : List Page) (last : Option ℕ)
+pub record ServesAtLevel (reading : Reading) (book : List Page) (last : Option ℕ)
     (a b : Call) : Type 0 where
   pub apart : a.caller ≢ b.caller
   pub same : operation_of book a ≡ operation_of book b
@@ -86,7 +86,7 @@ pub record ServesFor (reading : Reading) (book : List Page) (last : Option ℕ)
 abbrev pub IsServed : Reading → List Page → List Layer → Nodes → ℕ → Layer → List ℕ → Call → Type 0
 IsServed reading book layers nodes l layer cut call = (i : ℕ)
     × MayComeNext book cut (next_call cut i)
-    × ServesFor reading book layer.top.last (next_call cut i) call
+    × ServesAtLevel reading book layer.top.last (next_call cut i) call
     × CallLeads reading book layers nodes l layer cut (next_call cut i)
 
 -- What goes on by a call leads to the pairs, or it goes on by another one or without it, or not at
@@ -118,7 +118,7 @@ pub record IsClosedAt (reading : Reading) (book : List Page) (layers : List Laye
 pub record IsKeptLayer (reading : Reading) (book : List Page) (layers : List Layer)
     (layer : Layer) : Type 0 where
   pub word : IfSome layer.top.last (IsNeverTaken reading book)
-  pub below : (p : ℕ) → IsOneOf layer.parents p
+  pub below : (p : ℕ) → IsOneLevel layer.parents p
       → (under : Layer) × (slice_get layers p ≡ Some under) × IsTrue under.top.kept
 
 -- the cut without calls

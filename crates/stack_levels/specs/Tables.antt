@@ -3,7 +3,7 @@ use Rattle.std.specs.Prelude.{◌≡◌, ℕ, IsTrue, List, length, map, take, S
 use Rattle.book_base.specs.Book.{Page}
 use Rattle.stack_levels.specs.declared.table.Level.{Level}
 use Rattle.stack_levels.specs.declared.table.Node.{Node}
-use Rattle.stack_levels.specs.Levels.{Layer, Nodes, IsOneOf, no_calls}
+use Rattle.stack_levels.specs.Levels.{Layer, Nodes, IsOneLevel, no_calls}
 
 -- a level, without how it was found
 abbrev pub layer_of : Level → Layer
@@ -37,4 +37,4 @@ IsSaidKept layers p = (under : Layer) × (slice_get layers p ≡ Some under) × 
 abbrev pub LiesOn : List Layer → ℕ → ℕ → ℕ → Type 0
 LiesOn layers m l v = (above : Layer) × (slice_get layers m ≡ Some above)
     × (above.top.last ≡ Some v)
-    × IsOneOf above.parents l
+    × IsOneLevel above.parents l

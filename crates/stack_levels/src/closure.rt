@@ -6,17 +6,17 @@ ghost use Rattle.book_base.specs.Next.{next_call, MayComeNext};
 ghost use Rattle.book_base.specs.Pruning.{HasOneOpen, IsMarked, IsMarkedWithin, MarksAllNext};
 ghost use Rattle.history_rules.specs.Calls.{IsNeverTaken};
 ghost use Rattle.stack_levels.specs.declared.table.Node.{Node};
-ghost use Rattle.stack_levels.specs.Levels.{CallLeads, IsClosedAt, IsFollowed, IsKeptLayer, IsOneOf, IsServed, TakeLeads};
+ghost use Rattle.stack_levels.specs.Levels.{CallLeads, IsClosedAt, IsFollowed, IsKeptLayer, IsOneLevel, IsServed, TakeLeads};
 ghost use Rattle.stack_levels.specs.declared.table.Level.{Level};
-ghost use Rattle.stack_levels.specs.LevelLaws.{HasNoOrder};
+ghost use Rattle.stack_levels.specs.LevelLaws.{StackHasNoOrder};
 ghost use Rattle.stack_levels.specs.Tables.{Begins, IsSaidKept, LiesOn, cut_at, layer_of, layers_of, nodes_of};
 ghost use Rattle.value_pruning.specs.Sights.{ListsValues};
 
 use crate::stack_book::{Look, StackBook};
 use crate::table::{Beginning, Level, LevelTable, Node, raised};
 use book_base::{Call, MAX_CALLERS};
+use container_pruning::{Reader, Role};
 use next_calls::has_one_open;
-use object_foresight::{Reader, Role};
 use stack_pruning::Top;
 
 /// A table of levels, to be looked at once more. Where all that may come next at each of its nodes
@@ -43,7 +43,7 @@ impl<R: Reader> Closure<'_, R> {
         // `true` is answered only where no object that gives its last value first, and begins with
         // nothing, has a legal order of the book.
         ensures { IsTrue result
-            → HasNoOrder (R.reading self.now.on.now.reader.now) self.now.on.now.book.now }
+            → StackHasNoOrder (R.reading self.now.on.now.reader.now) self.now.on.now.book.now }
     {
         let _callers = self.on.book.callers();
         if !has_one_open(self.on.book) {
@@ -158,7 +158,7 @@ impl<R: Reader> Closure<'_, R> {
 
     // Whether all of these levels are said to be kept.
     fn are_said_kept(&self, parents: &[usize]) -> bool
-        ensures { IsTrue result → (p : ℕ) → IsOneOf parents.now p
+        ensures { IsTrue result → (p : ℕ) → IsOneLevel parents.now p
             → IsSaidKept (layers_of self.now.table.now.levels.items) p }
     {
         for k in 0..parents.len() {
@@ -442,7 +442,7 @@ impl<R: Reader> Closure<'_, R> {
 
     // Whether all of these levels after these counts are among the nodes.
     fn has_all(&self, parents: &[usize], counts: [u16; MAX_CALLERS]) -> bool
-        ensures { IsTrue result → (p : ℕ) → IsOneOf parents.now p
+        ensures { IsTrue result → (p : ℕ) → IsOneLevel parents.now p
             → nodes_of self.now.on.now.book.now self.now.table.now.nodes.keys p
             (take (length self.now.on.now.book.now) counts) }
     {
@@ -467,7 +467,7 @@ fn is_last(last: Option<u64>, value: u64) -> bool
 
 // Whether a level is one of these.
 fn is_among(levels: &[usize], level: usize) -> bool
-    ensures { IsTrue result → IsOneOf levels.now level }
+    ensures { IsTrue result → IsOneLevel levels.now level }
 {
     for k in 0..levels.len() {
         if levels[k] == level {

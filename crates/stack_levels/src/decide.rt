@@ -4,12 +4,12 @@ ghost use Rattle.stack_pruning.specs.LastFirst.{GivesLastFirst};
 
 use crate::closure::Closure;
 use crate::order::calls_to;
-use crate::search::{Found, LevelSearch};
+use crate::search::{LevelSearch, LevelsFound};
 use crate::stack_book::StackBook;
 use crate::table::LevelTable;
 use book_base::{Book, Decision, NoMemory, SeqObject, Sight};
+use container_pruning::Reader;
 use next_calls::has_one_open;
-use object_foresight::Reader;
 use order_check::check_order;
 use queue_pairs::places_of;
 use std::alloc::Global;
@@ -51,8 +51,8 @@ pub fn decide_stack<S: SeqObject + Reader>(
     };
     let search = LevelSearch { alloc, on: &on };
     match search.run()? {
-        Found::Whole(table, place) => order_of(alloc, stack, book, &table, place),
-        Found::DeadEnds(table) => {
+        LevelsFound::Whole(table, place) => order_of(alloc, stack, book, &table, place),
+        LevelsFound::DeadEnds(table) => {
             let closure = Closure {
                 on: &on,
                 table: &table,
@@ -62,7 +62,7 @@ pub fn decide_stack<S: SeqObject + Reader>(
             }
             Ok(Decision::Unsaid)
         }
-        Found::Unsaid => Ok(Decision::Unsaid),
+        LevelsFound::Unsaid => Ok(Decision::Unsaid),
     }
 }
 

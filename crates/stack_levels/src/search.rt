@@ -6,7 +6,7 @@ ghost use Rattle.value_pruning.specs.Sights.{ListsValues};
 use crate::stack_book::{Look, StackBook};
 use crate::table::{Beginning, Ending, Level, LevelTable, Node, Origin, Reached, raised};
 use book_base::{Call, MAX_CALLERS, MAX_CALLS, NoMemory};
-use object_foresight::{Reader, Role};
+use container_pruning::{Reader, Role};
 use stack_pruning::Top;
 use std::alloc::Global;
 use std::cmp::Reverse;
@@ -18,7 +18,7 @@ const LINKS: u64 = 1_000_000;
 
 /// What a search comes to.
 #[derive(Drop)]
-pub enum Found {
+pub enum LevelsFound {
     /// A node after all answered calls, by its number.
     Whole(LevelTable, usize),
     /// All was tried, and none was found.
@@ -65,7 +65,7 @@ struct Turn {
 
 impl<R: Reader> LevelSearch<'_, R> {
     /// Looks for a node after all answered calls.
-    pub fn run(&self) -> Result<Found, NoMemory>
+    pub fn run(&self) -> Result<LevelsFound, NoMemory>
         requires sight { ListsValues (R.reading self.now.on.now.reader.now) self.now.on.now.book.now
             self.now.on.now.sight.now }
         requires open { HasOneOpen self.now.on.now.book.now }
@@ -77,16 +77,16 @@ impl<R: Reader> LevelSearch<'_, R> {
         };
         for _ in 0..NODES {
             let Some(place) = progress.open.pop() else {
-                return Ok(Found::DeadEnds(progress.table));
+                return Ok(LevelsFound::DeadEnds(progress.table));
             };
             if self.look_at(&mut progress, place)? {
-                return Ok(Found::Whole(progress.table, place));
+                return Ok(LevelsFound::Whole(progress.table, place));
             }
             if progress.links > LINKS {
-                return Ok(Found::Unsaid);
+                return Ok(LevelsFound::Unsaid);
             }
         }
-        Ok(Found::Unsaid)
+        Ok(LevelsFound::Unsaid)
     }
 
     // Goes on from a node by each call that is to be tried, and tells whether none is left there.

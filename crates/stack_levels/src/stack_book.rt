@@ -2,13 +2,13 @@ ghost use Rattle.std.specs.Prelude.{◌≡◌, ◌≢◌, ℕ, ◌<◌, false, L
 ghost use Rattle.book_base.specs.Book.{IsAnswered, IsCall};
 ghost use Rattle.book_base.specs.Pruning.{HasOneOpen, IsMarkedWithin, MarksAllNext, MarksSuffice};
 ghost use Rattle.history_rules.specs.Calls.{IsNeverTaken, TakesOut};
-ghost use Rattle.stack_levels.specs.Levels.{AreAnsweredAlike, LeavesTop, ServesFor, ShowsAnother};
+ghost use Rattle.stack_levels.specs.Levels.{AreAnsweredAlike, LeavesTop, ServesAtLevel, ShowsAnother};
 ghost use Rattle.stack_pruning.specs.LastFirst.{GivesLastFirst, HasTop};
 ghost use Rattle.value_pruning.specs.Sights.{ListsValues};
 
 use book_base::{Book, Call, Cut, Marks, Sight};
+use container_pruning::{Reader, Role};
 use next_calls::{all_next, cut_of, first_view, least_open};
-use object_foresight::{Reader, Role};
 use stack_pruning::{Top, narrow_by_top};
 use value_pruning::{is_read, value_taken};
 
@@ -116,7 +116,7 @@ impl<R: Reader> StackBook<'_, R> {
         requires other_caller { other.caller < length self.now.book.now }
         requires other { IsCall self.now.book.now other }
         ensures { IsTrue result
-            → ServesFor (R.reading self.now.reader.now) self.now.book.now last one other }
+            → ServesAtLevel (R.reading self.now.reader.now) self.now.book.now last one other }
     {
         if one.caller == other.caller {
             return false;

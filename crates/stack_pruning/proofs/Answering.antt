@@ -18,7 +18,7 @@ use Rattle.value_pruning.proofs.Placing.{cases_deed}
 use Rattle.value_pruning.proofs.Taking.{word_at, word_is}
 use Rattle.stack_pruning.specs.LastFirst.{GivesLastFirst, PutsNeedless}
 use Rattle.stack_pruning.proofs.Stepping.{put_no_take, neither_no_take}
-use Rattle.stack_pruning.proofs.Moving.{MayBeNext, Comes, Goes, goes_from_continues, continues_from_goes, Waits, waits_later, comes_up, comes_up_two}
+use Rattle.value_pruning.proofs.Moving.{MayBeNext, Comes, Goes, goes_from_continues, continues_from_goes, Waits, waits_later, comes_up, comes_up_two}
 
 -- a run of the steps of places
 abbrev Runs : List Page → (List ℕ → ℕ → List ℕ × ℕ) → List ℕ → List Place → Type 0
@@ -98,9 +98,9 @@ record ByOther (reading : Reading) (book : List Page) (next : List ℕ → ℕ �
   goes : Goes book next cut list (place ∷ other)
   short : length other + 1 ≤ most
 
-abbrev Outcome : Reading → List Page → (List ℕ → ℕ → List ℕ × ℕ) → List ℕ → List ℕ → Place
+abbrev AnswerCases : Reading → List Page → (List ℕ → ℕ → List ℕ × ℕ) → List ℕ → List ℕ → Place
     → ℕ → Type 0
-Outcome reading book next cut list c most = ByCall book next cut list c most
+AnswerCases reading book next cut list c most = ByCall book next cut list c most
     ⊎ (ByPut reading book next cut list c most ⊎ ByOther reading book next cut list c most)
 
 -- What a first place is that puts a value in, and isn't the forced call.
@@ -214,8 +214,8 @@ pair-first : (reading : Reading) (next : List ℕ → ℕ → List ℕ × ℕ) (
     → PutsFirst reading book next cut list c x → IsPair reading book next list x t
     → t.caller ≢ c.caller
     → MayBeNext book cut x → MayBeNext book (raised cut x.caller) t
-    → Outcome reading book next (raised (raised cut x.caller) t.caller) list c most
-    → Outcome reading book next cut list c (most + 2)
+    → AnswerCases reading book next (raised (raised cut x.caller) t.caller) list c most
+    → AnswerCases reading book next cut list c (most + 2)
 pair-first reading next bound is book valid one cut list c x t most waits it pair apart may_x
     may_t outcome =
     let runs = λ (other_list : List ℕ) (rest : List Place) (left : Runs book next other_list rest).
@@ -279,7 +279,7 @@ pair-first reading next bound is book valid one cut list c x t most waits it pai
 -- more places are enough too
 outcome_of-more : (reading : Reading) (book : List Page) (next : List ℕ → ℕ → List ℕ × ℕ)
     (cut list : List ℕ) (c : Place) (few most : ℕ) → few ≤ most
-    → Outcome reading book next cut list c few → Outcome reading book next cut list c most
+    → AnswerCases reading book next cut list c few → AnswerCases reading book next cut list c most
 outcome_of-more reading book next cut list c few most le outcome = elim outcome [
   | inl by ↦ inl (record { other = by.other; goes = by.goes; short = omega (arith, by.short, le) })
   | inr more ↦ elim more [
@@ -317,7 +317,7 @@ outcomes : (reading : Reading) (next : List ℕ → ℕ → List ℕ × ℕ) (bo
     → GivesLastFirst reading next bound → (book : List Page) → IsValid book → HasOneOpen book
     → (c : Place) → IsForcedTake reading book c → (few : ℕ) (rest : List Place) (cut list : List ℕ)
     → length rest ≤ few → Waits book cut c → Goes book next cut list rest
-    → Outcome reading book next cut list c (length rest)
+    → AnswerCases reading book next cut list c (length rest)
 outcomes reading next bound is book valid one c take few [] cut list short waits goes =
     let held : get_or cut c.caller 0 < get_or cut c.caller 0 =
     goes.0 (next_call cut c.caller) waits.forced.answered in absurd (omega arith)

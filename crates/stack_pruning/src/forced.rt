@@ -7,7 +7,7 @@ ghost use Rattle.stack_pruning.specs.LastFirst.{EndsWith, PutsNeedless};
 
 use crate::words::last_word;
 use book_base::{Book, Call, Cut, Marks};
-use object_foresight::{Reader, Role};
+use container_pruning::{Reader, Role};
 use value_pruning::value_put;
 
 /// What the forced call shows, where it takes. No clause says that it is found to: that costs time

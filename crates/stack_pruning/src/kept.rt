@@ -8,7 +8,7 @@ ghost use Rattle.value_pruning.specs.Sights.{ListsValues};
 ghost use Rattle.stack_pruning.specs.LastFirst.{IsKept, IsKeptPut, IsNeverEmpty, PutsKept};
 
 use book_base::{Book, Call, Cut, Marks, Sight};
-use object_foresight::{Reader, Role};
+use container_pruning::{Reader, Role};
 use value_pruning::{is_read, value_put};
 
 /// A marked caller whose next call is answered and puts in a value that no answered call outside

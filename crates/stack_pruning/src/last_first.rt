@@ -9,7 +9,7 @@ use crate::kept::kept_put;
 use crate::top::Top;
 use crate::words::{holds, last_word};
 use book_base::{Book, Call, Cut, Marks, Sight};
-use object_foresight::Reader;
+use container_pruning::Reader;
 use value_pruning::{is_put_once, is_written, next_take, value_put};
 
 /// Which of the calls that may come next a search has to try, of a stack. A take that shows the

@@ -47,7 +47,7 @@ abbrev LeastIsWithin : List Page → Option Call → Call → Type 0
 LeastIsWithin book None other = ⊥
 LeastIsWithin book (Some least) other = ViewsAreWithin book least other
 
--- Of the first so many calls of a list, this one has the least view of those outside a cut.
+-- Of the first calls of a list, up to a number, this one has the least view of those outside a cut.
 pub record LeastOf (book : List Page) (cut : List ℕ) (calls : List Call) (n : ℕ)
     (found : Option Call) : Type 0 where
   pub answered : IfSome found (IsAnswered book)

@@ -1,6 +1,8 @@
+pub mod Moving
 pub mod Placing
 pub mod Taking
 pub mod Putting
 pub mod Listing
 pub mod Least
 pub mod Writing
+pub mod Wanting

@@ -13,7 +13,7 @@ use Rattle.book_base.proofs.PageLemmas.{caller_from_call}
 use Rattle.book_base.proofs.ViewLemmas.{same_call}
 use Rattle.history_rules.specs.Container.{Puts, Takes, Reading}
 use Rattle.history_rules.specs.Calls.{PutsIn, TakesOut}
-use Rattle.object_foresight.specs.Uses.{IsReadTo}
+use Rattle.container_pruning.specs.Uses.{IsReadTo}
 use Rattle.book_base.specs.Next.{next_call}
 use Rattle.book_base.specs.Pruning.{IsMarked, MarksAllNext}
 use Rattle.list_laws.proofs.Places.{slice_get-push_old, slice_get-push_last}

@@ -4,9 +4,9 @@ use Rattle.std.specs.List.{AllByRecursion}
 use Rattle.std.proofs.lemmas.Bool.{cases_lt, cond-true, cond-false, lt-ltb, le-ltb}
 use Rattle.book_base.specs.Book.{Page}
 use Rattle.book_base.specs.Order.{step_at}
-use Rattle.book_base.specs.Foresight.{list_after_run}
+use Rattle.book_base.specs.PruningRules.{list_after_run}
 use Rattle.book_base.specs.Pruning.{IsReached}
-use Rattle.history_rules.specs.Container.{Deed, Puts, Takes, Neither, Reading}
+use Rattle.history_rules.specs.Container.{Effect, Puts, Takes, Neither, Reading}
 use Rattle.value_pruning.specs.LeastFirst.{placed, IsRising, GivesLeastFirst, IsBelowFirst}
 
 -- what a value that is less than the first item, or no less, makes of a list
@@ -129,12 +129,12 @@ rising-taken reading next bound is (x ∷ rest) op takes rising =
     subst (λ (xs : List ℕ). IsRising bound xs) (sym (is.take x rest op takes)) rising.2
 
 -- what a deed is
-pub cases_deed : (d : Deed) → ((v : ℕ) × (d ≡ Puts v)) ⊎ ((d ≡ Takes) ⊎ (d ≡ Neither))
+pub cases_deed : (d : Effect) → ((v : ℕ) × (d ≡ Puts v)) ⊎ ((d ≡ Takes) ⊎ (d ≡ Neither))
 cases_deed (Puts v) = inl (v, refl)
 cases_deed Takes = inr (inl refl)
 cases_deed Neither = inr (inr refl)
 
-rising-next : (reading : Reading) (next : List ℕ → ℕ → List ℕ × ℕ) (bound : ℕ)
+pub rising-next : (reading : Reading) (next : List ℕ → ℕ → List ℕ × ℕ) (bound : ℕ)
     → GivesLeastFirst reading next bound → (list : List ℕ) (op : ℕ)
     → IsRising bound list → IsRising bound (next list op).0
 rising-next reading next bound is list op rising = elim (cases_deed (reading.deed op)) [

@@ -1,12 +1,13 @@
 -- Priority queues, by their lists: the values held, in rising order.
-use Rattle.std.specs.Prelude.{◌≡◌, ◌≢◌, ℕ, ◌<◌, ◌≤◌, nat_lt, List, [], ◌∷◌, Some, None, if◌then◌else◌, slice_index}
+use Rattle.std.specs.Prelude.{◌≡◌, ◌≢◌, ℕ, ◌<◌, ◌≤◌, ◌⊎◌, nat_lt, List, [], ◌∷◌, Some, None, if◌then◌else◌, slice_index}
 use Rattle.std.specs.List.{AllByRecursion}
 use Rattle.book_base.specs.declared.call.Call.{Call}
-use Rattle.book_base.specs.Book.{Page}
+use Rattle.book_base.specs.declared.call.Record.{Record}
+use Rattle.book_base.specs.Book.{Page, operation_of, record_of}
 use Rattle.book_base.specs.Next.{next_call, MayComeNext}
 use Rattle.book_base.specs.Pruning.{ViewsAreWithin}
 use Rattle.history_rules.specs.Container.{Puts, Takes, Neither, Reading}
-use Rattle.history_rules.specs.Calls.{PutsInAlone, TakesOut}
+use Rattle.history_rules.specs.Calls.{PutsIn, PutsInAlone, TakesOut}
 
 -- A list with a value before the first greater item, or at the end where none is greater.
 abbrev pub placed : ℕ → List ℕ → List ℕ
@@ -67,3 +68,30 @@ pub record PutsLeast (reading : Reading) (book : List Page) (cut list : List ℕ
   pub below : IsBelowFirst value list
   pub may_come : MayComeNext book cut (next_call cut taker)
   pub takes : IsLeastTake reading book cut value (next_call cut taker)
+
+-- A call may take out a value: it takes, and where it is answered, its reply shows the value.
+pub record CouldTake (reading : Reading) (book : List Page) (call : Call) (v : ℕ) : Type 0 where
+  pub op : ℕ
+  pub operation : operation_of book call ≡ Some op
+  pub takes : reading.deed op ≡ Takes
+  pub shows : (r : Record) → record_of book call ≡ Some r → reading.shown r.reply ≡ Some v
+
+-- no call that may come next may take out a value
+abbrev pub IsTakenByNone : Reading → List Page → List ℕ → ℕ → Type 0
+IsTakenByNone reading book cut v = (i : ℕ) → MayComeNext book cut (next_call cut i)
+    → CouldTake reading book (next_call cut i) v → ⊥
+
+-- A value that is put in isn't what the first take takes: it isn't less than all items, or no call
+-- that may come next may take it out.
+abbrev pub IsNeverFirst : Reading → List Page → List ℕ → List ℕ → ℕ → Type 0
+IsNeverFirst reading book cut list v = (IsBelowFirst v list → ⊥)
+    ⊎ IsTakenByNone reading book cut v
+
+-- The next call of a caller isn't the forced one, and puts in a value that isn't what the first
+-- take takes.
+pub record IsUnwanted (reading : Reading) (book : List Page) (cut list : List ℕ) (forced : ℕ)
+    (caller : ℕ) : Type 0 where
+  pub apart : caller ≢ forced
+  pub value : ℕ
+  pub puts : PutsIn reading book (next_call cut caller) value
+  pub never : IsNeverFirst reading book cut list value

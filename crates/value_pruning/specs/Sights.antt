@@ -9,7 +9,7 @@ use Rattle.book_base.specs.Book.{Page}
 use Rattle.book_base.specs.Pruning.{ViewsAreWithin}
 use Rattle.history_rules.specs.Container.{Reading}
 use Rattle.history_rules.specs.Calls.{PutsIn, TakesOut}
-use Rattle.object_foresight.specs.Uses.{IsReadTo}
+use Rattle.container_pruning.specs.Uses.{IsReadTo}
 
 -- the place of a value's calls in a sight, where it has one
 abbrev pub place_of : Sight → ℕ → Option ℕ

@@ -8,7 +8,7 @@ ghost use Rattle.value_pruning.specs.HoldsLast.{HoldsLast, IsIrreplaceable, IsNe
 use crate::outside::{is_read, is_written};
 use crate::values::value_put;
 use book_base::{Book, Call, Cut, Marks, Sight};
-use object_foresight::Reader;
+use container_pruning::Reader;
 
 /// Which of the calls that may come next a search has to try, of a register that holds a value:
 /// some of those that are marked, and they suffice. Which ones, no clause says. One answered

@@ -1,19 +1,23 @@
-ghost use Rattle.std.specs.Prelude.{◌≡◌, ◌↔◌, ℕ, ◌<◌, List, length, IfSome, IsTrue};
-ghost use Rattle.book_base.specs.Next.{next_call};
+ghost use Rattle.std.specs.Prelude.{◌≡◌, ◌↔◌, ◌⊎◌, ℕ, ◌<◌, false, List, length, Some, IfSome, IsTrue};
+ghost use Rattle.book_base.specs.Book.{IsCall, operation_of};
+ghost use Rattle.book_base.specs.Next.{next_call, MayComeNext};
 ghost use Rattle.book_base.specs.Pruning.{HasOneOpen, IsForced, IsMarked, IsMarkedWithin, IsReached, MarksAllNext, MarksSuffice};
+ghost use Rattle.history_rules.specs.Container.{Takes};
 ghost use Rattle.value_pruning.specs.Sights.{ListsValues};
-ghost use Rattle.value_pruning.specs.LeastFirst.{GivesLeastFirst, IsBelowFirst, IsLeastTake, IsRising, PutsLeast, TakesFirst};
+ghost use Rattle.value_pruning.specs.LeastFirst.{GivesLeastFirst, IsBelowFirst, IsLeastTake, IsNeverFirst, IsRising, IsTakenByNone, IsUnwanted, CouldTake, PutsLeast, TakesFirst};
 
+use crate::outside::reads_outside;
 use crate::sight::{is_put_once, least_take};
 use crate::values::{value_put, value_taken};
 use book_base::{Book, Call, Cut, Marks, Sight};
-use object_foresight::Reader;
+use container_pruning::{Reader, Role};
 
 /// Which of the calls that may come next a search has to try, of a priority queue: some of those
 /// that are marked, and they suffice. Which ones, no clause says. Of the takes that show the
 /// least item one alone, where it has the least view of all that show it, also of those that may
 /// not come next yet; and else a put of a lesser value that is put in once, where its take may
-/// come next too; and else all.
+/// come next too; and else all takes, the forced call, and the puts of lesser values that a call
+/// which may come next may take.
 pub fn narrow_least_first<R: Reader>(
     reader: &R,
     sight: &Sight,
@@ -51,7 +55,7 @@ pub fn narrow_least_first<R: Reader>(
     if let Some(caller) = least_put(reader, sight, book, cut, words, marks) {
         return Marks::only(caller);
     }
-    marks
+    without_unwanted(reader, book, cut, words, forced, marks)
 }
 
 // A marked caller whose next call takes the first item, with the least view.
@@ -175,5 +179,135 @@ fn is_below_first(words: &[u64], value: u64) -> bool
     match words.first() {
         Some(low) => value < *low,
         None => true,
+    }
+}
+
+// The marked callers but those whose next calls put in what no call takes out first.
+fn without_unwanted<R: Reader>(
+    reader: &R,
+    book: &Book,
+    cut: &Cut,
+    words: &[u64],
+    forced: u32,
+    marks: Marks,
+) -> Marks
+    requires wide { length cut.now ≡ length book.now }
+    requires marks { MarksAllNext book.now cut.now marks }
+    ensures fewer { IsMarkedWithin result marks }
+    ensures unwanted { (i : ℕ) → IsMarked marks i → IsMarked result i
+        ⊎ IsUnwanted (R.reading reader.now) book.now cut.now words.now forced i }
+{
+    let mut left = marks;
+    for caller in 0..book.callers() {
+        if marks.has(caller) && is_unwanted(reader, book, cut, words, forced, marks, caller) {
+            left = left.without(caller);
+        }
+    }
+    left
+}
+
+// Whether a marked caller's next call isn't the forced one, and puts in a value that no call takes
+// out first.
+fn is_unwanted<R: Reader>(
+    reader: &R,
+    book: &Book,
+    cut: &Cut,
+    words: &[u64],
+    forced: u32,
+    marks: Marks,
+    caller: u32,
+) -> bool
+    requires wide { length cut.now ≡ length book.now }
+    requires marks { MarksAllNext book.now cut.now marks }
+    requires caller { caller < length book.now }
+    requires call { IsCall book.now (next_call cut.now caller) }
+    ensures { IsTrue result
+        → IsUnwanted (R.reading reader.now) book.now cut.now words.now forced caller }
+{
+    if caller == forced {
+        return false;
+    }
+    let put = Call {
+        caller,
+        number: cut.get(caller),
+    };
+    let Some(value) = value_put(reader, book, put) else {
+        return false;
+    };
+    if is_wanted(reader, book, cut, words, marks, value) {
+        return false;
+    }
+    true
+}
+
+// Whether a value is less than all items, and a call that may come next may take it out.
+fn is_wanted<R: Reader>(
+    reader: &R,
+    book: &Book,
+    cut: &Cut,
+    words: &[u64],
+    marks: Marks,
+    value: u64,
+) -> bool
+    requires wide { length cut.now ≡ length book.now }
+    requires marks { MarksAllNext book.now cut.now marks }
+    ensures { result ≡ false
+        → IsNeverFirst (R.reading reader.now) book.now cut.now words.now value }
+{
+    if !is_below_first(words, value) {
+        return false;
+    }
+    may_be_taken(reader, book, cut, marks, value)
+}
+
+// Whether a marked caller's next call may take out a value.
+fn may_be_taken<R: Reader>(reader: &R, book: &Book, cut: &Cut, marks: Marks, value: u64) -> bool
+    requires wide { length cut.now ≡ length book.now }
+    requires marks { MarksAllNext book.now cut.now marks }
+    ensures { result ≡ false → IsTakenByNone (R.reading reader.now) book.now cut.now value }
+{
+    for caller in 0..book.callers() {
+        if next_may_take(reader, book, cut, marks, value, caller) {
+            return true;
+        }
+    }
+    false
+}
+
+// Whether a caller is marked, and its next call takes, and is unanswered or shows a value.
+fn next_may_take<R: Reader>(
+    reader: &R,
+    book: &Book,
+    cut: &Cut,
+    marks: Marks,
+    value: u64,
+    caller: u32,
+) -> bool
+    requires wide { length cut.now ≡ length book.now }
+    requires marks { MarksAllNext book.now cut.now marks }
+    requires caller { caller < length book.now }
+    ensures { result ≡ false → MayComeNext book.now cut.now (next_call cut.now caller)
+        → CouldTake (R.reading reader.now) book.now (next_call cut.now caller) value → ⊥ }
+{
+    if !marks.has(caller) {
+        return false;
+    }
+    let number = cut.get(caller);
+    let call = Call { caller, number };
+    if number < book.answers(caller) {
+        return reads_outside(reader, book, cut, call, value);
+    }
+    is_take(reader, book, call)
+}
+
+// Whether a call takes.
+fn is_take<R: Reader>(reader: &R, book: &Book, call: Call) -> bool
+    requires { IsCall book.now call }
+    ensures { result ≡ false → (op : ℕ) → operation_of book.now call ≡ Some op
+        → (R.reading reader.now).deed op ≡ Takes → ⊥ }
+{
+    match reader.role(book.op(call)) {
+        Role::Take => true,
+        Role::Put(_) | Role::Other => false,
     }
 }

@@ -6,7 +6,7 @@ ghost use Rattle.value_pruning.specs.HoldsLast.{IsRead, IsWritten, ReadsOutside,
 use crate::sight::{is_outside, labelled_of};
 use crate::values::{value_put, value_taken};
 use book_base::{Book, Call, Cut, Sight};
-use object_foresight::Reader;
+use container_pruning::Reader;
 
 /// Whether an answered call outside a cut reads a value.
 pub fn is_read<R: Reader>(reader: &R, sight: &Sight, book: &Book, cut: &Cut, value: u64) -> bool
@@ -68,8 +68,9 @@ fn some_writes<R: Reader>(reader: &R, book: &Book, cut: &Cut, calls: &[Call], va
     false
 }
 
-// Whether a call is an answered one outside a cut that reads a value.
-fn reads_outside<R: Reader>(reader: &R, book: &Book, cut: &Cut, call: Call, value: u64) -> bool
+/// Whether a call is an answered one outside a cut that reads a value.
+pub fn reads_outside<R: Reader>(reader: &R, book: &Book, cut: &Cut, call: Call, value: u64) -> bool
+    // The cut has a count for each caller of the book.
     requires wide { length cut.now ≡ length book.now }
     ensures { IsTrue result ↔ ReadsOutside (R.reading reader.now) book.now cut.now value call }
 {

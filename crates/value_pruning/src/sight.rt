@@ -6,7 +6,7 @@ ghost use Rattle.book_base.specs.Pruning.{ViewsAreWithin};
 
 use crate::values::{value_put, value_taken};
 use book_base::{Book, Call, Cut, Labelled, NoMemory, Sight};
-use object_foresight::Reader;
+use container_pruning::Reader;
 use std::alloc::Global;
 use std::collections::BTreeMap;
 

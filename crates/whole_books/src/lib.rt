@@ -6,7 +6,7 @@ mod books;
 #[cfg(test)]
 mod decisions;
 #[cfg(test)]
-mod foresights;
+mod found_pruning_rules;
 #[cfg(test)]
 mod lanes;
 #[cfg(test)]

@@ -3,7 +3,7 @@
 
 mod two_calls;
 
-pub use two_calls::{Calls, End, Found, Turns, queue_calls};
+pub use two_calls::{CallFindings, Calls, End, Turns, queue_calls};
 
 #[cfg(test)]
 mod tests;

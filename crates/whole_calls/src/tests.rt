@@ -1,5 +1,5 @@
 use crate::two_calls::calls_on;
-use crate::{End, Found, Turns};
+use crate::{CallFindings, End, Turns};
 use book_base::NoMemory;
 use drv_wrapper::{Announced, Answered, Viewed};
 use row_table::Rows;
@@ -18,14 +18,14 @@ fn found_on<R: Threads>(
     alloc: Global,
     object: Kind,
     turns: Turns,
-) -> Result<(Found, Found), NoMemory> {
+) -> Result<(CallFindings, CallFindings), NoMemory> {
     let (first, second) = (Blank::new(1), Blank::new(1));
     let (found, _, _) = calls_on::<Brand, Brand, R>(rt, alloc, object, first, second, turns)?;
     Ok(found)
 }
 
 // Whether the call was found wrong, and its caller is halted.
-fn is_illegal(found: &Found) -> bool {
+fn is_illegal(found: &CallFindings) -> bool {
     !found.live && matches!(found.end, End::Illegal)
 }
 

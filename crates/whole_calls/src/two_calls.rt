@@ -6,7 +6,7 @@ ghost use Rattle.whole_calls.specs.Seated.{IsAt, IsNew, IsThere, IsNewAt, IsFor,
 use book_base::{Cut, NoMemory, OpWord, Place};
 use drv_wrapper::ObjectPass;
 use enforcer::{Gathered, Judged, Outcome, Unjudged, enforce, enforce_after};
-use frontier_check::{Guide, Standing};
+use frontier_check::{Guide, KeptOrder};
 use lawful_objects::{Entry, LogBox, LogPass, Machine, Plain};
 use row_table::{Bench, Caller, Rows, Steps};
 use seq_objects::{DONE, Kind};
@@ -32,7 +32,7 @@ pub enum End {
 
 /// What one of two callers found of its call.
 #[derive(Debug, Drop)]
-pub struct Found {
+pub struct CallFindings {
     pub end: End,
     /// Whether the caller may make a further call.
     pub live: bool,
@@ -54,7 +54,7 @@ pub enum Turns {
     AfterWhatStands,
 }
 
-impl Found {
+impl CallFindings {
     /// The reply was delivered, and the caller goes on.
     pub fn is_delivered(&self) -> bool {
         self.live && matches!(self.end, End::Delivered(_))
@@ -75,14 +75,14 @@ fn counts(cut: &Cut) -> (u64, u64) {
 }
 
 // What a caller found of a call that was judged.
-fn found_of(outcome: Outcome, live: bool) -> Found {
+fn found_of(outcome: Outcome, live: bool) -> CallFindings {
     match outcome {
         Outcome::Delivered {
             reply,
             view,
             seen,
             order,
-        } => Found {
+        } => CallFindings {
             end: End::Delivered(order),
             live,
             reply,
@@ -94,7 +94,7 @@ fn found_of(outcome: Outcome, live: bool) -> Found {
             view,
             seen,
             book: _,
-        } => Found {
+        } => CallFindings {
             end: End::Illegal,
             live,
             reply,
@@ -105,9 +105,14 @@ fn found_of(outcome: Outcome, live: bool) -> Found {
 }
 
 // What a caller found of a call that was judged after what stood, where this stands now.
-fn found_after(alloc: Global, judged: Judged, standing: Option<Standing>, live: bool) -> Found {
+fn found_after(
+    alloc: Global,
+    judged: Judged,
+    standing: Option<KeptOrder>,
+    live: bool,
+) -> CallFindings {
     match judged {
-        Judged::Delivered { reply, view, seen } => Found {
+        Judged::Delivered { reply, view, seen } => CallFindings {
             end: End::Delivered(order_in(alloc, standing)),
             live,
             reply,
@@ -119,7 +124,7 @@ fn found_after(alloc: Global, judged: Judged, standing: Option<Standing>, live: 
             view,
             seen,
             book: _,
-        } => Found {
+        } => CallFindings {
             end: End::Illegal,
             live,
             reply,
@@ -130,16 +135,16 @@ fn found_after(alloc: Global, judged: Judged, standing: Option<Standing>, live: 
 }
 
 // The order that stands; no places where none does.
-fn order_in(alloc: Global, standing: Option<Standing>) -> Vec<Place> {
+fn order_in(alloc: Global, standing: Option<KeptOrder>) -> Vec<Place> {
     match standing {
-        Some(Standing { order, marks: _ }) => order,
+        Some(KeptOrder { order, marks: _ }) => order,
         None => Vec::new(alloc),
     }
 }
 
 // What a caller found of a call that wasn't judged.
-fn unjudged(live: bool, reply: u64, view: &Cut, seen: &Cut) -> Found {
-    Found {
+fn unjudged(live: bool, reply: u64, view: &Cut, seen: &Cut) -> CallFindings {
+    CallFindings {
         end: End::Unjudged,
         live,
         reply,
@@ -183,7 +188,7 @@ fn call<M: Machine, L: Ledger>(
     object: &LogBox<M>,
     seat: &mut Seat<L>,
     op: OpWord,
-) -> Found
+) -> CallFindings
     requires caller { IsNewAt ⟦<Outside as Program>⟧.meaning rows.now
         (caller_of_pass seat.old.pass) seat.old.caller }
     requires pass { IsPassOf M.reply_to M.has_seen object.now seat.old.pass
@@ -238,7 +243,7 @@ fn call_after<M: Machine, L: Ledger>(
     object: &LogBox<M>,
     seat: &mut Seat<L>,
     op: OpWord,
-) -> Found
+) -> CallFindings
     requires caller { IsNewAt ⟦<Outside as Program>⟧.meaning rows.now
         (caller_of_pass seat.old.pass) seat.old.caller }
     requires pass { IsPassOf M.reply_to M.has_seen object.now seat.old.pass
@@ -296,7 +301,7 @@ fn call_both<M: Machine + Sync, K: Ledger + Send, L: Ledger + Send, R: Threads>(
     a: &mut Seat<K>,
     b: &mut Seat<L>,
     turns: Turns,
-) -> (Found, Found)
+) -> (CallFindings, CallFindings)
     requires callers { IsNewAt ⟦<Outside as Program>⟧.meaning rows.now 0 a.old.caller
         × IsNewAt ⟦<Outside as Program>⟧.meaning rows.now 1 b.old.caller }
     requires passes { IsFor M.reply_to M.has_seen object.now 0 a.old.pass
@@ -404,7 +409,7 @@ fn close_box<M: Machine + Drop>(
 }
 
 /// What both callers of a queue found, how many calls each pass made, and the log.
-pub type Calls = ((Found, Found), (u64, u64), Vec<Entry>);
+pub type Calls = ((CallFindings, CallFindings), (u64, u64), Vec<Entry>);
 
 /// Two callers of a queue on one log call it once each: the first enqueues 5, and the second
 /// dequeues. Each call checks itself.

@@ -130,7 +130,7 @@ pub fn shown(witness: Option<&Witness>) -> Shown {
 
 // What two monitors found.
 #[derive(Debug, Drop)]
-struct Found {
+struct MonitorFindings {
     illegal: (Option<bool>, Option<bool>),
     placed: (bool, bool),
     own: (Shown, Shown),
@@ -143,7 +143,7 @@ fn knowledge(
     one: &mut Monitor,
     other: &mut Monitor,
     illegal: (Option<bool>, Option<bool>),
-) -> Found
+) -> MonitorFindings
     requires on { IsOn board.now one.old × IsOn board.now other.old }
     ensures callers { (caller_of one.new ≡ caller_of one.old)
         × (caller_of other.new ≡ caller_of other.old) }
@@ -152,7 +152,7 @@ fn knowledge(
     let own = (shown(one.own()), shown(other.own()));
     let known = (shown(one.known(board)), shown(other.known(board)));
     one.agree(other);
-    Found {
+    MonitorFindings {
         illegal,
         placed,
         own,
@@ -168,7 +168,7 @@ fn watch_lossy_queue<K: Ledger + Send, L: Ledger + Send, R: Threads>(
     second: Blank,
     calls: u64,
     turns: Turns,
-) -> Result<Found, NoMemory>
+) -> Result<MonitorFindings, NoMemory>
     requires first { (first.name ≡ K.name) × (first.parts ≡ K.parts) × (0 < first.parts) }
     requires second { (second.name ≡ L.name) × (second.parts ≡ L.parts) × (0 < second.parts) }
 {

@@ -6,10 +6,10 @@ ghost use Rattle.book_base.specs.declared.TheConstants.{MAX_CALLERS, MAX_CALLS};
 ghost use Rattle.core_objects.specs.CoreObjects.{ArePassesFor};
 
 use book_base::{Call, MAX_CALLERS, MAX_CALLS, NoMemory};
-use call_lines::LineEnd;
 use client_scripts::make_script;
 use core_objects::{CoreCell, CoreLog, CoreObject, CoreTally};
 use core_runs::run_core_fresh;
+use report_lines::LineEnd;
 use reports::Report;
 use seq_objects::{DONE, Kind, NO, NONE, YES};
 use std::alloc::Global;

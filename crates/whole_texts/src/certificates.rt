@@ -1,8 +1,8 @@
 //! Certificates of reports, and orders that are found and accepted.
 use book_text::read_book;
 use certificate_text::has_accepted_order;
-use report_certificates::report_certificate;
 use report_text::read_report;
+use run_writer::report_certificate;
 use std::alloc::Global;
 use std::test::Fail;
 

@@ -6,7 +6,7 @@ ghost use Rattle.given_book.specs.Given.{IsFirstGivenFault};
 ghost use Rattle.witness_texts.specs.Texts.{IsPictureOf};
 
 use book_base::ReadFault;
-use byte_streams::{Answer, Program, StdSink, StdSource, run_program};
+use byte_streams::{Answer, StdSink, StdSource, TextProgram, run_program};
 use std::alloc::Global;
 use std::process::ExitCode;
 use witness_texts::picture_text;
@@ -16,7 +16,7 @@ use witness_texts::picture_text;
 #[derive(Clone, Copy)]
 struct Painter;
 
-impl Program for Painter {
+impl TextProgram for Painter {
     ghost is_fine = { λ _ bytes text. IsPictureOf bytes text };
 
     ghost is_found = { λ _ bytes text. ⊥ };

@@ -6,14 +6,14 @@ use Rattle.std.proofs.lemmas.Nat.{div-mul-add, mul-le}
 use Rattle.world_core.specs.declared.region.Region.{Region}
 use Rattle.world_core.specs.declared.course.Course.{Course}
 use Rattle.world_core.specs.Scan.{rounds, round, last_of, open_round, course, course_after, course_on}
-use Rattle.world_core.specs.Standing.{Standing, standing, first_of}
+use Rattle.world_core.specs.Standing.{ScanState, standing, first_of}
 use Rattle.world_core.specs.declared.scan_core.ScanCore.TheInside.{Inside}
 use Rattle.world_core.specs.ScanLayout.{standing_of}
 
 -- two that are equal in what they keep
 same_standing : (n me : ℕ) (region : Region) {e f l m : Option (List ℕ)} {c d : List ℕ}
     {a b : Course} → e ≡ f → l ≡ m → c ≡ d → a ≡ b
-    → (let s : Standing = record {
+    → (let s : ScanState = record {
       callers = n;
       me = me;
       region = region;
@@ -158,7 +158,7 @@ module _ (n : ℕ) (taken : List ℕ) (w : ℕ) (some : 0 < n) where
 -- two that are equal in what they are of
 same_scanner : {n m i j : ℕ} {r q : Region} (e l : Option (List ℕ)) (c : List ℕ) (a : Course)
     → n ≡ m → i ≡ j → r ≡ q
-    → (let s : Standing =
+    → (let s : ScanState =
     record { callers = n; me = i; region = r; first = e; last = l; current = c; course = a } in s)
     ≡ record { callers = m; me = j; region = q; first = e; last = l; current = c; course = a }
 same_scanner e l c a p u v = cc
@@ -167,25 +167,25 @@ same_scanner e l c a p u v = cc
 module _ (c : Inside) (w : ℕ) (n me : ℕ) (region : Region) (taken : List ℕ)
     (stood : standing_of c ≡ standing n me region taken) (lacks : c.taken < length c.current) where
   callers : length c.current ≡ n
-  callers = ap (λ (s : Standing). s.callers) stood
+  callers = ap (λ (s : ScanState). s.callers) stood
 
   counted : c.taken ≡ length (open_round n taken)
   counted = sym (length-take-le c.taken c.current (omega arith))
-      ∙ ap (λ (s : Standing). length s.current) stood
+      ∙ ap (λ (s : ScanState). length s.current) stood
 
   filled : take (c.taken + 1) (slice_set c.current c.taken w) ≡ open_round n taken ++ w ∷ []
   filled =
-      take_more_set c.current c.taken w lacks ∙ ap (λ (s : Standing). s.current ++ w ∷ []) stood
+      take_more_set c.current c.taken w lacks ∙ ap (λ (s : ScanState). s.current ++ w ∷ []) stood
 
   pub stands_more : c.taken + 1 ≢ length c.current
       → standing_of (record c { current = slice_set c.current c.taken w; taken = c.taken + 1 })
       ≡ standing n me region (taken ++ w ∷ [])
   stands_more more =
       same_scanner c.first c.last (take (c.taken + 1) (slice_set c.current c.taken w)) c.course
-      (length-set c.current c.taken w ∙ callers) (ap (λ (s : Standing). s.me) stood)
-      (ap (λ (s : Standing). s.region) stood)
-      ∙ (same_standing n me region (ap (λ (s : Standing). s.first) stood)
-      (ap (λ (s : Standing). s.last) stood) filled (ap (λ (s : Standing). s.course) stood)
+      (length-set c.current c.taken w ∙ callers) (ap (λ (s : ScanState). s.me) stood)
+      (ap (λ (s : ScanState). s.region) stood)
+      ∙ (same_standing n me region (ap (λ (s : ScanState). s.first) stood)
+      (ap (λ (s : ScanState). s.last) stood) filled (ap (λ (s : ScanState). s.course) stood)
       ∙ sym (standing_more n taken w (omega (arith, callers)) me region
       (omega (arith, callers, counted))))
 
@@ -205,16 +205,16 @@ module _ (c : Inside) (w : ℕ) (n me : ℕ) (region : Region) (taken : List ℕ
       (omega (arith, length-set c.current c.taken w, whole))) ∙ filled in
       let first : unwrap_or c.first (slice_set c.current c.taken w)
       ≡ first_round n taken (open_round n taken ++ w ∷ []) =
-      ap (λ (s : Standing). unwrap_or s.first (slice_set c.current c.taken w)) stood
+      ap (λ (s : ScanState). unwrap_or s.first (slice_set c.current c.taken w)) stood
       ∙ ap (unwrap_or (first_of n taken (rounds n taken))) new in
-      let last : c.last ≡ last_of n taken (rounds n taken) = ap (λ (s : Standing). s.last) stood in
-      let old : c.course ≡ course n taken = ap (λ (s : Standing). s.course) stood in
+      let last : c.last ≡ last_of n taken (rounds n taken) = ap (λ (s : ScanState). s.last) stood in
+      let old : c.course ≡ course n taken = ap (λ (s : ScanState). s.course) stood in
       same_scanner (Some (unwrap_or c.first (slice_set c.current c.taken w)))
       (Some (slice_set c.current c.taken w)) []
       (course_on (unwrap_or c.first (slice_set c.current c.taken w)) c.last
       (slice_set c.current c.taken w) c.course)
-      (length-set c.current c.taken w ∙ callers) (ap (λ (s : Standing). s.me) stood)
-      (ap (λ (s : Standing). s.region) stood)
+      (length-set c.current c.taken w ∙ callers) (ap (λ (s : ScanState). s.me) stood)
+      (ap (λ (s : ScanState). s.region) stood)
       ∙ (same_standing n me region (ap Some first) (ap Some new) refl (cc (first, new, last, old))
       ∙ sym (standing_whole n taken w (omega (arith, callers)) me region
       (omega (arith, callers, counted))))

@@ -4,9 +4,9 @@ use Rattle.std.specs.Prelude.{◌≡◌, ◌<◌, ℕ, List, length, take, Optio
 use Rattle.world_core.specs.declared.course.Course.{Course}
 use Rattle.world_core.specs.declared.course.Course.TheVariants.{Collects, Borrows, Ends}
 use Rattle.world_core.specs.declared.scan_core.ScanCore.TheInside.{Inside}
-use Rattle.world_core.specs.Standing.{Standing}
+use Rattle.world_core.specs.Standing.{ScanState}
 
-abbrev pub standing_of : Inside → Standing
+abbrev pub standing_of : Inside → ScanState
 standing_of c =
     record {
       callers = length c.current;

@@ -65,10 +65,11 @@ local_at steps who = local_after_all pair steps who
 abbrev pub phases_at : List Step → ℕ → List ℕ → List Phase
 phases_at steps who moments = map (λ k. (local_at (take k steps) who).phase) moments
 
--- Each of the further steps is enabled after these steps; and none of them is.
+-- Each of the further steps is enabled after these steps.
 abbrev pub allows_in : Shape → List Step → List Step → Bool
 allows_in s steps further = list_all (λ (step : Step). is_possible s (end_of s steps) step) further
 
+-- None of the further steps is enabled after these steps.
 abbrev pub refuses_in : Shape → List Step → List Step → Bool
 refuses_in s steps further =
     list_all (λ (step : Step). not (is_possible s (end_of s steps) step)) further

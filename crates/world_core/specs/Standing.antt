@@ -11,7 +11,7 @@ first_of n taken (suc k) = Some (round n taken 0)
 
 -- How many callers there are, which of them scans, and which region; the first and the last round,
 -- if there is one; the words of the round under way; and what the scan does now.
-pub record Standing : Type 0 where
+pub record ScanState : Type 0 where
   pub callers : ℕ
   pub me : ℕ
   pub region : Region
@@ -21,7 +21,7 @@ pub record Standing : Type 0 where
   pub course : Course
 
 -- How a scan stands that has taken these words.
-abbrev pub standing : ℕ → ℕ → Region → List ℕ → Standing
+abbrev pub standing : ℕ → ℕ → Region → List ℕ → ScanState
 standing n me region taken =
     record {
       callers = n;

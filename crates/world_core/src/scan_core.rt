@@ -30,10 +30,10 @@ pub struct ScanCore {
 }
 
 impl Model for ScanCore {
-    ghost use Rattle.world_core.specs.Standing.{Standing};
+    ghost use Rattle.world_core.specs.Standing.{ScanState};
     ghost use Rattle.world_core.specs.ScanLayout.{standing_of, IsWhole};
 
-    ghost Value = { Standing };
+    ghost Value = { ScanState };
 
     ghost view = { standing_of };
 

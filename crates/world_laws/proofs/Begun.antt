@@ -78,9 +78,9 @@ pub record Gave (s : Shape) (w : World) (i : ℕ) (cuts : List Given) (m : Local
 
 -- After an event of a caller that had these cuts, it has them still and its scan goes on; or its
 -- scan gave one more.
-abbrev pub Outcome : Shape → World → ℕ → (World → Type 0) → List Given → Local
+abbrev pub ScanOutcome : Shape → World → ℕ → (World → Type 0) → List Given → Local
     → Option Scan → Type 0
-Outcome s w i P cuts m o = ((m.cuts ≡ cuts) × IsBegun s w i P m m.scan)
+ScanOutcome s w i P cuts m o = ((m.cuts ≡ cuts) × IsBegun s w i P m m.scan)
     ⊎ ((from : World) × P from × Gave s w i cuts m o from)
 
 -- One more word of a steady scan.
@@ -314,7 +314,7 @@ module _ (s : Shape) (w : World) (i : ℕ) (low : i < s.callers) (P : World → 
         }
 
     went_on_outcome : (want : Want) → P from → wanted s.callers (scan.taken ++ x ∷ []) ≡ want
-        → Outcome s w i P l.cuts (went_on l (with_word scan x) want) (Some scan)
+        → ScanOutcome s w i P l.cuts (went_on l (with_word scan x) want) (Some scan)
     went_on_outcome (Done cut) kind done =
         inr (from, kind, gave (purpose_of l.phase l.staged (with_word scan x)) cut done)
     went_on_outcome (Wants_look j) kind done =
@@ -336,12 +336,12 @@ module _ (s : Shape) (w : World) (i : ℕ) (low : i < s.callers) (P : World → 
       → ((from : World) → AllHigh s from w → (taken : List ℕ) → AreHigh s from q taken
       → is_it (wanted s.callers taken) ≡ true
       → count_of s from q (length (open_round s.callers taken)) ≤ x)
-      → Outcome s w i P l.cuts (fed s.callers l o q is_it x) o
+      → ScanOutcome s w i P l.cuts (fed s.callers l o q is_it x) o
   fed_outcome None q is_it x words h kept fits above = inl (refl, kept)
   fed_outcome (Some scan) q is_it x words (from, kind, h) kept fits above =
       cond_both (is_same_region scan.region q && is_it (wanted s.callers scan.taken))
       (went_on l (with_word scan x) (wanted s.callers (with_word scan x).taken)) l
-      (λ (m : Local). Outcome s w i P l.cuts m (Some scan))
+      (λ (m : Local). ScanOutcome s w i P l.cuts m (Some scan))
       (λ e.
       let parts =
       and_parts (is_same_region scan.region q) (is_it (wanted s.callers scan.taken)) e in
@@ -405,8 +405,9 @@ opened_cuts l q (Begins_view reply) = refl
 
 outcome_of : (s : Shape) (w : World) (i : ℕ) (P : World → Type 0) (cuts : List Given) (m : Local)
     (o : Option Scan) → (more : List Given) → more ≡ cuts
-    → Outcome s w i P more m o → Outcome s w i P cuts m o
-outcome_of s w i P cuts m o more same h = subst (λ (gs : List Given). Outcome s w i P gs m o) same h
+    → ScanOutcome s w i P more m o → ScanOutcome s w i P cuts m o
+outcome_of s w i P cuts m o more same h =
+    subst (λ (gs : List Given). ScanOutcome s w i P gs m o) same h
 
 opened_own : (l : Local) (q : Region) (o : Opening) (r : Region)
     → own_count l r ≡ own_count (opened l q o) r
@@ -476,7 +477,7 @@ module _ (s : Shape) (w : World) (sound : Sound s w) (me : ℕ) (low : me < s.ca
 
   own_outcome : (e : Event) → IsTrue (is_enabled s me mine e) → IsTrue (is_loaded s w.words e)
       → (gives_up e ≡ false → IsBegun s w me P mine mine.scan) → (gives_up e ≡ true → P w)
-      → Outcome s w me P mine.cuts (local_after s.callers mine e) (scan_at mine e)
+      → ScanOutcome s w me P mine.cuts (local_after s.callers mine e) (scan_at mine e)
   own_outcome (Stage q t x) may loaded old new =
       inl (
         refl,
@@ -589,7 +590,7 @@ module _ (s : Shape) (w : World) (step : Step) (P : World → Type 0) (sound : S
   gone_on : (i : ℕ) (o : Option Scan) → (keeps_scan i step ≡ true → o ≡ (local_of w i).scan)
       → (keeps_scan i step ≡ false → (scan : Scan) → o ≡ Some scan → scan.taken ≡ [])
       → ((g : Given) → (local_of v i).cuts ≡ (local_of w i).cuts ++ g ∷ [] → v.words ≡ w.words)
-      → Outcome s w i P (local_of w i).cuts (local_of v i) o → AfterStep s w step i P
+      → ScanOutcome s w i P (local_of w i).cuts (local_of v i) o → AfterStep s w step i P
   gone_on i o quiet loud still (inl (same, h)) =
       (begun_on s w step i P (local_of v i) (local_of v i).scan sound may h, inl same)
   gone_on i o quiet loud still (inr (from, kind, g)) = (
@@ -618,7 +619,8 @@ module _ (s : Shape) (w : World) (step : Step) (P : World → Type 0) (sound : S
       (λ g more. words_still s me (local_of w me) w.words step.event g
       (sym (ap (λ (l : Local). l.cuts) is) ∙ more))
       (subst
-      (λ (l : Local). Outcome s w me P (local_of w me).cuts l (scan_at (local_of w me) step.event))
+      (λ (l : Local).
+      ScanOutcome s w me P (local_of w me).cuts l (scan_at (local_of w me) step.event))
       (sym is)
       (own_outcome s w sound me low P step.event p.allowed p.loaded
       (λ quiet. old (keeps_of (me == me) (gives_up step.event) quiet))

@@ -28,7 +28,7 @@ use Rattle.world_laws.proofs.Low.{IsLowScan, AreLow, word_low, opened_low}
 use Rattle.world_laws.proofs.Knowing.{step_later, Sound, known_counted, word_is, embedded_low, embedded_long, none_asked, keeps_open, sound_after, start_sound, steps_sound}
 use Rattle.world_laws.proofs.Rising.{embedded_due, staging_of}
 use Rattle.world_laws.proofs.Running.{possible, own_local, other_local, goes_on, steps_grow, are_possible-append, after_all-append}
-use Rattle.world_laws.proofs.Moments.{Was, was_on, Between, Scanned, FromRow, Found, Count, Entry, word_scanned, word_done}
+use Rattle.world_laws.proofs.Moments.{Was, was_on, Between, Scanned, FromRow, TakenWord, OfCollect, OfBorrowed, word_scanned, word_done}
 
 abbrev pub IsWasGiven : Shape → List Step → Given → Type 0
 IsWasGiven s steps given = Was s steps given.region given.cut
@@ -333,7 +333,7 @@ module _ (s : Shape) (steps : List Step) (w : World) (sound : Sound s w) (run : 
       )
 
   take_word : (q : Region) (x : ℕ) (taken : List ℕ) → Scanned s steps w q taken → AreLow s w q taken
-      → x ≤ count_of s w q (length (open_round s.callers taken)) → Found s w q taken x
+      → x ≤ count_of s w q (length (open_round s.callers taken)) → TakenWord s w q taken x
       → Scanned s steps w q (taken ++ x ∷ [])
       × ((cut : List ℕ) → wanted s.callers (taken ++ x ∷ []) ≡ Done cut → Was s steps q cut)
   take_word q x taken scanned words below found =
@@ -367,7 +367,7 @@ module _ (s : Shape) (steps : List Step) (w : World) (sound : Sound s w) (run : 
       let at = look_is (course s.callers taken) (open_round s.callers taken) j wants in
       let here : x ≡ count_of s w q (length (open_round s.callers taken)) =
       found ∙ ap (count_of s w q) at.1 in
-      take_word q x taken scanned words (omega (arith, here)) (Count at.0 here))
+      take_word q x taken scanned words (omega (arith, here)) (OfCollect at.0 here))
 
   peek_was : (q : Region) (j k t x : ℕ) → IsTrue (is_enabled s me mine (Peek q j k t x))
       → IsTrue (is_loaded s w.words (Peek q j k t x))
@@ -400,7 +400,7 @@ module _ (s : Shape) (steps : List Step) (w : World) (sound : Sound s w) (run : 
       take_word q x taken scanned words
       (embedded_low s w sound.kept sound.low q j k
       (length (open_round s.callers taken)) x row.0 row.1 (open_lacks s.callers taken 0 some) here)
-      (Entry j k at.borrows (record { caller = row.0; row = row.1; word = here })))
+      (OfBorrowed j k at.borrows (record { caller = row.0; row = row.1; word = here })))
 
   was_there : (r : Region) (kept : Option (List ℕ)) (x : ℕ) → is_entry_to_embed kept 0 x ≡ true
       → MaybeWas s steps r kept → Was s steps r (unwrap_or kept [])

@@ -65,11 +65,12 @@ pub record Scanned (s : Shape) (steps : List Step) (w : World) (region : Region)
 
 -- What a word that is taken is: the count that the collect lacks, or the entry that the borrowed
 -- cut lacks.
-pub data Found (s : Shape) (w : World) (region : Region) (taken : List ℕ) (x : ℕ) : Type 0 where
-  Count : course s.callers taken ≡ Collects
-      → x ≡ count_of s w region (length (open_round s.callers taken)) → Found s w region taken x
-  Entry : (j k : ℕ) → course s.callers taken ≡ Borrows j k
-      → FromRow s w region j k (length (open_round s.callers taken)) x → Found s w region taken x
+pub data TakenWord (s : Shape) (w : World) (region : Region) (taken : List ℕ) (x : ℕ) : Type 0 where
+  OfCollect : course s.callers taken ≡ Collects
+      → x ≡ count_of s w region (length (open_round s.callers taken)) → TakenWord s w region taken x
+  OfBorrowed : (j k : ℕ) → course s.callers taken ≡ Borrows j k
+      → FromRow s w region j k (length (open_round s.callers taken)) x
+      → TakenWord s w region taken x
 
 same_rows : (a b c d : ℕ) → (let p : Course = Borrows a b in p) ≡ Borrows c d → (a ≡ c) × (b ≡ d)
 same_rows a b c d h = (cc, cc)
@@ -108,7 +109,7 @@ module _ (s : Shape) (steps : List Step) (w : World) (some : 0 < s.callers) (reg
     × ((e : ℕ) → e < s.callers
     → row_word s w region j k (embedded_place s.callers region e) ≡ slice_index cut e))
     (low : AreLow s w region (taken ++ x ∷ [])) (h : Scanned s steps w region taken)
-    (found : Found s w region taken x) where
+    (found : TakenWord s w region taken x) where
   abbrev n : ℕ
   n = s.callers
 
@@ -122,10 +123,10 @@ module _ (s : Shape) (steps : List Step) (w : World) (some : 0 < s.callers) (reg
   above_moment : course n taken ≡ Collects → (early later : List Step) → steps ≡ early ++ later
       → count_of s (end_of s early) region (length words) ≤ x
   above_moment going early later parts = elim found [
-    | Count is count ↦
+    | OfCollect is count ↦
         let grown = rise early later parts (length words) (open_lacks n taken 0 some) in
         omega (arith, grown, count)
-    | Entry j k is row ↦ let never : Collects ≡ Borrows j k = sym going ∙ is in absurd cc
+    | OfBorrowed j k is row ↦ let never : Collects ≡ Borrows j k = sym going ∙ is in absurd cc
   ]
 
   -- the moment of the collect before, with one more word
@@ -154,8 +155,8 @@ module _ (s : Shape) (steps : List Step) (w : World) (some : 0 < s.callers) (reg
   -- a word of a borrowed cut is one of the row
   newest : (j k : ℕ) → course n taken ≡ Borrows j k → FromRow s w region j k (length words) x
   newest j k going = elim found [
-    | Count is count ↦ let never : Collects ≡ Borrows j k = sym is ∙ going in absurd cc
-    | Entry i m is row ↦
+    | OfCollect is count ↦ let never : Collects ≡ Borrows j k = sym is ∙ going in absurd cc
+    | OfBorrowed i m is row ↦
         let same = same_rows i m j k (sym is ∙ going) in
         subst (λ (b : ℕ). FromRow s w region j b (length words) x) same.1
         (subst (λ (a : ℕ). FromRow s w region a m (length words) x) same.0 row)
@@ -204,8 +205,8 @@ module _ (s : Shape) (steps : List Step) (w : World) (some : 0 < s.callers) (reg
         let ends : course n taken ≡ Ends cut =
         sym course_same ∙ done_ends (course n more) (open_round n more) cut done in
         elim found [
-          | Count is count ↦ let never : Collects ≡ Ends cut = sym is ∙ ends in cc
-          | Entry j k is row ↦ let never : Borrows j k ≡ Ends cut = sym is ∙ ends in cc
+          | OfCollect is count ↦ let never : Collects ≡ Ends cut = sym is ∙ ends in cc
+          | OfBorrowed j k is row ↦ let never : Borrows j k ≡ Ends cut = sym is ∙ ends in cc
         ]
 
   -- where the word is the round's last
@@ -315,11 +316,11 @@ module _ (s : Shape) (steps : List Step) (w : World) (some : 0 < s.callers) (reg
         ≡ Ends cut =
         sym course_next ∙ done_ends (course n more) (open_round n more) cut done in
         elim found [
-          | Count is count ↦
+          | OfCollect is count ↦
               equal_was (rounds n taken) cut refl is
               (ended_by first (last_of n taken (rounds n taken)) latest cut
               (sym (ap (course_on first (last_of n taken (rounds n taken)) latest) is) ∙ ends))
-          | Entry j k is row ↦
+          | OfBorrowed j k is row ↦
               subst (λ (c : List ℕ). Was s steps region c) (ends_borrow j k cut
               (sym (ap (course_on first (last_of n taken (rounds n taken)) latest) is) ∙ ends))
               (borrowed_was j k is)

@@ -145,11 +145,11 @@ record Waiting (s : Shape) (from : World) (k : ℕ) (l : Local) : Type 0 where
   fits : (scan.is_view ≡ true) × (scan.region ≡ N)
   high : AreHigh s from N scan.taken
 
-abbrev Stands : Shape → World → ℕ → Local → Type 0
-Stands s from k l = (k < length l.views) × IsHighCut s from N (slice_index_or l.views k [])
+abbrev HasHighView : Shape → World → ℕ → Local → Type 0
+HasHighView s from k l = (k < length l.views) × IsHighCut s from N (slice_index_or l.views k [])
 
 abbrev Waits : Shape → World → ℕ → Local → Type 0
-Waits s from k l = Waiting s from k l ⊎ Stands s from k l
+Waits s from k l = Waiting s from k l ⊎ HasHighView s from k l
 
 module _ (s : Shape) (from : World) (k : ℕ) (some : 0 < s.callers) where
   went_on_waits : (l : Local) (scan : Scan) (want : Want) → l.phase ≡ Viewing → length l.views ≡ k
@@ -181,12 +181,12 @@ module _ (s : Shape) (from : World) (k : ℕ) (some : 0 < s.callers) where
       ∙ ap
       (λ (r : Region). if is_same_region r N && scan.is_view then For_view else For_nothing) fits.1
       ∙ ap (λ (b : Bool). if is_same_region N N && b then For_view else For_nothing) fits.0) in
-      let stands : Stands s from k (served ended For_view cut) = (
+      let stands : HasHighView s from k (served ended For_view cut) = (
         omega (arith, length-append l.views (cut ∷ []), number),
         subst (λ (c : List ℕ). IsHighCut s from N c) (sym (get_or_push l.views cut [] k number))
             (done_high s from some N scan.taken cut high done),
       ) in
-      inr (subst (λ (p : Purpose). Stands s from k (served ended p cut)) purpose stands)
+      inr (subst (λ (p : Purpose). HasHighView s from k (served ended p cut)) purpose stands)
 
   fed_waits : (l : Local) (o : Option Scan) (q : Region) (is_it : Want → Bool) (x : ℕ)
       → Waiting s from k l → l.scan ≡ o

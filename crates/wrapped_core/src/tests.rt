@@ -1,9 +1,9 @@
 use crate::TicketDispenser;
 use book_base::{BAD, Call, MAX_CALLS, NoMemory};
-use call_lines::LineEnd;
 use client_scripts::{Script, make_script, read_script};
 use core_objects::OneWordPass;
 use core_runs::run_core_fresh;
+use report_lines::LineEnd;
 use reports::Report;
 use seq_objects::Kind;
 use std::alloc::Global;

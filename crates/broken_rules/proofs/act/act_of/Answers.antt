@@ -1,31 +1,23 @@
-use Rattle.std.proofs.Common.{◌∙◌, sym, ap}
-use Rattle.object_foresight.specs.Deals.{deed_of, deal_by_deed, deal_by_operation}
-use Rattle.broken_rules.specs.Deeds.{reading_of}
-use Rattle.broken_rules.proofs.Acts.{same_takes}
+use Rattle.std.proofs.Common.{◌∙◌, sym}
+use Rattle.std.proofs.lemmas.Bool.{cond-true, cond-false}
+use Rattle.container_pruning.specs.Deals.{deal_of}
+use Rattle.broken_rules.specs.Deeds.{is_keyed, reading_of, deal_by_key}
 use Rattle.broken_rules.proofs.act.act_of.Goals as goal
 
-pub returns-in-Put : goal.returns-in-Put
-returns-in-Put c =
-    let reading = reading_of c.args.kind in
+pub returns-then-is_keyed : goal.returns-then-is_keyed
+returns-then-is_keyed c =
+    let kind = c.args.kind in
     let book = c.args.book.now in
     let call = c.args.call in
-    sym (ap (deal_by_operation reading book call) c.op.ensures
-    ∙ ap (deal_by_deed reading book call) (sym c.role_of.ensures ∙ ap deed_of c.in-Put.is))
+    c.act_by_key.ensures
+    ∙ sym (cond-true (is_keyed kind) (deal_by_key kind book call)
+    (deal_of (reading_of kind) book call) (sym c.is_keyed.ensures ∙ c.if-is_keyed.true))
 
-pub returns-in-Take : goal.returns-in-Take
-returns-in-Take c =
-    let reading = reading_of c.args.kind in
+pub returns-else-is_keyed : goal.returns-else-is_keyed
+returns-else-is_keyed c =
+    let kind = c.args.kind in
     let book = c.args.book.now in
     let call = c.args.call in
-    c.take_of.ensures
-    ∙ (same_takes c.args.kind book call
-    ∙ sym (ap (deal_by_operation reading book call) c.op.ensures
-    ∙ ap (deal_by_deed reading book call) (sym c.role_of.ensures ∙ ap deed_of c.in-Take.is)))
-
-pub returns-in-Other : goal.returns-in-Other
-returns-in-Other c =
-    let reading = reading_of c.args.kind in
-    let book = c.args.book.now in
-    let call = c.args.call in
-    sym (ap (deal_by_operation reading book call) c.op.ensures
-    ∙ ap (deal_by_deed reading book call) (sym c.role_of.ensures ∙ ap deed_of c.in-Other.is))
+    c.act_by_reading.ensures
+    ∙ sym (cond-false (is_keyed kind) (deal_by_key kind book call)
+    (deal_of (reading_of kind) book call) (sym c.is_keyed.ensures ∙ c.if-is_keyed.false))

@@ -14,7 +14,7 @@ loop-number-preserved c =
       second = second;
     }) → ⊥ in
     below_more P c.loop-number.number c.loop-number.invariant
-    (subst (λ o. IfNone o (P c.loop-number.number)) c.in-None.is c.broken_with.ensures.none)
+    (subst (λ o. IfNone o (P c.loop-number.number)) c.in-None.is c.broken_at.ensures.none)
 
 pub returns-clause-none : goal.returns-clause-none
 returns-clause-none c number second breaks =

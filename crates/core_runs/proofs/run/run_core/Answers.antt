@@ -1,8 +1,8 @@
 use Rattle.std.proofs.Common.{◌≡◌, subst, arith, false}
 use Rattle.std.specs.Prelude.{IfOk}
 use Rattle.std.specs.List.{list_any}
-use Rattle.bench_clients.specs.Starts.{run_allotments}
-use Rattle.call_lines.specs.Lines.{any_error}
+use Rattle.script_workers.specs.Starts.{run_allotments}
+use Rattle.report_lines.specs.Lines.{any_error}
 use Rattle.reports.specs.Findings.{Findings}
 use Rattle.row_table.specs.Callers.{shape_of, locals_on}
 use Rattle.run_report.specs.Reporting.{IsReportOf}

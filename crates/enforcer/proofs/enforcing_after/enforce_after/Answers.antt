@@ -1,7 +1,7 @@
 use Rattle.std.proofs.Common.{◌≡◌, length, sym, ap, ◌∙◌}
 use Rattle.book_base.specs.declared.call.Record.{Record}
 use Rattle.row_table.specs.Callers.{local_with}
-use Rattle.call_lines.specs.Phases.{progress_of}
+use Rattle.report_lines.specs.Phases.{progress_of}
 use Rattle.collect_scan.specs.Scanned.{most_words}
 use Rattle.row_gather.specs.Peeks.{HasOnlyPeeked}
 use Rattle.drv_wrapper.specs.Growth.{Grows}

@@ -1,7 +1,7 @@
 use Rattle.std.proofs.Common.{ℕ, List, Option, IfSome, subst}
 use Rattle.book_base.specs.Book.{Page}
 use Rattle.book_base.specs.Order.{IsLegalOrder}
-use Rattle.frontier_check.specs.declared.mark.Standing.{Standing}
+use Rattle.frontier_check.specs.declared.mark.KeptOrder.{KeptOrder}
 use Rattle.row_table.specs.Callers.{local_with}
 use Rattle.row_gather.specs.declared.gathered.Gathered.{Gathered}
 use Rattle.row_gather.specs.Gathered.{TicksForNew}
@@ -14,7 +14,7 @@ returns-in-Some-clause-verdict g c = λ locals together is.
     let next = g.S.SeqObject.next c.args.object.now in
     subst (λ (book : List Page). IsLegalOrder init next book c.in-Some.stands.order.items)
     (c.in-Ok.ensures.exact locals together is)
-    (subst (λ (after : Option Standing).
+    (subst (λ (after : Option KeptOrder).
     IfSome after (λ s. IsLegalOrder init next c.in-Ok.found.book s.order.items)) c.in-Some.is
     c.in-Ok.ensures.legal)
 

@@ -5,7 +5,7 @@ use Rattle.world_core.specs.Event.{is_view_under_way}
 use Rattle.row_table.specs.declared.stance.Stance.{Stance}
 use Rattle.row_table.specs.Callers.{shape_of, who_of, local_with, stance_of}
 use Rattle.collect_scan.specs.Turns.{stance_scanned}
-use Rattle.call_lines.specs.Phases.{progress_of}
+use Rattle.report_lines.specs.Phases.{progress_of}
 use Rattle.drv_wrapper.specs.Growth.{Grows}
 use Rattle.enforcer.specs.Recorded.{IsPublishing}
 use Rattle.enforcer.proofs.Standing.{publishing_is, publishing_is_free, may_scan}

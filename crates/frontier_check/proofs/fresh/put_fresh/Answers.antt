@@ -9,13 +9,10 @@ loop-preserved g c =
     record {
       put = put;
       room = c.put.ensures.room;
-      spare = c.next_place-next.ensures.room;
+      spare = c.next_place.ensures.room;
       counts = ap length c.set.ensures
           ∙ (length-set c.loop.counts c.in-Some.place.caller c.count_of.result
           ∙ c.loop.invariant.counts);
-      turns = ap length c.set-in-loop.ensures
-          ∙ (length-set c.loop.turns c.in-Some.place.caller c.turn_of.result
-          ∙ c.loop.invariant.turns);
       marks = marks_put (g.S.SeqObject.init object)
           (g.S.SeqObject.next object) c.args.book.now c.put.new.self c.loop.prefix.places.items
           c.in-Some.place c.answers_in-answered.result c.loop.marks.items

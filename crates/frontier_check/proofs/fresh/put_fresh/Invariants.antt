@@ -1,5 +1,5 @@
 use Rattle.std.proofs.Common.{◌≡◌, length}
-use Rattle.frontier_check.specs.declared.walk.TheConstants.{ROOM}
+use Rattle.frontier_check.specs.declared.walk.TheConstants.{CAPACITY}
 use Rattle.frontier_check.specs.Prefix.{IsPut}
 use Rattle.frontier_check.specs.Standing.{AreMarks}
 use Rattle.frontier_check.proofs.fresh.put_fresh.Given as goal
@@ -7,10 +7,9 @@ use Rattle.frontier_check.proofs.fresh.put_fresh.Given as goal
 abbrev pub invariant-loop : goal.invariant-loop
 invariant-loop g l = record {
   put : IsPut (g.S.SeqObject.init l.object) (g.S.SeqObject.next l.object) l.book l.prefix;
-  room : l.prefix.here.room ≡ ROOM;
-  spare : l.spare.room ≡ ROOM;
+  room : l.prefix.here.room ≡ CAPACITY;
+  spare : l.spare.room ≡ CAPACITY;
   counts : length l.counts ≡ length l.book;
-  turns : length l.turns ≡ length l.book;
   marks : AreMarks (g.S.SeqObject.init l.object)
       (g.S.SeqObject.next l.object) l.book l.prefix.places.items 0 l.marks.items;
 }

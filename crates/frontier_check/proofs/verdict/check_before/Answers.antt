@@ -1,5 +1,4 @@
 use Rattle.std.proofs.Common.{List, sym, subst}
-use Rattle.book_base.specs.declared.call.Place.{Place}
 use Rattle.frontier_check.specs.declared.mark.Mark.{Mark}
 use Rattle.frontier_check.specs.Standing.{AreMarks}
 use Rattle.frontier_check.proofs.Resuming.{marks_fewer}
@@ -10,12 +9,10 @@ order_after_mark-requires g c =
     let init = g.S.SeqObject.init c.args.object.now in
     let next = g.S.SeqObject.next c.args.object.now in
     let book = c.args.book.now in
+    let order = c.loop.order.items in
     record {
-      marks =
-          subst (λ (ps : List Place). AreMarks init next book ps 0 c.truncate.new.self.items)
-          (sym c.deref-in-loop.ensures.value)
-          (subst (λ (ms : List Mark). AreMarks init next book c.args.order.items 0 ms)
+      marks = subst (λ (ms : List Mark). AreMarks init next book order 0 ms)
           (sym c.truncate.ensures.items)
-          (marks_fewer init next book c.args.order.items 0 c.saturating_sub-left.result
-          c.loop.marks.items c.loop.invariant));
+          (marks_fewer init next book order 0 c.saturating_sub-left.result
+          c.loop.marks.items c.loop.invariant);
     }

@@ -1,7 +1,7 @@
 use Rattle.std.proofs.Common.{◌≡◌, ◌∙◌, List, ℕ, sym, ap, subst}
 use Rattle.std.proofs.lemmas.Option.{IfSome_then, none-some}
 use Rattle.list_laws.proofs.Options.{IfNone_then}
-use Rattle.call_lines.specs.Lines.{error_at}
+use Rattle.report_lines.specs.Lines.{error_at}
 use Rattle.reports.specs.Findings.{Findings}
 use Rattle.report_text.specs.ReportRules.{IsReportText}
 use Rattle.given_book.proofs.FirstErrors.{one_report_part}

@@ -1,5 +1,5 @@
 use Rattle.std.proofs.Common.{◌≡◌, ℕ, ◌<◌, None}
-use Rattle.call_lines.specs.Lines.{error_at}
+use Rattle.report_lines.specs.Lines.{error_at}
 use Rattle.given_book.proofs.error_line.first_error_in.Given as goal
 
 abbrev pub invariant-loop-number : goal.invariant-loop-number

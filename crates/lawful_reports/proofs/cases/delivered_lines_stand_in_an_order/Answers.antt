@@ -3,10 +3,10 @@ use Rattle.std.proofs.lemmas.Option.{none-some, same_Some}
 use Rattle.book_base.specs.declared.call.Record.{Record}
 use Rattle.book_base.specs.declared.call.Place.{Place}
 use Rattle.world_core.specs.Schedules.{pair}
-use Rattle.call_lines.specs.declared.line.Line.{Line}
-use Rattle.call_lines.specs.declared.line.LineEnd.TheVariants.{Delivered}
-use Rattle.call_lines.specs.Lines.{lines_at}
-use Rattle.call_lines.specs.Cases.{call}
+use Rattle.report_lines.specs.declared.line.Line.{Line}
+use Rattle.report_lines.specs.declared.line.LineEnd.TheVariants.{Delivered}
+use Rattle.report_lines.specs.Lines.{lines_at}
+use Rattle.report_lines.specs.Cases.{call}
 use Rattle.report_laws.specs.Cases.{fifty, sixty, both_delivered, both_failed}
 use Rattle.lawful_reports.specs.Orders.{StandsWith, delivered_book}
 use Rattle.lawful_reports.specs.Cases.{first_place}
@@ -22,8 +22,8 @@ each_call P a b h g (suc zero) (suc k) line e = absurd (none-some line e)
 each_call P a b h g (suc (suc i)) k line e = absurd (none-some line e)
 
 -- the call stands in the order, where its line is delivered
-abbrev Stands : List (List Line) → List Place → ℕ → ℕ → Line → Type 0
-Stands lines order i k line =
+abbrev DeliveredHasPlace : List (List Line) → List Place → ℕ → ℕ → Line → Type 0
+DeliveredHasPlace lines order i k line =
     (r : Record) (cut : List ℕ) → line.end ≡ Delivered r cut
     → StandsWith (delivered_book pair lines) order (call i k) line.op r.reply
 
@@ -48,7 +48,7 @@ no_such_place (suc (suc k)) e = absurd (none-some (first_place 1 60) e)
 
 pub returns-clause-both : goal.returns-clause-both
 returns-clause-both c at line r cut there end =
-    each_call (Stands both_delivered (first_place 0 50 ∷ first_place 1 60 ∷ [])) _ _
+    each_call (DeliveredHasPlace both_delivered (first_place 0 50 ∷ first_place 1 60 ∷ [])) _ _
     (λ r cut e. let same : fifty ≡ r = cc in
     subst (λ (r : Record). StandsWith (delivered_book pair both_delivered)
     (first_place 0 50 ∷ first_place 1 60 ∷ []) (call 0 0) 5 r.reply) same (0, refl, refl))
@@ -59,7 +59,7 @@ returns-clause-both c at line r cut there end =
 
 pub returns-clause-none : goal.returns-clause-none
 returns-clause-none c at line r cut there end =
-    each_call (Stands both_failed []) _ _ (λ r cut e. absurd cc)
+    each_call (DeliveredHasPlace both_failed []) _ _ (λ r cut e. absurd cc)
     (λ r cut e. absurd cc) at.caller at.number line there r cut end
 
 pub returns-clause-one_left_out : goal.returns-clause-one_left_out

@@ -3,8 +3,8 @@ use Rattle.world_core.specs.Schedules.{pair, two_calls, tenfold, silent}
 use Rattle.world_core.proofs.Linear.{linearizable}
 use Rattle.world_books.specs.Cases.{locals_after}
 use Rattle.world_books.proofs.Worked.{both_together}
-use Rattle.call_lines.specs.Cases.{call}
-use Rattle.call_lines.specs.Lawful.{IsLawful}
+use Rattle.report_lines.specs.Cases.{call}
+use Rattle.report_lines.specs.Lawful.{IsLawful}
 use Rattle.report_laws.specs.Cases.{five_and_six, both_failed}
 use Rattle.report_laws.proofs.Worlds.{worlds_are_lawful, illegal_at}
 use Rattle.report_laws.proofs.Worked.{first_is_legal, failed_lines}

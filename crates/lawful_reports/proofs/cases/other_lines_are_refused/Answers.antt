@@ -1,7 +1,7 @@
 use Rattle.std.proofs.Common.{[], ◌∷◌, refl}
 use Rattle.world_core.specs.Schedules.{two_calls, tenfold, silent}
 use Rattle.world_books.specs.Cases.{locals_after}
-use Rattle.call_lines.specs.Cases.{call}
+use Rattle.report_lines.specs.Cases.{call}
 use Rattle.report_laws.specs.Cases.{both_delivered, first_failed}
 use Rattle.report_laws.proofs.Worlds.{legal_at, illegal_at}
 use Rattle.report_laws.proofs.Worked.{first_is_legal, first_is_illegal}

@@ -1,5 +1,5 @@
 use Rattle.std.proofs.Common.{◌≡◌, [], ◌∷◌, refl, arith}
-use Rattle.call_lines.specs.Cases.{call, answer}
+use Rattle.report_lines.specs.Cases.{call, answer}
 use Rattle.lawful_reports.proofs.cases.wrong_reports_are_refused.Goals as goal
 
 pub returns-clause-view_without_call : goal.returns-clause-view_without_call

@@ -5,7 +5,7 @@ use Rattle.std.proofs.lemmas.List.Elements.{All-nil, All-cons, All-head, All-tai
 use Rattle.shared_log.specs.declared.entry.Entry.{Entry}
 use Rattle.shared_log.specs.Entries.{calls_by, entry}
 use Rattle.shared_log.proofs.Logs.{calls_by-append, calls_by-own, calls_by-other}
-use Rattle.call_lines.specs.Phases.{asked, answered, operations_of, answers_in}
+use Rattle.report_lines.specs.Phases.{asked, answered, operations_of, answers_in}
 use Rattle.lawful_objects.specs.Pairs.{pairs_of}
 use Rattle.logged_calls.specs.Cases.{count_before, one_answered, others_made}
 use Rattle.logged_calls.proofs.cases.logs_have_the_calls_that_were_asked.Goals as goal

@@ -1,5 +1,5 @@
 use Rattle.std.proofs.Common.{arith}
-use Rattle.bench_clients.proofs.Starts.{operations_within}
+use Rattle.script_workers.proofs.Starts.{operations_within}
 use Rattle.monitored_runs.proofs.Monitoring.{counts_are}
 use Rattle.monitored_runs.proofs.counts.published_counts.Goals as goal
 

@@ -1,6 +1,6 @@
 use Rattle.std.proofs.Common.{◌≡◌, ℕ, ◌+◌, ◌<◌, ◌≤◌, length, get_or, slice_index}
-use Rattle.call_lines.specs.Phases.{published_by}
-use Rattle.bench_clients.specs.Starts.{run_allotments}
+use Rattle.report_lines.specs.Phases.{published_by}
+use Rattle.script_workers.specs.Starts.{run_allotments}
 use Rattle.monitored_runs.proofs.counts.published_counts.Given as goal
 
 abbrev pub invariant-loop-i : goal.invariant-loop-i

@@ -1,7 +1,7 @@
 use Rattle.std.proofs.Common.{◌∙◌, ap, List, length, arith}
 use Rattle.std.proofs.lemmas.List.{length-map}
 use Rattle.book_base.specs.Book.{Page}
-use Rattle.call_lines.specs.Lines.{book_of_lines}
+use Rattle.report_lines.specs.Lines.{book_of_lines}
 use Rattle.reports.specs.declared.report.Own.{Own}
 use Rattle.reports.specs.ReportLayout.{lines_in}
 use Rattle.monitored_runs.proofs.Monitoring.{book_with_monitors, published_long}

@@ -1,9 +1,9 @@
 use Rattle.std.proofs.Common.{arith}
 use Rattle.std.specs.Prelude.{Option}
 use Rattle.monitor.specs.declared.witness.Witness.{Witness}
-use Rattle.call_phases.specs.Asking.{own_count}
+use Rattle.client_calls.specs.Asking.{own_count}
 use Rattle.row_table.specs.Callers.{locals_on}
-use Rattle.bench_clients.specs.Places.{AreInOrder}
+use Rattle.script_workers.specs.Places.{AreInOrder}
 use Rattle.run_report.proofs.Workers.{own_passes, if_ok_as}
 use Rattle.monitored_runs.specs.Monitoring.{IsCountedAll, IsToldAll}
 use Rattle.monitored_runs.proofs.Monitoring.{counted_told_all}

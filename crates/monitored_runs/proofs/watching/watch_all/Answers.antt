@@ -1,7 +1,7 @@
-use Rattle.std.proofs.Common.{rules, ◌∙◌, ◌+◌, length, arith}
+use Rattle.std.proofs.Common.{◌∙◌, ◌+◌, length, arith}
 use Rattle.std.proofs.lemmas.Slice.Zip.{AllZip-long}
-use Rattle.bench_clients.proofs.Places.{down_all, down_across}
-use Rattle.bench_clients.proofs.Returns.{unused_back, start_ready, start_spent}
+use Rattle.script_workers.proofs.Places.{down_all, down_across}
+use Rattle.script_workers.proofs.Returns.{unused_back, start_ready, start_spent}
 use Rattle.monitored_runs.proofs.Returning.{begins_unused, free_on, monitors_back, back_watched}
 use Rattle.monitored_runs.proofs.watching.watch_all.Goals as goal
 
@@ -51,44 +51,24 @@ watch_in-one-requires-clause-few g c κs within = omega (
   c.args.shared.now.rows.now.few.1,
 )
 
-pub end_all-requires : goal.end_all-requires
-end_all-requires g c κs within =
-    let began = c.in_ok-workers.ensures in
-    let watched = c.watch_in-one.ensures in
-    let count = c.callers-callers.ensures.count in (
-      within.0,
-      (
-        within.1.0,
-        (
-          search rules,
-          (
-            within.1.1,
-            (
-              omega (arith, AllZip-long _ _ _ watched.done, began.all),
-              (
-                down_across _ _ _ _ _ _
-                    (λ i w d start ran. start_spent _ _ _ _ _ _ _ i w d start ran) began.workers
-                    watched.done,
-                (
-                  began.no_lines,
-                  (
-                    began.room,
-                    (
-                      watched.bench,
-                      (
-                        λ i low. (watched.others i (λ same. omega (arith, low, same, count))
-                            (λ same. omega (arith, low, same, count))).local ∙ began.gone i low,
-                        (began.no_passes, omega (arith, began.capacity, c.requires.passes.as_many)),
-                      ),
-                    ),
-                  ),
-                ),
-              ),
-            ),
-          ),
-        ),
-      ),
-    )
+pub end_all-requires-clause-all : goal.end_all-requires-clause-all
+end_all-requires-clause-all g c = omega
+    (arith, AllZip-long _ _ _ c.watch_in-one.ensures.done, c.in_ok-workers.ensures.all)
+
+pub end_all-requires-clause-workers : goal.end_all-requires-clause-workers
+end_all-requires-clause-workers g c =
+    down_across _ _ _ _ _ _ (λ i w d start ran. start_spent _ _ _ _ _ _ _ i w d start ran)
+    c.in_ok-workers.ensures.workers c.watch_in-one.ensures.done
+
+pub end_all-requires-clause-gone : goal.end_all-requires-clause-gone
+end_all-requires-clause-gone g c i low =
+    let count = c.callers-callers.ensures.count in
+    (c.watch_in-one.ensures.others i (λ same. omega (arith, low, same, count))
+    (λ same. omega (arith, low, same, count))).local ∙ c.in_ok-workers.ensures.gone i low
+
+pub end_all-requires-clause-passes : goal.end_all-requires-clause-passes
+end_all-requires-clause-passes g c =
+    omega (arith, c.in_ok-workers.ensures.capacity, c.requires.passes.as_many)
 
 pub returns-in_err-lines-clause-monitors : goal.returns-in_err-lines-clause-monitors
 returns-in_err-lines-clause-monitors g c =

@@ -1,4 +1,4 @@
-use Rattle.bench_clients.proofs.Places.{written_back}
+use Rattle.script_workers.proofs.Places.{written_back}
 use Rattle.monitored_runs.proofs.watching.watch_in.Goals as goal
 
 pub returns-clause-done : goal.returns-clause-done

@@ -1,6 +1,6 @@
 use Rattle.std.proofs.Common.{◌≡◌, ℕ, ◌+◌, ◌<◌, ◌≤◌, length, sum, get_or}
 use Rattle.book_base.specs.Book.{calls_of}
-use Rattle.order_check.specs.declared.order.TheConstants.{ROOM}
+use Rattle.order_check.specs.declared.order.TheConstants.{CAPACITY}
 use Rattle.order_check.specs.Fault.{list_before}
 use Rattle.order_check.specs.Standing.{IsStanding, IsInPlace}
 use Rattle.order_check.proofs.Placing.{IsGiven}
@@ -8,7 +8,7 @@ use Rattle.order_check.proofs.order.check_order.Given as goal
 
 abbrev pub invariant-loop-p : goal.invariant-loop-p
 invariant-loop-p g l = record {
-  room : l.state.room ≡ ROOM;
+  room : l.state.room ≡ CAPACITY;
   words : l.state.words
       ≡ list_before (g.S.SeqObject.init l.object) (g.S.SeqObject.next l.object) l.book l.order l.p;
   short : length l.state.words ≤ sum l.standing + 1;

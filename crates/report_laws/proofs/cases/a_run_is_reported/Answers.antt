@@ -2,7 +2,7 @@ use Rattle.std.proofs.Common.{◌≤◌, [], ◌∷◌, refl, arith, inl, inr, r
 use Rattle.world_core.specs.Schedules.{pair, two_calls, tenfold, silent}
 use Rattle.world_books.specs.Cases.{locals_after}
 use Rattle.world_books.proofs.Worked.{both_together}
-use Rattle.call_lines.specs.Cases.{call}
+use Rattle.report_lines.specs.Cases.{call}
 use Rattle.report_laws.specs.Cases.{five_and_six, both_delivered, both_failed}
 use Rattle.report_laws.proofs.Worlds.{worlds_are_lawful}
 use Rattle.report_laws.proofs.Worked.{first_is_legal, delivered_lines, second_is_illegal, failed_lines}

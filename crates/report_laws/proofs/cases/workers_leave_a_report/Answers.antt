@@ -1,7 +1,7 @@
 use Rattle.std.proofs.Common.{◌≤◌, [], ◌∷◌, refl, arith}
 use Rattle.world_core.specs.Schedules.{pair, tenfold}
 use Rattle.world_books.specs.Cases.{locals_after}
-use Rattle.call_lines.specs.Cases.{call}
+use Rattle.report_lines.specs.Cases.{call}
 use Rattle.report_laws.specs.Cases.{five_and_six, one_unchecked, one_judging}
 use Rattle.report_laws.proofs.Workers.{workers_are_lawful}
 use Rattle.report_laws.proofs.WorkedWorkers.{judging_together, read, both_worked, unread}

@@ -8,7 +8,7 @@ use Rattle.text_fields.specs.Faults.{GoesTo}
 use Rattle.text_fields.proofs.Sharp.{goes_nowhere, goes_then}
 use Rattle.book_text.specs.CallLines.{calls_from, all_calls}
 use Rattle.book_text.proofs.CallTexts.{stops_then, next_caller, calls_of-unanswered, answers_of-unanswered}
-use Rattle.call_lines.specs.declared.line.Line.{Line}
+use Rattle.report_lines.specs.declared.line.Line.{Line}
 use Rattle.reports.specs.declared.report.Own.{Own}
 use Rattle.reports.specs.Findings.{sizes}
 use Rattle.reports.specs.ReportLayout.{lines_in}

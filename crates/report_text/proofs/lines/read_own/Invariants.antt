@@ -1,7 +1,7 @@
 use Rattle.std.proofs.Common.{◌≡◌, ◌≢◌, ℕ, ◌≤◌, List, length}
 use Rattle.book_base.specs.declared.call.Call.{Call}
 use Rattle.book_base.specs.Book.{calls_of, answers_of}
-use Rattle.call_lines.specs.declared.line.Line.{Line}
+use Rattle.report_lines.specs.declared.line.Line.{Line}
 use Rattle.report_text.specs.Drafts.{StandBefore, IsDraft, IsWide}
 use Rattle.report_text.proofs.OwnSteps.{AreReadTo}
 use Rattle.report_text.proofs.lines.read_own.Given as goal

@@ -6,8 +6,8 @@ use Rattle.seq_objects.specs.declared.kind.Kind.{Kind}
 use Rattle.text_fields.specs.Lines.{text_of, line_text}
 use Rattle.client_scripts.specs.Grammar.{by_number}
 use Rattle.client_scripts.proofs.Written.{part_more, one_line}
-use Rattle.call_lines.specs.declared.line.Line.{Line}
-use Rattle.call_lines.specs.Lines.{lines_at}
+use Rattle.report_lines.specs.declared.line.Line.{Line}
+use Rattle.report_lines.specs.Lines.{lines_at}
 use Rattle.reports.specs.Grammar.{call_line, line_words}
 use Rattle.report_text.proofs.writer.put_caller.Goals as goal
 

@@ -1,7 +1,7 @@
 use Rattle.std.proofs.Common.{◌≡◌, ◌++◌, take}
 use Rattle.text_fields.specs.Lines.{text_of}
 use Rattle.client_scripts.specs.Grammar.{by_number}
-use Rattle.call_lines.specs.Lines.{lines_at}
+use Rattle.report_lines.specs.Lines.{lines_at}
 use Rattle.reports.specs.Grammar.{call_line}
 use Rattle.report_text.proofs.writer.put_caller.Given as goal
 

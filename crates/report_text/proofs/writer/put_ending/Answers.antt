@@ -5,7 +5,7 @@ use Rattle.text_fields.specs.Counts.{pair_words}
 use Rattle.book_text.specs.CallLines.{answer_words}
 use Rattle.book_writer.specs.Fields.{spaced}
 use Rattle.book_writer.proofs.Lines.{OnOk_then}
-use Rattle.call_lines.specs.declared.line.LineEnd.{LineEnd}
+use Rattle.report_lines.specs.declared.line.LineEnd.{LineEnd}
 use Rattle.reports.specs.Grammar.{ending_words}
 use Rattle.report_text.proofs.Endings.{after_answer, verdict_written}
 use Rattle.report_text.proofs.writer.put_ending.Goals as goal

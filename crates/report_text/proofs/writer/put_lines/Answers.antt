@@ -3,7 +3,7 @@ use Rattle.std.proofs.lemmas.List.{take_all}
 use Rattle.text_fields.specs.Lines.{text_of}
 use Rattle.client_scripts.specs.Grammar.{by_number}
 use Rattle.client_scripts.proofs.Written.{part_more}
-use Rattle.call_lines.specs.declared.line.Line.{Line}
+use Rattle.report_lines.specs.declared.line.Line.{Line}
 use Rattle.reports.specs.Grammar.{caller_lines}
 use Rattle.report_text.proofs.writer.put_lines.Goals as goal
 

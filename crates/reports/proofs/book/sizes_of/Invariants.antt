@@ -1,5 +1,5 @@
 use Rattle.std.proofs.Common.{◌≡◌, ℕ, ◌<◌, length, get_or}
-use Rattle.call_lines.specs.Lines.{lines_at}
+use Rattle.report_lines.specs.Lines.{lines_at}
 use Rattle.reports.specs.ReportLayout.{lines_in}
 use Rattle.reports.proofs.book.sizes_of.Given as goal
 

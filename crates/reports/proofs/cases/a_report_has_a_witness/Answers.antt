@@ -1,6 +1,6 @@
 use Rattle.std.proofs.Common.{◌∷◌, []}
-use Rattle.call_lines.specs.Lines.{book_of_lines}
-use Rattle.call_lines.specs.Cases.{call, worked_lines}
+use Rattle.report_lines.specs.Lines.{book_of_lines}
+use Rattle.report_lines.specs.Cases.{call, worked_lines}
 use Rattle.book_laws.proofs.BookAt.{book_at_is_the_book_at}
 use Rattle.reports.proofs.Worked.{worked_is_valid, worked_is_report, worked_error_is_first}
 use Rattle.reports.proofs.cases.a_report_has_a_witness.Goals as goal

@@ -1,5 +1,5 @@
 use Rattle.std.proofs.Common.{◌^◌, inl, inr, ◌≡◌, ◌<◌, ◌≤◌, ◌∷◌, [], refl, arith}
-use Rattle.call_lines.specs.Cases.{call, pending, unchecked, failed, answer}
+use Rattle.report_lines.specs.Cases.{call, pending, unchecked, failed, answer}
 use Rattle.reports.proofs.cases.lines_that_are_no_report.Goals as goal
 
 pub returns-clause-after_pending : goal.returns-clause-after_pending

@@ -1,6 +1,6 @@
 use Rattle.std.proofs.Common.{◌∷◌, [], refl, sym, arith, inl, inr}
 use Rattle.std.proofs.lemmas.Option.{none-some}
-use Rattle.call_lines.specs.Cases.{call}
+use Rattle.report_lines.specs.Cases.{call}
 use Rattle.reports.proofs.cases.the_earlier_callers_error_is_first.Goals as goal
 
 pub returns-clause-first : goal.returns-clause-first

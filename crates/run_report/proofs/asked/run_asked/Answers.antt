@@ -1,9 +1,9 @@
 use Rattle.std.proofs.Common.{rules, arith}
 use denote.Param.Send.{sendable}
-use Rattle.bench_clients.specs.Starts.{run_allotments}
+use Rattle.script_workers.specs.Starts.{run_allotments}
 use Rattle.std.proofs.lemmas.Slice.Zip.{AllZip-long}
-use Rattle.bench_clients.proofs.Places.{down_all, down_across}
-use Rattle.bench_clients.proofs.Returns.{unused_back, start_ready, start_spent}
+use Rattle.script_workers.proofs.Places.{down_all, down_across}
+use Rattle.script_workers.proofs.Returns.{unused_back, start_ready, start_spent}
 use Rattle.run_report.proofs.Workers.{all_held}
 use Rattle.run_report.proofs.Sending.{judging_send}
 use Rattle.run_report.proofs.asked.run_asked.Goals as goal
@@ -30,60 +30,21 @@ run_workers-requires g c κs = (
   ),
 )
 
-pub end_all-requires : goal.end_all-requires
-end_all-requires g c κs within =
-    let began = c.in_ok-workers.ensures in (
-      search rules,
-      (
-        search rules,
-        (
-          search rules,
-          (
-            search rules,
-            (
-              omega (arith, AllZip-long _ _ _ c.run_workers.ensures, began.all),
-              (
-                down_across _ _ _ _ _ _
-                    (λ i w d start ran. start_spent _ _ _ _ _ _ _ i w d start ran) began.workers
-                    c.run_workers.ensures,
-                (
-                  began.no_lines,
-                  (
-                    began.room,
-                    (
-                      began.bench,
-                      (
-                        began.gone,
-                        (began.no_passes, omega (arith, began.capacity, c.requires.passes.as_many)),
-                      ),
-                    ),
-                  ),
-                ),
-              ),
-            ),
-          ),
-        ),
-      ),
-    )
+pub end_all-requires-clause-all : goal.end_all-requires-clause-all
+end_all-requires-clause-all g c =
+    omega (arith, AllZip-long _ _ _ c.run_workers.ensures, c.in_ok-workers.ensures.all)
 
-pub report_of-requires : goal.report_of-requires
-report_of-requires g c κs within =
-    let done = c.in_ok-lines.ensures in (
-      search rules,
-      (
-        search rules,
-        (
-          search rules,
-          (
-            search rules,
-            (
-              omega (arith, c.requires.begins.callers),
-              (done.bench, (done.all_passes, (done.all_lines, done.lines))),
-            ),
-          ),
-        ),
-      ),
-    )
+pub end_all-requires-clause-workers : goal.end_all-requires-clause-workers
+end_all-requires-clause-workers g c =
+    down_across _ _ _ _ _ _ (λ i w d start ran. start_spent _ _ _ _ _ _ _ i w d start ran)
+    c.in_ok-workers.ensures.workers c.run_workers.ensures
+
+pub end_all-requires-clause-passes : goal.end_all-requires-clause-passes
+end_all-requires-clause-passes g c =
+    omega (arith, c.in_ok-workers.ensures.capacity, c.requires.passes.as_many)
+
+pub report_of-report-requires-clause-callers : goal.report_of-report-requires-clause-callers
+report_of-report-requires-clause-callers g c = omega (arith, c.requires.begins.callers)
 
 pub returns-in_err-workers-clause-bench : goal.returns-in_err-workers-clause-bench
 returns-in_err-workers-clause-bench g c =

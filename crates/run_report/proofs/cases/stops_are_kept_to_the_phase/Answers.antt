@@ -4,9 +4,9 @@ use Rattle.world_core.specs.Local.{Local}
 use Rattle.world_core.specs.Calls.{AreTogether, local_at}
 use Rattle.world_core.specs.Schedules.{pair, announced_both, published_one, two_calls, silent}
 use Rattle.world_books.specs.Cases.{locals_after}
-use Rattle.call_lines.specs.Lines.{lines_at, AreLinesOf}
-use Rattle.call_lines.specs.Allotments.{phases_of}
-use Rattle.call_phases.specs.Finishing.{KeepsAsked}
+use Rattle.report_lines.specs.Lines.{lines_at, AreLinesOf}
+use Rattle.report_lines.specs.Allotments.{phases_of}
+use Rattle.client_calls.specs.Finishing.{KeepsAsked}
 use Rattle.report_laws.specs.Cases.{five_and_six, stopped}
 use Rattle.report_laws.specs.Reporting.{HaveMade}
 use Rattle.report_laws.proofs.Worlds.{worlds_are_lawful}

@@ -1,62 +1,15 @@
-use Rattle.std.proofs.Common.{rules, arith}
-use Rattle.bench_clients.specs.Starts.{replay_allotments}
-use Rattle.bench_clients.proofs.Returns.{unused_back}
+use Rattle.std.proofs.Common.{arith}
+use Rattle.script_workers.specs.Starts.{replay_allotments}
+use Rattle.script_workers.proofs.Returns.{unused_back}
 use Rattle.run_report.proofs.Workers.{all_held, own_passes, counted_told}
 use Rattle.run_report.proofs.replay.replay_over.Goals as goal
 
-pub end_all-requires : goal.end_all-requires
-end_all-requires g c κs within =
-    let began = c.in_ok-workers.ensures in
-    let turned = c.take_turns.ensures in (
-      search rules,
-      (
-        search rules,
-        (
-          search rules,
-          (
-            search rules,
-            (
-              omega (arith, turned.all),
-              (
-                turned.workers,
-                (
-                  began.no_lines,
-                  (
-                    began.room,
-                    (
-                      began.bench,
-                      (
-                        began.gone,
-                        (began.no_passes, omega (arith, began.capacity, c.requires.passes.as_many)),
-                      ),
-                    ),
-                  ),
-                ),
-              ),
-            ),
-          ),
-        ),
-      ),
-    )
+pub end_all-requires-clause-passes : goal.end_all-requires-clause-passes
+end_all-requires-clause-passes g c =
+    omega (arith, c.in_ok-workers.ensures.capacity, c.requires.passes.as_many)
 
-pub report_of-report-requires : goal.report_of-report-requires
-report_of-report-requires g c κs within =
-    let done = c.in_ok-lines.ensures in (
-      search rules,
-      (
-        search rules,
-        (
-          search rules,
-          (
-            search rules,
-            (
-              omega (arith, c.requires.begins.callers),
-              (done.bench, (done.all_passes, (done.all_lines, done.lines))),
-            ),
-          ),
-        ),
-      ),
-    )
+pub report_of-report-requires-clause-callers : goal.report_of-report-requires-clause-callers
+report_of-report-requires-clause-callers g c = omega (arith, c.requires.begins.callers)
 
 pub returns-in_err-workers-clause-bench : goal.returns-in_err-workers-clause-bench
 returns-in_err-workers-clause-bench g c =

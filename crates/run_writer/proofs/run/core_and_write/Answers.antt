@@ -1,5 +1,5 @@
 use Rattle.std.proofs.Common.{sym, ap}
-use Rattle.bench_clients.specs.Starts.{object_by}
+use Rattle.script_workers.specs.Starts.{object_by}
 use Rattle.run_writer.proofs.RunLemmas.{RunEnds-from_report}
 use Rattle.run_writer.proofs.RunningLemmas.{one_standing, has_form}
 use Rattle.run_writer.proofs.run.core_and_write.Goals as goal

@@ -1,5 +1,5 @@
 use Rattle.std.proofs.Common.{◌≡◌, ℕ, List, [], ◌∷◌, length, refl, ap, arith}
-use Rattle.book_base.specs.Foresight.{Leaves}
+use Rattle.book_base.specs.PruningRules.{Leaves}
 use Rattle.book_laws.specs.Cases.{line_next}
 use Rattle.smaller_book.proofs.cases.calls_that_leave.Goals as goal
 

@@ -1,8 +1,8 @@
 use Rattle.std.proofs.Common.{refl, arith}
-use Rattle.book_base.proofs.PruningLemmas.{all_next_suffice}
 use Rattle.value_pruning.proofs.Placing.{rising-reached}
 use Rattle.value_pruning.proofs.Taking.{first_take_suffices}
 use Rattle.value_pruning.proofs.Putting.{put_suffices}
+use Rattle.value_pruning.proofs.Wanting.{wanted_suffice}
 use Rattle.value_pruning.proofs.least_first.narrow_least_first.Goals as goal
 
 pub returns-in-Some-clause-suffice : goal.returns-in-Some-clause-suffice
@@ -34,5 +34,12 @@ returns-in-Some-least_put-clause-suffice g c init next bound is rising reached =
 
 pub returns-clause-suffice : goal.returns-clause-suffice
 returns-clause-suffice g c init next bound is rising reached =
-    all_next_suffice c.args.book.now next c.args.cut.now c.args.words.now c.args.forced c.args.marks
-    c.requires.forced c.requires.marks
+    let reading = g.R.Reader.reading c.args.reader.now in
+    let book = c.args.book.now in
+    let cut = c.args.cut.now in
+    let words = c.args.words.now in
+    wanted_suffice reading next bound is book c.callers-callers.ensures.valid c.requires.open cut
+    words c.args.forced c.args.marks c.without_unwanted.result
+    (rising-reached reading init next bound book cut words is rising reached)
+    (omega (arith, c.requires.wide)) c.requires.forced c.requires.marks
+    c.without_unwanted.ensures.unwanted

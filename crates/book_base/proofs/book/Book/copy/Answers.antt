@@ -2,15 +2,15 @@ use Rattle.std.proofs.Common.{◌≡◌, ℕ, List, [], ◌∷◌, ◌++◌, tak
 use Rattle.std.proofs.lemmas.List.{map-append, take_all}
 use Rattle.list_laws.proofs.Maps.{map-take_more}
 use Rattle.book_base.specs.declared.call.Record.{Record}
-use Rattle.book_base.specs.declared.book.Rows.{Rows}
+use Rattle.book_base.specs.declared.book.CallerPage.{CallerPage}
 use Rattle.book_base.specs.Book.{Page, IsValid, IsSmall}
 use Rattle.book_base.specs.BookLayout.{page, pages}
 use Rattle.book_base.proofs.book.Book.copy.Goals as goal
 
 pub loop-row-preserved : goal.loop-row-preserved
 loop-row-preserved c =
-    let items : List Rows = c.deref-row-items.result.now in
-    let row : Rows = c.row-item.result in
+    let items : List CallerPage = c.deref-row-items.result.now in
+    let row : CallerPage = c.row-item.result in
     let made : List ℕ → List Record → Page = λ ops rs. record { operations = ops; records = rs } in
     let equal : page c.in_ok-prefix.field-0 ≡ page row
     = c.in_ok-prefix.ensures

@@ -13,8 +13,8 @@ returns c =
     record {
       history = (
         known.0,
-        one_meeting _ known.0 c.args.passes.items
+        one_meeting _ known.0 _
             (of_one_history meeting_may (λ caller _. IsMeeting caller) c.args.self.words _ known.0
-            c.args.passes.items c.requires.own known.1),
+            c.args.passes.items c.requires.callers c.requires.own known.1),
       );
     }

@@ -18,8 +18,8 @@ returns c =
     record {
       history = (
         known.0,
-        one_queue (callers_of w * cap_of w) _ known.0 c.args.passes.items
+        one_queue (callers_of w * cap_of w) _ known.0 _
             (of_one_history queue_may (λ _. IsOnePass (callers_of w * cap_of w)) w _ known.0
-            c.args.passes.items c.requires.own known.1),
+            c.args.passes.items c.requires.callers c.requires.own known.1),
       );
     }

@@ -14,7 +14,8 @@ returns c =
     record {
       history = (
         known.0,
-        one_split _ known.0 c.args.passes.items (of_one_history cell_may
-            (λ _. IsSplit) c.args.self.words _ known.0 c.args.passes.items c.requires.own known.1),
+        one_split _ known.0 _ (of_one_history cell_may
+            (λ _. IsSplit) c.args.self.words _ known.0 c.args.passes.items c.requires.callers
+            c.requires.own known.1),
       );
     }

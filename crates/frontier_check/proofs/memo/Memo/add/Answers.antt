@@ -1,12 +1,12 @@
 use Rattle.std.proofs.Common.{length, arith, rules}
-use Rattle.frontier_check.specs.declared.memo.Entry.{Entry}
+use Rattle.frontier_check.specs.declared.memo.MemoEntry.{MemoEntry}
 use Rattle.frontier_check.specs.declared.memo.Memo.{Memo}
 use Rattle.frontier_check.proofs.Pairs.{IsAdded, memo-added, remembers-added}
 use Rattle.frontier_check.proofs.memo.Memo.add.Goals as goal
 
 pub returns-clause-memo : goal.returns-clause-memo
 returns-clause-memo c =
-    let entry : Entry = record { from = c.len.result; len = length c.args.words.now } in
+    let entry : MemoEntry = record { from = c.len.result; len = length c.args.words.now } in
     let new : Memo = record {
       callers = c.args.self.now.callers;
       counts = c.extend_from_slice.new.self;
@@ -28,7 +28,7 @@ returns-clause-memo c =
 
 pub returns-clause-only : goal.returns-clause-only
 returns-clause-only c =
-    let entry : Entry = record { from = c.len.result; len = length c.args.words.now } in
+    let entry : MemoEntry = record { from = c.len.result; len = length c.args.words.now } in
     let new : Memo = record {
       callers = c.args.self.now.callers;
       counts = c.extend_from_slice.new.self;

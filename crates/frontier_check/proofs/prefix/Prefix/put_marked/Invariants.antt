@@ -1,5 +1,5 @@
 use Rattle.std.proofs.Common.{◌≡◌}
-use Rattle.frontier_check.specs.declared.walk.TheConstants.{ROOM}
+use Rattle.frontier_check.specs.declared.walk.TheConstants.{CAPACITY}
 use Rattle.frontier_check.specs.Prefix.{IsPut}
 use Rattle.frontier_check.specs.Standing.{AreMarks}
 use Rattle.frontier_check.proofs.prefix.Prefix.put_marked.Given as goal
@@ -7,7 +7,7 @@ use Rattle.frontier_check.proofs.prefix.Prefix.put_marked.Given as goal
 abbrev pub invariant-loop-place : goal.invariant-loop-place
 invariant-loop-place g l = record {
   put : IsPut (g.S.SeqObject.init l.object) (g.S.SeqObject.next l.object) l.book l.self;
-  room : l.self.here.room ≡ ROOM;
+  room : l.self.here.room ≡ CAPACITY;
   marks : AreMarks (g.S.SeqObject.init l.object)
       (g.S.SeqObject.next l.object) l.book l.self.places.items 0 l.marks.items;
 }

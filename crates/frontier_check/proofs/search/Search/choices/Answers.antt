@@ -1,6 +1,6 @@
 use Rattle.std.proofs.Common.{◌≡◌, ◌∙◌, ℕ, List, [], ◌∷◌, ◌++◌, length, sym, ap, subst, arith}
 use Rattle.book_base.specs.declared.call.Place.{Place}
-use Rattle.book_base.specs.Foresight.{IsInfeasible}
+use Rattle.book_base.specs.PruningRules.{IsInfeasible}
 use Rattle.book_base.specs.Next.{next_call, MayComeNext}
 use Rattle.book_base.specs.Pruning.{IsMarked, MarksSuffice}
 use Rattle.frontier_check.specs.declared.choice.Choice.{Choice}

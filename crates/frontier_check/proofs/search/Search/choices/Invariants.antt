@@ -1,11 +1,11 @@
 use Rattle.std.proofs.Common.{◌≡◌, ◌≤◌, length}
-use Rattle.frontier_check.specs.declared.walk.TheConstants.{ROOM}
+use Rattle.frontier_check.specs.declared.walk.TheConstants.{CAPACITY}
 use Rattle.frontier_check.specs.Search.{AreChosen, places_of}
 use Rattle.frontier_check.proofs.search.Search.choices.Given as goal
 
 abbrev pub invariant-loop-caller : goal.invariant-loop-caller
 invariant-loop-caller g l = record {
-  room : l.spare.room ≡ ROOM;
+  room : l.spare.room ≡ CAPACITY;
   chosen : AreChosen l.self.book.now (g.S.SeqObject.next l.self.object.now) l.counts l.here.words
       l.marks l.caller (places_of l.choices.items);
   few : length l.choices.items ≤ l.caller;

@@ -2,7 +2,7 @@ use Rattle.std.proofs.Common.{◌≡◌, ◌+◌, ◌∙◌, [], ◌∷◌, ◌+
 use Rattle.std.proofs.lemmas.List.{length-set}
 use Rattle.book_base.specs.State.{Contents}
 use Rattle.book_base.specs.Next.{raised, list_after, HoldsAnswered}
-use Rattle.frontier_check.specs.declared.walk.Level.{Level}
+use Rattle.frontier_check.specs.declared.walk.WalkLevel.{WalkLevel}
 use Rattle.frontier_check.specs.declared.walk.Walk.{Walk}
 use Rattle.book_base.specs.Pruning.{IsLeast}
 use Rattle.frontier_check.specs.Search.{places_of, IsOpen}
@@ -105,7 +105,7 @@ choices-requires-clause-reached g c =
     let next = g.S.SeqObject.next object in
     let old = c.args.walk.now in
     let e = c.step.ensures in
-    let level : Level =
+    let level : WalkLevel =
     record { place = c.args.place; words = c.in_ok-words.words; choices = old.choices } in
     let to : LeadsTo book next old level c.deref-in-Some.result.now c.step.new.walk.here.words =
     record {
@@ -125,7 +125,7 @@ choices-requires-clause-fits g c =
     let next = g.S.SeqObject.next object in
     let old = c.args.walk.now in
     let e = c.step.ensures in
-    let level : Level =
+    let level : WalkLevel =
     record { place = c.args.place; words = c.in_ok-words.words; choices = old.choices } in
     let least : IsLeast book c.deref-in-Some.result.now (length book) c.in-Some.first =
     subst (λ (cut : List ℕ). IsLeast book cut (length book) c.in-Some.first)
@@ -148,7 +148,7 @@ returns-in_ok-push-in-None-clause-outcome g c =
     let next = g.S.SeqObject.next c.args.self.now.object.now in
     let old = c.args.walk.now in
     let e = c.step.ensures in
-    let level : Level = record {
+    let level : WalkLevel = record {
       place = c.args.place;
       words = c.in_ok-words.words;
       choices = c.replace-choices.result;
@@ -182,7 +182,7 @@ returns-in_ok-push-in-Some-clause-outcome g c =
     let next = g.S.SeqObject.next object in
     let old = c.args.walk.now in
     let e = c.step.ensures in
-    let level : Level = record {
+    let level : WalkLevel = record {
       place = c.args.place;
       words = c.in_ok-words.words;
       choices = c.replace-choices-in-Some.result;

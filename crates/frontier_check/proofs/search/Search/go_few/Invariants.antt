@@ -1,11 +1,11 @@
 use Rattle.std.proofs.Common.{◌≡◌}
-use Rattle.frontier_check.specs.declared.walk.TheConstants.{ROOM}
+use Rattle.frontier_check.specs.declared.walk.TheConstants.{CAPACITY}
 use Rattle.frontier_check.specs.Search.{IsWalk, places_of}
 use Rattle.frontier_check.proofs.search.Search.go_few.Given as goal
 
 abbrev pub invariant-loop : goal.invariant-loop
 invariant-loop g l = record {
-  room : l.spare.room ≡ ROOM;
+  room : l.spare.room ≡ CAPACITY;
   walk : IsWalk l.self.book.now l.self.prefix.now (g.S.SeqObject.init l.self.object.now)
       (g.S.SeqObject.next l.self.object.now) l.walk (places_of l.walk.choices.items);
 }

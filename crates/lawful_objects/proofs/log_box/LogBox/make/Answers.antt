@@ -32,8 +32,8 @@ returns-clause-own g c =
     let rooms = c.go_on-reply.ensures.room in
     let state = own.scratch.state in
     let other = own.scratch.other in
-    let state_room = rooms.state in
-    let other_room = rooms.other in
+    let state_capacity = rooms.state in
+    let other_capacity = rooms.other in
     let pairs = pairs_called (g.M.Machine.reply_to b.machine) _ c.append.new.seat.log.items
     c.args.pass.now.seat.seat.who _ c.args.op c.go_on-reply.result _ c.push.new.self.items
     c.append.ensures.log c.append.ensures.seat.1 own.pairs

@@ -2,7 +2,7 @@ use Rattle.std.proofs.Common.{◌≤◌, ◌+◌, List, length, sym, ap, ◌∙�
 use Rattle.shared_log.specs.declared.entry.Entry.{Entry}
 use Rattle.lawful_objects.specs.Replays.{list_after, last_reply}
 use Rattle.book_base.specs.State.{Contents}
-use Rattle.lawful_objects.proofs.Replaying.{tail_is, list_beyond, reply_beyond, room_beyond}
+use Rattle.lawful_objects.proofs.Replaying.{tail_is, list_beyond, reply_beyond, capacity_beyond}
 use Rattle.lawful_objects.proofs.plain.PlainMachine.go_on.Goals as goal
 
 pub replay-requires : goal.replay-requires
@@ -10,7 +10,7 @@ replay-requires g c =
     let object = c.args.self.now.object in
     let log = c.args.log.now in
     let seen = c.requires.seen (omega arith) in
-    let room = room_beyond (g.S.SeqObject.next object)
+    let room = capacity_beyond (g.S.SeqObject.next object)
     (g.S.SeqObject.init object) log c.args.known _ seen c.args.scratch.now.state.room
     (g.met.S.SeqObject.begins_small object)
     (g.met.S.SeqObject.grows_by_one object) c.requires.more c.requires.room.state in

@@ -13,7 +13,8 @@ returns c =
     record {
       history = (
         known.0,
-        one_tally _ known.0 c.args.passes.items c.requires.callers (of_one_history tally_may
-            (λ _. IsTallied) c.args.self.word _ known.0 c.args.passes.items c.requires.own known.1),
+        one_tally _ known.0 _
+            (of_one_history tally_may (λ _. IsTallied) c.args.self.word _ known.0
+            c.args.passes.items c.requires.callers c.requires.own known.1),
       );
     }

@@ -13,7 +13,8 @@ returns c =
     record {
       history = (
         known.0,
-        one_cell _ known.0 c.args.passes.items (of_one_history cell_may
-            (λ _. IsKept) c.args.self.word _ known.0 c.args.passes.items c.requires.own known.1),
+        one_cell _ known.0 _
+            (of_one_history cell_may (λ _. IsKept) c.args.self.word _ known.0
+            c.args.passes.items c.requires.callers c.requires.own known.1),
       );
     }

@@ -1,5 +1,5 @@
 use Rattle.std.proofs.Common.{◌≡◌, vec_len}
-use Rattle.bench_clients.specs.Places.{AreInOrder}
+use Rattle.script_workers.specs.Places.{AreInOrder}
 use Rattle.run_report.specs.Passes.{IsUnusedPass}
 use Rattle.object_kit.specs.Passes.{caller_of, made_with, cap_of, any_pass}
 use Rattle.object_kit.proofs.counting_pass.CountingPass.for_script.Given as goal

@@ -1,6 +1,6 @@
 use Rattle.std.proofs.Common.{ℕ, ◌≤◌, inl, inr, subst, arith}
 use Rattle.queue_pairs.specs.declared.TheConstants.{NEVER}
-use Rattle.queue_refutation.specs.Closed.{IsOneOf}
+use Rattle.queue_refutation.specs.Closed.{IsOnePaired}
 use Rattle.queue_refutation.specs.DeadEnds.{listed}
 use Rattle.queue_refutation.proofs.Passing.{finds-none, finds-some, is-overdue}
 use Rattle.queue_refutation.proofs.dead_ends.DeadEnds.finds_lead.Goals as goal
@@ -26,4 +26,4 @@ returns c told reading book m is may =
     finds-some reading book c.args.self.now.table.now c.args.standing.now c.args.next_entries.now
     (listed keys) c.max-moment.result m is c.requires.next_entries
     (omega arith) c.max-moment.ensures may
-    (inl (subst (IsOneOf (listed keys)) c.with_finds.ensures (c.has.ensures told)))
+    (inl (subst (IsOnePaired (listed keys)) c.with_finds.ensures (c.has.ensures told)))

@@ -1,5 +1,5 @@
 use Rattle.std.proofs.Common.{subst, arith}
-use Rattle.queue_refutation.specs.Closed.{IsOneOf}
+use Rattle.queue_refutation.specs.Closed.{IsOnePaired}
 use Rattle.queue_refutation.specs.DeadEnds.{listed}
 use Rattle.queue_refutation.proofs.Passing.{finds-at-once}
 use Rattle.queue_refutation.proofs.dead_ends.DeadEnds.finds_stand_at_once.Goals as goal
@@ -10,4 +10,4 @@ returns c told reading book is =
     finds-at-once reading book c.args.self.now.table.now c.args.standing.now c.args.next_entries.now
     (listed keys) is c.requires.next_entries c.requires.few
     (omega arith) (omega arith)
-    (subst (IsOneOf (listed keys)) c.with_finds.ensures (c.has.ensures told))
+    (subst (IsOnePaired (listed keys)) c.with_finds.ensures (c.has.ensures told))

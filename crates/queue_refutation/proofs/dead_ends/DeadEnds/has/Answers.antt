@@ -1,7 +1,7 @@
 use Rattle.std.proofs.Common.{subst}
-use Rattle.queue_pairs.specs.declared.standing.Standing.{Standing}
+use Rattle.queue_pairs.specs.declared.standing.PairState.{PairState}
 use Rattle.queue_pairs.specs.NextEntries.{paired}
-use Rattle.queue_refutation.specs.Closed.{IsOneOf}
+use Rattle.queue_refutation.specs.Closed.{IsOnePaired}
 use Rattle.queue_refutation.specs.DeadEnds.{listed}
 use Rattle.queue_refutation.proofs.Ending.{listed-there}
 use Rattle.queue_refutation.proofs.dead_ends.DeadEnds.has.Goals as goal
@@ -9,5 +9,5 @@ use Rattle.queue_refutation.proofs.dead_ends.DeadEnds.has.Goals as goal
 pub returns-in-Some : goal.returns-in-Some
 returns-in-Some c told =
     let keys = c.args.self.now.standings.now.keys in
-    subst (λ (s : Standing). IsOneOf (listed keys) (paired s)) (c.is_same.ensures told)
+    subst (λ (s : PairState). IsOnePaired (listed keys) (paired s)) (c.is_same.ensures told)
     (listed-there keys c.in-Some.field-0-0 c.in-Some.kept.now c.in-Some.ensures.stored)

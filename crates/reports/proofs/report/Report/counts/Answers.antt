@@ -1,6 +1,6 @@
 use Rattle.std.proofs.Common.{count_by, length, arith}
 use Rattle.std.proofs.lemmas.List.Sums.{count_by-le-length}
-use Rattle.call_lines.specs.Lines.{is_error}
+use Rattle.report_lines.specs.Lines.{is_error}
 use Rattle.reports.specs.Tally.{is_delivered}
 use Rattle.reports.proofs.Sizes.{counted_fits}
 use Rattle.reports.proofs.report.Report.counts.Goals as goal

@@ -1,5 +1,5 @@
 use Rattle.std.proofs.Common.{◌≡◌, length, take, sum_by}
-use Rattle.call_lines.specs.Lines.{is_error}
+use Rattle.report_lines.specs.Lines.{is_error}
 use Rattle.reports.specs.Tally.{is_delivered, lines_that}
 use Rattle.reports.proofs.report.Report.counts.Given as goal
 

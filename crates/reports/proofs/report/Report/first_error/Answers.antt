@@ -1,5 +1,5 @@
 use Rattle.std.proofs.Common.{List, subst}
-use Rattle.call_lines.specs.declared.line.Line.{Line}
+use Rattle.report_lines.specs.declared.line.Line.{Line}
 use Rattle.reports.specs.Findings.{HasFirstErrorIn}
 use Rattle.reports.proofs.Errors.{first_of_all, first_is_in_book}
 use Rattle.reports.proofs.report.Report.first_error.Goals as goal

@@ -1,6 +1,6 @@
 use Rattle.std.proofs.Common.{◌≡◌, false, take}
 use Rattle.std.specs.List.{list_any}
-use Rattle.call_lines.specs.Lines.{any_error}
+use Rattle.report_lines.specs.Lines.{any_error}
 use Rattle.reports.proofs.report.Report.first_error.Given as goal
 
 abbrev pub invariant-loop-caller : goal.invariant-loop-caller

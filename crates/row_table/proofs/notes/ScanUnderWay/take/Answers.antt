@@ -3,12 +3,12 @@ use Rattle.world_core.specs.Local as local
 use Rattle.world_core.specs.declared.want.Want.{Want}
 use Rattle.world_core.specs.declared.want.Want.TheVariants.{Look, Peek, Done}
 use Rattle.world_core.specs.Event as event
-use Rattle.world_core.specs.Standing.{Standing, standing}
+use Rattle.world_core.specs.Standing.{ScanState, standing}
 use Rattle.row_table.specs.declared.notes.ScanUnderWay.{ScanUnderWay}
 use Rattle.row_table.specs.Notes.{under_way, cut_of}
 use Rattle.row_table.proofs.notes.ScanUnderWay.take.Goals as goal
 
-with_core : (n me : ℕ) (u : ScanUnderWay) (core : Standing) (s : local.Scan) (x : ℕ)
+with_core : (n me : ℕ) (u : ScanUnderWay) (core : ScanState) (s : local.Scan) (x : ℕ)
     → u ≡ under_way n me s → core ≡ standing n me s.region (s.taken ++ x ∷ [])
     → ◌≡◌ {A = ScanUnderWay} (record { core = core; is_view = u.is_view })
     (under_way n me (event.with_word s x))

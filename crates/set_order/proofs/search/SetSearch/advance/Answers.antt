@@ -1,7 +1,7 @@
 use Rattle.std.proofs.Common.{◌-◌, ◌∙◌, ℕ, List, length, refl, sym, ap, subst, inl, inr, arith}
 use Rattle.std.specs.Option.{IfNone}
 use Rattle.frontier_check.specs.Memo.{Remembers}
-use Rattle.set_order.specs.declared.walk.Walk.{Walk}
+use Rattle.set_order.specs.declared.walk.SetWalk.{SetWalk}
 use Rattle.set_order.specs.Search.{picked, CannotStand}
 use Rattle.set_order.proofs.Trying.{nowhere-from_cannot}
 use Rattle.set_order.proofs.Leading.{standing}
@@ -22,7 +22,7 @@ pub retreat-requires-clause-walk : goal.retreat-requires-clause-walk
 retreat-requires-clause-walk g c =
     let object = c.args.self.now.object.now in
     let old = c.args.walk.now in
-    let new : Walk = record {
+    let new : SetWalk = record {
       levels = old.levels;
       counts = old.counts;
       here = old.here;
@@ -47,7 +47,7 @@ returns-in-None-clause-outcome g c =
     let init = g.O.SetObject.init object in
     let served = g.O.SetObject.served object in
     let old = c.args.walk.now in
-    let new : Walk = record {
+    let new : SetWalk = record {
       levels = old.levels;
       counts = old.counts;
       here = old.here;

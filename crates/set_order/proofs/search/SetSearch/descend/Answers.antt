@@ -2,8 +2,8 @@ use Rattle.std.proofs.Common.{◌≡◌, ◌+◌, ◌-◌, ◌^◌, ◌∙◌, �
 use Rattle.std.proofs.lemmas.Bool.{both_ways}
 use Rattle.book_base.specs.State.{Contents}
 use Rattle.book_base.specs.Next.{HoldsAnswered}
-use Rattle.set_order.specs.declared.walk.Level.{Level}
-use Rattle.set_order.specs.declared.walk.Walk.{Walk}
+use Rattle.set_order.specs.declared.walk.SetLevel.{SetLevel}
+use Rattle.set_order.specs.declared.walk.SetWalk.{SetWalk}
 use Rattle.set_order.specs.Search.{MayStandTogether, IsOpen, AreCandidates}
 use Rattle.set_order.proofs.Trying.{open-start}
 use Rattle.set_order.proofs.Raising.{raised-length}
@@ -48,14 +48,14 @@ returns-then-ended g c =
     let book = c.args.self.now.book.now in
     let served = g.O.SetObject.served object in
     let old = c.args.walk.now in
-    let level : Level = record {
+    let level : SetLevel = record {
       counts = c.replace.result;
       words = c.in_ok-words.words;
       set = c.args.set;
       callers = c.replace-2.result;
       left = c.replace-left.result - 1;
     } in
-    let new : Walk = record {
+    let new : SetWalk = record {
       levels = c.push.new.self;
       counts = c.replace.new.dest;
       here = c.copy_from.new.self;
@@ -92,14 +92,14 @@ returns-else-ended g c =
     let book = c.args.self.now.book.now in
     let served = g.O.SetObject.served object in
     let old = c.args.walk.now in
-    let level : Level = record {
+    let level : SetLevel = record {
       counts = c.replace.result;
       words = c.in_ok-words.words;
       set = c.args.set;
       callers = c.replace-2.result;
       left = c.replace-left.result - 1;
     } in
-    let new : Walk = record {
+    let new : SetWalk = record {
       levels = c.push.new.self;
       counts = c.replace.new.dest;
       here = c.copy_from.new.self;

@@ -1,5 +1,5 @@
 use Rattle.std.proofs.Common.{◌≡◌, ◌-◌, ◌∙◌, ℕ, List, length, refl, ap, arith}
-use Rattle.set_order.specs.declared.walk.Walk.{Walk}
+use Rattle.set_order.specs.declared.walk.SetWalk.{SetWalk}
 use Rattle.set_order.specs.Search.{raised_by}
 use Rattle.set_order.proofs.Raising.{raised-length}
 use Rattle.set_order.proofs.Leading.{standing}
@@ -31,7 +31,7 @@ returns-then-remembers g c =
     let init = g.O.SetObject.init object in
     let served = g.O.SetObject.served object in
     let old = c.args.walk.now in
-    let new : Walk = record {
+    let new : SetWalk = record {
       levels = old.levels;
       counts = old.counts;
       here = old.here;
@@ -73,7 +73,7 @@ returns-then-is_lost g c =
     let init = g.O.SetObject.init object in
     let served = g.O.SetObject.served object in
     let old = c.args.walk.now in
-    let new : Walk = record {
+    let new : SetWalk = record {
       levels = old.levels;
       counts = old.counts;
       here = old.here;

@@ -1,7 +1,7 @@
 use Rattle.std.proofs.Common.{◌∙◌, length, refl, ap, arith, rules}
 use Rattle.std.proofs.lemmas.List.{nil_from_length}
 use Rattle.book_base.specs.State.{Contents}
-use Rattle.set_order.specs.declared.walk.Walk.{Walk}
+use Rattle.set_order.specs.declared.walk.SetWalk.{SetWalk}
 use Rattle.set_order.proofs.Walking.{walk-back, walk-none, last_level}
 use Rattle.set_order.proofs.search.SetSearch.retreat.Goals as goal
 
@@ -26,7 +26,7 @@ pub returns : goal.returns
 returns g c =
     let object = c.args.self.now.object.now in
     let level = c.in-Some.level in
-    let new : Walk = record {
+    let new : SetWalk = record {
       levels = c.pop.new.self;
       counts = level.counts;
       here = c.load.new.state;

@@ -4,7 +4,7 @@ use Rattle.book_base.specs.declared.call.Place.{Place}
 use Rattle.book_base.specs.State.{Contents}
 use Rattle.book_base.specs.Next.{HoldsAnswered}
 use Rattle.set_order.specs.SetOrder.{IsLegalSetOrder}
-use Rattle.set_order.specs.declared.walk.Walk.{Walk}
+use Rattle.set_order.specs.declared.walk.SetWalk.{SetWalk}
 use Rattle.set_order.specs.Search.{no_calls, AreCandidates, IsOpen}
 use Rattle.set_order.proofs.Trying.{open-start}
 use Rattle.set_order.proofs.Leading.{legal-from_leads}
@@ -36,7 +36,7 @@ go_on-requires-clause-walk g c =
     let zeros : counts ≡ replicate c.callers-callers.result 0 = search rules in
     let start : counts ≡ no_calls book =
     zeros ∙ ap (λ (n : ℕ). replicate n 0) c.callers-callers.ensures.count in
-    let walk : Walk = record {
+    let walk : SetWalk = record {
       levels = c.new-2.result;
       counts = c.in_ok-counts.counts;
       here = c.reset.new.state;

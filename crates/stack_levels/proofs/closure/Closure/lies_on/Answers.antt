@@ -1,5 +1,5 @@
 use Rattle.std.proofs.Common.{ℕ, List, subst}
-use Rattle.stack_levels.specs.Levels.{IsOneOf}
+use Rattle.stack_levels.specs.Levels.{IsOneLevel}
 use Rattle.stack_levels.specs.Tables.{layer_of}
 use Rattle.stack_levels.proofs.Closing.{layer_at}
 use Rattle.stack_levels.proofs.closure.Closure.lies_on.Goals as goal
@@ -10,5 +10,6 @@ returns g c told = (
   layer_at c.args.self.now.table.now.levels.items c.args.above c.in-Some.upper.now
       c.in-Some.ensures,
   c.is_last.ensures c.if-not-is_last.false,
-  subst (λ (xs : List ℕ). IsOneOf xs c.args.level) c.deref.ensures.value (c.is_among.ensures told),
+  subst (λ (xs : List ℕ). IsOneLevel xs c.args.level) c.deref.ensures.value
+      (c.is_among.ensures told),
 )

@@ -1,6 +1,6 @@
 use Rattle.std.proofs.Common.{ℕ, subst, arith}
 use Rattle.book_base.specs.declared.call.Call.{Call}
-use Rattle.stack_levels.specs.Levels.{ServesFor, CallLeads}
+use Rattle.stack_levels.specs.Levels.{ServesAtLevel, CallLeads}
 use Rattle.stack_levels.specs.Tables.{layer_of, layers_of, nodes_of}
 use Rattle.stack_levels.proofs.closure.Closure.serves.Goals as goal
 
@@ -21,7 +21,7 @@ returns g c told =
     let made : ℕ → Call = λ n. record { caller = c.args.caller; number = n } in (
       c.args.caller,
       (c.requires.all c.args.caller).0 (c.has.ensures.0 c.if-not-has.false),
-      subst (λ (n : ℕ). ServesFor reading book c.args.level.now.top.last (made n) c.args.call)
+      subst (λ (n : ℕ). ServesAtLevel reading book c.args.level.now.top.last (made n) c.args.call)
           c.get-number.ensures (c.serves.ensures c.if-not-serves.false),
       subst (λ (n : ℕ). CallLeads reading book (layers_of c.args.self.now.table.now.levels.items)
           (nodes_of book c.args.self.now.table.now.nodes.keys)

@@ -1,5 +1,5 @@
 use Rattle.std.proofs.Common.{ℕ, List, Option, length, take, sym, subst}
-use Rattle.stack_levels.specs.Levels.{IsOneOf, TakeLeads}
+use Rattle.stack_levels.specs.Levels.{IsOneLevel, TakeLeads}
 use Rattle.stack_levels.specs.Tables.{nodes_of}
 use Rattle.stack_levels.proofs.closure.Closure.take_leads.Goals as goal
 
@@ -10,7 +10,7 @@ returns-in-Some g c told =
     c.args.place o c.args.level.now.parents.items (take (length book) c.args.counts))
     (sym c.in-Some.is)
     (λ p one. c.has_all.ensures told p
-    (subst (λ (xs : List ℕ). IsOneOf xs p) (sym c.deref.ensures.value) one))
+    (subst (λ (xs : List ℕ). IsOneLevel xs p) (sym c.deref.ensures.value) one))
 
 pub returns-in-None : goal.returns-in-None
 returns-in-None g c told =

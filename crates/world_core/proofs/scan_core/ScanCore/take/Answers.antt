@@ -1,7 +1,7 @@
 use Rattle.std.proofs.Common.{◌≡◌, ◌<◌, ◌∙◌, sym, ap, length, length-set, ℕ, List, subst}
 use Rattle.world_core.specs.declared.region.Region.{Region}
 use Rattle.world_core.specs.declared.scan_core.ScanCore.TheInside.{Inside}
-use Rattle.world_core.specs.Standing.{Standing, standing}
+use Rattle.world_core.specs.Standing.{ScanState, standing}
 use Rattle.world_core.specs.ScanLayout.{standing_of}
 use Rattle.world_core.proofs.Bounds.{scan_is_short}
 use Rattle.world_core.proofs.Scans.{stands_more, stands_whole}
@@ -27,8 +27,8 @@ returns-else-self-n-clause-taken c n me region taken stood =
 scans : (c : Inside) (n me : ℕ) (region : Region) (taken : List ℕ) → c.me < length c.current
     → standing_of c ≡ standing n me region taken → me < n
 scans c n me region taken low stood =
-    let caller : c.me ≡ me = ap (λ (s : Standing). s.me) stood in
-    let callers : length c.current ≡ n = ap (λ (s : Standing). s.callers) stood in
+    let caller : c.me ≡ me = ap (λ (s : ScanState). s.me) stood in
+    let callers : length c.current ≡ n = ap (λ (s : ScanState). s.callers) stood in
     subst (λ m. me < m) callers (subst (λ i. i < length c.current) caller low)
 
 pub returns-then-self-n-clause-short : goal.returns-then-self-n-clause-short

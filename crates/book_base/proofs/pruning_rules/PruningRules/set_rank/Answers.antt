@@ -1,0 +1,13 @@
+use Rattle.std.proofs.Common.{ap, arith}
+use Rattle.std.proofs.lemmas.Grind.{common_steps}
+use Rattle.book_base.specs.PruningRules.{Known}
+use Rattle.book_base.proofs.PruningRuleLemmas.{ranked_is_right}
+use Rattle.book_base.proofs.pruning_rules.PruningRules.set_rank.Goals as goal
+
+pub returns-clause-ranks : goal.returns-clause-ranks
+returns-clause-ranks c = grind (arith, common_steps)
+
+pub returns-clause-right : goal.returns-clause-right
+returns-clause-right c init next book right infeasible =
+    ranked_is_right init next book c.args.self.now _ c.args.word c.args.rank
+    (ap (λ (k : Known). k.call_bounds) c.self.view_is) (returns-clause-ranks c) right infeasible

@@ -1,0 +1,51 @@
+-- Laws of what may be known of a book before a search.
+use Rattle.std.specs.Prelude.{◌≡◌, ℕ, ◌+◌, ◌<◌, ◌↔◌, List, [], ◌∷◌, ◌++◌, length, replicate, slice_index, slice_set}
+use Rattle.book_base.specs.declared.call.Call.{Call}
+use Rattle.book_base.specs.declared.call.Place.{Place}
+use Rattle.book_base.specs.Book.{Page, Precedes}
+use Rattle.book_base.specs.Sequential.{IsRunFrom}
+use Rattle.book_base.specs.Order.{call_at, step_at, IsLegalOrder}
+use Rattle.book_base.specs.PruningRules.{Reaches, IsInfeasible, MustComeFirst, Leaves}
+
+-- The order without places reaches the cut that holds no call, and the object's first list.
+abbrev pub NoPlacesReachTheStart : Type 0
+NoPlacesReachTheStart = (init : List ℕ) (next : List ℕ → ℕ → List ℕ × ℕ) (book : List Page) (n : ℕ)
+    → Reaches init next book [] (replicate n 0) init
+
+-- One more place, the next call of its caller, reaches the cut with this call and the object's list
+-- after its operation.
+abbrev pub OneMorePlaceReachesOn : Type 0
+OneMorePlaceReachesOn = (init : List ℕ) (next : List ℕ → ℕ → List ℕ × ℕ) (book : List Page)
+    (before : List Place) (cut list : List ℕ) (place : Place)
+    → Reaches init next book before cut list → place.caller < length cut
+    → place.number ≡ slice_index cut place.caller
+    → Reaches init next book (before ++ place ∷ []) (slice_set cut place.caller (place.number + 1))
+    (next list (step_at book place).0).0
+
+-- An order reaches one cut of a width, and one list.
+abbrev pub OneCutIsReached : Type 0
+OneCutIsReached = (init : List ℕ) (next : List ℕ → ℕ → List ℕ × ℕ) (book : List Page)
+    (order : List Place) (cut other list last : List ℕ)
+    → length cut ≡ length other → Reaches init next book order cut list
+    → Reaches init next book order other last → (cut ≡ other) × (list ≡ last)
+
+-- What stands in a legal order isn't infeasible where it stands.
+abbrev pub WhatStandsIsNotInfeasible : Type 0
+WhatStandsIsNotInfeasible = (init : List ℕ) (next : List ℕ → ℕ → List ℕ × ℕ) (book : List Page)
+    (before rest : List Place) (place : Place) (cut list : List ℕ)
+    → IsLegalOrder init next book (before ++ place ∷ rest) → Reaches init next book before cut list
+    → IsInfeasible init next book cut list (call_at place) → ⊥
+
+-- A call that precedes another one must come first.
+abbrev pub PrecedingComesFirst : Type 0
+PrecedingComesFirst =
+    (init : List ℕ) (next : List ℕ → ℕ → List ℕ × ℕ) (book : List Page) (a b : Call)
+    → Precedes book a b → MustComeFirst init next book a b
+
+-- In a run, a read-only operation with its reply may stand or be left out wherever the object gives
+-- this reply.
+abbrev pub ReadOnlyMayBeLeftOut : Type 0
+ReadOnlyMayBeLeftOut =
+    (next : List ℕ → ℕ → List ℕ × ℕ) (op reply : ℕ) (list : List ℕ) (steps : List (ℕ × ℕ))
+    → Leaves next op reply → (next list op).1 ≡ reply
+    → IsRunFrom next list ((op, reply) ∷ steps) ↔ IsRunFrom next list steps

@@ -1,0 +1,126 @@
+-- What may be known of a book before a search: calls that no legal order has next, and replies that
+-- leave every list.
+use Rattle.std.specs.Prelude.{◌≡◌, ℕ, ◌+◌, ◌<◌, ◌⊎◌, max, List, [], ◌∷◌, ◌++◌, map, length, replicate, slice_index, slice_index_or, slice_set, Contains, Option, IsSomeAnd}
+use Rattle.std.specs.Ordering.{nat_cmp}
+use Rattle.std.specs.BTreeMap.{is_at, insert_entry}
+use Rattle.std.specs.Map.{lookup}
+use Rattle.book_base.specs.declared.call.Call.{Call}
+use Rattle.book_base.specs.declared.call.Place.{Place}
+use Rattle.book_base.specs.declared.pruning_rules.CallBound.{CallBound}
+use Rattle.book_base.specs.declared.TheConstants.{MAX_CALLERS}
+use Rattle.book_base.specs.Cut.{Holds}
+use Rattle.book_base.specs.Book.{Page}
+use Rattle.book_base.specs.Order.{StandsAt, step_at, IsLegalOrder}
+
+-- the object's list after a run, from this list on
+abbrev pub list_after_run : (List ℕ → ℕ → List ℕ × ℕ) → List ℕ → List (ℕ × ℕ) → List ℕ
+list_after_run next list [] = list
+list_after_run next list (step ∷ steps) = list_after_run next (next list step.0).0 steps
+
+-- An order reaches a cut and a list: the cut holds the calls that stand in the order and no others,
+-- and the list is the object's after them.
+pub record Reaches (init : List ℕ) (next : List ℕ → ℕ → List ℕ × ℕ) (book : List Page)
+    (order : List Place) (cut list : List ℕ) : Type 0 where
+  pub holds : (k : ℕ) (call : Call) → StandsAt order k call → Holds cut call
+  pub held : (call : Call) → Holds cut call → (k : ℕ) × StandsAt order k call
+  pub reached : list_after_run next init (map (step_at book) order) ≡ list
+
+-- A call is infeasible next, after a cut and at a list: no legal order that reaches them goes on
+-- with it.
+abbrev pub IsInfeasible : List ℕ → (List ℕ → ℕ → List ℕ × ℕ) → List Page → List ℕ → List ℕ
+    → Call → Type 0
+IsInfeasible init next book cut list call = (before rest : List Place) (reply : ℕ)
+    → Reaches init next book before cut list
+    → IsLegalOrder init next book
+    (before ++ record { caller = call.caller; number = call.number; reply = reply } ∷ rest) → ⊥
+
+-- In every legal order where call b stands, call a stands before it.
+abbrev pub MustComeFirst : List ℕ → (List ℕ → ℕ → List ℕ × ℕ) → List Page → Call → Call → Type 0
+MustComeFirst init next book a b = (order : List Place) → IsLegalOrder init next book order
+    → (q : ℕ) → StandsAt order q b → (p : ℕ) × (p < q) × StandsAt order p a
+
+-- An operation with this reply leaves every list as it is.
+abbrev pub Leaves : (List ℕ → ℕ → List ℕ × ℕ) → ℕ → ℕ → Type 0
+Leaves next op reply = (list : List ℕ) → (next list op).1 ≡ reply → (next list op).0 ≡ list
+
+-- What pruning rules hold: for each caller the bounds of its calls, and ranks of words.
+pub record Known : Type 0 where
+  pub call_bounds : List (List CallBound)
+  pub ranks : List (ℕ × ℕ)
+
+-- a bound that forbids nothing
+abbrev pub no_call_bound : CallBound
+no_call_bound = record { predecessor_bound = replicate MAX_CALLERS 0; limit = 0 }
+
+-- the bounds of a caller's calls
+abbrev pub call_bounds_of : Known → ℕ → List CallBound
+call_bounds_of known i = slice_index_or known.call_bounds i []
+
+-- the bound of a call; one that isn't there forbids nothing
+abbrev pub call_bound_of : Known → Call → CallBound
+call_bound_of known call =
+    slice_index_or (call_bounds_of known call.caller) call.number no_call_bound
+
+-- there is a bound for a call
+abbrev pub HasCallBound : Known → Call → Type 0
+HasCallBound known call = (call.caller < length known.call_bounds)
+    × (call.number < length (call_bounds_of known call.caller))
+
+-- the rank of a word, where it has one
+abbrev pub rank_of : List (ℕ × ℕ) → ℕ → Option ℕ
+rank_of ranks word = lookup (is_at (nat_cmp word)) ranks
+
+-- A cut lacks a call that a predecessor bound holds.
+abbrev pub IsBelow : List ℕ → List ℕ → Type 0
+IsBelow cut predecessor_bound = (i : ℕ) × (slice_index cut i < slice_index predecessor_bound i)
+
+-- A list has a word of a rank below a limit.
+abbrev pub HasEarly : List (ℕ × ℕ) → List ℕ → ℕ → Type 0
+HasEarly ranks list limit = (word : ℕ) × Contains list word
+    × IsSomeAnd (rank_of ranks word) (λ rank. rank < limit)
+
+-- A call is forbidden next, after a cut and at a list: the cut lacks a call of its predecessor
+-- bound, or the list has a word of a rank below its limit.
+abbrev pub Forbids : Known → List ℕ → List ℕ → Call → Type 0
+Forbids known cut list call = IsBelow cut (call_bound_of known call).predecessor_bound
+    ⊎ HasEarly known.ranks list (call_bound_of known call).limit
+
+-- What is known of a book is right for an object: each call that it forbids is infeasible there.
+abbrev pub ArePruningRules : List ℕ → (List ℕ → ℕ → List ℕ × ℕ) → List Page → Known → Type 0
+ArePruningRules init next book known = (cut list : List ℕ) (call : Call)
+    → Forbids known cut list call
+    → IsInfeasible init next book cut list call
+
+-- nothing is known
+abbrev pub nothing_known : Known
+nothing_known = record { call_bounds = []; ranks = [] }
+
+-- for each call of a book a bound that forbids nothing
+abbrev pub blank_call_bounds : List Page → List (List CallBound)
+blank_call_bounds book = map (λ page. replicate (length page.operations) no_call_bound) book
+
+-- what is known, with another bound of a call
+abbrev pub with_call_bound : Known → Call → CallBound → Known
+with_call_bound known call call_bound = record known {
+  call_bounds = slice_set known.call_bounds call.caller
+      (slice_set (call_bounds_of known call.caller) call.number call_bound);
+}
+
+-- what is known, with a call held back until another one stands: its predecessor bound holds the
+-- other one too
+abbrev pub held_back : Known → Call → Call → Known
+held_back known call other =
+    let call_bound : CallBound = call_bound_of known call in
+    with_call_bound known call (record call_bound {
+      predecessor_bound = slice_set call_bound.predecessor_bound other.caller
+          (max (slice_index call_bound.predecessor_bound other.caller) (other.number + 1));
+    })
+
+-- what is known, with a limit of a call that is no lower than this one
+abbrev pub limited : Known → Call → ℕ → Known
+limited known call limit = let call_bound : CallBound = call_bound_of known call in
+    with_call_bound known call (record call_bound { limit = max call_bound.limit limit })
+
+-- what is known, with a rank of a word
+abbrev pub ranked : Known → ℕ → ℕ → Known
+ranked known word rank = record known { ranks = insert_entry nat_cmp known.ranks word rank }

@@ -1,0 +1,232 @@
+ghost use Rattle.std.specs.Prelude.{◌≡◌, ℕ, ◌<◌, ◌↔◌, Bool, List, [], ◌==◌, if◌then◌else◌, replicate, Contains, Some, IsTrue, IfOk, IfSome, IfNone, OnOk, OnErr};
+ghost use Rattle.book_base.specs.declared.call.Call.{Call};
+ghost use Rattle.book_base.specs.declared.TheConstants.{MAX_CALLERS, MAX_CALLS};
+ghost use Rattle.book_base.specs.Book.{Page, IsCall};
+ghost use Rattle.book_base.specs.PruningRules.{nothing_known, no_call_bound, blank_call_bounds, call_bound_of, rank_of, HasCallBound, IsBelow, HasEarly, Forbids, ArePruningRules, IsInfeasible, MustComeFirst, held_back, limited, ranked};
+
+use crate::book::Book;
+use crate::call::Call;
+use crate::fault::NoMemory;
+use crate::{MAX_CALLERS, MAX_CALLS};
+use std::alloc::Global;
+use std::collections::BTreeMap;
+use std::marker::Model;
+
+/// What forbids a call: it stands only after the calls that `predecessor_bound` holds, and at no
+/// list that has a word of a rank below `limit`.
+#[derive(Clone, Copy, Debug)]
+pub struct CallBound {
+    pub predecessor_bound: [u64; MAX_CALLERS],
+    pub limit: u64,
+}
+
+impl CallBound {
+    // A bound that forbids nothing.
+    fn none() -> CallBound
+        ensures { result ≡ no_call_bound }
+    {
+        CallBound {
+            predecessor_bound: [0; MAX_CALLERS],
+            limit: 0,
+        }
+    }
+}
+
+/// What an object knows of a book before a search: for each call a bound, and ranks of words.
+///
+/// A search asks [`PruningRules::forbids`] at each call that it tries. One that keeps the least
+/// rank of its words along its path asks [`PruningRules::lacks`] and compares that rank with
+/// [`PruningRules::limit`] instead, and then looks at no word twice.
+#[derive(Drop)]
+pub struct PruningRules {
+    call_bounds: Vec<Vec<CallBound>>,
+    ranks: BTreeMap<u64, u64>,
+}
+
+impl Model for PruningRules {
+    ghost use Rattle.std.specs.Prelude.{map};
+    ghost use Rattle.book_base.specs.PruningRules.{Known};
+
+    ghost Value = { Known };
+
+    ghost view = { λ f. record { call_bounds = map (λ row. row.items) f.call_bounds.items; ranks = f.ranks.entries } };
+}
+
+impl PruningRules {
+    /// Nothing is known.
+    pub fn none(alloc: Global) -> PruningRules
+        // The answer has no bounds and no ranks.
+        ensures none { result ≡ nothing_known }
+        // The answer is right for each object and each book: it forbids nothing.
+        ensures right { (init : List ℕ) (next : List ℕ → ℕ → List ℕ × ℕ) (book : List Page)
+            → ArePruningRules init next book result }
+    {
+        PruningRules {
+            call_bounds: Vec::new(alloc),
+            ranks: BTreeMap::new(alloc),
+        }
+    }
+
+    /// For each call of a book a bound that forbids nothing.
+    pub fn blank(alloc: Global, book: &Book) -> Result<PruningRules, NoMemory>
+        // The answer has a bound that forbids nothing for each call of the book, and no ranks.
+        ensures blank { IfOk result
+            (λ known. known ≡ record { call_bounds = blank_call_bounds book.now; ranks = [] }) }
+        // The answer has a bound for each call of the book.
+        ensures call_bounds { IfOk result
+            (λ known. (call : Call) → IsCall book.now call → HasCallBound known call) }
+        // The answer is right for each object and this book: it forbids nothing.
+        ensures right { IfOk result (λ known. (init : List ℕ) (next : List ℕ → ℕ → List ℕ × ℕ)
+            → ArePruningRules init next book.now known) }
+    {
+        let mut call_bounds = Vec::new(alloc);
+        for caller in 0..book.callers() {
+            call_bounds.push(vec![in alloc; CallBound::none(); book.calls(caller) as usize]?)?;
+        }
+        Ok(PruningRules {
+            call_bounds,
+            ranks: BTreeMap::new(alloc),
+        })
+    }
+
+    /// Forbids a call until another one stands.
+    pub fn hold_back(&mut self, call: Call, other: Call)
+        // There is a bound for the call.
+        requires call_bound { HasCallBound self.old call }
+        // The other call's caller is below `MAX_CALLERS`.
+        requires caller { other.caller < MAX_CALLERS }
+        // The other call's number is below `MAX_CALLS`.
+        requires number { other.number < MAX_CALLS }
+        // The predecessor bound of the call's bound holds the other call too, and all else is as
+        // before.
+        ensures held { self.new ≡ held_back self.old call other }
+        // There still is a bound for each call that had one.
+        ensures call_bounds { (c : Call) → HasCallBound self.old c → HasCallBound self.new c }
+        // What is known stays right where the other call must come before the call in each legal
+        // order.
+        ensures right { (init : List ℕ) (next : List ℕ → ℕ → List ℕ × ℕ) (book : List Page)
+            → ArePruningRules init next book self.old → MustComeFirst init next book other call
+            → ArePruningRules init next book self.new }
+    {
+        let call_bound = &mut self.call_bounds[call.caller as usize][call.number as usize];
+        let i = other.caller as usize;
+        call_bound.predecessor_bound[i] = call_bound.predecessor_bound[i].max(other.number + 1);
+    }
+
+    /// Forbids a call at each list that has a word of a rank below this limit.
+    pub fn hold_back_below(&mut self, call: Call, limit: u64)
+        // There is a bound for the call.
+        requires { HasCallBound self.old call }
+        // The limit of the call's bound is no lower than this one, and all else is as before.
+        ensures limited { self.new ≡ limited self.old call limit }
+        // There still is a bound for each call that had one.
+        ensures call_bounds { (c : Call) → HasCallBound self.old c → HasCallBound self.new c }
+        // What is known stays right where the call is infeasible at each list that has a word of a
+        // rank below the limit.
+        ensures right { (init : List ℕ) (next : List ℕ → ℕ → List ℕ × ℕ) (book : List Page)
+            → ArePruningRules init next book self.old
+            → ((cut list : List ℕ) → HasEarly self.old.ranks list limit
+            → IsInfeasible init next book cut list call)
+            → ArePruningRules init next book self.new }
+    {
+        let call_bound = &mut self.call_bounds[call.caller as usize][call.number as usize];
+        call_bound.limit = call_bound.limit.max(limit);
+    }
+
+    /// Gives a word a rank, instead of the one that it has. After want of memory all is as it was.
+    pub fn set_rank(&mut self, word: u64, rank: u64) -> Result<(), NoMemory>
+        // After an answer Ok the word has this rank, and all else is as before.
+        ensures ranked { OnOk result (self.new ≡ ranked self.old word rank) }
+        // After an answer Ok the rank of this word is this one, and that of each other word is as
+        // before.
+        ensures ranks { OnOk result ((other : ℕ) → rank_of self.new.ranks other
+            ≡ (if other == word then Some rank else rank_of self.old.ranks other)) }
+        // After an answer Ok what is known stays right where each call whose limit is above the
+        // rank is infeasible at each list with the word.
+        ensures right { OnOk result ((init : List ℕ) (next : List ℕ → ℕ → List ℕ × ℕ)
+            (book : List Page) → ArePruningRules init next book self.old
+            → ((cut list : List ℕ) (call : Call) → Contains list word
+            → rank < (call_bound_of self.old call).limit
+            → IsInfeasible init next book cut list call)
+            → ArePruningRules init next book self.new) }
+        // After want of memory all is as it was.
+        ensures err { OnErr result (self.new ≡ self.old) }
+    {
+        self.ranks.insert(word, rank)?;
+        Ok(())
+    }
+
+    /// Whether a call is forbidden next, after a cut and at a list.
+    pub fn forbids(&self, counts: &[u64], words: &[u64], call: Call) -> bool
+        ensures { IsTrue result ↔ Forbids self.now counts.now words.now call }
+    {
+        self.lacks(counts, call) || self.has_early(words, self.limit(call))
+    }
+
+    /// Whether a cut lacks a call of a call's predecessor bound.
+    pub fn lacks(&self, counts: &[u64], call: Call) -> bool
+        ensures { IsTrue result
+            ↔ IsBelow counts.now (call_bound_of self.now call).predecessor_bound }
+    {
+        match self.call_bound(call) {
+            Some(call_bound) => is_below(counts, &call_bound.predecessor_bound),
+            None => false,
+        }
+    }
+
+    /// The limit of a call: 0 where no rank forbids it.
+    pub fn limit(&self, call: Call) -> u64
+        ensures { result ≡ (call_bound_of self.now call).limit }
+    {
+        match self.call_bound(call) {
+            Some(call_bound) => call_bound.limit,
+            None => 0,
+        }
+    }
+
+    /// The rank of a word, where it has one.
+    pub fn rank(&self, word: u64) -> Option<u64>
+        ensures { result ≡ rank_of self.now.ranks word }
+    {
+        self.ranks.get(&word).copied()
+    }
+
+    // The bound of a call, where there is one.
+    fn call_bound(&self, call: Call) -> Option<&CallBound>
+        ensures some { IfSome result (λ call_bound. call_bound.now ≡ call_bound_of self.now call) }
+        ensures none { IfNone result (call_bound_of self.now call ≡ no_call_bound) }
+    {
+        self.call_bounds
+            .get(call.caller as usize)?
+            .get(call.number as usize)
+    }
+
+    // Whether a word has a rank below a limit. No rank is below 0, so that no word is looked at
+    // then.
+    fn has_early(&self, words: &[u64], limit: u64) -> bool
+        ensures { IsTrue result ↔ HasEarly self.now.ranks words.now limit }
+    {
+        if limit == 0 {
+            return false;
+        }
+        for word in words {
+            if self.rank(*word).is_some_and(|rank| rank < limit) {
+                return true;
+            }
+        }
+        false
+    }
+}
+
+// Whether a cut lacks a call that a predecessor bound holds.
+fn is_below(counts: &[u64], predecessor_bound: &[u64; MAX_CALLERS]) -> bool
+    ensures { IsTrue result ↔ IsBelow counts.now predecessor_bound.now }
+{
+    for i in 0..MAX_CALLERS {
+        let count = if i < counts.len() { counts[i] } else { 0 };
+        if count < predecessor_bound[i] {
+            return true;
+        }
+    }
+    false
+}

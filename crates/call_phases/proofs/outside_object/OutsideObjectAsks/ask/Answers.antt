@@ -1,4 +1,0 @@
-use Rattle.call_phases.proofs.outside_object.OutsideObjectAsks.ask.Goals as goal
-
-pub returns-clause-rows : goal.returns-clause-rows
-returns-clause-rows g c r served h = c.ask.ensures.caller.rows _ r h

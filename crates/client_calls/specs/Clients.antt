@@ -1,0 +1,52 @@
+-- Clients before, in and after their work.
+use Rattle.std.specs.Prelude.{◌≡◌, ℕ, ◌+◌, ◌*◌, ◌≤◌, List, Option, length, vec_capacity}
+use Rattle.book_base.specs.declared.call.Record.{Record}
+use Rattle.world_core.specs.Shape.{Meaning}
+use Rattle.world_core.specs.Local.{Local}
+use Rattle.report_lines.specs.declared.line.LineEnd.{LineEnd}
+use Rattle.row_table.specs.declared.rows.Rows.{Rows}
+use Rattle.client_calls.specs.Asking.{Fits, PassCount, FitsCaller}
+use Rattle.client_calls.specs.Stands.{caller_at, phases_at}
+use Rattle.client_calls.specs.Course.{HasCome, Counts}
+use Rattle.client_calls.specs.declared.stand.CallerState.{CallerState}
+use Rattle.client_calls.specs.declared.stand.CallerState.TheVariants.{Halted, Unjudged}
+use Rattle.client_calls.specs.declared.client.Client.{Client}
+
+-- A caller that stands there after this many lines has spent an allotment of phases: it has made
+-- all of them, or halted within them.
+abbrev pub Spent : {P : Type 0} → ℕ → ℕ → CallerState P → Type 0
+Spent allotment lines (Halted c) = 5 * lines ≤ allotment
+Spent allotment lines (Unjudged u) = 5 * lines + 5 ≤ allotment
+Spent allotment lines s = phases_at lines s ≡ allotment
+
+module _ {P T E : Type 0} where
+  -- How many phases a client has made.
+  abbrev pub phases_by : Client P T E → ℕ
+  phases_by c = phases_at (length c.sheet.lines.items) c.stand
+
+  -- A client has spent an allotment: it has made all its phases, or was halted before.
+  abbrev pub HasSpent : ℕ → Client P T E → Type 0
+  HasSpent allotment c = Spent allotment (length c.sheet.lines.items) c.stand
+
+  -- A client has come this far.
+  abbrev pub IsUnderWay : (P → ℕ → ℕ → Meaning) → Rows P
+      → (ℕ → Local → Record → List ℕ → LineEnd → Type 0) → Client P T E → Type 0
+  IsUnderWay meaning r says c =
+      HasCome meaning r says c.sheet.who c.sheet.operations.now c.stand c.sheet.lines.items
+
+  -- A client's pass fits its caller, and has come along with its calls, where it counts them.
+  pub record HasPass (fits : Fits T) (count : T → Option PassCount)
+      (c : Client P T E) : Type 0 where
+    pub fits_caller : FitsCaller fits c.pass (caller_at c.stand)
+    pub counts : Counts (count c.pass) c.sheet.operations.now c.stand c.sheet.lines.items
+
+  -- A client has a row and capacity for a line for each of its operations.
+  pub record HasCapacity (r : Rows P) (c : Client P T E) : Type 0 where
+    pub rows : length c.sheet.operations.now ≤ r.cap
+    pub lines : length c.sheet.operations.now ≤ vec_capacity c.sheet.lines
+
+  -- One client is the other, further on: with the same operations, and no less room for lines.
+  pub record IsSameClient (c d : Client P T E) : Type 0 where
+    pub who : d.sheet.who ≡ c.sheet.who
+    pub operations : d.sheet.operations.now ≡ c.sheet.operations.now
+    pub lines : vec_capacity c.sheet.lines ≤ vec_capacity d.sheet.lines

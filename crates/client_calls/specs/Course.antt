@@ -1,0 +1,79 @@
+-- How far a client has come with its operations: its caller, its lines, and the pass by which it
+-- asks.
+use Rattle.std.specs.Prelude.{◌≡◌, ◌≤◌, ℕ, true, false, List, [], ◌∷◌, ◌++◌, Option, IfSome, length, slice_index}
+use Rattle.book_base.specs.declared.call.Record.{Record}
+use Rattle.world_core.specs.Shape.{Meaning}
+use Rattle.world_core.specs.Local.{Local}
+use Rattle.world_core.specs.Calls.{Made, calls_in}
+use Rattle.report_lines.specs.declared.line.LineEnd.{LineEnd}
+use Rattle.report_lines.specs.declared.line.Line.{Line}
+use Rattle.report_lines.specs.Lines.{is_error, any_error}
+use Rattle.report_lines.specs.Phases.{HasMade, IsTold, asked}
+use Rattle.row_table.specs.declared.rows.Rows.{Rows}
+use Rattle.row_table.specs.Callers.{who_of, IsCallerOf}
+use Rattle.drv_wrapper.specs.States.{op_answered, reply_answered}
+use Rattle.client_calls.specs.Ends.{AreLinesOfCalls}
+use Rattle.client_calls.specs.Asking.{PassCount}
+use Rattle.client_calls.specs.Stands.{caller_at, local_at_stand, phases_at, under_way, MayGoOn}
+use Rattle.client_calls.specs.declared.stand.CallerState.{CallerState}
+use Rattle.client_calls.specs.declared.stand.CallerState.TheVariants.{Answered, Halted}
+
+-- The lines end with an error, and have no other one.
+pub record EndsInError (own : List Line) : Type 0 where
+  pub before : List Line
+  pub line : Line
+  pub is : own ≡ before ++ line ∷ []
+  pub none : any_error before ≡ false
+  pub error : is_error line ≡ true
+
+module _ {P : Type 0} where
+  -- A halted caller's lines end with the error that it halted at, and no other's have an error.
+  abbrev pub ErrorsFit : CallerState P → List Line → Type 0
+  ErrorsFit (Halted c) own = EndsInError own
+  ErrorsFit _ own = any_error own ≡ false
+
+  -- A client of this caller has come with these operations to this stand and these lines: the
+  -- caller, one of these rows, has made exactly the phases up to there, the lines are those of all
+  -- its calls but the one under way, and it can go on from there.
+  pub record HasCome (meaning : P → ℕ → ℕ → Meaning) (r : Rows P)
+      (says : ℕ → Local → Record → List ℕ → LineEnd → Type 0) (who : ℕ) (operations : List ℕ)
+      (s : CallerState P) (own : List Line) : Type 0 where
+    pub caller : IsCallerOf meaning r (caller_at s)
+    pub number : who_of (caller_at s) ≡ who
+    pub made : HasMade operations (phases_at (length own) s) (local_at_stand s)
+    pub ended : List Made
+    pub calls : calls_in (local_at_stand s)
+        ≡ ended ++ under_way (slice_index operations (length own)) s
+    pub lines : AreLinesOfCalls (says r.callers (local_at_stand s)) ended own
+    pub errors : ErrorsFit s own
+    pub may : MayGoOn meaning r (slice_index operations (length own)) s
+
+  -- The last of these pairs is that of the call that was answered last, until its view is taken.
+  abbrev pub EndsAnswered : CallerState P → List (ℕ × ℕ) → Type 0
+  EndsAnswered (Answered a) pairs = (prefix : List (ℕ × ℕ))
+      × (pairs ≡ prefix ++ (op_answered a, reply_answered a) ∷ [])
+  EndsAnswered _ pairs = Unit {0}
+
+  -- The pairs are what an object tells of a client's calls up to this stand.
+  pub record HasTold (s : CallerState P) (own : List Line) (pairs : List (ℕ × ℕ)) : Type 0 where
+    pub told : IsTold (phases_at (length own) s) (calls_in (local_at_stand s)) pairs
+    pub last : EndsAnswered s pairs
+
+  -- A pass with which this many calls were made, and that tells these pairs, has come along: the
+  -- object was asked for exactly the calls whose second phase was made, and what is told, where
+  -- anything is, is what was asked and answered.
+  pub record HasAskedFor (made : ℕ) (told : Option (List (ℕ × ℕ))) (s : CallerState P)
+      (own : List Line) : Type 0 where
+    pub made_is : made ≡ asked (phases_at (length own) s)
+    pub told_is : IfSome told (HasTold s own)
+
+  -- A pass that counts has come along, and has a call for each of these operations.
+  pub record HasCounted (operations : List ℕ) (s : CallerState P) (own : List Line)
+      (count : PassCount) : Type 0 where
+    pub asked : HasAskedFor count.made count.told s own
+    pub has_capacity : length operations ≤ count.room
+
+  -- A pass that counts its calls has come along with them, and has a call for each of these
+  -- operations.
+  abbrev pub Counts : Option PassCount → List ℕ → CallerState P → List Line → Type 0
+  Counts count operations s own = IfSome count (HasCounted operations s own)

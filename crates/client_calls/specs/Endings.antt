@@ -1,0 +1,104 @@
+-- How a call has ended: where its caller stands, and what is said of the call.
+use Rattle.std.specs.Prelude.{◌≡◌, ℕ, List, [], ◌∷◌, ◌++◌, true, false}
+use Rattle.book_base.specs.declared.call.Record.{Record}
+use Rattle.world_core.specs.Shape.{Meaning}
+use Rattle.world_core.specs.Local.{Local}
+use Rattle.report_lines.specs.declared.line.LineEnd.{LineEnd}
+use Rattle.report_lines.specs.declared.line.LineEnd.TheVariants.{Pending, Unchecked, Delivered, Error}
+use Rattle.report_lines.specs.declared.line.Line.{Line}
+use Rattle.report_lines.specs.Lines.{is_error}
+use Rattle.report_lines.specs.Phases.{progress_of}
+use Rattle.report_lines.specs.Progress.{after_seeing}
+use Rattle.row_table.specs.declared.rows.Rows.{Rows}
+use Rattle.row_table.specs.declared.caller.Caller.{Caller}
+use Rattle.row_table.specs.Callers.{local_with, stance_of, IsFree, IsStill}
+use Rattle.drv_wrapper.specs.Growth.{Grows}
+use Rattle.enforcer.specs.declared.published_call.Published.{Published}
+use Rattle.enforcer.specs.declared.seen_call.Seen.{Seen}
+use Rattle.enforcer.specs.declared.outcome.Unjudged as unjudged
+use Rattle.enforcer.specs.States.{caller_published, reply_published, view_published, reply_seen, view_seen}
+use Rattle.client_calls.specs.declared.stand.CallerState.{CallerState}
+use Rattle.client_calls.specs.declared.stand.CallerState.TheVariants.{Idle, Halted, Unjudged}
+use Rattle.client_calls.specs.declared.ended.Ended.{Ended}
+use Rattle.client_calls.specs.declared.ended.Ended.TheVariants.{GoesOn, Halts, WantsMemory}
+
+module _ {P : Type 0} where
+  -- The record of a call for which a cut was seen.
+  abbrev pub record_seen : Seen P → Record
+  record_seen s = record { reply = reply_seen s; view = view_seen s }
+
+  -- The record of a call that is published.
+  abbrev pub record_published : Published P → Record
+  record_published p = record { reply = reply_published p; view = view_published p }
+
+  -- The record of a call that was not judged.
+  abbrev pub record_unjudged : unjudged.Unjudged P → Record
+  record_unjudged u = record { reply = u.reply; view = u.view }
+
+  -- The caller of a call that has ended.
+  abbrev pub caller_ended : Ended P → Caller P
+  caller_ended (GoesOn c end) = c
+  caller_ended (Halts c end) = c
+  caller_ended (WantsMemory u) = u.caller
+
+  -- The local of the caller of a call that has ended.
+  abbrev pub local_ended : Ended P → Local
+  local_ended e = local_with (caller_ended e)
+
+  -- A caller goes on after a line that isn't an error, and is halted after one that is, and where
+  -- memory was wanted.
+  abbrev pub StandsAfter : Ended P → Type 0
+  StandsAfter (GoesOn c end) = IsFree c
+  StandsAfter (Halts c end) = (stance_of c).live ≡ false
+  StandsAfter (WantsMemory u) = (stance_of u.caller).live ≡ false
+
+  -- The line of a caller that goes on is no error, and that of one that is halted is one.
+  abbrev pub FitsError : Ended P → Type 0
+  FitsError (GoesOn c end) = (op : ℕ) → is_error (record { op = op; end = end }) ≡ false
+  FitsError (Halts c end) = (op : ℕ) → is_error (record { op = op; end = end }) ≡ true
+  FitsError (WantsMemory u) = Unit {0}
+
+  -- What an ending says is said of the record and the seen cut of the call; where memory was wanted
+  -- nothing is said, and they are handed back.
+  abbrev pub SaysOf : (Local → Record → List ℕ → LineEnd → Type 0) → Record → List ℕ
+      → Ended P → Type 0
+  SaysOf says r cut (GoesOn c end) = says (local_with c) r cut end
+  SaysOf says r cut (Halts c end) = says (local_with c) r cut end
+  SaysOf says r cut (WantsMemory u) = (record_unjudged u ≡ r) × (u.seen ≡ cut)
+
+  -- A call has ended as its line does: its caller is halted at an error, and else goes on.
+  abbrev pub IsEndedBy : Caller P → LineEnd → Ended P → Type 0
+  IsEndedBy c Pending ended = ended ≡ GoesOn c Pending
+  IsEndedBy c (Unchecked r) ended = ended ≡ GoesOn c (Unchecked r)
+  IsEndedBy c (Delivered r cut) ended = ended ≡ GoesOn c (Delivered r cut)
+  IsEndedBy c (Error r cut) ended = ended ≡ Halts c (Error r cut)
+
+  -- Where the caller stands after a call that has ended, and its lines with that of the call, where
+  -- it has one.
+  abbrev pub IsNoted : ℕ → List Line → Ended P → List Line → CallerState P → Type 0
+  IsNoted op own (GoesOn c end) own' s = (s ≡ Idle c)
+      × (own' ≡ own ++ record { op = op; end = end } ∷ [])
+  IsNoted op own (Halts c end) own' s = (s ≡ Halted c)
+      × (own' ≡ own ++ record { op = op; end = end } ∷ [])
+  IsNoted op own (WantsMemory u) own' s = (s ≡ Unjudged u) × (own' ≡ own)
+
+  -- A call has ended by an ending that says this: its caller, one of these rows, saw a cut, and
+  -- came no further with its calls.
+  pub record HasEnded (meaning : P → ℕ → ℕ → Meaning) (r : Rows P)
+      (says : ℕ → Local → Record → List ℕ → LineEnd → Type 0) (p : Published P)
+      (e : Ended P) : Type 0 where
+    pub cut : List ℕ
+    pub still : IsStill meaning r (caller_published p) (caller_ended e)
+    pub progress : progress_of (local_ended e)
+        ≡ after_seeing cut (progress_of (local_with (caller_published p)))
+    pub grows : Grows (local_with (caller_published p)) (local_ended e)
+    pub stands : StandsAfter e
+    pub error : FitsError e
+    pub says_of : SaysOf (says r.callers) (record_published p) cut e
+
+  -- A published call has ended in some way, and its line is noted, where it has one.
+  abbrev pub Ends : (P → ℕ → ℕ → Meaning) → Rows P
+      → (ℕ → Local → Record → List ℕ → LineEnd → Type 0) → Published P → ℕ → List Line → List Line
+      → CallerState P → Type 0
+  Ends meaning r says p op own own' s = (e : Ended P) × HasEnded meaning r says p e
+      × IsNoted op own e own' s

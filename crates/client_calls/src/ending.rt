@@ -1,0 +1,80 @@
+ghost use Rattle.std.specs.Prelude.{◌≡◌, ℕ, List};
+ghost use Rattle.book_base.specs.declared.call.Record.{Record};
+ghost use Rattle.world_core.specs.Local.{Local};
+ghost use Rattle.report_lines.specs.declared.line.LineEnd.{LineEnd};
+ghost use Rattle.report_lines.specs.Phases.{progress_of};
+ghost use Rattle.row_table.specs.Callers.{local_with, IsCallerOf, IsStill};
+ghost use Rattle.row_gather.specs.Gathered.{IsGatheredBy};
+ghost use Rattle.drv_wrapper.specs.Growth.{Grows};
+ghost use Rattle.enforcer.specs.States.{caller_seen, cut_seen};
+ghost use Rattle.client_calls.specs.Ends.{Sequential};
+ghost use Rattle.client_calls.specs.Endings.{record_seen, caller_ended, local_ended, StandsAfter, FitsError, SaysOf};
+ghost use Rattle.client_calls.specs.Keeping.{StandsBy};
+
+use crate::ended::Ended;
+use enforcer::{Gathered, Seen};
+use frontier_check::KeptOrder;
+use row_table::{Rows, Steps};
+use std::sync::ledger::Ledger;
+use world_core::Program;
+
+/// How the calls of a client end, once a cut was seen for them: by a judgement, or without one.
+pub trait Ending {
+    /// The sequential object that it judges by, where it judges.
+    ghost object: { Self → Sequential };
+
+    /// What the end of a line says, by that object: of a caller of `n` with this local, and of the
+    /// record and the seen cut of the call.
+    ghost says: { Sequential → ℕ → Local → Record → List ℕ → LineEnd → Type 0 };
+
+    /// Ends a call for which a cut was seen. The caller comes no further with its calls, and is
+    /// halted after an error, and where memory is wanted.
+    ///
+    /// `gathered` is what the caller has gathered before, or `None`, and `standing` what stands of
+    /// an order in it; and afterwards what is kept for its next call.
+    fn end<P: Program, L: Ledger>(
+        &mut self,
+        rows: &Rows<P>,
+        seen: Seen<P>,
+        gathered: &mut Option<Gathered>,
+        standing: &mut Option<KeptOrder>,
+        steps: &mut Steps<L>,
+    ) -> Ended<P>
+        // The caller of the seen call is one of these rows.
+        requires rows { IsCallerOf P.meaning rows.now (caller_seen seen) }
+        // The caller has peeked each word of the book that was gathered before, where there is one.
+        requires gathered { IsGatheredBy (local_with (caller_seen seen)) gathered.old }
+        // What is kept of an order stands for the object in the book that was gathered before.
+        requires standing { StandsBy (object self.old) gathered.old standing.old }
+        // The sequential object of the ending stays.
+        ensures object { object self.new ≡ object self.old }
+        // The caller is still one of these rows, with the same number.
+        ensures caller { IsStill P.meaning rows.now (caller_seen seen) (caller_ended result) }
+        // The caller has come no further with its calls.
+        ensures progress { progress_of (local_ended result)
+            ≡ progress_of (local_with (caller_seen seen)) }
+        // The caller's local has each look, peek and cut that it had before.
+        ensures grows { Grows (local_with (caller_seen seen)) (local_ended result) }
+        // A caller that goes on is free for its next call, and one that is halted or wants memory
+        // makes no calls.
+        ensures stands { StandsAfter result }
+        // A caller that goes on has no error, and one that is halted has one.
+        ensures error { FitsError result }
+        // What the ending says is said of the record, the seen cut and the line's end, and where
+        // memory was wanted the record and the cut are handed back.
+        ensures says { SaysOf (says (object self.new) rows.now.callers) (record_seen seen)
+            (cut_seen seen) result }
+        // The caller has peeked each word of the book that is gathered now, where there is one.
+        ensures kept { IsGatheredBy (local_ended result) gathered.new }
+        // What is kept of an order now stands for the object in the book that is gathered now.
+        ensures standing { StandsBy (object self.new) gathered.new standing.new };
+
+    /// The same ending, for another caller.
+    fn another(&self) -> Self
+        // The ending judges by the same sequential object.
+        ensures { object result ≡ object self.now };
+
+    /// What the end of a line says stays so while the caller goes on.
+    ghost stays: { (o : Sequential) (n : ℕ) (l m : Local) (r : Record) (cut : List ℕ)
+        (end : LineEnd) → Grows l m → says o n l r cut end → says o n m r cut end };
+}

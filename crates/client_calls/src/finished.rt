@@ -1,0 +1,12 @@
+use report_lines::Line;
+use row_table::Caller;
+
+/// A client that is finished: its caller, with its local as it is, its pass, its lines and its
+/// ending; and whether its last call wasn't judged for want of memory.
+pub struct Finished<P, T, E> {
+    pub caller: Caller<P>,
+    pub pass: T,
+    pub lines: Vec<Line>,
+    pub ending: E,
+    pub wants_memory: bool,
+}

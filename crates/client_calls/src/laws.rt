@@ -1,0 +1,8 @@
+//! Laws of clients. Each is the contract of a function with nothing in it.
+
+ghost use Rattle.client_calls.specs.Working.{JudgingClientsHaveWorked};
+
+/// A client that judges its calls leaves what a worker leaves.
+pub fn judging_clients_have_worked()
+    ensures { JudgingClientsHaveWorked }
+{}

@@ -1,0 +1,95 @@
+ghost use Rattle.std.specs.Prelude.{◌≡◌, ◌<◌, ◌≤◌, length, slice_index, vec_len, vec_capacity};
+ghost use Rattle.row_table.specs.Callers.{local_with, IsCallerOf};
+ghost use Rattle.row_gather.specs.Gathered.{IsGatheredBy};
+ghost use Rattle.enforcer.specs.States.{caller_published};
+ghost use Rattle.client_calls.specs.Endings.{Ends, IsNoted};
+ghost use Rattle.client_calls.specs.Stands.{local_at_stand};
+ghost use Rattle.client_calls.specs.Keeping.{StandsBy};
+
+use crate::ended::Ended;
+use crate::ending::Ending;
+use crate::stand::CallerState;
+use book_base::OpWord;
+use enforcer::{Gathered, Published, seen};
+use frontier_check::KeptOrder;
+use report_lines::Line;
+use row_table::{Rows, Steps};
+use std::sync::ledger::Ledger;
+use world_core::Program;
+
+/// What a client works off: whose it is, the operations of that caller, and a line for each call
+/// that has ended, by this ending. There is room for a line for each operation.
+///
+/// The book that the caller gathered last is kept from call to call, so that the next one is grown
+/// from it, and so is what stands of its order. There is none before the first call that is judged,
+/// after an error, and where memory was wanted. Forgetting them would cost time alone, so no clause
+/// says that they are kept; the book that is kept is the caller's own (`Client`).
+pub struct Sheet<'a, E> {
+    pub who: u32,
+    pub operations: &'a [OpWord],
+    pub lines: Vec<Line>,
+    pub ending: E,
+    pub gathered: Option<Gathered>,
+    pub standing: Option<KeptOrder>,
+}
+
+// Puts the line of a call that has ended after those of its caller, where it has one.
+fn noted<P: Program>(ended: Ended<P>, op: OpWord, lines: &mut Vec<Line>) -> CallerState<P>
+    requires { vec_len lines.old < vec_capacity lines.old }
+    ensures noted { IsNoted op lines.old.items ended lines.new.items result }
+    ensures room { vec_capacity lines.old ≤ vec_capacity lines.new }
+{
+    match ended {
+        Ended::GoesOn(caller, end) => {
+            lines.push(Line { op, end }).unwrap();
+            CallerState::Idle(caller)
+        }
+        Ended::Halts(caller, end) => {
+            lines.push(Line { op, end }).unwrap();
+            CallerState::Halted(caller)
+        }
+        Ended::WantsMemory(unjudged) => CallerState::Unjudged(unjudged),
+    }
+}
+
+impl<'a, E> Sheet<'a, E> {
+    // The operation of the next call to have a line.
+    pub(crate) fn next_op(&self) -> OpWord
+        requires { vec_len self.now.lines < length self.now.operations.now }
+        ensures { result ≡ slice_index self.now.operations.now (length self.now.lines.items) }
+    {
+        self.operations[self.lines.len()]
+    }
+}
+
+impl<'a, E: Ending> Sheet<'a, E> {
+    // Sees a cut for a call whose record is published, and ends it.
+    pub(crate) fn end_call<P: Program, L: Ledger>(
+        &mut self,
+        rows: &Rows<P>,
+        published: Published<P>,
+        op: OpWord,
+        steps: &mut Steps<L>,
+    ) -> CallerState<P>
+        requires rows { IsCallerOf P.meaning rows.now (caller_published published) }
+        requires gathered { IsGatheredBy (local_with (caller_published published))
+            self.old.gathered }
+        requires standing { StandsBy (E.object self.old.ending) self.old.gathered
+            self.old.standing }
+        requires room { vec_len self.old.lines < vec_capacity self.old.lines }
+        ensures ends { Ends P.meaning rows.now (E.says (E.object self.new.ending)) published op
+            self.old.lines.items self.new.lines.items result }
+        ensures room { vec_capacity self.old.lines ≤ vec_capacity self.new.lines }
+        ensures same { (self.new.who ≡ self.old.who)
+            × (self.new.operations.now ≡ self.old.operations.now) }
+        ensures object { E.object self.new.ending ≡ E.object self.old.ending }
+        ensures kept { IsGatheredBy (local_at_stand result) self.new.gathered }
+        ensures standing { StandsBy (E.object self.new.ending) self.new.gathered self.new.standing }
+    {
+        let seen = seen(published, rows, steps);
+        let ended = self
+            .ending
+            .end(rows, seen, &mut self.gathered, &mut self.standing, steps);
+        noted(ended, op, &mut self.lines)
+    }
+}

@@ -1,0 +1,91 @@
+use book_base::Record;
+use drv_wrapper::{Announced, Answered, Viewed};
+use enforcer::{Published, Unjudged};
+use report_lines::LineEnd;
+use row_table::Caller;
+use world_core::Outside;
+
+/// Where a caller stands between two of its phases.
+pub enum CallerState<P = Outside> {
+    /// Between two calls.
+    Idle(Caller<P>),
+    /// The call is announced.
+    Announced(Announced<P>),
+    /// The object has answered it.
+    Answered(Answered<P>),
+    /// The call has its view, and so its record.
+    Viewed(Viewed<P>),
+    /// The record is published.
+    Published(Published<P>),
+    /// Halted after an error.
+    Halted(Caller<P>),
+    /// Halted, and its last call isn't judged for want of memory.
+    Unjudged(Unjudged<P>),
+}
+
+impl<P> CallerState<P> {
+    ghost use Rattle.std.specs.Prelude.{◌≡◌, ◌↔◌, IsTrue};
+    ghost use Rattle.row_table.specs.Callers.{stance_of};
+    ghost use Rattle.drv_wrapper.specs.Stands.{IsSame};
+    ghost use Rattle.client_calls.specs.Stands.{caller_at, GoesOnFrom};
+    ghost use Rattle.client_calls.specs.Finishing.{end_at, is_unjudged, stance_left};
+
+    /// Whether the caller makes further phases: it isn't halted.
+    pub fn goes_on(&self) -> bool
+        ensures { IsTrue result ↔ GoesOnFrom self.now }
+    {
+        match self {
+            CallerState::Halted(_) | CallerState::Unjudged(_) => false,
+            _ => true,
+        }
+    }
+
+    /// Whether the last call wasn't judged for want of memory.
+    pub fn is_unjudged(&self) -> bool
+        ensures { result ≡ is_unjudged self.now }
+    {
+        matches!(self, CallerState::Unjudged(_))
+    }
+
+    /// The caller, with its local as it is, and how the line of its call under way ends, where it
+    /// leaves one. Between two calls it stays live, and else it is halted.
+    pub fn stop(self) -> (Caller<P>, Option<LineEnd>)
+        // The caller keeps its number and its local, and is still one of its rows.
+        ensures caller { IsSame (caller_at self) result.0 }
+        // The line of a call under way ends pending without its record, and unchecked with it; else
+        // no line is left.
+        ensures end { result.1 ≡ end_at self }
+        // The caller's stance stays where no call of it is under way, and else the caller is
+        // halted.
+        ensures stance { stance_of result.0 ≡ stance_left self }
+    {
+        match self {
+            CallerState::Idle(caller) | CallerState::Halted(caller) => (caller, None),
+            CallerState::Announced(announced) => (announced.stop(), Some(LineEnd::Pending)),
+            CallerState::Answered(answered) => (answered.stop(), Some(LineEnd::Pending)),
+            CallerState::Viewed(viewed) => {
+                let (reply, view) = (viewed.reply(), viewed.view());
+                (
+                    viewed.stop(),
+                    Some(LineEnd::Unchecked(Record { reply, view })),
+                )
+            }
+            CallerState::Published(published) => {
+                let (reply, view) = (published.reply(), published.view());
+                (
+                    published.stop(),
+                    Some(LineEnd::Unchecked(Record { reply, view })),
+                )
+            }
+            CallerState::Unjudged(unjudged) => {
+                let Unjudged {
+                    caller,
+                    reply: _,
+                    view: _,
+                    seen: _,
+                } = unjudged;
+                (caller, None)
+            }
+        }
+    }
+}

@@ -1,0 +1,10 @@
+pub mod Dealing
+pub mod Counting
+pub mod Linking
+pub mod Passing
+pub mod Keeping
+pub mod StackKeeping
+pub mod FindingRules
+pub mod Ranking
+pub mod Ending
+pub mod Nesting

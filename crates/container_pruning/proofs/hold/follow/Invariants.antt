@@ -1,0 +1,16 @@
+use Rattle.std.proofs.Common.{◌≡◌, ℕ, List}
+use Rattle.book_base.specs.declared.call.Call.{Call}
+use Rattle.book_base.specs.Book.{IsCall}
+use Rattle.book_base.specs.PruningRules.{HasCallBound, ArePruningRules}
+use Rattle.container_pruning.specs.Links.{AreFollowed}
+use Rattle.container_pruning.proofs.hold.follow.Given as goal
+
+abbrev pub invariant-loop-caller : goal.invariant-loop-caller
+invariant-loop-caller l = record {
+  call_bounds : (c : Call) → IsCall l.book c → HasCallBound l.known c;
+  ranks : l.known.ranks ≡ l.fn.known.ranks;
+  right : (init : List ℕ) (next : List ℕ → ℕ → List ℕ × ℕ)
+      → ArePruningRules init next l.book l.fn.known
+      → AreFollowed init next l.book l.links l.fn.known.ranks
+      → ArePruningRules init next l.book l.known;
+}

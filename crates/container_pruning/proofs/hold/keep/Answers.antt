@@ -1,0 +1,15 @@
+use Rattle.std.proofs.Common.{ℕ, ◌∙◌, List, sym, subst}
+use Rattle.container_pruning.specs.Links.{AreKept}
+use Rattle.container_pruning.proofs.hold.keep.Goals as goal
+
+pub loop-caller-preserved : goal.loop-caller-preserved
+loop-caller-preserved c =
+    let i = c.loop-caller.invariant in
+    record {
+      call_bounds = c.keep_caller.ensures.call_bounds;
+      ranks = c.keep_caller.ensures.ranks ∙ i.ranks;
+      right =
+          λ init next right are. c.keep_caller.ensures.right init next (i.right init next right are)
+          (subst (λ (ranks : List (ℕ × ℕ)). AreKept init next c.args.book.now c.args.links.now
+          c.args.uses.now.open_from ranks) (sym i.ranks) are);
+    }

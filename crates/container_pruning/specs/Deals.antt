@@ -1,0 +1,45 @@
+-- What the calls of a book did to what an object holds, read off their operations and replies.
+use Rattle.std.specs.Prelude.{ℕ, List, Option, Some, None}
+use Rattle.book_base.specs.declared.call.Call.{Call}
+use Rattle.book_base.specs.declared.call.Record.{Record}
+use Rattle.book_base.specs.Book.{Page, operation_of, record_of}
+use Rattle.history_rules.specs.Container.{Effect, Puts, Takes, Neither, Reading}
+use Rattle.container_pruning.specs.declared.reader.Role.{Role}
+use Rattle.container_pruning.specs.declared.reader.Role.TheVariants as roles
+use Rattle.container_pruning.specs.declared.deal.Deal.{Deal}
+use Rattle.container_pruning.specs.declared.deal.Deal.TheVariants as deals
+
+-- the deed that a role names
+abbrev pub deed_of : Role → Effect
+deed_of (roles.Put v) = Puts v
+deed_of roles.Take = Takes
+deed_of roles.Other = Neither
+
+-- what a take did, by what its reply shows
+abbrev pub shown_deal : Option ℕ → Deal
+shown_deal None = deals.FoundNothing
+shown_deal (Some v) = deals.Took v
+
+-- what a take did, by its record
+abbrev pub recorded_deal : Reading → Option Record → Deal
+recorded_deal reading None = deals.OpenTake
+recorded_deal reading (Some r) = shown_deal (reading.shown r.reply)
+
+-- what a call that takes did
+abbrev pub take_of : Reading → List Page → Call → Deal
+take_of reading book call = recorded_deal reading (record_of book call)
+
+-- what a call with this deed did
+abbrev pub deal_by_deed : Reading → List Page → Call → Effect → Deal
+deal_by_deed reading book call (Puts v) = deals.Put v
+deal_by_deed reading book call Takes = take_of reading book call
+deal_by_deed reading book call Neither = deals.Other
+
+-- what a call with this operation did, where it has one
+abbrev pub deal_by_operation : Reading → List Page → Call → Option ℕ → Deal
+deal_by_operation reading book call None = deals.Other
+deal_by_operation reading book call (Some op) = deal_by_deed reading book call (reading.deed op)
+
+-- what a call of the book did
+abbrev pub deal_of : Reading → List Page → Call → Deal
+deal_of reading book call = deal_by_operation reading book call (operation_of book call)

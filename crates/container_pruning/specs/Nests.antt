@@ -1,0 +1,21 @@
+-- Puts of a stack whose values outlast a take.
+use Rattle.std.specs.Prelude.{◌≡◌, ℕ, ◌⊎◌, true, List, Some}
+use Rattle.book_base.specs.declared.call.Call.{Call}
+use Rattle.book_base.specs.Book.{Page, Precedes}
+use Rattle.book_base.specs.PruningRules.{MustComeFirst}
+use Rattle.container_pruning.specs.declared.links.Links.{Links}
+use Rattle.container_pruning.specs.Uses.{IsEarly}
+use Rattle.container_pruning.specs.Links.{link_at}
+
+-- The value that a call puts in is taken after a take, or no answered call takes it and the take
+-- precedes each unanswered one.
+abbrev pub Outlasts : List Page → Links → List ℕ → Call → Call → Type 0
+Outlasts book links open_from first take =
+    ((later : Call) × ((link_at links later).after ≡ Some first) × Precedes book take later)
+    ⊎ (((link_at links first).is_kept ≡ true) × IsEarly book open_from take)
+
+-- A put that precedes a take and outlasts it stands before the put of what is taken.
+abbrev pub AreNested : List ℕ → (List ℕ → ℕ → List ℕ × ℕ) → List Page → Links → List ℕ → Type 0
+AreNested init next book links open_from = (take put first : Call)
+    → (link_at links take).after ≡ Some put → Precedes book first take
+    → Outlasts book links open_from first take → MustComeFirst init next book first put

@@ -1,0 +1,21 @@
+-- Ranks of values by their takes.
+use Rattle.std.specs.Prelude.{◌≡◌, ℕ, ◌-◌, List, Some}
+use Rattle.book_base.specs.declared.call.Call.{Call}
+use Rattle.book_base.specs.Book.{Page}
+use Rattle.book_base.specs.PruningRules.{rank_of}
+use Rattle.history_rules.specs.Container.{Reading}
+use Rattle.history_rules.specs.Calls.{PutsInAlone, TakesOut}
+use Rattle.container_pruning.specs.Links.{reach_of}
+
+-- a value's rank is what the view of a call counts that takes it out, and one call alone puts it in
+pub record IsRanked (reading : Reading) (book : List Page) (v rank : ℕ) : Type 0 where
+  pub take : Call
+  pub put : Call
+  pub takes : TakesOut reading book take v
+  pub alone : PutsInAlone reading book put v
+  pub rank_is : rank ≡ reach_of book take - 1
+
+-- each rank is right
+abbrev pub AreRanks : Reading → List Page → List (ℕ × ℕ) → Type 0
+AreRanks reading book ranks = (v rank : ℕ) → rank_of ranks v ≡ Some rank
+    → IsRanked reading book v rank

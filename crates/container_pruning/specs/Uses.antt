@@ -1,0 +1,63 @@
+-- How often each value of a book is put in and taken out.
+use Rattle.std.specs.Prelude.{◌≡◌, ℕ, ◌+◌, ◌*◌, ◌<◌, ◌≤◌, ◌⊎◌, List, length, slice_get, Some, IsSomeAnd, slice_index, unwrap_or}
+use Rattle.std.specs.Ordering.{nat_cmp}
+use Rattle.std.specs.BTreeMap.{is_at}
+use Rattle.std.specs.Map.{lookup}
+use Rattle.book_base.specs.declared.call.Call.{Call}
+use Rattle.book_base.specs.declared.TheConstants.{MAX_CALLS}
+use Rattle.book_base.specs.Book.{Page, record_of}
+use Rattle.book_base.specs.Cut.{IsWithin}
+use Rattle.history_rules.specs.Container.{Reading}
+use Rattle.history_rules.specs.Rules.{AreDifferent}
+use Rattle.container_pruning.specs.declared.deal.Deal.{Deal}
+use Rattle.container_pruning.specs.declared.deal.Deal.TheVariants as deals
+use Rattle.container_pruning.specs.declared.uses.Use.{Use}
+use Rattle.container_pruning.specs.declared.uses.Uses.{Uses}
+use Rattle.container_pruning.specs.Deals.{deal_of}
+
+-- the calls of the first callers, and the first ones of the next caller
+abbrev pub IsReadTo : ℕ → ℕ → Call → Type 0
+IsReadTo caller number call = (call.caller < caller)
+    ⊎ ((call.caller ≡ caller) × (call.number < number))
+
+-- no call uses the value
+abbrev pub no_use : Use
+no_use = record { puts = 0; put = record { caller = 0; number = 0 }; takes = 0 }
+
+-- the uses of a value
+abbrev pub use_of : List (ℕ × Use) → ℕ → Use
+use_of uses v = unwrap_or (lookup (is_at (nat_cmp v)) uses) no_use
+
+-- Of the calls that were read, this many put a value in and this many take it out, as listed.
+pub record IsCounted (deal : Call → Deal) (read : Call → Type 0) (v : ℕ) (used : Use) : Type 0 where
+  -- the calls that put it in
+  pub putters : List Call
+  pub puts : length putters ≡ used.puts
+  pub all_putters : (call : Call) → read call → deal call ≡ deals.Put v → (k : ℕ)
+      × (slice_get putters k ≡ Some call)
+  -- one of them
+  pub put : 1 ≤ used.puts → deal used.put ≡ deals.Put v
+  -- the calls that take it out
+  pub takers : List Call
+  pub takes : length takers ≡ used.takes
+  pub all_takers : (call : Call) → read call → deal call ≡ deals.Took v → (k : ℕ)
+      × (slice_get takers k ≡ Some call)
+  pub only_takers : (k : ℕ) (call : Call) → slice_get takers k ≡ Some call → read call
+      × (deal call ≡ deals.Took v)
+  pub different : AreDifferent takers
+
+-- The uses are those of the calls that were read.
+pub record AreUsesOf (reading : Reading) (book : List Page) (caller number : ℕ)
+    (uses : Uses) : Type 0 where
+  pub each : (v : ℕ)
+      → IsCounted (deal_of reading book) (IsReadTo caller number) v (use_of uses.by_value.entries v)
+  -- no value is used more often than calls were read
+  pub few : (v : ℕ) → ((use_of uses.by_value.entries v).puts ≤ caller * MAX_CALLS + number)
+      × ((use_of uses.by_value.entries v).takes ≤ caller * MAX_CALLS + number)
+  -- no take of a caller is unanswered before the number from which on they may be
+  pub answered : (call : Call) → IsReadTo caller number call → deal_of reading book call
+      ≡ deals.OpenTake → slice_index uses.open_from call.caller ≤ call.number
+
+-- An answered call's view counts no call of a caller from that number on.
+abbrev pub IsEarly : List Page → List ℕ → Call → Type 0
+IsEarly book open_from call = IsSomeAnd (record_of book call) (λ r. IsWithin r.view open_from)

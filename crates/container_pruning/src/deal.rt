@@ -1,0 +1,42 @@
+ghost use Rattle.std.specs.Prelude.{◌≡◌};
+ghost use Rattle.book_base.specs.Book.{IsCall};
+ghost use Rattle.container_pruning.specs.Deals.{deal_of, take_of};
+
+use crate::reader::{Reader, Role};
+use book_base::{Book, Call};
+
+/// What a call of a book did.
+#[derive(Clone, Copy)]
+pub enum Deal {
+    Put(u64),
+    Took(u64),
+    FoundNothing,
+    OpenTake,
+    Other,
+}
+
+/// What a call of a book did.
+pub fn deal_of<R: Reader>(reader: &R, book: &Book, call: Call) -> Deal
+    requires { IsCall book.now call }
+    ensures { result ≡ deal_of (R.reading reader.now) book.now call }
+{
+    match reader.role(book.op(call)) {
+        Role::Put(value) => Deal::Put(value),
+        Role::Take => take_of(reader, book, call),
+        Role::Other => Deal::Other,
+    }
+}
+
+// What a call that takes did.
+fn take_of<R: Reader>(reader: &R, book: &Book, call: Call) -> Deal
+    requires { IsCall book.now call }
+    ensures { result ≡ take_of (R.reading reader.now) book.now call }
+{
+    if call.number >= book.answers(call.caller) {
+        return Deal::OpenTake;
+    }
+    match reader.shown(book.record(call).reply) {
+        Some(value) => Deal::Took(value),
+        None => Deal::FoundNothing,
+    }
+}

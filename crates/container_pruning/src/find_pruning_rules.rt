@@ -1,0 +1,62 @@
+ghost use Rattle.std.specs.Prelude.{◌≡◌, ℕ, [], List, IfOk};
+ghost use Rattle.book_base.specs.PruningRules.{ArePruningRules};
+ghost use Rattle.history_rules.specs.Container.{IsQueue, IsStack};
+ghost use Rattle.container_pruning.specs.FoundRules.{HoldsItsWords};
+
+use crate::hold::hold;
+use crate::links::{Discipline, Links};
+use crate::nest::nest;
+use crate::ranks::rank_takes;
+use crate::reader::Reader;
+use crate::uses::Uses;
+use book_base::{Book, NoMemory, PruningRules};
+use std::alloc::Global;
+
+/// The pruning rules of a queue's book (after Henzinger, Sezgin and Vafeiadis 2013): where the take
+/// of x precedes the take of v, x is put in before v; a take that finds nothing and precedes the
+/// take of v stands before the put of v; what no answered call takes is put in after whatever is
+/// taken, and after the takes that find nothing, of those takes that precede each unanswered one;
+/// and no value is taken more often than it is put in.
+pub fn queue_pruning_rules<R: Reader>(
+    alloc: Global,
+    reader: &R,
+    book: &Book,
+) -> Result<PruningRules, NoMemory>
+    // For each object that reads as a queue and begins empty, each call that the answer forbids is
+    // infeasible there.
+    ensures { IfOk result (λ known. (init : List ℕ) (next : List ℕ → ℕ → List ℕ × ℕ)
+        → IsQueue (R.reading reader.now) next
+        → (R.reading reader.now).values init ≡ [] → ArePruningRules init next book.now known) }
+{
+    let uses = Uses::of(alloc, reader, book)?;
+    let links = Links::of(alloc, reader, book, &uses, Discipline::Queue)?;
+    let mut known = PruningRules::blank(alloc, book)?;
+    hold(book, &links, &uses, &mut known);
+    Ok(known)
+}
+
+/// The pruning rules of a stack's book: where the take of x precedes the take of v, v isn't put on
+/// x, so that a put of v which precedes the take of x stands before the put of x; a take that finds
+/// nothing and precedes the take of v stands before the put of v; what no answered call takes is
+/// put on nothing that is taken, and after the takes that find nothing, of those takes that precede
+/// each unanswered one; and no value is taken more often than it is put in.
+pub fn stack_pruning_rules<R: Reader>(
+    alloc: Global,
+    reader: &R,
+    book: &Book,
+) -> Result<PruningRules, NoMemory>
+    // For each object that reads as a stack, holds its words and begins empty, each call that the
+    // answer forbids is infeasible there.
+    ensures { IfOk result (λ known. (init : List ℕ) (next : List ℕ → ℕ → List ℕ × ℕ)
+        → IsStack (R.reading reader.now) next
+        → HoldsItsWords (R.reading reader.now)
+        → (R.reading reader.now).values init ≡ [] → ArePruningRules init next book.now known) }
+{
+    let uses = Uses::of(alloc, reader, book)?;
+    let links = Links::of(alloc, reader, book, &uses, Discipline::Stack)?;
+    let mut known = PruningRules::blank(alloc, book)?;
+    rank_takes(reader, book, &uses, &mut known)?;
+    nest(alloc, book, &links, &uses, &mut known)?;
+    hold(book, &links, &uses, &mut known);
+    Ok(known)
+}

@@ -1,0 +1,170 @@
+ghost use Rattle.std.specs.Prelude.{◌≡◌, ℕ, true, ◌<◌, ◌≤◌, List, length, slice_index};
+ghost use Rattle.book_base.specs.declared.call.Call.{Call};
+ghost use Rattle.book_base.specs.declared.TheConstants.{MAX_CALLS};
+ghost use Rattle.book_base.specs.Book.{Page, IsCall, IsSmall, IsValid};
+ghost use Rattle.book_base.specs.Order.{HasLegalOrder};
+ghost use Rattle.book_base.specs.PruningRules.{HasCallBound, HasEarly, ArePruningRules, IsInfeasible, MustComeFirst};
+ghost use Rattle.container_pruning.specs.Links.{AreLinksOf, AreFollowed, AreKept};
+ghost use Rattle.container_pruning.specs.Uses.{IsEarly};
+ghost use Rattle.container_pruning.specs.Pasts.{last_held, IsPast};
+
+use crate::links::Links;
+use crate::past::Past;
+use crate::stuck::is_stuck;
+use crate::uses::Uses;
+use book_base::{Book, Call, PruningRules};
+
+/// Holds back what the links of a book say, and each call of a book that is refused or stuck.
+pub fn hold(book: &Book, links: &Links, uses: &Uses, known: &mut PruningRules)
+    requires links { AreLinksOf book.now links.now }
+    requires call_bounds { (c : Call) → IsCall book.now c → HasCallBound known.old c }
+    ensures right { (init : List ℕ) (next : List ℕ → ℕ → List ℕ × ℕ)
+        → ArePruningRules init next book.now known.old
+        → (links.now.is_refused ≡ true → ¬ HasLegalOrder init next book.now)
+        → AreFollowed init next book.now links.now known.old.ranks
+        → AreKept init next book.now links.now uses.now.open_from known.old.ranks
+        → ArePruningRules init next book.now known.new }
+{
+    if links.is_refused {
+        refuse(book, known);
+        return;
+    }
+    follow(book, links, known);
+    keep(book, links, uses, known);
+    if is_stuck(book, known) {
+        refuse(book, known);
+    }
+}
+
+// Holds back each put of what is taken after the calls that precede its take.
+fn follow(book: &Book, links: &Links, known: &mut PruningRules)
+    requires links { AreLinksOf book.now links.now }
+    requires call_bounds { (c : Call) → IsCall book.now c → HasCallBound known.old c }
+    ensures call_bounds { (c : Call) → IsCall book.now c → HasCallBound known.new c }
+    ensures ranks { known.new.ranks ≡ known.old.ranks }
+    ensures right { (init : List ℕ) (next : List ℕ → ℕ → List ℕ × ℕ)
+        → ArePruningRules init next book.now known.old
+        → AreFollowed init next book.now links.now known.old.ranks
+        → ArePruningRules init next book.now known.new }
+{
+    for caller in 0..book.callers() {
+        follow_caller(book, links, known, caller);
+    }
+}
+
+// Holds back the puts of what a caller takes.
+fn follow_caller(book: &Book, links: &Links, known: &mut PruningRules, caller: u32)
+    requires links { AreLinksOf book.now links.now }
+    requires call_bounds { (c : Call) → IsCall book.now c → HasCallBound known.old c }
+    requires valid { IsValid book.now }
+    requires small { IsSmall book.now }
+    requires caller { caller < length book.now }
+    ensures call_bounds { (c : Call) → IsCall book.now c → HasCallBound known.new c }
+    ensures ranks { known.new.ranks ≡ known.old.ranks }
+    ensures right { (init : List ℕ) (next : List ℕ → ℕ → List ℕ × ℕ)
+        → ArePruningRules init next book.now known.old
+        → AreFollowed init next book.now links.now known.old.ranks
+        → ArePruningRules init next book.now known.new }
+{
+    let mut past = Past::none(book);
+    for number in 0..book.answers(caller) {
+        let call = Call { caller, number };
+        past.pass_preceding(book, links, call);
+        if let Some(put) = links.at(call).after {
+            hold_after(known, put, &past);
+        }
+    }
+}
+
+// Holds back the puts of what no answered call takes, after what is taken or finds nothing before
+// each unanswered take.
+fn keep(book: &Book, links: &Links, uses: &Uses, known: &mut PruningRules)
+    requires links { AreLinksOf book.now links.now }
+    requires call_bounds { (c : Call) → IsCall book.now c → HasCallBound known.old c }
+    ensures call_bounds { (c : Call) → IsCall book.now c → HasCallBound known.new c }
+    ensures right { (init : List ℕ) (next : List ℕ → ℕ → List ℕ × ℕ)
+        → ArePruningRules init next book.now known.old
+        → AreKept init next book.now links.now uses.now.open_from known.old.ranks
+        → ArePruningRules init next book.now known.new }
+{
+    let past = Past::early(book, links, uses);
+    for caller in 0..book.callers() {
+        keep_caller(book, links, uses, known, caller, &past);
+    }
+}
+
+// Holds back the puts of a caller whose values no answered call takes.
+fn keep_caller(
+    book: &Book,
+    links: &Links,
+    uses: &Uses,
+    known: &mut PruningRules,
+    caller: u32,
+    past: &Past,
+)
+    requires call_bounds { (c : Call) → IsCall book.now c → HasCallBound known.old c }
+    requires small { IsSmall book.now }
+    requires caller { caller < length book.now }
+    requires past { IsPast (IsEarly book.now uses.now.open_from) book.now links.now past.now }
+    ensures call_bounds { (c : Call) → IsCall book.now c → HasCallBound known.new c }
+    ensures ranks { known.new.ranks ≡ known.old.ranks }
+    ensures right { (init : List ℕ) (next : List ℕ → ℕ → List ℕ × ℕ)
+        → ArePruningRules init next book.now known.old
+        → AreKept init next book.now links.now uses.now.open_from known.old.ranks
+        → ArePruningRules init next book.now known.new }
+{
+    for number in 0..book.calls(caller) {
+        let put = Call { caller, number };
+        if links.at(put).is_kept {
+            hold_after(known, put, past);
+        }
+    }
+}
+
+// Makes each call of a book one that has to come before itself: the book has no legal order.
+fn refuse(book: &Book, known: &mut PruningRules)
+    requires call_bounds { (c : Call) → IsCall book.now c → HasCallBound known.old c }
+{
+    for caller in 0..book.callers() {
+        refuse_caller(book, known, caller);
+    }
+}
+
+// Makes each call of a caller one that has to come before itself.
+fn refuse_caller(book: &Book, known: &mut PruningRules, caller: u32)
+    requires call_bounds { (c : Call) → IsCall book.now c → HasCallBound known.old c }
+    requires small { IsSmall book.now }
+    requires caller { caller < length book.now }
+    ensures call_bounds { (c : Call) → IsCall book.now c → HasCallBound known.new c }
+{
+    for number in 0..book.calls(caller) {
+        let call = Call { caller, number };
+        known.hold_back(call, call);
+    }
+}
+
+// Holds back a put by a predecessor bound, and below a limit.
+fn hold_after(known: &mut PruningRules, put: Call, past: &Past)
+    requires call_bound { HasCallBound known.old put }
+    requires few { (i : ℕ) → slice_index past.now.predecessor_bound i ≤ MAX_CALLS }
+    ensures call_bounds { (c : Call) → HasCallBound known.old c → HasCallBound known.new c }
+    ensures ranks { known.new.ranks ≡ known.old.ranks }
+    ensures right { (init : List ℕ) (next : List ℕ → ℕ → List ℕ × ℕ) (book : List Page)
+        → ArePruningRules init next book known.old
+        → ((i : ℕ) → 0 < slice_index past.now.predecessor_bound i
+        → MustComeFirst init next book (last_held past.now.predecessor_bound i) put)
+        → ((cut list : List ℕ) → HasEarly known.old.ranks list past.now.limit
+        → IsInfeasible init next book cut list put)
+        → ArePruningRules init next book known.new }
+{
+    for caller in 0..past.predecessor_bound.n() {
+        let count = past.predecessor_bound.get(caller);
+        if count > 0 {
+            let number = count - 1;
+            known.hold_back(put, Call { caller, number });
+        }
+    }
+    if past.limit > 0 {
+        known.hold_back_below(put, past.limit);
+    }
+}

@@ -1,0 +1,17 @@
+//! Pruning rules of containers, made of a book before a search, from the rules of histories, in
+//! near linear time.
+#![tactic(auto)]
+
+mod deal;
+mod find_pruning_rules;
+mod hold;
+mod links;
+mod nest;
+mod past;
+mod ranks;
+mod reader;
+mod stuck;
+mod uses;
+
+pub use find_pruning_rules::{queue_pruning_rules, stack_pruning_rules};
+pub use reader::{Reader, Role};

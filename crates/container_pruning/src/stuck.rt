@@ -1,0 +1,101 @@
+ghost use Rattle.std.specs.Prelude.{◌≡◌, ℕ, ◌<◌, List, length, IsTrue};
+ghost use Rattle.book_base.specs.declared.call.Call.{Call};
+ghost use Rattle.book_base.specs.Cut.{Holds};
+ghost use Rattle.book_base.specs.Book.{IsCall, IsAnswered, IsValid};
+ghost use Rattle.book_base.specs.Order.{HasLegalOrder};
+ghost use Rattle.book_base.specs.PruningRules.{ArePruningRules};
+ghost use Rattle.book_base.specs.Next.{next_call};
+ghost use Rattle.container_pruning.specs.Stuck.{IsBlocked};
+
+use book_base::{Book, Call, Cut, MAX_CALLERS, MAX_CALLS, PruningRules};
+
+/// Whether each order of a book ends too early: the calls that predecessor bounds and precedence
+/// let stand, one after another, don't reach all answered ones. So puts of which each must stand
+/// before the other are found before a search.
+pub fn is_stuck(book: &Book, known: &PruningRules) -> bool
+    ensures { (init : List ℕ) (next : List ℕ → ℕ → List ℕ × ℕ)
+        → ArePruningRules init next book.now known.now → IsTrue result
+        → ¬ HasLegalOrder init next book.now }
+{
+    let mut cut = Cut::zero(book.callers());
+    grow(book, known, &mut cut);
+    lacks_an_answer(book, &cut) && is_end(book, known, &cut)
+}
+
+// Lets calls come, one after another, as long as any comes.
+fn grow(book: &Book, known: &PruningRules, cut: &mut Cut)
+    requires { length cut.old ≡ length book.now }
+    ensures { length cut.new ≡ length book.now }
+{
+    for _ in 0..MAX_CALLERS as u64 * MAX_CALLS {
+        if !grow_once(book, known, cut) {
+            return;
+        }
+    }
+}
+
+// Lets the calls of each caller come, as long as they do: whether any came.
+fn grow_once(book: &Book, known: &PruningRules, cut: &mut Cut) -> bool
+    requires { length cut.old ≡ length book.now }
+    ensures { length cut.new ≡ length book.now }
+{
+    let mut has_grown = false;
+    for caller in 0..book.callers() {
+        for number in cut.get(caller)..book.calls(caller) {
+            if is_blocked(book, known, cut, Call { caller, number }) {
+                break;
+            }
+            cut.set(caller, number + 1);
+            has_grown = true;
+        }
+    }
+    has_grown
+}
+
+// Whether a call can't stand while the calls outside a cut don't: the cut lacks one of its
+// predecessor bound, or an answered one that precedes it. A caller's first call outside the cut has
+// its least view there, so that no other one is asked.
+fn is_blocked(book: &Book, known: &PruningRules, cut: &Cut, call: Call) -> bool
+    requires wide { length cut.now ≡ length book.now }
+    requires call { IsCall book.now call }
+    ensures { IsTrue result → IsBlocked book.now known.now cut.now call }
+{
+    if known.lacks(cut.counts(), call) {
+        return true;
+    }
+    for caller in 0..book.callers() {
+        let number = cut.get(caller);
+        if number < book.answers(caller) && book.precedes(Call { caller, number }, call) {
+            return true;
+        }
+    }
+    false
+}
+
+// Whether a cut lacks an answered call.
+fn lacks_an_answer(book: &Book, cut: &Cut) -> bool
+    requires { length cut.now ≡ length book.now }
+    ensures { IsTrue result → ((call : Call) × IsAnswered book.now call × (¬ Holds cut.now call)) }
+{
+    for caller in 0..book.callers() {
+        if cut.get(caller) < book.answers(caller) {
+            return true;
+        }
+    }
+    false
+}
+
+// Whether each caller's next call after a cut is blocked.
+fn is_end(book: &Book, known: &PruningRules, cut: &Cut) -> bool
+    requires { length cut.now ≡ length book.now }
+    ensures { IsTrue result → ((i : ℕ) → IsCall book.now (next_call cut.now i)
+        → IsBlocked book.now known.now cut.now (next_call cut.now i)) }
+{
+    for caller in 0..book.callers() {
+        let number = cut.get(caller);
+        if number < book.calls(caller) && !is_blocked(book, known, cut, Call { caller, number }) {
+            return false;
+        }
+    }
+    true
+}

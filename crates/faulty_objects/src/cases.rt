@@ -1,0 +1,59 @@
+//! Worked histories of a split tally, of a one-pass queue and of a meeting: what two callers may
+//! tell of them, and what not.
+
+ghost use Rattle.std.specs.Prelude.{[], ◌∷◌, ◌++◌};
+ghost use Rattle.seq_objects.specs.Replies.{reply_none, reply_value};
+ghost use Rattle.lawful_objects.specs.Cases.{counts_once};
+ghost use Rattle.faulty_objects.specs.Together.{TellOneSplit, TellOneQueue, TellOneMeeting};
+ghost use Rattle.faulty_objects.specs.Cases.{both_load_first, one_by_one, enqueues_5, dequeues, put_5, finds_at_0, both_raise_first, found_too_early, raises_the_other, meets};
+
+/// Two callers of a split tally make an increment each.
+#[tactic(auto, using(crate::proofs::Worked::split_told, crate::proofs::Worked::split_apart_told, crate::proofs::Worked::store_missed, crate::proofs::Worked::stores_another, crate::proofs::Worked::tells_another))]
+pub fn split_tallies_are_told()
+    // Where both load before either stores, both reply 0, and an increment is lost.
+    ensures right { TellOneSplit 2 (both_load_first 1)
+        (counts_once 0 (reply_value 0) ∷ counts_once 1 (reply_value 0) ∷ []) }
+    // Where one is through before the other begins, they reply 0 and 1.
+    ensures apart { TellOneSplit 2 (one_by_one 1 2)
+        (counts_once 0 (reply_value 0) ∷ counts_once 1 (reply_value 1) ∷ []) }
+    // An increment that begins after the other can't have found 0.
+    ensures missed { ¬ TellOneSplit 2 (one_by_one 0 1)
+        (counts_once 0 (reply_value 0) ∷ counts_once 1 (reply_value 0) ∷ []) }
+    // An increment can't store two more than it found.
+    ensures two_more { ¬ TellOneSplit 2 (both_load_first 2)
+        (counts_once 0 (reply_value 0) ∷ counts_once 1 (reply_value 0) ∷ []) }
+    // An increment can't reply with the word that it stored.
+    ensures stored { ¬ TellOneSplit 2 (both_load_first 1)
+        (counts_once 0 (reply_value 1) ∷ counts_once 1 (reply_value 0) ∷ []) }
+{}
+
+/// A caller of a one-pass queue with two places enqueues 5, and another one dequeues.
+#[tactic(auto, using(crate::proofs::Worked::queue_told, crate::proofs::Worked::taken_twice, crate::proofs::Worked::item_missed, crate::proofs::Worked::word_told, crate::proofs::Worked::not_taken))]
+pub fn one_pass_queues_are_told()
+    // A dequeue after the enqueue finds 6 in place 0, and gives 5.
+    ensures right { TellOneQueue 2 2 (put_5 ++ finds_at_0 1 6)
+        (enqueues_5 ∷ dequeues 1 (reply_value 5) ∷ []) }
+    // Two dequeues can't both find the item.
+    ensures twice { ¬ TellOneQueue 2 3 (put_5 ++ finds_at_0 1 6 ++ finds_at_0 2 6)
+        (enqueues_5 ∷ dequeues 1 (reply_value 5) ∷ dequeues 2 (reply_value 5) ∷ []) }
+    // A dequeue after the enqueue can't find place 0 empty.
+    ensures missed { ¬ TellOneQueue 2 2 (put_5 ++ finds_at_0 1 0)
+        (enqueues_5 ∷ dequeues 1 reply_none ∷ []) }
+    // A dequeue can't give the word of the place, which is one more than the item.
+    ensures word { ¬ TellOneQueue 2 2 (put_5 ++ finds_at_0 1 6)
+        (enqueues_5 ∷ dequeues 1 (reply_value 6) ∷ []) }
+    // A dequeue that found an item can't reply that there is none.
+    ensures none { ¬ TellOneQueue 2 2 (put_5 ++ finds_at_0 1 6)
+        (enqueues_5 ∷ dequeues 1 reply_none ∷ []) }
+{}
+
+/// Two callers meet.
+#[tactic(auto, using(crate::proofs::Worked::meeting_told, crate::proofs::Worked::flag_too_early, crate::proofs::Worked::other_flag_raised))]
+pub fn meetings_are_told()
+    // Where both raise their flags before either looks, both reply done.
+    ensures right { TellOneMeeting 2 both_raise_first (meets 0 ∷ meets 1 ∷ []) }
+    // A caller can't find a flag up before it is raised.
+    ensures early { ¬ TellOneMeeting 2 found_too_early (meets 0 ∷ meets 1 ∷ []) }
+    // A caller can't raise the other one's flag.
+    ensures other { ¬ TellOneMeeting 2 raises_the_other (meets 0 ∷ meets 1 ∷ []) }
+{}

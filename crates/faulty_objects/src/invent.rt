@@ -1,0 +1,52 @@
+ghost use Rattle.std.specs.Prelude.{◌≡◌, ◌+◌, ◌≤◌, length};
+ghost use Rattle.shared_log.specs.Entries.{calls_by};
+ghost use Rattle.lawful_objects.specs.Replays.{list_after};
+ghost use Rattle.faulty_objects.specs.Invent.{invent_reply};
+
+use book_base::{SeqObject, State};
+use lawful_objects::{Entry, Machine, Scratch};
+use seq_objects::value_reply;
+
+/// The machine that invents: the third call of each caller changes the list lawfully and is
+/// answered 99.
+#[derive(Clone, Copy, Debug)]
+pub struct Invent<S: SeqObject> {
+    pub object: S,
+}
+
+// How many calls of a log are a caller's.
+fn calls_of(log: &[Entry], caller: u32) -> usize
+    ensures { result ≡ length (calls_by caller log.now) }
+{
+    log.iter().filter(|entry| entry.caller == caller).count()
+}
+
+impl<S: SeqObject> Invent<S> {
+    // Makes the calls of a log.
+    fn replay(&self, log: &[Entry], state: &mut State)
+        requires { length state.old.words + length log.now ≤ state.old.room }
+        ensures list { state.new ≡ record state.old {
+          words = list_after (S.next self.now.object) state.old.words log.now;
+        } }
+        ensures few { length state.new.words ≤ length state.old.words + length log.now }
+    {
+        for entry in log {
+            self.object.step(state, entry.op);
+        }
+    }
+}
+
+impl<S: SeqObject> Machine for Invent<S> {
+    ghost reply_to = { λ m. invent_reply (S.next m.object) (S.init m.object) };
+
+    fn answer(&self, log: &[Entry], scratch: &mut Scratch) -> u64 {
+        let last = log.len() - 1;
+        let earlier = &log[..last];
+        if calls_of(earlier, log[last].caller) == 2 {
+            return value_reply(99);
+        }
+        self.object.reset(&mut scratch.state);
+        self.replay(earlier, &mut scratch.state);
+        self.object.step(&mut scratch.state, log[last].op)
+    }
+}

@@ -1,0 +1,44 @@
+ghost use Rattle.std.specs.Prelude.{◌≡◌, ◌+◌, ◌≤◌, false, length};
+ghost use Rattle.lawful_objects.specs.Replays.{list_after};
+ghost use Rattle.faulty_objects.specs.Lossy.{without_second_puts, lossy_reply};
+
+use crate::calls::{is_put, make_unless};
+use book_base::{SeqObject, State};
+use lawful_objects::{Entry, Machine, Scratch};
+
+/// The machine that loses: each second put of the log gets its lawful reply and leaves the list.
+#[derive(Clone, Copy, Debug)]
+pub struct Lossy<S: SeqObject> {
+    pub object: S,
+}
+
+impl<S: SeqObject> Lossy<S> {
+    // Makes the calls of a log, but each second put.
+    fn replay(&self, log: &[Entry], state: &mut State)
+        requires { length state.old.words + length log.now ≤ state.old.room }
+        ensures list { state.new ≡ record state.old {
+          words =
+              list_after (S.next self.now.object) state.old.words
+              (without_second_puts false log.now);
+        } }
+        ensures few { length state.new.words ≤ length state.old.words + length log.now }
+    {
+        let mut second = false;
+        for entry in log {
+            let put = is_put(entry.op);
+            make_unless(put && second, &self.object, state, entry.op);
+            second = if put { !second } else { second };
+        }
+    }
+}
+
+impl<S: SeqObject> Machine for Lossy<S> {
+    ghost reply_to = { λ m. lossy_reply (S.next m.object) (S.init m.object) };
+
+    fn answer(&self, log: &[Entry], scratch: &mut Scratch) -> u64 {
+        let last = log.len() - 1;
+        self.object.reset(&mut scratch.state);
+        self.replay(&log[..last], &mut scratch.state);
+        self.object.step(&mut scratch.state, log[last].op)
+    }
+}

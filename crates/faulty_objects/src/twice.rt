@@ -1,0 +1,39 @@
+ghost use Rattle.std.specs.Prelude.{◌≡◌, ◌+◌, ◌≤◌, length};
+ghost use Rattle.lawful_objects.specs.Replays.{list_after};
+ghost use Rattle.faulty_objects.specs.Twice.{without_takes, twice_reply};
+
+use crate::calls::{is_take, make_unless};
+use book_base::{SeqObject, State};
+use lawful_objects::{Entry, Machine, Scratch};
+
+/// The machine that gives an item twice: a take gets its lawful reply and leaves the list.
+#[derive(Clone, Copy, Debug)]
+pub struct Twice<S: SeqObject> {
+    pub object: S,
+}
+
+impl<S: SeqObject> Twice<S> {
+    // Makes the calls of a log that are no takes.
+    fn replay(&self, log: &[Entry], state: &mut State)
+        requires { length state.old.words + length log.now ≤ state.old.room }
+        ensures list { state.new ≡ record state.old {
+          words = list_after (S.next self.now.object) state.old.words (without_takes log.now);
+        } }
+        ensures few { length state.new.words ≤ length state.old.words + length log.now }
+    {
+        for entry in log {
+            make_unless(is_take(entry.op), &self.object, state, entry.op);
+        }
+    }
+}
+
+impl<S: SeqObject> Machine for Twice<S> {
+    ghost reply_to = { λ m. twice_reply (S.next m.object) (S.init m.object) };
+
+    fn answer(&self, log: &[Entry], scratch: &mut Scratch) -> u64 {
+        let last = log.len() - 1;
+        self.object.reset(&mut scratch.state);
+        self.replay(&log[..last], &mut scratch.state);
+        self.object.step(&mut scratch.state, log[last].op)
+    }
+}

@@ -1,7 +1,0 @@
-use Rattle.book_base.specs.declared.call.Call.{Call}
-use Rattle.book_base.specs.Book.{IsCall}
-use Rattle.book_base.specs.Foresight.{HasBar}
-use Rattle.object_foresight.proofs.hold.refuse_caller.Given as goal
-
-abbrev pub invariant-loop-number : goal.invariant-loop-number
-invariant-loop-number l = (c : Call) → IsCall l.book c → HasBar l.known c

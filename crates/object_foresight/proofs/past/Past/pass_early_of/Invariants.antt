@@ -1,6 +1,0 @@
-use Rattle.object_foresight.specs.Uses.{IsEarly}
-use Rattle.object_foresight.specs.Pasts.{IsPast}
-use Rattle.object_foresight.proofs.past.Past.pass_early_of.Given as goal
-
-abbrev pub invariant-loop-number : goal.invariant-loop-number
-invariant-loop-number l = IsPast (IsEarly l.book l.uses.open_from) l.book l.links l.self

@@ -1,0 +1,94 @@
+-- The parts of a local that tell of its calls; and how far the caller has come as one of them
+-- grows.
+use Rattle.std.specs.Prelude.{◌≡◌, ℕ, ◌+◌, List, [], ◌∷◌, ◌++◌, slice_index}
+use Rattle.world_core.specs.Local.{Local, Object_step, Announcing, Asking, Viewing, Judging}
+use Rattle.world_core.specs.CallSteps.{all_steps_of}
+use Rattle.world_core.specs.Event.{Announce, Object, Publish, staged_operation, local_after}
+use Rattle.world_core.specs.Agreement.{HasPhase}
+use Rattle.report_lines.specs.Phases.{progress_of}
+use Rattle.report_lines.specs.Progress.{after_announcing, after_stepping, after_viewing, after_publishing, after_seeing}
+
+-- A caller's operations, replies, views and seen cuts, its count of published records, and the
+-- object steps of all its calls.
+pub record Account : Type 0 where
+  pub operations : List ℕ
+  pub replies : List ℕ
+  pub views : List (List ℕ)
+  pub seen : List (List ℕ)
+  pub published : ℕ
+  pub steps : List Object_step
+
+-- The account of a caller with this local.
+abbrev pub account_of : Local → Account
+account_of l =
+    record {
+      operations = l.operations;
+      replies = l.replies;
+      views = l.views;
+      seen = l.seen;
+      published = l.published;
+      steps = all_steps_of l;
+    }
+
+-- Where all of it stays, a caller has come as far as before.
+abbrev pub NothingGrows : Type 0
+NothingGrows = (l m : Local) → account_of m ≡ account_of l → progress_of m ≡ progress_of l
+
+-- One more operation is one more call.
+abbrev pub OperationsAreCalls : Type 0
+OperationsAreCalls =
+    (l m : Local) (operation : ℕ) → HasPhase l → l.phase ≡ Announcing
+    → account_of m ≡ record (account_of l) { operations = l.operations ++ operation ∷ [] }
+    → progress_of m ≡ after_announcing operation (progress_of l)
+
+-- One more object step is one of the call under way.
+abbrev pub ObjectStepsAreOfTheLastCall : Type 0
+ObjectStepsAreOfTheLastCall =
+    (l m : Local) (step : Object_step)
+    → account_of m ≡ record (account_of l) { steps = all_steps_of l ++ step ∷ [] }
+    → progress_of m ≡ after_stepping step (progress_of l)
+
+-- A reply is no record yet.
+abbrev pub RepliesAreNoRecords : Type 0
+RepliesAreNoRecords =
+    (l m : Local) (reply : ℕ) → HasPhase l → l.phase ≡ Asking
+    → account_of m ≡ record (account_of l) { replies = l.replies ++ reply ∷ [] }
+    → progress_of m ≡ progress_of l
+
+-- With its view it is one: that of the last call.
+abbrev pub ViewsMakeRecords : Type 0
+ViewsMakeRecords =
+    (l m : Local) (view : List ℕ) → HasPhase l → l.phase ≡ Viewing
+    → account_of m ≡ record (account_of l) { views = l.views ++ view ∷ [] }
+    → progress_of m ≡ after_viewing
+    (record { reply = slice_index l.replies l.published; view = view }) (progress_of l)
+
+-- One more record is published.
+abbrev pub PublicationsCount : Type 0
+PublicationsCount =
+    (l m : Local) → account_of m ≡ record (account_of l) { published = l.published + 1 }
+    → progress_of m ≡ after_publishing (progress_of l)
+
+-- One more seen cut is that of the last call.
+abbrev pub SeenCutsAreOfTheLastCall : Type 0
+SeenCutsAreOfTheLastCall =
+    (l m : Local) (cut : List ℕ) → HasPhase l → l.phase ≡ Judging
+    → account_of m ≡ record (account_of l) { seen = l.seen ++ cut ∷ [] }
+    → progress_of m ≡ after_seeing cut (progress_of l)
+
+-- An announcement is one more call of its caller, with the staged operation.
+abbrev pub AnnouncementsAreCalls : Type 0
+AnnouncementsAreCalls =
+    (n : ℕ) (l : Local) → HasPhase l → l.phase ≡ Announcing → progress_of (local_after n l Announce)
+    ≡ after_announcing (staged_operation l.staged) (progress_of l)
+
+-- An object step is the last of the object steps in its caller's progress.
+abbrev pub ObjectStepsCount : Type 0
+ObjectStepsCount =
+    (n : ℕ) (l : Local) (step : Object_step) → HasPhase l → l.phase ≡ Asking
+    → progress_of (local_after n l (Object step)) ≡ after_stepping step (progress_of l)
+
+-- A publication is one more published record in its caller's progress.
+abbrev pub PublishesCount : Type 0
+PublishesCount = (n : ℕ) (l : Local)
+    → progress_of (local_after n l Publish) ≡ after_publishing (progress_of l)

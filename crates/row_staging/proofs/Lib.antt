@@ -1,3 +1,0 @@
-pub mod Staged
-pub mod Due
-pub mod Rows

@@ -1,0 +1,33 @@
+//! The certificate of a report.
+
+ghost use Rattle.std.specs.Prelude.{IfOk, IfSome, IfNone};
+ghost use Rattle.run_writer.specs.Certificates.{HasDeliveredOrder, IsCertificate};
+
+use crate::delivered::delivered_book;
+use book_base::{NoMemory, SeqObject};
+use certificate_text::write_certificate;
+use frontier_check::{Verdict, check};
+use reports::Report;
+use std::alloc::Global;
+
+/// A certificate of a report: the text of the book at the greatest seen cut of a delivered line,
+/// and of an order of it that is legal for the sequential object. There is none exactly where that
+/// book has no legal order, which no lawful report leaves.
+pub fn report_certificate<S: SeqObject>(
+    alloc: Global,
+    object: &S,
+    report: &Report,
+) -> Result<Option<Vec<u8>>, NoMemory>
+    // A text that is answered is a certificate of the report.
+    ensures certificate { IfOk result (λ found. IfSome found (λ text.
+        IsCertificate (S.init object.now) (S.next object.now) report.now text.items)) }
+    // None is answered only where the book of what was delivered has no legal order.
+    ensures none { IfOk result (λ found. IfNone found (
+        ¬ HasDeliveredOrder (S.init object.now) (S.next object.now) report.now.lines)) }
+{
+    let book = delivered_book(alloc, report)?;
+    match check(alloc, object, &book)? {
+        Verdict::Legal(order) => Ok(Some(write_certificate(alloc, report.kind(), &book, &order)?)),
+        Verdict::Illegal => Ok(None),
+    }
+}

@@ -1,0 +1,45 @@
+-- A worked caller that is back: its first call is judged, and its second one announced.
+use Rattle.std.specs.Prelude.{◌≡◌, ℕ, List, [], ◌∷◌, length, Option, Some, None}
+use Rattle.world_core.specs.Local.{Local, fresh}
+use Rattle.world_core.specs.Programs.{outside}
+use Rattle.script_workers.specs.Returns.{IsBackWith}
+
+-- The local of a caller with this second operation, and with this many records published: the first
+-- call, which has the operation 5, was answered 50, saw a cut and was judged by it, and the second
+-- call is announced.
+abbrev pub in_second_call : ℕ → ℕ → Local
+in_second_call second published = record fresh {
+  operations = 5 ∷ second ∷ [];
+  announced = 2;
+  published = published;
+  replies = 50 ∷ [];
+  views = (1 ∷ []) ∷ [];
+  seen = (1 ∷ []) ∷ [];
+}
+
+-- A pass of the first caller: how many calls were made with it, and which it tells of, where it
+-- tells of any.
+pub record Pass : Type 0 where
+  pub made : ℕ
+  pub told : Option (List (ℕ × ℕ))
+
+-- The caller with the operations 5 and 7 that is given this many phases is back with this local and
+-- this pass, and has made p of them.
+abbrev pub IsBackAfter : ℕ → ℕ → Local → Pass → Type 0
+IsBackAfter given p l pass =
+    IsBackWith (record { callers = 1; cap = 2; program = outside })
+    (λ n cap (pass : Pass) who steps. who ≡ 0)
+    (λ (pass : Pass). Some (record { made = pass.made; room = 2; told = pass.told }))
+    ((5 ∷ 7 ∷ []) ∷ []) (given ∷ []) 0 p l pass
+
+-- The same local, whose second call has an object step.
+abbrev pub with_object_step : Local → Local
+with_object_step l =
+    record l { object_steps = [] ∷ (record { place = 0; old = 0; new = 1 } ∷ []) ∷ [] }
+
+-- A pass that tells of nothing, and one that tells of these calls.
+abbrev pub silent_pass : ℕ → Pass
+silent_pass made = record { made = made; told = None }
+
+abbrev pub pass_of : List (ℕ × ℕ) → Pass
+pass_of pairs = record { made = length pairs; told = Some pairs }

@@ -1,0 +1,97 @@
+-- What callers leave that are back on their bench.
+use Rattle.std.specs.Prelude.{◌≡◌, ℕ, ◌%◌, ◌<◌, ◌≤◌, Bool, false, List, Option, Some, None, IfSome, slice_get, slice_index}
+use Rattle.world_core.specs.Shape.{Meaning, Shape}
+use Rattle.world_core.specs.Local.{Local}
+use Rattle.world_core.specs.CallSteps.{all_steps_of}
+use Rattle.world_core.specs.Calls.{calls_in}
+use Rattle.report_lines.specs.declared.line.Line.{Line}
+use Rattle.report_lines.specs.Lines.{any_error}
+use Rattle.report_lines.specs.Phases.{HasMade, IsTold, asked}
+use Rattle.report_lines.specs.Allotments.{operations_at}
+use Rattle.row_table.specs.declared.rows.Rows.{Rows}
+use Rattle.row_table.specs.declared.bench.Bench.{Bench}
+use Rattle.row_table.specs.declared.stance.Stance.{Stance}
+use Rattle.row_table.specs.Benches.{fresh_stance}
+use Rattle.row_table.specs.Callers.{shape_of, on_bench, stance_on}
+use Rattle.client_calls.specs.Asking.{Fits, PassCount}
+use Rattle.client_calls.specs.Ends.{Sequential, HasLeftAt}
+use Rattle.client_calls.specs.Finishing.{KeepsAsked, IsLeftStanding}
+use Rattle.client_calls.specs.Clients.{HasSpent}
+use Rattle.client_calls.specs.declared.client.Client.{Client}
+use Rattle.script_workers.specs.Work.{Says}
+use Rattle.script_workers.specs.Starts.{Course, IsClientOf}
+use Rattle.script_workers.specs.declared.worker.Worker.{Worker}
+
+module _ {P T E : Type 0} where
+  -- The worker of caller i, with all its phases spent.
+  pub record IsSpent (meaning : P → ℕ → ℕ → Meaning) (r : Rows P) (says : Says)
+      (object : E → Sequential) (fits : Fits T) (count : T → Option PassCount) (course : Course)
+      (i : ℕ) (w : Worker P T E) : Type 0 where
+    pub client : Client P T E
+    pub here : w.client ≡ Some client
+    pub of : IsClientOf meaning r says object fits count course i client
+    pub spent : HasSpent (slice_index course.allotments i) client
+
+-- What a pass counts of a caller that has made p phases: it was asked as often as that, and tells
+-- of these calls.
+pub record IsCountOf (p : ℕ) (l : Local) (count : PassCount) : Type 0 where
+  pub asked_for : count.made ≡ asked p
+  pub told_is : IfSome count.told (IsTold p (calls_in l))
+
+-- Caller i of a world of this shape is back with this local and this pass: it has made this many
+-- first phases of its allotment, which its pass counts, where it counts any, and the pass fits it
+-- as it stands now.
+pub record IsBackWith {T : Type 0} (s : Shape) (fits : Fits T) (count : T → Option PassCount)
+    (operations : List (List ℕ)) (allotments : List ℕ) (i p : ℕ) (l : Local)
+    (pass : T) : Type 0 where
+  pub fits_caller : fits s.callers s.cap pass i (all_steps_of l)
+  pub within : p ≤ slice_index allotments i
+  pub phases : HasMade (operations_at operations i) p l
+  pub asked : KeepsAsked s.program i p l
+  pub counts : IfSome (count pass) (IsCountOf p l)
+
+-- It left these lines: those of its allotment, and it made exactly the phases that they tell of.
+abbrev pub HasLeftLines : Says → ℕ → Course → ℕ → ℕ → Local → List Line → Type 0
+HasLeftLines says n course i p l own =
+    HasLeftAt (says course.object) n (operations_at course.operations i)
+    (slice_index course.allotments i) p l own
+
+-- How caller i stands on the bench that has made this many phases: within a call it is halted, and
+-- where it is live it is free for its next call.
+pub record StandsAgain {P : Type 0} (b : Bench P) (i phases : ℕ) (l : Local) : Type 0 where
+  pub stance : Stance
+  pub here : stance_on b i ≡ Some stance
+  pub standing : IsLeftStanding phases l stance
+
+module _ {P T : Type 0} where
+  -- Caller i is back on the bench, with its pass among these.
+  pub record IsBackOn (meaning : P → ℕ → ℕ → Meaning) (r : Rows P) (fits : Fits T)
+      (count : T → Option PassCount) (operations : List (List ℕ)) (allotments : List ℕ)
+      (b : Bench P) (passes : List T) (i : ℕ) : Type 0 where
+    pub local : Local
+    pub pass : T
+    pub phases : ℕ
+    pub here : on_bench b i ≡ Some local
+    pub pass_here : slice_get passes i ≡ Some pass
+    pub back : IsBackWith (shape_of meaning r) fits count operations allotments i phases local pass
+    pub stands : StandsAgain b i phases local
+
+  -- Caller i is back on the bench with its pass, and its lines are among these. Where no line is an
+  -- error and it stopped between two calls, or made all of them, it is free for its next call.
+  -- Where memory was wanted, of whichever caller, nothing is said of lines.
+  pub record IsBack (meaning : P → ℕ → ℕ → Meaning) (r : Rows P) (says : Says) (fits : Fits T)
+      (count : T → Option PassCount) (course : Course) (b : Bench P) (passes : List T)
+      (lines : List (List Line)) (wanted : Bool) (i : ℕ) : Type 0 where
+    pub on : IsBackOn meaning r fits count course.operations course.allotments b passes i
+    pub own : List Line
+    pub lines_here : slice_get lines i ≡ Some own
+    pub free : wanted ≡ false → any_error own ≡ false → on.phases % 5 ≡ 0
+        → on.stands.stance ≡ fresh_stance
+    pub left : wanted ≡ false → HasLeftLines says r.callers course i on.phases on.local own
+
+  -- Of the first n callers those below k are back, and no other.
+  pub record AreBack (meaning : P → ℕ → ℕ → Meaning) (r : Rows P) (says : Says) (fits : Fits T)
+      (count : T → Option PassCount) (n k : ℕ) (course : Course) (b : Bench P) (passes : List T)
+      (lines : List (List Line)) (wanted : Bool) : Type 0 where
+    pub back : (i : ℕ) → i < k → IsBack meaning r says fits count course b passes lines wanted i
+    pub gone : (i : ℕ) → k ≤ i → i < n → on_bench b i ≡ None

@@ -1,0 +1,83 @@
+ghost use Rattle.std.specs.Prelude.{◌≡◌, ◌+◌, ℕ, ◌<◌, length};
+ghost use Rattle.script_workers.specs.Places.{AreDownFrom};
+ghost use Rattle.script_workers.specs.Starts.{run_allotments, replay_allotments, Course, course_of, IsStart};
+ghost use Rattle.script_workers.specs.Returns.{IsSpent};
+ghost use Rattle.script_workers.specs.Turns.{IsTurned, IsTurning};
+
+use crate::worker::Worker;
+use client_calls::{Asks, Ending, Shared};
+use client_scripts::Script;
+use row_table::Steps;
+use std::sync::ledger::{Blank, Ledger};
+use world_core::Program;
+
+impl<'a, P: Program, T, E: Ending> Worker<'a, P, T, E> {
+    // Makes one further phase, where one is left and the client isn't halted.
+    fn take_turn<A: Asks<Program = P, Pass = T>, L: Ledger>(
+        &mut self,
+        shared: &Shared<A, P>,
+        steps: &mut Steps<L>,
+    )
+        requires serves { A.serves shared.now.asks.now shared.now.rows.now }
+        requires turning { IsTurning P.meaning shared.now.rows.now E.says E.object
+            (A.fits shared.now.asks.now) A.count self.old }
+        ensures { (course : Course) (i turns : ℕ)
+            → IsTurned P.meaning shared.now.rows.now E.says E.object (A.fits shared.now.asks.now)
+            A.count course i turns self.old
+            → IsTurned P.meaning shared.now.rows.now E.says E.object (A.fits shared.now.asks.now)
+            A.count course i (turns + 1) self.new }
+    {
+        if self.allotment == 0 {
+            return;
+        }
+        let client = self.client.take().unwrap();
+        let client = if client.stand.goes_on() {
+            self.allotment -= 1;
+            client.advance(shared, steps)
+        } else {
+            client
+        };
+        match self.client.replace(client) {
+            None => {}
+            Some(_) => unreachable!(),
+        }
+    }
+}
+
+/// Lets the workers of a script's callers make their phases in the order of its turns, in one
+/// thread: at each turn the worker of the caller that it names makes its next phase, where one is
+/// left up to its stop, and it isn't halted. Steps are counted by themselves.
+pub fn take_turns<'a, P: Program, T, E: Ending, A: Asks<Program = P, Pass = T>, L: Ledger>(
+    shared: &Shared<A, P>,
+    script: &Script,
+    _ending: &E,
+    workers: &mut Vec<Worker<'a, P, T, E>>,
+    blank: Blank,
+)
+    // The blank is of this ledger, and has a part.
+    requires blank { (blank.name ≡ L.name) × (blank.parts ≡ L.parts) × (0 < blank.parts) }
+    // The passes serve these rows.
+    requires serves { A.serves shared.now.asks.now shared.now.rows.now }
+    // There is one worker for each caller of the script.
+    requires all { length workers.old.items ≡ length script.now.operations }
+    // The workers are those of the script's callers, from the last one on, and each has its client,
+    // at work on the course that the script gives, before its first phase.
+    requires workers { AreDownFrom (length script.now.operations)
+        (IsStart P.meaning shared.now.rows.now E.says E.object (A.fits shared.now.asks.now) A.count
+        (course_of script.now (run_allotments script.now) (E.object _ending.now)))
+        workers.old.items }
+    // There is still one worker for each caller of the script.
+    ensures all { length workers.new.items ≡ length script.now.operations }
+    // Each worker's client has made as many phases as turns name its caller, up to its stop, or was
+    // halted before.
+    ensures workers { AreDownFrom (length script.now.operations)
+        (IsSpent P.meaning shared.now.rows.now E.says E.object (A.fits shared.now.asks.now) A.count
+        (course_of script.now (replay_allotments script.now) (E.object _ending.now)))
+        workers.new.items }
+{
+    let mut steps = Steps::<L>::new(blank);
+    let last = script.callers() as usize - 1;
+    for turn in script.turns() {
+        workers[last - *turn as usize].take_turn(shared, &mut steps);
+    }
+}

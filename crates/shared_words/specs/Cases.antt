@@ -1,0 +1,46 @@
+-- Worked histories of shared words, and what callers tell of them.
+use Rattle.std.specs.Prelude.{◌≡◌, ℕ, List, [], ◌∷◌, ◌++◌}
+use Rattle.shared_words.specs.Deeds.{Deed, Added, Stored, Loaded, Swapped}
+use Rattle.shared_words.specs.Histories.{Access, access}
+use Rattle.shared_words.specs.Transcripts.{Transcript}
+
+-- Caller 0 adds 5 to word 0. Caller 1 stores 7 in word 1, and caller 0 loads it. Caller 1 swaps the
+-- 5 in word 0 for 9, and caller 0 loads the 9.
+abbrev pub on_two_words : List Access
+on_two_words =
+    access 0 (Added 0 5 0)
+    ∷ access 1 (Stored 1 7)
+    ∷ access 0 (Loaded 1 7)
+    ∷ access 1 (Swapped 0 9 5)
+    ∷ access 0 (Loaded 0 9)
+    ∷ []
+
+-- Each caller may do what it likes.
+abbrev pub all_may : ℕ → Deed → Type 0
+all_may caller deed = Unit {0}
+
+-- Callers may make additions alone.
+abbrev pub additions_may : ℕ → Deed → Type 0
+additions_may caller deed = (place amount found : ℕ) × (deed ≡ Added place amount found)
+
+-- A call adds 1 to the word at the place that it asks for, and replies with the word found.
+abbrev pub adds_1 : ℕ → ℕ → ℕ → List Deed → List Deed → Type 0
+adds_1 caller op reply before after = after ≡ before ++ Added op 1 reply ∷ []
+
+-- A caller adds 1 to word 0, where it finds this word.
+abbrev pub adds : ℕ → ℕ → Access
+adds caller found = access caller (Added 0 1 found)
+
+-- Caller 0 adds 1 to word 0, then caller 1 does, and then caller 0 again.
+abbrev pub three_additions : List Access
+three_additions = adds 0 0 ∷ adds 1 1 ∷ adds 0 2 ∷ []
+
+abbrev pub transcript : ℕ → List (ℕ × ℕ) → Transcript
+transcript caller pairs = record { caller = caller; pairs = pairs }
+
+-- The two calls of caller 0, and the one of caller 1.
+abbrev pub told_by_0 : Transcript
+told_by_0 = transcript 0 ((0, 0) ∷ (0, 2) ∷ [])
+
+abbrev pub told_by_1 : Transcript
+told_by_1 = transcript 1 ((0, 1) ∷ [])

@@ -1,0 +1,21 @@
+-- What the calls of all callers tell together.
+use Rattle.std.specs.Prelude.{◌≡◌, ℕ, ◌<◌, List, [], map, All}
+use Rattle.std.specs.List.{range_with_len}
+use Rattle.shared_words.specs.Deeds.{Deed, AreCalls}
+use Rattle.shared_words.specs.Histories.{Access, deeds_by, IsLawful}
+
+-- A caller, and its calls in order, each as an operation and a reply.
+pub record Transcript : Type 0 where
+  pub caller : ℕ
+  pub pairs : List (ℕ × ℕ)
+
+-- These transcripts are those of all n callers, in order, and their calls are of this one history
+-- of all accesses: it is lawful, no other caller has an access in it, and the pairs of each caller
+-- are calls of which each is as given, made of just the deeds that the caller has there.
+pub record AreOfOneHistory (may : ℕ → Deed → Type 0)
+    (call : ℕ → ℕ → ℕ → List Deed → List Deed → Type 0) (n : ℕ) (history : List Access)
+    (transcripts : List Transcript) : Type 0 where
+  pub all : map (λ t. t.caller) transcripts ≡ range_with_len 0 n
+  pub callers : All (λ a. a.caller < n) history
+  pub lawful : IsLawful may history
+  pub calls : All (λ t. AreCalls (call t.caller) t.pairs [] (deeds_by t.caller history)) transcripts

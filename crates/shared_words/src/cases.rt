@@ -1,0 +1,74 @@
+//! Worked histories: what they leave in the words, which of them are lawful, and what callers tell
+//! of them.
+
+ghost use Rattle.std.specs.Prelude.{◌≡◌, [], ◌∷◌, ◌++◌};
+ghost use Rattle.shared_words.specs.Deeds as deeds;
+ghost use Rattle.shared_words.specs.Histories.{access, deeds_by, word_at, IsLawful};
+ghost use Rattle.shared_words.specs.Transcripts.{AreOfOneHistory};
+ghost use Rattle.shared_words.specs.Cases.{on_two_words, all_may, additions_may, adds_1, adds, three_additions, transcript, told_by_0, told_by_1};
+
+/// What a history leaves in the words, and whose deeds it has.
+pub fn histories_leave_words()
+    // Word 0 is left as the 9 that it was swapped for.
+    ensures swapped { word_at 0 on_two_words ≡ 9 }
+    // Word 1 is left as the 7 that was stored.
+    ensures stored { word_at 1 on_two_words ≡ 7 }
+    // A word without an access is left as 0.
+    ensures untouched { word_at 2 on_two_words ≡ 0 }
+    // An addition of 3 to the greatest word leaves 2.
+    ensures wrapped { word_at 0 (access 0 (deeds.Stored 0 18446744073709551615)
+        ∷ access 0 (deeds.Added 0 3 18446744073709551615) ∷ []) ≡ 2 }
+    // The deeds of caller 1 are its store and its swap.
+    ensures second { deeds_by 1 on_two_words ≡ deeds.Stored 1 7 ∷ deeds.Swapped 0 9 5 ∷ [] }
+    // A caller without an access has no deed.
+    ensures third { deeds_by 2 on_two_words ≡ [] }
+{}
+
+/// A history is lawful where each access may be made, and found what those before it left.
+#[tactic(auto, using(crate::proofs::Worked::two_words_lawful, crate::proofs::Worked::store_forbidden, crate::proofs::Worked::addition_of_what_was, crate::proofs::Worked::load_of_what_was, crate::proofs::Worked::swap_of_what_was, crate::proofs::Worked::load_of_1_at_first, crate::proofs::Worked::load_of_another_word))]
+pub fn histories_are_lawful()
+    // A history is lawful in which each access found what those before it left.
+    ensures right { IsLawful all_may on_two_words }
+    // A history with a store isn't lawful where callers may make additions alone.
+    ensures forbidden { ¬ IsLawful additions_may on_two_words }
+    // An addition can't find the word that was there before the addition before it.
+    ensures addition { ¬ IsLawful all_may (adds 0 0 ∷ adds 1 0 ∷ []) }
+    // A load can't find the word that was there before the store before it.
+    ensures load { ¬ IsLawful all_may
+        (access 0 (deeds.Stored 0 7) ∷ access 1 (deeds.Loaded 0 0) ∷ []) }
+    // A swap can't find the word that was there before the store before it.
+    ensures swap { ¬ IsLawful all_may
+        (access 0 (deeds.Stored 0 7) ∷ access 1 (deeds.Swapped 0 9 0) ∷ []) }
+    // The first load can't find 1.
+    ensures first { ¬ IsLawful all_may (access 0 (deeds.Loaded 0 1) ∷ []) }
+    // A load can't find what was stored in another word.
+    ensures other_word { ¬ IsLawful all_may
+        (access 0 (deeds.Stored 1 7) ∷ access 1 (deeds.Loaded 0 7) ∷ []) }
+{}
+
+/// What two callers tell is of one history where their calls are made of just the deeds that each
+/// has there, and nobody else has any.
+#[tactic(auto, using(crate::proofs::Worked::both_told, crate::proofs::Worked::caller_lacking, crate::proofs::Worked::callers_out_of_order, crate::proofs::Worked::stranger, crate::proofs::Worked::call_untold, crate::proofs::Worked::replies_exchanged, crate::proofs::Worked::both_found_0))]
+pub fn transcripts_are_of_one_history()
+    // Two callers tell one history, of which each has the deeds of its calls.
+    ensures right { AreOfOneHistory all_may adds_1 2 three_additions
+        (told_by_0 ∷ told_by_1 ∷ []) }
+    // The first of two callers alone doesn't tell what both did.
+    ensures a_caller_lacks { ¬ AreOfOneHistory all_may adds_1 2 (adds 0 0 ∷ [])
+        (transcript 0 ((0, 0) ∷ []) ∷ []) }
+    // The callers can't change places.
+    ensures out_of_order { ¬ AreOfOneHistory all_may adds_1 2 three_additions
+        (told_by_1 ∷ told_by_0 ∷ []) }
+    // Nobody but the two callers can have an access.
+    ensures stranger { ¬ AreOfOneHistory all_may adds_1 2 (three_additions ++ adds 2 3 ∷ [])
+        (told_by_0 ∷ told_by_1 ∷ []) }
+    // A caller can't leave out its last call.
+    ensures untold { ¬ AreOfOneHistory all_may adds_1 2 three_additions
+        (transcript 0 ((0, 0) ∷ []) ∷ told_by_1 ∷ []) }
+    // A caller can't tell the replies of its two calls the other way round.
+    ensures exchanged { ¬ AreOfOneHistory all_may adds_1 2 three_additions
+        (transcript 0 ((0, 2) ∷ (0, 0) ∷ []) ∷ told_by_1 ∷ []) }
+    // Both callers can't have found 0.
+    ensures unlawful { ¬ AreOfOneHistory all_may adds_1 2 (adds 0 0 ∷ adds 1 0 ∷ [])
+        (transcript 0 ((0, 0) ∷ []) ∷ transcript 1 ((0, 0) ∷ []) ∷ []) }
+{}
