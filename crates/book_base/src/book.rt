@@ -454,6 +454,28 @@ impl Book {
         self.rows[call.caller as usize].records[call.number as usize]
     }
 
+    /// The reply of an answered call.
+    pub fn reply(&self, call: Call) -> u64
+        // The call is one that is answered in the book.
+        requires { IsAnswered self.now call }
+        // The answer is the reply of the record that answers the call.
+        ensures { IsSomeAnd (record_of self.now call) (λ r. result ≡ r.reply) }
+    {
+        self.rows[call.caller as usize].records[call.number as usize].reply
+    }
+
+    /// The view of an answered call.
+    pub fn view(&self, call: Call) -> &Cut
+        // The call is one that is answered in the book.
+        requires { IsAnswered self.now call }
+        // The answer is the view of the record that answers the call.
+        ensures view { IsSomeAnd (record_of self.now call) (λ r. result.now ≡ r.view) }
+        // The view has a count for each caller of the book.
+        ensures wide { length result.now ≡ length self.now }
+    {
+        &self.rows[call.caller as usize].records[call.number as usize].view
+    }
+
     /// Whether a call precedes another: it is answered and its view doesn't hold the other, or it
     /// is an earlier call of the same caller (Castañeda and Rodríguez 2023).
     pub fn precedes(&self, a: Call, b: Call) -> bool
@@ -475,15 +497,6 @@ impl Book {
             (λ r. IsTrue result ↔ IsWithin r.view view.now) }
     {
         self.view(Call { caller, number }).within(view)
-    }
-
-    // The view of an answered call.
-    fn view(&self, call: Call) -> &Cut
-        requires { IsAnswered self.now call }
-        ensures view { IsSomeAnd (record_of self.now call) (λ r. result.now ≡ r.view) }
-        ensures wide { length result.now ≡ length self.now }
-    {
-        &self.rows[call.caller as usize].records[call.number as usize].view
     }
 
     fn is_answered(&self, call: Call) -> bool

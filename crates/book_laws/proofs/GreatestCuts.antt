@@ -6,7 +6,7 @@ use Rattle.std.proofs.lemmas.List.FromFn.{get_or-map-range_with_len, fill_by_all
 use Rattle.std.proofs.lemmas.Option.{same_Some, none-some}
 use Rattle.book_base.specs.Cut.{IsWithin}
 use Rattle.book_base.specs.BookAt.{greatest_count}
-use Rattle.book_laws.specs.Greatest.{greatest_counts, AreComparableByTwos, GreatestIsOne, GreatestContainsEach}
+use Rattle.book_laws.specs.Greatest.{greatest_counts, ArePairwiseComparable, GreatestIsOne, GreatestContainsEach}
 use Rattle.book_laws.proofs.GreatestCounts.{greatest_count-at_least, greatest_count-reached}
 
 contains_more : (first : List ℕ) (cuts : List (List ℕ)) (top : List ℕ) → IsWithin first top
@@ -17,7 +17,7 @@ contains_more first cuts top here rest zero cut e i =
 contains_more first cuts top here rest (suc k) cut e i = rest k cut e i
 
 -- one of the cuts contains each
-one_contains_each : (first : List ℕ) (others : List (List ℕ)) → AreComparableByTwos (first ∷ others)
+one_contains_each : (first : List ℕ) (others : List (List ℕ)) → ArePairwiseComparable (first ∷ others)
     → (k : ℕ) × (top : List ℕ) × (slice_get (first ∷ others) k ≡ Some top)
     × ((k : ℕ) (cut : List ℕ) → slice_get (first ∷ others) k ≡ Some cut → IsWithin cut top)
 one_contains_each first [] chain = (

@@ -14,14 +14,14 @@ abbrev pub AreCutsOf : ℕ → List (List ℕ) → Type 0
 AreCutsOf n cuts = (k : ℕ) (cut : List ℕ) → slice_get cuts k ≡ Some cut → length cut ≡ n
 
 -- any two of the cuts are comparable
-abbrev pub AreComparableByTwos : List (List ℕ) → Type 0
-AreComparableByTwos cuts = (j k : ℕ) (a b : List ℕ) → slice_get cuts j ≡ Some a
+abbrev pub ArePairwiseComparable : List (List ℕ) → Type 0
+ArePairwiseComparable cuts = (j k : ℕ) (a b : List ℕ) → slice_get cuts j ≡ Some a
     → slice_get cuts k ≡ Some b → AreComparable a b
 
 -- The greatest counts of cuts that are pairwise comparable, and not none, are one of them.
 abbrev pub GreatestIsOne : Type 0
 GreatestIsOne = (n : ℕ) (first : List ℕ) (others : List (List ℕ)) → AreCutsOf n (first ∷ others)
-    → AreComparableByTwos (first ∷ others)
+    → ArePairwiseComparable (first ∷ others)
     → (k : ℕ) × (slice_get (first ∷ others) k ≡ Some (greatest_counts n (first ∷ others)))
 
 -- Each of the cuts is within their greatest counts.

@@ -42,25 +42,25 @@ fn is_before(book: &Book, counts: &[u16], caller: u32, other: Option<u32>) -> bo
         None => true,
         Some(other) => {
             let view = first_view(book, counts, caller);
-            view.within(&first_view(book, counts, other))
+            view.within(first_view(book, counts, other))
         }
     }
 }
 
 /// The view of a caller's first call outside a cut.
-pub fn first_view(book: &Book, counts: &[u16], caller: u32) -> Cut
+pub fn first_view<'b>(book: &'b Book, counts: &[u16], caller: u32) -> &'b Cut
     // The cut has a count for each caller of the book.
     requires wide { length counts.now ≡ length book.now }
     // The caller's first call outside the cut is answered.
     requires answered { IsAnswered book.now (next_call counts.now caller) }
     // The answer is the view that this call recorded.
     ensures view { (r : Record) → record_of book.now (next_call counts.now caller) ≡ Some r
-        → r.view ≡ result }
+        → r.view ≡ result.now }
     // It has a count for each caller of the book.
-    ensures wide { length result ≡ length book.now }
+    ensures wide { length result.now ≡ length book.now }
 {
     let number = u64::from(counts[caller as usize]);
-    book.record(Call { caller, number }).view
+    book.view(Call { caller, number })
 }
 
 /// The callers whose next calls may come next after a cut. The caller's first call outside the cut

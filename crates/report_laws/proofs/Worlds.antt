@@ -9,7 +9,7 @@ use Rattle.book_base.specs.Cut.{IsWithin}
 use Rattle.book_base.specs.Book.{IsValid}
 use Rattle.book_base.specs.BookAt.{book_at}
 use Rattle.book_base.specs.Order.{HasLegalOrder}
-use Rattle.book_laws.specs.Greatest.{greatest_counts, AreCutsOf, AreComparableByTwos}
+use Rattle.book_laws.specs.Greatest.{greatest_counts, AreCutsOf, ArePairwiseComparable}
 use Rattle.book_laws.proofs.GreatestCuts.{greatest_is_one}
 use Rattle.world_core.specs.Shape.{Shape}
 use Rattle.world_core.specs.Local.{Local}
@@ -88,13 +88,13 @@ module _ (init : List ℕ) (next : List ℕ → ℕ → List ℕ × ℕ) (locals
     wide k cut e = let d = all_delivered k cut e in
         (fit.published d.0 cut d.1).wide ∙ (locals_have_phases s locals t).0
 
-    compared : AreComparableByTwos (delivered_cuts lines)
+    compared : ArePairwiseComparable (delivered_cuts lines)
     compared j k a b x y = let d = all_delivered j a x in let e = all_delivered k b y in
         fit.comparable d.0 e.0 a b d.1 e.1
 
     -- where there is a delivered call, the greatest counts are one of the cuts
     top_of : (cuts : List (List ℕ)) (k : ℕ) (cut : List ℕ) → slice_get cuts k ≡ Some cut
-        → AreCutsOf s.callers cuts → AreComparableByTwos cuts
+        → AreCutsOf s.callers cuts → ArePairwiseComparable cuts
         → (j : ℕ) × (slice_get cuts j ≡ Some (greatest_counts s.callers cuts))
     top_of [] k cut e w c = absurd (none-some cut e)
     top_of (first ∷ others) k cut e w c = greatest_is_one s.callers first others w c

@@ -11,7 +11,7 @@ use Rattle.book_base.specs.Book.{Page, IsValid}
 use Rattle.book_base.specs.BookAt.{greatest_count, book_at}
 use Rattle.book_base.specs.Order.{StandsAt, IsLegalOrder, HasLegalOrder}
 use Rattle.book_base.proofs.ViewLemmas.{record_from_part}
-use Rattle.book_laws.specs.Greatest.{greatest_counts, AreCutsOf, AreComparableByTwos}
+use Rattle.book_laws.specs.Greatest.{greatest_counts, AreCutsOf, ArePairwiseComparable}
 use Rattle.book_laws.proofs.BookAt.{record_of-part}
 use Rattle.book_laws.proofs.BookAtLaws.{is_the_book_at}
 use Rattle.book_laws.proofs.GreatestCuts.{greatest_is_one, greatest_contains_each}
@@ -190,7 +190,7 @@ module _ (init : List ℕ) (next : List ℕ → ℕ → List ℕ × ℕ) (s : Sh
   wide cuts all k cut e = let d = all k cut e in
       (published s locals t d.0 cut d.1).wide ∙ long s locals t
 
-  compared : (cuts : List (List ℕ)) → AreDelivered init next locals cuts → AreComparableByTwos cuts
+  compared : (cuts : List (List ℕ)) → AreDelivered init next locals cuts → ArePairwiseComparable cuts
   compared cuts all j k a b x y = let d = all j a x in let e = all k b y in
       comparable s locals t d.0 e.0 a b d.1 e.1
 
