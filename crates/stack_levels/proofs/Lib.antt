@@ -1,2 +1,3 @@
 pub mod Refuting
 pub mod Closing
+pub mod Worked

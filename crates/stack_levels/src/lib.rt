@@ -3,6 +3,7 @@
 //! pairs.
 #![tactic(auto)]
 
+pub mod cases;
 mod closure;
 mod decide;
 pub mod laws;

@@ -68,7 +68,7 @@ impl<R: Reader> StackBook<'_, R> {
         let first = least_open(self.book, counts)?;
         let cut = cut_of(counts);
         let view = first_view(self.book, counts, first);
-        let all = all_next(self.book, &cut, &view, first);
+        let all = all_next(self.book, &cut, view, first);
         let marks = narrow_by_top(self.reader, self.sight, self.book, &cut, top, first, all);
         Some(Look { cut, all, marks })
     }

@@ -1,3 +1,4 @@
+pub mod NextOrLater
 pub mod Stepping
 pub mod Taking
 pub mod Pairing

@@ -25,7 +25,7 @@ use Rattle.value_pruning.proofs.Listing.{one_listed}
 use Rattle.value_pruning.proofs.Putting.{word_of_call, Gives, put_is_no_take}
 use Rattle.stack_pruning.specs.LastFirst.{GivesLastFirst, IsSmall, Lacks, PutsPaired}
 use Rattle.stack_pruning.proofs.Stepping.{cases_end, all-prefix, all_next}
-use Rattle.stack_pruning.proofs.Taking.{IsAnother, taken_later, take_stands}
+use Rattle.stack_pruning.proofs.Taking.{IsAnother, taken_for_good, take_stands}
 
 -- A take doesn't show a value that isn't in the list.
 shows_other : (reading : Reading) (next : List ℕ → ℕ → List ℕ × ℕ) (bound : ℕ)
@@ -86,7 +86,7 @@ put_and_taken reading next bound is book v put take small valid one alone two
           let deed : reading.deed op ≡ Puts v = ap reading.deed word ∙ alone.0.2 in
           let having : (next list op).0 ≡ (list ++ v ∷ []) ++ [] =
           is.put list op v deed ∙ sym (append-nil (list ++ v ∷ [])) in
-          let on = taken_later reading next bound is book v take small valid one rest
+          let on = taken_for_good reading next bound is book v take small valid one rest
           (raised cut put.caller) list [] (raised_wide put.caller)
           (comes_later book cut put.caller take in_put
           (λ (e : take.caller ≡ put.caller). two (sym e)) takes_next)

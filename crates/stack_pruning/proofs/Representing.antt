@@ -1,5 +1,5 @@
 -- Words that stand for a list: what is found by them holds of the list.
-use Rattle.std.proofs.Common.{◌≡◌, ◌≢◌, ℕ, ◌<◌, ◌⊎◌, Bool, IsTrue, true, List, [], ◌∷◌, ◌++◌, get_or, Option, Some, None, refl, sym, ap, subst, inl, inr, arith}
+use Rattle.std.proofs.Common.{◌≡◌, ◌≢◌, ℕ, ◌<◌, ◌⊎◌, Bool, IsTrue, true, List, [], ◌∷◌, get_or, Option, Some, refl, sym, ap, subst, inl, inr, arith}
 use Rattle.std.specs.List.{AllByRecursion}
 use Rattle.std.specs.Option.{IfSome}
 use Rattle.book_base.specs.declared.call.Call.{Call}
@@ -11,7 +11,7 @@ use Rattle.history_rules.specs.Container.{Reading}
 use Rattle.history_rules.specs.Calls.{PutsIn, PutsInAlone}
 use Rattle.value_pruning.proofs.Placing.{all-weaker}
 use Rattle.stack_pruning.specs.declared.top.Top.{Top}
-use Rattle.stack_pruning.specs.LastFirst.{IsSmall, Lacks, EndsWith, TakesLast, PutsPaired, IsKept, PutsKept, PutsNeedless, IsItem, HasTop, StandFor}
+use Rattle.stack_pruning.specs.LastFirst.{IsSmall, Lacks, EndsWith, TakesLast, PutsPaired, PutsKept, PutsNeedless, IsItem, HasTop, StandFor}
 use Rattle.stack_pruning.proofs.Stepping.{all-prefix}
 
 pub takes_last : (reading : Reading) (book : List Page) (cut ends others list : List ℕ)
@@ -22,7 +22,7 @@ takes_last reading book cut ends others list look caller stands it =
     record {
       value = it.value;
       last = stands.last it.value it.last;
-      no_more = it.no_more;
+      puts = it.puts;
       takes = it.takes;
     }
 

@@ -3,12 +3,12 @@ use Rattle.std.specs.Prelude.{◌≡◌, ◌≢◌, ℕ, ◌<◌, ◌≤◌, ◌
 use Rattle.std.specs.List.{AllByRecursion}
 use Rattle.book_base.specs.declared.call.Call.{Call}
 use Rattle.book_base.specs.Cut.{Holds}
-use Rattle.book_base.specs.Book.{Page, IsAnswered}
+use Rattle.book_base.specs.Book.{Page, IsAnswered, Precedes}
 use Rattle.book_base.specs.Next.{next_call, MayComeNext}
 use Rattle.history_rules.specs.Container.{Puts, Takes, Neither, Reading}
 use Rattle.history_rules.specs.Calls.{PutsIn, PutsInAlone, FindsNothing}
 use Rattle.value_pruning.specs.LeastFirst.{IsLeastTake}
-use Rattle.value_pruning.specs.HoldsLast.{IsRead, IsWritten, IsUnreadWrite}
+use Rattle.value_pruning.specs.HoldsLast.{IsRead, WritesOutside, IsUnreadWrite}
 use Rattle.stack_pruning.specs.declared.top.Top.{Top}
 
 -- each item of a list is below a bound
@@ -43,13 +43,18 @@ pub record GivesLastFirst (reading : Reading) (next : List ℕ → ℕ → List 
   pub one_take : (a b : ℕ) → reading.deed a ≡ Takes → reading.deed b ≡ Takes → a ≡ b
   pub one_reply : (a b v : ℕ) → reading.shown a ≡ Some v → reading.shown b ≡ Some v → a ≡ b
 
--- The next call of a caller takes the last item with the least view, and no call outside the cut
--- puts this value in again.
+-- Each call outside a cut that puts in a value may come next, or a take precedes it.
+abbrev pub PutsAreNextOrLater : Reading → List Page → List ℕ → ℕ → Call → Type 0
+PutsAreNextOrLater reading book cut v take = (put : Call) → WritesOutside reading book cut v put
+    → MayComeNext book cut put ⊎ Precedes book take put
+
+-- The next call of a caller takes the last item with the least view, and each call outside the cut
+-- that puts this value in again may come next, or the take precedes it.
 pub record TakesLast (reading : Reading) (book : List Page) (cut list : List ℕ)
     (caller : ℕ) : Type 0 where
   pub value : ℕ
   pub last : EndsWith list value
-  pub no_more : IsWritten reading book cut value → ⊥
+  pub puts : PutsAreNextOrLater reading book cut value (next_call cut caller)
   pub takes : IsLeastTake reading book cut value (next_call cut caller)
 
 -- The next call of a caller alone puts in a value that isn't in the list, and the next call of

@@ -4,20 +4,21 @@ ghost use Rattle.book_base.specs.Pruning.{HasOneOpen, IsForced, IsMarked, IsMark
 ghost use Rattle.value_pruning.specs.Sights.{ListsValues};
 ghost use Rattle.stack_pruning.specs.LastFirst.{GivesLastFirst, HasTop, IsSmall, PutsKept, PutsPaired, StandFor, TakesLast};
 
+use crate::again::puts_are_next_or_later;
 use crate::forced::{forced_take, without_needless};
 use crate::kept::kept_put;
 use crate::top::Top;
 use crate::words::{holds, last_word};
 use book_base::{Book, Call, Cut, Marks, Sight};
 use container_pruning::Reader;
-use value_pruning::{is_put_once, is_written, next_take, value_put};
+use value_pruning::{is_put_once, next_take, value_put};
 
 /// Which of the calls that may come next a search has to try, of a stack. A take that shows the
-/// last item alone, where it has the least view of all that show it and the value isn't put in
-/// again; and else a put of a value that is put in once, where its take may come next too; and else
-/// an answered put of a value that no call takes, where all that lies below is such. Otherwise,
-/// where the forced call takes, all but the puts of other values than it shows, and of the last
-/// item.
+/// last item alone, where it has the least view of all that show it and no call puts the value in
+/// again before it but one that may come next; and else a put of a value that is put in once, where
+/// its take may come next too; and else an answered put of a value that no call takes, where all
+/// that lies below is such. Otherwise, where the forced call takes, all but the puts of other
+/// values than it shows, and of the last item.
 pub fn narrow_last_first<R: Reader>(
     reader: &R,
     sight: &Sight,
@@ -168,8 +169,8 @@ fn put_if_kept<R: Reader>(
     }
 }
 
-// A marked caller whose next call takes the last item, with the least view, where no call outside
-// the cut puts its value in again.
+// A marked caller whose next call takes the last item, with the least view, where each call outside
+// the cut that puts its value in again may come next, or comes later.
 fn last_take<R: Reader>(
     reader: &R,
     sight: &Sight,
@@ -180,15 +181,17 @@ fn last_take<R: Reader>(
 ) -> Option<u32>
     requires sight { ListsValues (R.reading reader.now) book.now sight.now }
     requires wide { length cut.now ≡ length book.now }
+    requires marks { MarksAllNext book.now cut.now marks }
     ensures caller { IfSome result (λ i. i < length book.now) }
     ensures marked { IfSome result (IsMarked marks) }
     ensures take { IfSome result (TakesLast (R.reading reader.now) book.now cut.now words.now) }
 {
     let value = last_word(words)?;
-    if is_written(reader, sight, book, cut, value) {
+    let caller = next_take(reader, sight, book, cut, marks, value)?;
+    if !puts_are_next_or_later(reader, book, cut, marks, caller, value) {
         return None;
     }
-    next_take(reader, sight, book, cut, marks, value)
+    Some(caller)
 }
 
 // A marked caller whose next call alone puts in a value that isn't among the words, where the

@@ -1,6 +1,7 @@
 //! What a search for a legal order needn't try, of stacks.
 #![tactic(auto)]
 
+mod again;
 mod forced;
 mod kept;
 mod last_first;
