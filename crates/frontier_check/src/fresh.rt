@@ -3,9 +3,11 @@ ghost use Rattle.book_base.specs.Next.{HoldsAnswered};
 ghost use Rattle.frontier_check.specs.Prefix.{IsNext, IsPut};
 ghost use Rattle.frontier_check.specs.Standing.{AreMarks};
 
+use crate::choice::Choice;
+use crate::guess::Guess;
 use crate::mark::Mark;
-use crate::plan::total;
 use crate::prefix::{Prefix, answers_in};
+use crate::takes::reply_at;
 use crate::walk::CAPACITY;
 use book_base::{Book, Call, Cut, NoMemory, Place, SeqObject, State};
 use std::alloc::Global;
@@ -23,51 +25,195 @@ pub fn holds_answered(book: &Book, cut: &Cut) -> bool
     true
 }
 
-// How many calls the view of a call counts; more than any view does, where the call isn't answered.
-fn count_of(book: &Book, caller: u32, number: u64) -> u64
-    requires { caller < length book.now }
-{
-    if number < book.answers(caller) {
-        total(&book.record(Call { caller, number }).view) as u64
-    } else {
-        u64::MAX
-    }
-}
-
-// By caller, how many calls the view of its first call outside a cut counts.
-fn counts_after(book: &Book, cut: &Cut) -> Cut
-    requires { length cut.now ≡ length book.now }
-    ensures { length result ≡ length book.now }
-{
-    let mut counts = *cut;
-    for caller in 0..book.callers() {
-        counts.set(caller, count_of(book, caller, cut.get(caller)));
-    }
-    counts
-}
-
-// The caller with the least of these counts.
-fn least_of(counts: &Cut) -> u32
-    ensures { result < length counts.now }
-{
-    let mut least = 0;
-    for caller in 1..counts.n() {
-        if counts.get(caller) < counts.get(least) {
-            least = caller;
-        }
-    }
-    least
-}
-
-// Whether the object gives the reply of a place that is next.
-fn gives<S: SeqObject>(
+// The place of a caller's first call outside a prefix, with the reply that the object gives, where
+// the call is next and within a limit. The spare state has the list after it.
+fn next_place<S: SeqObject>(
     object: &S,
     book: &Book,
     prefix: &Prefix,
     spare: &mut State,
+    limit: &Cut,
+    caller: u32,
+) -> Option<Place>
+    requires put { IsPut (S.init object.now) (S.next object.now) book.now prefix.now }
+    requires limit { length limit.now ≡ length book.now }
+    requires caller { caller < length book.now }
+    requires room { spare.old.room ≡ CAPACITY }
+    ensures room { spare.new.room ≡ CAPACITY }
+    ensures next { IfSome result (IsNext book.now prefix.now.cut) }
+{
+    let number = prefix.cut.get(caller);
+    if number >= book.calls(caller) || number >= limit.get(caller) {
+        return None;
+    }
+    spare.copy_from(&prefix.here);
+    let reply = reply_at(object, spare, book.op(Call { caller, number }))?;
+    let place = Place {
+        caller,
+        number,
+        reply,
+    };
+    if prefix.may_take(book, limit, place) {
+        Some(place)
+    } else {
+        None
+    }
+}
+
+// The turn of a call that changes the list of a prefix, by what it does: first come those that take
+// out a word, then puts, then answered puts of what no answered call takes out, and last what
+// changes it otherwise.
+const PUT: u64 = 1 << 32;
+
+const KEPT: u64 = 2 << 32;
+
+const OTHER: u64 = 3 << 32;
+
+// The turn of two calls that change the list otherwise: no guess says which of them comes first.
+const UNSURE: u64 = 4 << 32;
+
+// The turn of a caller's first call outside a prefix, after which the list is that of a state: by
+// its view, or by that of the call which takes out what it puts in. Where no answered call does, an
+// unanswered one has none.
+fn turn_of(prefix: &Prefix, after: &State, guess: &Guess, caller: u32) -> Option<u64>
+    requires counts { caller < length guess.now.counts }
+    requires taken { caller < length guess.now.taken }
+{
+    let count = guess.counts.get(caller);
+    let taken = guess.taken.get(caller);
+    let puts = after.len() > prefix.here.len();
+    if puts && taken < u64::MAX {
+        Some(PUT.saturating_add(taken))
+    } else if count == u64::MAX {
+        None
+    } else if puts && guess.knows_takes() {
+        Some(KEPT.saturating_add(count))
+    } else if after.words() == prefix.here.words() {
+        Some(0)
+    } else if after.len() < prefix.here.len() {
+        Some(count)
+    } else {
+        Some(OTHER)
+    }
+}
+
+// A caller's first call outside a prefix with its turn, where it may come next.
+fn choice_of<S: SeqObject>(
+    object: &S,
+    book: &Book,
+    prefix: &Prefix,
+    spare: &mut State,
+    guess: &Guess,
+    view: &Cut,
+    caller: u32,
+) -> Option<Choice>
+    requires put { IsPut (S.init object.now) (S.next object.now) book.now prefix.now }
+    requires counts { length guess.now.counts ≡ length book.now }
+    requires taken { length guess.now.taken ≡ length book.now }
+    requires view { length view.now ≡ length book.now }
+    requires caller { caller < length book.now }
+    requires room { spare.old.room ≡ CAPACITY }
+    ensures room { spare.new.room ≡ CAPACITY }
+    ensures next { IfSome result (λ choice. IsNext book.now prefix.now.cut choice.place) }
+{
+    let place = next_place(object, book, prefix, spare, view, caller)?;
+    let turn = turn_of(prefix, spare, guess, caller)?;
+    Some(Choice { turn, place })
+}
+
+// Of the callers' first calls outside a prefix that may come next the one with the least turn.
+fn best_choice<S: SeqObject>(
+    object: &S,
+    book: &Book,
+    prefix: &Prefix,
+    spare: &mut State,
+    guess: &Guess,
+    view: &Cut,
+) -> Option<Choice>
+    requires put { IsPut (S.init object.now) (S.next object.now) book.now prefix.now }
+    requires counts { length guess.now.counts ≡ length book.now }
+    requires taken { length guess.now.taken ≡ length book.now }
+    requires view { length view.now ≡ length book.now }
+    requires room { spare.old.room ≡ CAPACITY }
+    ensures room { spare.new.room ≡ CAPACITY }
+    ensures next { IfSome result (λ choice. IsNext book.now prefix.now.cut choice.place) }
+{
+    let mut best: Option<Choice> = None;
+    for caller in 0..book.callers() {
+        let found = choice_of(object, book, prefix, spare, guess, view, caller);
+        best = better_of(book, &prefix.cut, best, found);
+    }
+    best
+}
+
+// The better one of two choices after a cut, where there are two. Of two calls that change the list
+// otherwise none is the better one.
+fn better_of(
+    _book: &Book,
+    _cut: &Cut,
+    best: Option<Choice>,
+    found: Option<Choice>,
+) -> Option<Choice>
+    requires best { IfSome best (λ choice. IsNext _book.now _cut.now choice.place) }
+    requires found { IfSome found (λ choice. IsNext _book.now _cut.now choice.place) }
+    ensures { IfSome result (λ choice. IsNext _book.now _cut.now choice.place) }
+{
+    let Some(choice) = found else {
+        return best;
+    };
+    let Some(other) = best else {
+        return Some(choice);
+    };
+    if other.turn < choice.turn {
+        return Some(other);
+    }
+    let turn = if choice.turn == OTHER {
+        UNSURE
+    } else {
+        choice.turn
+    };
+    Some(Choice {
+        turn,
+        place: choice.place,
+    })
+}
+
+// The place of an unanswered call after which an answered one has its recorded reply.
+fn opening_place<S: SeqObject>(
+    object: &S,
+    book: &Book,
+    prefix: &Prefix,
+    spare: &mut State,
+    view: &Cut,
+) -> Option<Place>
+    requires put { IsPut (S.init object.now) (S.next object.now) book.now prefix.now }
+    requires view { length view.now ≡ length book.now }
+    requires room { spare.old.room ≡ CAPACITY }
+    ensures room { spare.new.room ≡ CAPACITY }
+    ensures next { IfSome result (IsNext book.now prefix.now.cut) }
+{
+    for caller in 0..book.callers() {
+        if prefix.cut.get(caller) >= book.answers(caller)
+            && let Some(place) = next_place(object, book, prefix, spare, view, caller)
+            && opens(object, book, prefix, spare, view, place)
+        {
+            return Some(place);
+        }
+    }
+    None
+}
+
+// Whether after a place that is put next an answered call has its recorded reply.
+fn opens<S: SeqObject>(
+    object: &S,
+    book: &Book,
+    prefix: &Prefix,
+    spare: &mut State,
+    view: &Cut,
     place: Place,
 ) -> bool
     requires put { IsPut (S.init object.now) (S.next object.now) book.now prefix.now }
+    requires view { length view.now ≡ length book.now }
     requires next { IsNext book.now prefix.now.cut place }
     requires room { spare.old.room ≡ CAPACITY }
     ensures room { spare.new.room ≡ CAPACITY }
@@ -76,68 +222,54 @@ fn gives<S: SeqObject>(
         caller: place.caller,
         number: place.number,
     });
-    spare.copy_from(&prefix.here);
-    object.step(spare, op) == place.reply
-}
-
-// The place of a caller's first call outside a cut, with its recorded reply, where it is answered.
-fn answered_next(book: &Book, cut: &Cut, caller: u32) -> Option<Place>
-    requires cut { length cut.now ≡ length book.now }
-    requires caller { caller < length book.now }
-{
-    let number = cut.get(caller);
-    if number >= book.answers(caller) {
-        return None;
+    for other in 0..book.callers() {
+        let number = prefix.cut.get(other);
+        if number < view.get(other) && number < book.answers(other) {
+            let call = Call {
+                caller: other,
+                number,
+            };
+            spare.copy_from(&prefix.here);
+            let opened = reply_at(object, spare, op).is_some();
+            if opened && reply_at(object, spare, book.op(call)) == Some(book.reply(call)) {
+                return true;
+            }
+        }
     }
-    let reply = book.record(Call { caller, number }).reply;
-    Some(Place {
-        caller,
-        number,
-        reply,
-    })
+    false
 }
 
-// Of the callers' first calls outside a prefix the one to put next, where of those that are
-// answered, and that the least view of all such calls holds, one alone has the reply that the
-// object gives: what else may stand next is left to a search, which can go back.
-fn next_place<S: SeqObject>(
+// Of the callers' first calls outside a prefix the one to put next. Of those that may come next one
+// is guessed, by what the views say of the calls and of their words; where none has its recorded
+// reply, an unanswered one, after which another one has it. Where no guess is made, a search looks.
+fn place_after<S: SeqObject>(
     object: &S,
     book: &Book,
     prefix: &Prefix,
     spare: &mut State,
-    counts: &Cut,
+    guess: &Guess,
 ) -> Option<Place>
     requires put { IsPut (S.init object.now) (S.next object.now) book.now prefix.now }
-    requires counts { length counts.now ≡ length book.now }
+    requires counts { length guess.now.counts ≡ length book.now }
+    requires taken { length guess.now.taken ≡ length book.now }
     requires room { spare.old.room ≡ CAPACITY }
     ensures room { spare.new.room ≡ CAPACITY }
     ensures next { IfSome result (IsNext book.now prefix.now.cut) }
 {
-    let first = least_of(counts);
+    let first = guess.first();
     let number = prefix.cut.get(first);
     if number >= book.answers(first) {
         return None;
     }
-    let view = book
-        .record(Call {
-            caller: first,
-            number,
-        })
-        .view;
-    let mut only: Option<Place> = None;
-    for caller in 0..book.callers() {
-        if prefix.cut.get(caller) < view.get(caller)
-            && let Some(place) = answered_next(book, &prefix.cut, caller)
-        {
-            if prefix.may_take(book, &view, place) && gives(object, book, prefix, spare, place) {
-                if only.is_some() {
-                    return None;
-                }
-                only = Some(place);
-            }
-        }
+    let view = book.view(Call {
+        caller: first,
+        number,
+    });
+    match best_choice(object, book, prefix, spare, guess, view) {
+        Some(choice) if choice.turn < UNSURE => Some(choice.place),
+        Some(_) => None,
+        None => opening_place(object, book, prefix, spare, view),
     }
-    only
 }
 
 /// How many calls of a book a cut doesn't hold. No clause says so: it costs or saves time alone.
@@ -151,9 +283,8 @@ pub fn calls_after(book: &Book, cut: &Cut) -> u64
     left
 }
 
-/// Puts answered calls after the places of a prefix, as long as of those that may stand next one
-/// alone has the reply that the object gives, and leaves marks at intervals. Whether the object
-/// gave the replies; no clause says how far it comes.
+/// Puts calls after the places of a prefix, as long as a guess says which one comes next, and leaves
+/// marks at intervals. Whether the object gave the replies; no clause says how far it comes.
 pub fn put_fresh<S: SeqObject>(
     alloc: Global,
     object: &S,
@@ -173,16 +304,15 @@ pub fn put_fresh<S: SeqObject>(
 {
     let answered = answers_in(book);
     let mut spare = State::with_room(alloc, CAPACITY)?;
-    let mut counts = counts_after(book, &prefix.cut);
+    let mut guess = Guess::new(alloc, object, book, &prefix.cut, &mut spare)?;
     for _ in 0..calls_after(book, &prefix.cut) {
-        let Some(place) = next_place(object, book, prefix, &mut spare, &counts) else {
+        let Some(place) = place_after(object, book, prefix, &mut spare, &guess) else {
             return Ok(true);
         };
         if !prefix.put(object, book, place)? {
             return Ok(false);
         }
-        let number = prefix.cut.get(place.caller);
-        counts.set(place.caller, count_of(book, place.caller, number));
+        guess.look(object, book, &prefix.cut, &mut spare, place.caller);
         prefix.mark_at_interval(alloc, &answered, marks)?;
     }
     Ok(true)

@@ -3,6 +3,7 @@
 
 mod choice;
 mod fresh;
+mod guess;
 mod guide;
 mod mark;
 mod memo;
@@ -11,6 +12,7 @@ mod prefix;
 mod remaining;
 mod resume;
 mod search;
+mod takes;
 mod twins;
 mod verdict;
 mod walk;

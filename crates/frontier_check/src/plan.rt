@@ -50,8 +50,8 @@ impl Plan {
         requires { caller < length book.now }
     {
         for number in first..book.answers(caller) {
-            let view = book.record(Call { caller, number }).view;
-            self.put(caller, number, total(&view).saturating_add(later));
+            let count = total(book.view(Call { caller, number }));
+            self.put(caller, number, count.saturating_add(later));
         }
     }
 

@@ -144,6 +144,22 @@ impl Prefix {
         Ok(())
     }
 
+    /// Leaves a mark where the places end, in a book with these records, wherever they end.
+    pub fn mark_end(
+        &self,
+        alloc: Global,
+        records: &Cut,
+        marks: &mut Vec<Mark>,
+    ) -> Result<(), NoMemory>
+        ensures { OnOk result (KeepsMarks self.now records.now marks.old.items marks.new.items) }
+    {
+        if self.places.len() % INTERVAL != 0 {
+            let mark = self.mark(alloc, records)?;
+            marks.push(mark)?;
+        }
+        Ok(())
+    }
+
     // A mark where the places end, in a book with these records.
     fn mark(&self, alloc: Global, records: &Cut) -> Result<Mark, NoMemory>
         ensures { IfOk result (MarksEnd self.now records.now) }
@@ -207,9 +223,9 @@ impl Prefix {
     }
 }
 
-/// After how many places there is a mark: as many are stepped through again where a search goes on
-/// from one.
-const INTERVAL: usize = 32;
+/// After how many places there is a mark that is kept: as many are stepped through again where a
+/// search goes on from one.
+pub const INTERVAL: usize = 32;
 
 /// How many marks there are at most: each has a copy of the object's list.
 const MOST_MARKS: usize = 32;
@@ -268,8 +284,7 @@ pub fn limit_of(book: &Book, cut: &Cut, places: &[Place]) -> Cut
     for caller in 0..book.callers() {
         let number = calls.get(caller);
         if number < book.answers(caller) {
-            let view = book.record(Call { caller, number }).view;
-            limit = least_of(&limit, &view);
+            limit = least_of(&limit, book.view(Call { caller, number }));
         }
     }
     limit

@@ -3,6 +3,7 @@
 ghost use Rattle.std.specs.Prelude.{◌≡◌, length};
 
 use crate::prefix::Prefix;
+use crate::takes::reply_at;
 use crate::walk::CAPACITY;
 use book_base::{Book, BookFault, Call, Cut, Decision, NoMemory, OpWord, Place, SeqObject, State};
 use std::alloc::Global;
@@ -90,10 +91,7 @@ fn put_at<S: SeqObject>(
 {
     let op = operation_at(book, place)?;
     object.reset(spare);
-    if spare.len() >= spare.room() {
-        return None;
-    }
-    object.step(spare, op);
+    let _reply = reply_at(object, spare, op)?;
     if spare.len() == 1 && spare.get(0) == word {
         Some(op)
     } else {
@@ -113,11 +111,10 @@ fn add_puts<S: SeqObject>(
     let mut here = State::with_room(alloc, CAPACITY)?;
     object.reset(&mut here);
     for back in 0..puts.len() {
-        if here.len() >= here.room() {
-            return Ok(false);
-        }
         let op = puts[puts.len() - 1 - back];
-        let reply = object.step(&mut here, op);
+        let Some(reply) = reply_at(object, &mut here, op) else {
+            return Ok(false);
+        };
         let view = view_of_first(left, back as u64);
         if !add_call(left, 0, op)? || !add_answer(left, 0, reply, view)? {
             return Ok(false);
@@ -156,9 +153,9 @@ fn add_answers(book: &Book, cut: &Cut, before: u64, left: &mut Book) -> Result<b
 {
     for caller in 0..book.callers() {
         for number in cut.get(caller)..book.answers(caller) {
-            let record = book.record(Call { caller, number });
-            let view = view_after(&record.view, cut, before);
-            if !add_answer(left, caller, record.reply, view)? {
+            let call = Call { caller, number };
+            let view = view_after(book.view(call), cut, before);
+            if !add_answer(left, caller, book.reply(call), view)? {
                 return Ok(false);
             }
         }

@@ -1,10 +1,10 @@
-ghost use Rattle.std.specs.Prelude.{◌≡◌, ℕ, ◌<◌, ◌≤◌, ◌⊎◌, length, slice_index_or, take, IfOk, IfSome, IsTrue, OnOk};
+ghost use Rattle.std.specs.Prelude.{◌≡◌, ℕ, ◌+◌, ◌<◌, ◌≤◌, ◌⊎◌, length, slice_index_or, take, IfOk, IfSome, IsTrue, OnOk};
 ghost use Rattle.frontier_check.specs.declared.mark.Mark.{Mark};
 ghost use Rattle.frontier_check.specs.Prefix.{IsPut};
 ghost use Rattle.frontier_check.specs.Standing.{IsQuiet, IsAsWide, StillStands, AreMarks};
 
 use crate::mark::Mark;
-use crate::prefix::{Prefix, leaves_open};
+use crate::prefix::{INTERVAL, Prefix, leaves_open};
 use crate::walk::{CAPACITY, load};
 use book_base::{Book, Cut, NoMemory, Place, SeqObject, State};
 use std::alloc::Global;
@@ -77,8 +77,20 @@ fn prefix_at(
     Ok((prefix, later))
 }
 
+// How many marks are kept where the places go on after one with this index, which is left after so
+// many places: the mark itself is, unless it was left at the end of an order.
+fn kept_of(index: usize, len: usize) -> usize
+    ensures { result ≤ index + 1 }
+{
+    if len % INTERVAL == 0 {
+        index.saturating_add(1)
+    } else {
+        index
+    }
+}
+
 /// The places of an order up to the last mark that still stands, as a prefix, and the other places.
-/// The marks after it are gone.
+/// The marks after it are gone, and it is too where it was left at the end of an order.
 pub fn resume<S: SeqObject>(
     alloc: Global,
     object: &S,
@@ -104,7 +116,8 @@ pub fn resume<S: SeqObject>(
             // That a book is valid and small is known by this.
             let _callers = book.callers();
             let found = prefix_at(alloc, order, &marks[index])?;
-            marks.truncate(index + 1);
+            let kept = kept_of(index, marks[index].len);
+            marks.truncate(kept);
             Ok(found)
         }
     }

@@ -330,14 +330,15 @@ impl<S: SeqObject> Search<'_, S> {
             (S.next self.now.object.now) counts.now here.now.words (places_of choices.items)) }
         ensures few { IfOk result (λ choices. length choices.items ≤ length self.now.book.now) }
     {
+        let _callers = self.book.callers();
         let view = first_view(self.book, counts, first);
         let mut choices = Vec::new(self.alloc);
-        if let Some(place) = self.at_once(counts, &view, here, spare, first) {
+        if let Some(place) = self.at_once(counts, view, here, spare, first) {
             choices.push(Choice { turn: 0, place })?;
             return Ok(choices);
         }
         let cut = cut_of(counts);
-        let marks = self.to_try(&cut, &view, here, first);
+        let marks = self.to_try(&cut, view, here, first);
         let earliest = self.earliest(here);
         for caller in 0..self.book.callers() {
             if marks.has(caller) && !self.is_infeasible(&cut, here, earliest, caller) {

@@ -11,7 +11,7 @@ use crate::fresh::{calls_after, holds_answered, put_fresh};
 use crate::guide::Guide;
 use crate::mark::{KeptOrder, Mark};
 use crate::plan::Plan;
-use crate::prefix::{Prefix, leaves_open, limit_of};
+use crate::prefix::{Prefix, answers_in, leaves_open, limit_of};
 use crate::remaining::decided_after;
 use crate::resume::resume;
 use crate::search::Search;
@@ -150,6 +150,7 @@ fn check_on<S: SeqObject>(
             check_before(alloc, object, book, places, marks)
         }
         Some(rest) => {
+            prefix.mark_end(alloc, &answers_in(book), &mut marks)?;
             let Prefix {
                 places,
                 cut: _,
@@ -162,13 +163,83 @@ fn check_on<S: SeqObject>(
     }
 }
 
+// How often calls are put after a mark: each time after an earlier one.
+const TURNS_PUT: u32 = 3;
+
+// Looks for a legal order first after the last marks of an order, by the calls that the views say
+// come next, then after fewer of its marks, and then anywhere.
+fn check_before<S: SeqObject>(
+    alloc: Global,
+    object: &S,
+    book: &Book,
+    order: Vec<Place>,
+    marks: Vec<Mark>,
+) -> Result<Option<KeptOrder>, NoMemory>
+    requires marks { AreMarks (S.init object.now)
+        (S.next object.now) book.now order.items 0 marks.items }
+    ensures legal { IfOk result (λ found. IfSome found
+        (λ s. IsLegalOrder (S.init object.now) (S.next object.now) book.now s.order.items)) }
+    ensures stands { IfOk result (λ found. IfSome found
+        (IsStandingFor (S.init object.now) (S.next object.now) book.now)) }
+    ensures illegal { IfOk result (λ found. IfNone found
+        (HasLegalOrder (S.init object.now) (S.next object.now) book.now → ⊥)) }
+{
+    let mut order = order;
+    let mut marks = marks;
+    let mut left = marks.len();
+    for _ in 0..TURNS_PUT {
+        marks.truncate(left);
+        let (next, is_legal) = order_put(alloc, object, book, order, &mut marks)?;
+        order = next;
+        if is_legal {
+            return Ok(Some(KeptOrder { order, marks }));
+        }
+        if left == 0 {
+            return check_anew(alloc, object, book, &order);
+        }
+        left -= 1;
+    }
+    marks.truncate(left);
+    check_at_marks(alloc, object, book, order, marks)
+}
+
+// An order that begins as this one does up to the last of its marks that still stands, and goes on
+// with the calls that the views say come next, and whether it is a legal one: it is, if what is
+// left then is found soon.
+fn order_put<S: SeqObject>(
+    alloc: Global,
+    object: &S,
+    book: &Book,
+    order: Vec<Place>,
+    marks: &mut Vec<Mark>,
+) -> Result<(Vec<Place>, bool), NoMemory>
+    requires marks { AreMarks (S.init object.now)
+        (S.next object.now) book.now order.items 0 marks.old.items }
+    ensures legal { IfOk result (λ r. IsTrue r.1
+        → IsLegalOrder (S.init object.now) (S.next object.now) book.now r.0.items) }
+    ensures marks { IfOk result (λ r.
+        AreMarks (S.init object.now) (S.next object.now) book.now r.0.items 0 marks.new.items) }
+{
+    let (mut prefix, _later) = resume(alloc, object, book, order, marks)?;
+    if !put_fresh(alloc, object, book, &mut prefix, marks)? {
+        marks.clear();
+        let Prefix {
+            places,
+            cut: _,
+            here: _,
+        } = prefix;
+        return Ok((places, false));
+    }
+    order_on(alloc, object, book, &[], prefix, marks, FIRST_STEPS)
+}
+
 // How often a search begins at an earlier mark: each time it leaves out twice as many marks as
 // before.
 const TURNS_BACK: u32 = 6;
 
 // Looks for a legal order first after the marks of an order, the last of them first, and then
 // anywhere.
-fn check_before<S: SeqObject>(
+fn check_at_marks<S: SeqObject>(
     alloc: Global,
     object: &S,
     book: &Book,
@@ -223,7 +294,7 @@ fn order_after_mark<S: SeqObject>(
     let (prefix, later) = resume(alloc, object, book, order, marks)?;
     match decided_after(alloc, object, book, &prefix)? {
         Some(places) => order_by(alloc, object, book, &places, prefix, marks),
-        None => order_on(alloc, object, book, &later, prefix, marks),
+        None => order_on(alloc, object, book, &later, prefix, marks, STEPS),
     }
 }
 
@@ -256,7 +327,7 @@ fn order_by<S: SeqObject>(
         } = prefix;
         return Ok((order, false));
     }
-    let (order, is_legal) = order_on(alloc, object, book, &[], prefix, marks)?;
+    let (order, is_legal) = order_on(alloc, object, book, &[], prefix, marks, STEPS)?;
     if is_legal {
         return Ok((order, true));
     }
@@ -266,8 +337,8 @@ fn order_by<S: SeqObject>(
 }
 
 // An order that begins with the places of a prefix, and whether it is a legal one: it is, if one is
-// found soon, and else it goes on with the later places, which are tried first. The marks of the
-// prefix are marks of it.
+// found in this many more steps than calls are left, and else it goes on with the later places,
+// which are tried first. The marks of the prefix are marks of it.
 fn order_on<S: SeqObject>(
     alloc: Global,
     object: &S,
@@ -275,6 +346,7 @@ fn order_on<S: SeqObject>(
     later: &[Place],
     prefix: Prefix,
     _marks: &[Mark],
+    more: u64,
 ) -> Result<(Vec<Place>, bool), NoMemory>
     requires put { IsPut (S.init object.now) (S.next object.now) book.now prefix }
     requires marks { AreMarks (S.init object.now)
@@ -284,7 +356,7 @@ fn order_on<S: SeqObject>(
     ensures marks { IfOk result (λ r.
         AreMarks (S.init object.now) (S.next object.now) book.now r.0.items 0 _marks.now) }
 {
-    let found = rest_after(alloc, object, book, later, &prefix, STEPS)?;
+    let found = rest_after(alloc, object, book, later, &prefix, more)?;
     let Prefix {
         mut places,
         cut: _,

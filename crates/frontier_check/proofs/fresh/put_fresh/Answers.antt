@@ -1,4 +1,3 @@
-use Rattle.std.proofs.Common.{◌∙◌, length, ap, length-set}
 use Rattle.frontier_check.proofs.Resuming.{marks_put}
 use Rattle.frontier_check.proofs.fresh.put_fresh.Goals as goal
 
@@ -9,10 +8,9 @@ loop-preserved g c =
     record {
       put = put;
       room = c.put.ensures.room;
-      spare = c.next_place.ensures.room;
-      counts = ap length c.set.ensures
-          ∙ (length-set c.loop.counts c.in-Some.place.caller c.count_of.result
-          ∙ c.loop.invariant.counts);
+      spare = c.look.ensures.room;
+      counts = c.look.ensures.counts;
+      taken = c.look.ensures.taken;
       marks = marks_put (g.S.SeqObject.init object)
           (g.S.SeqObject.next object) c.args.book.now c.put.new.self c.loop.prefix.places.items
           c.in-Some.place c.answers_in-answered.result c.loop.marks.items

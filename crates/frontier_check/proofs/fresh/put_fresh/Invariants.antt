@@ -9,7 +9,8 @@ invariant-loop g l = record {
   put : IsPut (g.S.SeqObject.init l.object) (g.S.SeqObject.next l.object) l.book l.prefix;
   room : l.prefix.here.room ≡ CAPACITY;
   spare : l.spare.room ≡ CAPACITY;
-  counts : length l.counts ≡ length l.book;
+  counts : length l.guess.counts ≡ length l.book;
+  taken : length l.guess.taken ≡ length l.book;
   marks : AreMarks (g.S.SeqObject.init l.object)
       (g.S.SeqObject.next l.object) l.book l.prefix.places.items 0 l.marks.items;
 }

@@ -1,7 +1,8 @@
-use Rattle.std.proofs.Common.{◌≡◌, ℕ, ◌+◌, ◌<◌, List, length, slice_index_or, sym, subst}
+use Rattle.std.proofs.Common.{◌≡◌, ℕ, ◌+◌, ◌<◌, ◌≤◌, ◌∙◌, List, length, take, slice_index_or, refl, sym, subst}
+use Rattle.std.proofs.lemmas.List.{take-take}
 use Rattle.frontier_check.specs.declared.mark.Mark.{Mark}
-use Rattle.frontier_check.specs.Standing.{IsAsWide, StillStands}
-use Rattle.frontier_check.proofs.Resuming.{marks_wide, marks_fit, marks_taken, mark_resumed}
+use Rattle.frontier_check.specs.Standing.{IsAsWide, StillStands, AreMarks}
+use Rattle.frontier_check.proofs.Resuming.{marks_wide, marks_fit, marks_taken, marks_fewer, mark_resumed}
 use Rattle.frontier_check.proofs.resume.resume.Goals as goal
 
 pub last_standing-requires : goal.last_standing-requires
@@ -48,15 +49,22 @@ returns-in_ok-found-in-Some-clause-put g c =
 
 pub returns-in_ok-found-in-Some-clause-marks : goal.returns-in_ok-found-in-Some-clause-marks
 returns-in_ok-found-in-Some-clause-marks g c =
-    let object = c.args.object.now in
+    let init = g.S.SeqObject.init c.args.object.now in
+    let next = g.S.SeqObject.next c.args.object.now in
+    let book = c.args.book.now in
     let marks = c.args.marks.now.items in
+    let places = c.in_ok-found-in-Some.found.0.places.items in
     let low = subst (λ (ms : List Mark). c.in-Some.index < length ms) c.deref.ensures.value
     c.in-Some.ensures.within in
-    marks_taken (g.S.SeqObject.init object) (g.S.SeqObject.next object) c.args.book.now
-    c.args.order.items c.in_ok-found-in-Some.found.0.places.items marks c.truncate.new.self.items
-    c.in-Some.index c.index.result.now
-    low c.index.ensures c.requires.marks c.in_ok-found-in-Some.ensures.places
-    c.truncate.ensures.items
+    let upto = marks_taken init next book c.args.order.items places marks
+    (take (c.in-Some.index + 1) marks) c.in-Some.index c.index.result.now low c.index.ensures
+    c.requires.marks c.in_ok-found-in-Some.ensures.places refl in
+    let few : c.kept_of-kept.result ≤ c.in-Some.index + 1 = c.kept_of-kept.ensures in
+    subst (λ (ms : List Mark). AreMarks init next book places 0 ms)
+    (sym (c.truncate.ensures.items
+    ∙ sym (take-take c.kept_of-kept.result (c.in-Some.index + 1) marks few)))
+    (marks_fewer init next book places 0 c.kept_of-kept.result (take (c.in-Some.index + 1) marks)
+    upto)
 
 pub returns-in_ok-found-in-Some-clause-fewer : goal.returns-in_ok-found-in-Some-clause-fewer
-returns-in_ok-found-in-Some-clause-fewer g c = (c.in-Some.index + 1, c.truncate.ensures.items)
+returns-in_ok-found-in-Some-clause-fewer g c = (c.kept_of-kept.result, c.truncate.ensures.items)

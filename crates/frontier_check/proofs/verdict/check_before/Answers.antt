@@ -4,8 +4,8 @@ use Rattle.frontier_check.specs.Standing.{AreMarks}
 use Rattle.frontier_check.proofs.Resuming.{marks_fewer}
 use Rattle.frontier_check.proofs.verdict.check_before.Goals as goal
 
-pub order_after_mark-requires : goal.order_after_mark-requires
-order_after_mark-requires g c =
+pub order_put-requires : goal.order_put-requires
+order_put-requires g c =
     let init = g.S.SeqObject.init c.args.object.now in
     let next = g.S.SeqObject.next c.args.object.now in
     let book = c.args.book.now in
@@ -13,6 +13,18 @@ order_after_mark-requires g c =
     record {
       marks = subst (λ (ms : List Mark). AreMarks init next book order 0 ms)
           (sym c.truncate.ensures.items)
-          (marks_fewer init next book order 0 c.saturating_sub-left.result
+          (marks_fewer init next book order 0 c.loop.left
           c.loop.marks.items c.loop.invariant);
+    }
+
+pub check_at_marks-requires : goal.check_at_marks-requires
+check_at_marks-requires g c =
+    let init = g.S.SeqObject.init c.args.object.now in
+    let next = g.S.SeqObject.next c.args.object.now in
+    let book = c.args.book.now in
+    let order = c.loop.order.items in
+    record {
+      marks = subst (λ (ms : List Mark). AreMarks init next book order 0 ms)
+          (sym c.truncate-2.ensures.items)
+          (marks_fewer init next book order 0 c.loop.left c.loop.marks.items c.loop.invariant);
     }

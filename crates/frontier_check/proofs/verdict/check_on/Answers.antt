@@ -9,8 +9,11 @@ returns-clause-stands g c =
     let init = g.S.SeqObject.init c.args.object.now in
     let next = g.S.SeqObject.next c.args.object.now in
     let book = c.args.book.now in
-    let marks = c.put_fresh.new.marks.items in
+    let prefix = c.put_fresh.new.prefix in
+    let marks = c.mark_end.new.marks.items in
+    let put = c.in_ok-put_fresh.ensures.put c.if-not-branch-2.false in
+    let ended = c.in_ok-mark_end-in-Some.ensures init next book put c.answers_in.ensures
+    (c.in_ok-put_fresh.ensures.marks c.if-not-branch-2.false) in
     subst (λ (ps : List Place). AreMarks init next book ps 0 marks)
     (sym c.in_ok-extend_from_slice-in-Some.ensures.items)
-    (marks_longer init next book c.put_fresh.new.prefix.places.items c.deref-in-Some.result.now 0
-    marks (c.in_ok-put_fresh.ensures.marks c.if-not-branch-2.false))
+    (marks_longer init next book prefix.places.items c.deref-in-Some.result.now 0 marks ended)
