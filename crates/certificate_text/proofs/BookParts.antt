@@ -1,20 +1,17 @@
 -- The head and the calls of a book within the text of a certificate.
-use Rattle.std.proofs.Common.{ℕ, List, [], ◌∷◌, refl, inl, inr}
+use Rattle.std.proofs.Common.{ℕ, List, [], ◌∷◌, refl}
 use Rattle.std.specs.Prelude.{codes}
 use Rattle.book_base.specs.declared.call.Call.{Call}
-use Rattle.book_base.specs.declared.fault.TextFault.{TextFault}
 use Rattle.book_base.specs.declared.fault.What.{What}
-use Rattle.book_base.specs.declared.fault.ReadFault.{ReadFault}
 use Rattle.book_base.specs.Book.{Page}
 use Rattle.seq_objects.specs.declared.kind.Kind.{Kind}
 use Rattle.text_fields.specs.declared.version.Version.TheVariants.{Second}
-use Rattle.text_fields.specs.Lines.{Unread}
-use Rattle.text_fields.specs.Faults.{ALine, IsWrong, GoesTo, IsFirstFault, StopsFor}
+use Rattle.text_fields.specs.Faults.{ALine, IsWrong}
 use Rattle.text_fields.specs.Head.{HeadDue, TitleDue, ObjectDue, CallersDue, CountsDue, HeadRead, HeadPasses, head_wanted, head_rules}
 use Rattle.text_fields.specs.Operations.{kind_operations}
+use Rattle.text_fields.proofs.Within.{AreWithin, wrong_alike}
 use Rattle.book_text.specs.CallLines.{Progress, CallPasses, call_wanted, call_rules}
 use Rattle.book_text.specs.BookRules.{InCalls, after_head, in_calls}
-use Rattle.book_text.proofs.Lifts.{goes_within, fault_within, stops_within}
 use Rattle.certificate_text.specs.CertificateRules.{CertificateDue, InBook, after_book, CertificatePasses, certificate_wanted, certificate_rules}
 
 -- what is due in the head of the book
@@ -33,47 +30,19 @@ head_right (HeadRead kind calls) after words h = absurd h
 head_wrong : (due : HeadDue) (bytes : List ℕ) (what : What)
     → IsWrong (head_rules Second (codes "book")) due (head_wanted due) bytes what
     → IsWrong certificate_rules (in_head due) (certificate_wanted (in_head due)) bytes what
-head_wrong TitleDue bytes what (inl h) = inl h
-head_wrong TitleDue bytes what (inr h) = inr (record {
-  line = h.line;
-  rest = h.rest;
-  whole = h.whole;
-  test = record { fails = h.test.fails; first = h.test.first };
-})
-head_wrong ObjectDue bytes what (inl h) = inl h
-head_wrong ObjectDue bytes what (inr h) = inr (record {
-  line = h.line;
-  rest = h.rest;
-  whole = h.whole;
-  test = record { fails = h.test.fails; first = h.test.first };
-})
-head_wrong (CallersDue kind) bytes what (inl h) = inl h
-head_wrong (CallersDue kind) bytes what (inr h) = inr (record {
-  line = h.line;
-  rest = h.rest;
-  whole = h.whole;
-  test = record { fails = h.test.fails; first = h.test.first };
-})
-head_wrong (CountsDue kind n) bytes what (inl h) = inl h
-head_wrong (CountsDue kind n) bytes what (inr h) = inr (record {
-  line = h.line;
-  rest = h.rest;
-  whole = h.whole;
-  test = record { fails = h.test.fails; first = h.test.first };
-})
-head_wrong (HeadRead kind calls) bytes what h = absurd h
+head_wrong TitleDue = wrong_alike (head_rules Second (codes "book"))
+    certificate_rules TitleDue (in_head TitleDue) (λ words what. (λ h. h, λ h. h))
+head_wrong ObjectDue = wrong_alike (head_rules Second (codes "book"))
+    certificate_rules ObjectDue (in_head ObjectDue) (λ words what. (λ h. h, λ h. h))
+head_wrong (CallersDue kind) = wrong_alike (head_rules Second (codes "book"))
+    certificate_rules (CallersDue kind) (in_head (CallersDue kind)) (λ words what. (λ h. h, λ h. h))
+head_wrong (CountsDue kind n) = wrong_alike (head_rules Second (codes "book"))
+    certificate_rules (CountsDue kind n) (in_head (CountsDue kind n))
+    (λ words what. (λ h. h, λ h. h))
+head_wrong (HeadRead kind calls) = λ bytes what h. absurd h
 
-pub head_goes : (due after : HeadDue) (text left : Unread)
-    → GoesTo (head_rules Second (codes "book")) due text after left
-    → GoesTo certificate_rules (in_head due) text (in_head after) left
-head_goes =
-    goes_within (head_rules Second (codes "book")) certificate_rules in_head head_right head_wrong
-
-pub head_fault : (due : HeadDue) (text : Unread) (fault : TextFault)
-    → IsFirstFault (head_rules Second (codes "book")) due text fault
-    → IsFirstFault certificate_rules (in_head due) text fault
-head_fault =
-    fault_within (head_rules Second (codes "book")) certificate_rules in_head head_right head_wrong
+pub head_within : AreWithin (head_rules Second (codes "book")) certificate_rules in_head
+head_within = record { right = head_right; wrong = head_wrong }
 
 module _ (kind : Kind) where
   -- what is due in the calls of the book
@@ -98,23 +67,12 @@ module _ (kind : Kind) where
         → IsWrong (call_rules Second (kind_operations Second kind))
         (record { book = book; due = calls }) (call_wanted calls) bytes what
         → IsWrong certificate_rules (InBook (InCalls kind book calls)) ALine bytes what
-    wrong_here book [] h = absurd h
-    wrong_here book (call ∷ calls) (inl h) = inl h
-    wrong_here book (call ∷ calls) (inr h) = inr (record {
-      line = h.line;
-      rest = h.rest;
-      whole = h.whole;
-      test = record { fails = h.test.fails; first = h.test.first };
-    })
+    wrong_here book [] = λ h. absurd h
+    wrong_here book (call ∷ calls) =
+        wrong_alike (call_rules Second (kind_operations Second kind)) certificate_rules
+        (record { book = book; due = call ∷ calls })
+        (InBook (InCalls kind book (call ∷ calls))) (λ words what. (λ h. h, λ h. h)) bytes what
 
-  pub calls_goes : (due after : Progress) (text left : Unread)
-      → GoesTo (call_rules Second (kind_operations Second kind)) due text after left
-      → GoesTo certificate_rules (at_calls due) text (at_calls after) left
-  calls_goes = goes_within (call_rules Second (kind_operations Second kind)) certificate_rules
-      at_calls calls_right calls_wrong
-
-  pub calls_stop : (due : Progress) (text : Unread) (e : ReadFault)
-      → StopsFor (call_rules Second (kind_operations Second kind)) due text e
-      → StopsFor certificate_rules (at_calls due) text e
-  calls_stop = stops_within (call_rules Second (kind_operations Second kind)) certificate_rules
-      at_calls calls_right calls_wrong
+  pub calls_within :
+      AreWithin (call_rules Second (kind_operations Second kind)) certificate_rules at_calls
+  calls_within = record { right = calls_right; wrong = calls_wrong }

@@ -2,9 +2,10 @@
 use Rattle.std.proofs.Common.{◌≡◌, ℕ, zero, suc, ◌+◌, ◌*◌, ◌<◌, List, [], ◌∷◌, ◌++◌, length, get_or, set, take, drop, replicate, Option, Some, None, refl, sym, ap, ◌∙◌, append_assoc, arith}
 use Rattle.std.specs.List.{concat}
 use Rattle.std.proofs.lemmas.List.{append-nil, take_at, drop_at, length-replicate}
+use Rattle.text_fields.specs.Lines.{by_number}
 use Rattle.client_scripts.specs.declared.TheConstants.{PHASES}
 use Rattle.client_scripts.specs.Plans.{sizes, AreStops}
-use Rattle.client_scripts.specs.Grammar.{by_number, stop_line, stop_words}
+use Rattle.client_scripts.specs.Grammar.{stop_line, stop_words}
 use Rattle.client_scripts.specs.ScriptRules.{grouped}
 
 -- lists that are joined are cut apart again

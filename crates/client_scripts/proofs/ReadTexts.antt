@@ -8,14 +8,14 @@ use Rattle.seq_objects.specs.declared.kind.Kind.{Kind}
 use Rattle.text_fields.specs.declared.version.Version.{Version}
 use Rattle.text_fields.specs.declared.version.Version.TheVariants.{First, Second}
 use Rattle.text_fields.specs.Version.{most_calls, word_limit}
-use Rattle.text_fields.specs.Lines.{text_of}
+use Rattle.text_fields.specs.Lines.{text_of, by_number}
 use Rattle.text_fields.specs.Counts.{AreAtMost}
 use Rattle.text_fields.specs.Head.{HeadDue, TitleDue, HeadPasses, head_lines}
 use Rattle.text_fields.proofs.Leading.{Leads, has_line, moved, head_read}
 use Rattle.book_text.specs.CallLines.{calls_from, all_calls}
 use Rattle.book_text.specs.Grammar.{end_words}
 use Rattle.client_scripts.specs.Plans.{Plan, sizes, AreStops, IsPlan}
-use Rattle.client_scripts.specs.Grammar.{by_number, call_line, call_words, caller_lines, stop_words, stop_line, turns_words, script_lines, IsWrittenText}
+use Rattle.client_scripts.specs.Grammar.{call_line, call_words, caller_lines, stop_words, stop_line, turns_words, script_lines, IsWrittenText}
 use Rattle.client_scripts.specs.ScriptRules.{Begun, begin, with_operation, with_operations, with_stop, grouped, plan_with, ScriptDue, InHead, InBody, Turned, AtEnd, after_head, IsCallLine, ScriptPasses, script_rules, IsScriptText}
 use Rattle.client_scripts.proofs.Groups.{grouped-concat, gap, set_after, lines_after_gap, no_lines, length-gap, AreStops-none, AreStops-set}
 use Rattle.client_scripts.proofs.WrittenTexts.{after_calls}

@@ -1,5 +1,5 @@
 -- Bytes are read as one script, or have one first fault.
-use Rattle.std.proofs.Common.{◌≡◌, ℕ, ◌⊎◌, List, [], ◌++◌, Result, refl, inl, inr}
+use Rattle.std.proofs.Common.{◌≡◌, ℕ, ◌⊎◌, List, [], ◌++◌, Result, refl}
 use Rattle.std.specs.Prelude.{codes, IfOk, IfErr, MatchResult}
 use Rattle.book_base.specs.declared.fault.TextFault.{TextFault}
 use Rattle.book_base.specs.declared.fault.What.{What}
@@ -11,10 +11,10 @@ use Rattle.text_fields.specs.Lines.{Unread}
 use Rattle.text_fields.specs.Faults.{IsWrong, StopsFor, IsFirstFault, GoesTo}
 use Rattle.text_fields.specs.Head.{HeadDue, TitleDue, ObjectDue, CallersDue, CountsDue, HeadRead, HeadPasses, head_wanted, head_rules}
 use Rattle.text_fields.proofs.Sharp.{only_test}
+use Rattle.text_fields.proofs.Within.{AreWithin, wrong_alike}
 use Rattle.text_fields.proofs.Readings as readings
 use Rattle.book_text.specs.BookRules.{whole_text}
 use Rattle.book_text.specs.Ending.{IsEnded, IsNoEnd}
-use Rattle.book_text.proofs.Lifts.{goes_within, fault_within}
 use Rattle.book_text.proofs.Endings.{goes_end, stops_end}
 use Rattle.client_scripts.specs.Plans.{Plan}
 use Rattle.client_scripts.specs.ScriptRules.{InHead, Turned, AtEnd, after_head, ScriptPasses, ScriptFails, script_wanted, script_rules, IsScriptText, IsNoScriptText, IsFirstScriptFault}
@@ -35,47 +35,21 @@ module _ (version : Version) where
   head_wrong : (due : HeadDue) (bytes : List ℕ) (what : What)
       → IsWrong (head_rules version (codes "script")) due (head_wanted due) bytes what
       → IsWrong (script_rules version) (after_head due) (script_wanted (after_head due)) bytes what
-  head_wrong TitleDue bytes what (inl h) = inl h
-  head_wrong TitleDue bytes what (inr h) = inr (record {
-    line = h.line;
-    rest = h.rest;
-    whole = h.whole;
-    test = record { fails = h.test.fails; first = h.test.first };
-  })
-  head_wrong ObjectDue bytes what (inl h) = inl h
-  head_wrong ObjectDue bytes what (inr h) = inr (record {
-    line = h.line;
-    rest = h.rest;
-    whole = h.whole;
-    test = record { fails = h.test.fails; first = h.test.first };
-  })
-  head_wrong (CallersDue kind) bytes what (inl h) = inl h
-  head_wrong (CallersDue kind) bytes what (inr h) = inr (record {
-    line = h.line;
-    rest = h.rest;
-    whole = h.whole;
-    test = record { fails = h.test.fails; first = h.test.first };
-  })
-  head_wrong (CountsDue kind n) bytes what (inl h) = inl h
-  head_wrong (CountsDue kind n) bytes what (inr h) = inr (record {
-    line = h.line;
-    rest = h.rest;
-    whole = h.whole;
-    test = record { fails = h.test.fails; first = h.test.first };
-  })
-  head_wrong (HeadRead kind calls) bytes what h = absurd h
+  head_wrong TitleDue = wrong_alike (head_rules version (codes "script"))
+      (script_rules version) TitleDue (after_head TitleDue) (λ words what. (λ h. h, λ h. h))
+  head_wrong ObjectDue = wrong_alike (head_rules version (codes "script"))
+      (script_rules version) ObjectDue (after_head ObjectDue) (λ words what. (λ h. h, λ h. h))
+  head_wrong (CallersDue kind) = wrong_alike (head_rules version (codes "script"))
+      (script_rules version) (CallersDue kind) (after_head (CallersDue kind))
+      (λ words what. (λ h. h, λ h. h))
+  head_wrong (CountsDue kind n) = wrong_alike (head_rules version (codes "script"))
+      (script_rules version) (CountsDue kind n) (after_head (CountsDue kind n))
+      (λ words what. (λ h. h, λ h. h))
+  head_wrong (HeadRead kind calls) = λ bytes what h. absurd h
 
-  pub head_goes : (due after : HeadDue) (text left : Unread)
-      → GoesTo (head_rules version (codes "script")) due text after left
-      → GoesTo (script_rules version) (after_head due) text (after_head after) left
-  head_goes = goes_within (head_rules version (codes "script"))
-      (script_rules version) after_head head_right head_wrong
-
-  pub head_fault : (due : HeadDue) (text : Unread) (fault : TextFault)
-      → IsFirstFault (head_rules version (codes "script")) due text fault
-      → IsFirstFault (script_rules version) (after_head due) text fault
-  head_fault = fault_within (head_rules version (codes "script"))
-      (script_rules version) after_head head_right head_wrong
+  pub head_within :
+      AreWithin (head_rules version (codes "script")) (script_rules version) after_head
+  head_within = record { right = head_right; wrong = head_wrong }
 
 -- ---- the end
 

@@ -7,12 +7,13 @@ use Rattle.text_fields.specs.Lines.{Unread}
 use Rattle.text_fields.specs.Head.{TitleDue, HeadRead, head_rules}
 use Rattle.text_fields.specs.Faults.{GoesTo}
 use Rattle.text_fields.proofs.Sharp.{goes_then}
+use Rattle.text_fields.proofs.Within.{goes_within}
 use Rattle.book_text.specs.BookRules.{whole_text}
 use Rattle.book_text.specs.CallLines.{all_calls}
 use Rattle.book_text.specs.Ending.{IsEnded}
 use Rattle.client_scripts.specs.Plans.{Plan}
 use Rattle.client_scripts.specs.ScriptRules.{Begun, InHead, InBody, Turned, AtEnd, begin, script_rules, IsScriptText}
-use Rattle.client_scripts.proofs.Readings.{head_goes, script_ends}
+use Rattle.client_scripts.proofs.Readings.{head_within, script_ends}
 
 module _ (version : Version) (bytes : List ℕ) (kind : Kind) (calls : List ℕ) (new a : Unread)
     (is : new ≡ whole_text bytes)
@@ -20,8 +21,9 @@ module _ (version : Version) (bytes : List ℕ) (kind : Kind) (calls : List ℕ)
   pub to_calls : GoesTo (script_rules version) (InHead TitleDue) (whole_text bytes)
       (InBody kind (begin calls) (all_calls 0 calls)) a
   to_calls =
-      head_goes version TitleDue (HeadRead kind calls) (whole_text bytes) a (subst (λ (t : Unread).
-      GoesTo (head_rules version (codes "script")) TitleDue t (HeadRead kind calls) a) is head)
+      goes_within (head_within version) TitleDue (HeadRead kind calls) (whole_text bytes) a
+      (subst (λ (t : Unread). GoesTo (head_rules version (codes "script")) TitleDue t
+      (HeadRead kind calls) a) is head)
 
   module _ (begun : Begun) (b : Unread) (body : GoesTo (script_rules version)
       (InBody kind (begin calls) (all_calls 0 calls)) a (InBody kind begun []) b) where

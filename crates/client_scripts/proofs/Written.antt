@@ -3,13 +3,13 @@ use Rattle.std.proofs.Common.{◌≡◌, ℕ, zero, suc, ◌+◌, ◌<◌, List,
 use Rattle.std.specs.Prelude.{slice_index, codes}
 use Rattle.std.proofs.lemmas.List.{take_more, length-take}
 use Rattle.std.proofs.lemmas.Option.{none-some, same_Some}
-use Rattle.text_fields.specs.Lines.{line_text, text_of}
+use Rattle.text_fields.specs.Lines.{line_text, text_of, by_number}
 use Rattle.book_writer.proofs.Texts.{text_of-one, one_more, lines_more}
 use Rattle.text_fields.specs.declared.version.Version.TheVariants.{Second}
 use Rattle.text_fields.specs.Head.{head_lines}
 use Rattle.book_text.specs.Grammar.{end_words}
 use Rattle.client_scripts.specs.Plans.{Plan, sizes}
-use Rattle.client_scripts.specs.Grammar.{by_number, caller_lines, stop_line, turns_words, script_lines}
+use Rattle.client_scripts.specs.Grammar.{caller_lines, stop_line, turns_words, script_lines}
 use Rattle.client_scripts.proofs.Groups.{by_number-push}
 
 -- the lines of one item more

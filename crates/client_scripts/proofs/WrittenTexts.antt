@@ -8,7 +8,7 @@ use Rattle.seq_objects.specs.declared.kind.Kind.{Kind}
 use Rattle.text_fields.specs.declared.version.Version.{Version}
 use Rattle.text_fields.specs.declared.version.Version.TheVariants.{First, Second}
 use Rattle.text_fields.specs.Version.{most_callers, most_calls, word_limit}
-use Rattle.text_fields.specs.Lines.{text_of}
+use Rattle.text_fields.specs.Lines.{text_of, by_number}
 use Rattle.text_fields.specs.Counts.{AreAtMost, AreNumbers}
 use Rattle.text_fields.specs.Head.{TitleDue, ObjectDue, CallersDue, CountsDue, HeadRead}
 use Rattle.text_fields.specs.Faults.{AllPass}
@@ -17,7 +17,7 @@ use Rattle.book_text.specs.CallLines.{calls_from, all_calls}
 use Rattle.book_text.specs.Grammar.{end_words}
 use Rattle.client_scripts.specs.declared.TheConstants.{PHASES}
 use Rattle.client_scripts.specs.Plans.{Plan, sizes, AreStops, IsPlan}
-use Rattle.client_scripts.specs.Grammar.{by_number, call_line, caller_lines, stop_line, turns_words, script_lines, IsWrittenText}
+use Rattle.client_scripts.specs.Grammar.{call_line, caller_lines, stop_line, turns_words, script_lines, IsWrittenText}
 use Rattle.client_scripts.specs.ScriptRules.{Begun, begin, with_operation, with_operations, with_stop, grouped, plan_with, InHead, InBody, Turned, AtEnd, ScriptPasses, script_rules, IsScriptText}
 use Rattle.client_scripts.proofs.Groups.{grouped-concat, gap, set_after, length-stops}
 

@@ -4,17 +4,11 @@ use Rattle.book_base.specs.declared.call.Call.{Call}
 use Rattle.seq_objects.specs.declared.kind.Kind.{Kind}
 use Rattle.seq_objects.specs.Words.{operation_words}
 use Rattle.text_fields.specs.declared.version.Version.{Version}
-use Rattle.text_fields.specs.Lines.{text_of}
+use Rattle.text_fields.specs.Lines.{text_of, by_number}
 use Rattle.text_fields.specs.Head.{head_lines}
 use Rattle.book_text.specs.CallLines.{place_words}
 use Rattle.book_text.specs.Grammar.{end_words}
 use Rattle.client_scripts.specs.Plans.{Plan, sizes, IsPlan}
-
--- what is written of each item with its number, in order, the first of these items having this
--- number
-abbrev pub by_number : {X Y : Type 0} → (ℕ → X → List Y) → ℕ → List X → List Y
-by_number write i [] = []
-by_number write i (x ∷ xs) = write i x ++ by_number write (i + 1) xs
 
 -- the line of a call: its caller and number, and its operation
 abbrev pub call_words : Kind → Call → ℕ → List (List ℕ)

@@ -2,9 +2,9 @@
 
 ghost use Rattle.std.specs.Prelude.{◌≡◌, ◌<◌, ◌++◌, length, map, decimal, slice_index, IfOk, OnOk};
 ghost use Rattle.text_fields.specs.declared.version.Version.TheVariants.{Second};
-ghost use Rattle.text_fields.specs.Lines.{line_text, text_of};
+ghost use Rattle.text_fields.specs.Lines.{line_text, text_of, by_number};
 ghost use Rattle.client_scripts.specs.Plans.{IsPlan, IsCall, operations_of, sizes};
-ghost use Rattle.client_scripts.specs.Grammar.{by_number, call_words, caller_lines, stop_line, turns_words, IsWrittenText};
+ghost use Rattle.client_scripts.specs.Grammar.{call_words, caller_lines, stop_line, turns_words, IsWrittenText};
 ghost use Rattle.client_scripts.specs.ScriptRules.{IsScriptText};
 ghost use Rattle.book_writer.specs.Fields.{spaced};
 

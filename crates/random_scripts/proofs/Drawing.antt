@@ -4,12 +4,12 @@ use Rattle.std.specs.List.{AllByRecursion, range_with_len}
 use Rattle.std.proofs.lemmas.List.{length-map}
 use Rattle.std.proofs.lemmas.List.FromFn.{length-range_with_len}
 use Rattle.list_laws.proofs.Elements.{AllByRecursion-append}
-use Rattle.text_fields.specs.Lines.{text_of}
+use Rattle.text_fields.specs.Lines.{text_of, by_number}
 use Rattle.text_fields.specs.Counts.{AreAtMost}
 use Rattle.text_fields.specs.declared.version.Version.TheVariants.{Second}
 use Rattle.book_writer.proofs.Texts.{lines_more}
 use Rattle.client_scripts.specs.Plans.{sizes, AreStops, IsPlan}
-use Rattle.client_scripts.specs.Grammar.{by_number, stop_line}
+use Rattle.client_scripts.specs.Grammar.{stop_line}
 use Rattle.client_scripts.proofs.Groups.{by_number-push, AreStops-none, no_lines}
 use Rattle.client_scripts.proofs.Generated.{map_range-push}
 use Rattle.random_scripts.specs.declared.workload.Workload.{Workload}

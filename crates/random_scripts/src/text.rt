@@ -4,8 +4,8 @@ ghost use Rattle.std.specs.Prelude.{◌≡◌, ◌<◌, ◌^◌, ◌++◌, map, 
 ghost use Rattle.std.specs.List.{AllByRecursion, range_with_len};
 ghost use Rattle.text_fields.specs.declared.TheConstants.{TEXT_CALLERS, TEXT_CALLS};
 ghost use Rattle.text_fields.specs.declared.version.Version.TheVariants.{Second};
-ghost use Rattle.text_fields.specs.Lines.{line_text, text_of};
-ghost use Rattle.client_scripts.specs.Grammar.{by_number, call_words, call_line, caller_lines};
+ghost use Rattle.text_fields.specs.Lines.{line_text, text_of, by_number};
+ghost use Rattle.client_scripts.specs.Grammar.{call_words, call_line, caller_lines};
 ghost use Rattle.client_scripts.specs.ScriptRules.{IsScriptText};
 ghost use Rattle.random_scripts.specs.Drawn.{IsWorkload, drawn_operation, drawn_operations, drawn_plan};
 

@@ -2,13 +2,12 @@
 use Rattle.std.proofs.Common.{◌≡◌, ℕ, List, [], ◌∷◌, ◌++◌, sym, ap, ◌∙◌, append_assoc}
 use Rattle.std.specs.Prelude.{codes}
 use Rattle.text_fields.specs.declared.version.Version.TheVariants.{Second}
-use Rattle.text_fields.specs.Lines.{line_text, text_of}
+use Rattle.text_fields.specs.Lines.{line_text, text_of, by_number}
 use Rattle.text_fields.specs.Head.{head_lines}
 use Rattle.book_text.specs.Grammar.{end_words}
 use Rattle.book_writer.specs.Fields.{spaced}
 use Rattle.book_writer.proofs.Lines.{both_pieces, spaced-append}
 use Rattle.book_writer.proofs.Texts.{one_more, lines_more}
-use Rattle.client_scripts.specs.Grammar.{by_number}
 use Rattle.reports.specs.Findings.{Findings, sizes}
 use Rattle.reports.specs.Grammar.{caller_lines, report_lines}
 

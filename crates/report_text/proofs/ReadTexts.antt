@@ -15,13 +15,12 @@ use Rattle.book_base.proofs.ViewLemmas.{answered_at}
 use Rattle.seq_objects.specs.declared.kind.Kind.{Kind}
 use Rattle.text_fields.specs.declared.TheConstants.{TEXT_CALLERS, TEXT_CALLS}
 use Rattle.text_fields.specs.declared.version.Version.TheVariants.{Second}
-use Rattle.text_fields.specs.Lines.{text_of}
+use Rattle.text_fields.specs.Lines.{text_of, by_number}
 use Rattle.text_fields.specs.Counts.{AreAtMost}
 use Rattle.text_fields.specs.Head.{TitleDue, HeadDue, HeadPasses, head_lines}
 use Rattle.text_fields.proofs.Leading.{Leads, has_line, moved, head_read}
 use Rattle.book_text.specs.CallLines.{calls_from, all_calls}
 use Rattle.book_text.specs.Grammar.{end_words}
-use Rattle.client_scripts.specs.Grammar.{by_number}
 use Rattle.client_scripts.specs.ScriptRules.{grouped}
 use Rattle.report_lines.specs.declared.line.Line.{Line}
 use Rattle.report_lines.specs.Lines.{made_of, book_of_lines, lines_at, line_at, seen_at, delivered_in}

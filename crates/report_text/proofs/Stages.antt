@@ -7,6 +7,7 @@ use Rattle.text_fields.specs.Lines.{Unread}
 use Rattle.text_fields.specs.Head.{TitleDue, HeadRead, head_rules}
 use Rattle.text_fields.specs.Faults.{GoesTo}
 use Rattle.text_fields.proofs.Sharp.{goes_then}
+use Rattle.text_fields.proofs.Within.{goes_within}
 use Rattle.book_text.specs.BookRules.{whole_text}
 use Rattle.book_text.specs.CallLines.{all_calls}
 use Rattle.book_text.specs.Ending.{IsEnded}
@@ -15,7 +16,7 @@ use Rattle.client_scripts.specs.ScriptRules.{grouped}
 use Rattle.reports.specs.Findings.{sizes}
 use Rattle.report_text.specs.ReportRules.{InHead, InLines, AtEnd, report_rules, IsReportText}
 use Rattle.report_text.specs.Parts.{joined, AreAllRead}
-use Rattle.report_text.proofs.Readings.{head_goes, report_ends}
+use Rattle.report_text.proofs.Readings.{head_within, report_ends}
 use Rattle.report_text.proofs.Soundness.{grouped-joined}
 
 module _ (bytes : List ℕ) (kind : Kind) (calls : List ℕ) (new a : Unread)
@@ -23,8 +24,9 @@ module _ (bytes : List ℕ) (kind : Kind) (calls : List ℕ) (new a : Unread)
     (head : GoesTo (head_rules Second (codes "report")) TitleDue new (HeadRead kind calls) a) where
   pub to_lines : GoesTo report_rules (InHead TitleDue) (whole_text bytes)
       (InLines kind calls [] (all_calls 0 calls)) a
-  to_lines = head_goes TitleDue (HeadRead kind calls) (whole_text bytes) a (subst (λ (t : Unread).
-      GoesTo (head_rules Second (codes "report")) TitleDue t (HeadRead kind calls) a) is head)
+  to_lines = goes_within head_within TitleDue (HeadRead kind calls) (whole_text bytes) a
+      (subst (λ (t : Unread). GoesTo (head_rules Second (codes "report")) TitleDue t
+      (HeadRead kind calls) a) is head)
 
   module _ (lines : List (List Line)) (b : Unread) (body : AreAllRead kind calls a lines b) where
     pub to_end : GoesTo report_rules (InHead TitleDue) (whole_text bytes)

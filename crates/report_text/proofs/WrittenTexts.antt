@@ -15,7 +15,7 @@ use Rattle.book_base.proofs.GrowthLemmas.{below_calls, within_announced, records
 use Rattle.book_base.proofs.ViewLemmas.{answered_at}
 use Rattle.seq_objects.specs.declared.kind.Kind.{Kind}
 use Rattle.text_fields.specs.declared.TheConstants.{TEXT_CALLS}
-use Rattle.text_fields.specs.Lines.{text_of}
+use Rattle.text_fields.specs.Lines.{text_of, by_number}
 use Rattle.text_fields.specs.Counts.{AreAtMost}
 use Rattle.text_fields.specs.Head.{TitleDue, ObjectDue, CallersDue, CountsDue, HeadRead}
 use Rattle.text_fields.specs.Faults.{AllPass}
@@ -23,7 +23,6 @@ use Rattle.text_fields.proofs.Sharp.{AllPass-append}
 use Rattle.book_text.specs.CallLines.{calls_from, all_calls, with_line}
 use Rattle.book_text.specs.Grammar.{end_words}
 use Rattle.book_text.proofs.WrittenTexts.{numbers_from_places}
-use Rattle.client_scripts.specs.Grammar.{by_number}
 use Rattle.client_scripts.specs.ScriptRules.{grouped}
 use Rattle.report_lines.specs.declared.line.LineEnd.{LineEnd}
 use Rattle.report_lines.specs.declared.line.LineEnd.TheVariants.{Pending, Unchecked, Delivered, Error}

@@ -2,11 +2,10 @@
 
 ghost use Rattle.std.specs.Prelude.{◌≡◌, ◌<◌, ◌++◌, length, Some, IfOk, OnOk};
 ghost use Rattle.text_fields.specs.declared.version.Version.TheVariants.{Second};
-ghost use Rattle.text_fields.specs.Lines.{line_text, text_of};
+ghost use Rattle.text_fields.specs.Lines.{line_text, text_of, by_number};
 ghost use Rattle.book_text.specs.CallLines.{answer_words};
 ghost use Rattle.book_writer.specs.Fields.{spaced};
 ghost use Rattle.report_lines.specs.Lines.{lines_at};
-ghost use Rattle.client_scripts.specs.Grammar.{by_number};
 ghost use Rattle.report_text.specs.ReportRules.{IsReportText};
 ghost use Rattle.reports.specs.Grammar.{ending_words, line_words, caller_lines, IsWrittenText};
 

@@ -4,7 +4,7 @@ use Rattle.book_base.specs.declared.call.Call.{Call}
 use Rattle.seq_objects.specs.declared.kind.Kind.{Kind}
 use Rattle.seq_objects.specs.Words.{operation_words}
 use Rattle.text_fields.specs.declared.version.Version.TheVariants.{Second}
-use Rattle.text_fields.specs.Lines.{text_of}
+use Rattle.text_fields.specs.Lines.{text_of, by_number}
 use Rattle.text_fields.specs.Counts.{pair_words}
 use Rattle.text_fields.specs.Head.{head_lines}
 use Rattle.book_text.specs.CallLines.{place_words, answer_words}
@@ -12,7 +12,6 @@ use Rattle.book_text.specs.Grammar.{end_words}
 use Rattle.report_lines.specs.declared.line.LineEnd.{LineEnd}
 use Rattle.report_lines.specs.declared.line.LineEnd.TheVariants.{Pending, Unchecked, Delivered, Error}
 use Rattle.report_lines.specs.declared.line.Line.{Line}
-use Rattle.client_scripts.specs.Grammar.{by_number}
 use Rattle.reports.specs.Findings.{Findings, sizes, IsReport}
 
 -- the words of a seen cut

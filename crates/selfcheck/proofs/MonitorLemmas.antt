@@ -14,14 +14,14 @@ use Rattle.text_fields.specs.declared.version.Version.TheVariants.{Second}
 use Rattle.text_fields.specs.Version.{has_kind}
 use Rattle.text_fields.specs.Faults.{AreSharp}
 use Rattle.text_fields.specs.Head.{TitleDue, ObjectDue, CallersDue, CountsDue, AreCallers, title_words, object_words, callers_words, calls_words, head_rules}
-use Rattle.text_fields.specs.Lines.{Unread, AreSolid, line_at, line_from, line_text, words_of, text_of}
+use Rattle.text_fields.specs.Lines.{Unread, AreSolid, line_at, line_from, line_text, words_of, text_of, by_number}
 use Rattle.text_fields.proofs.HeadTexts.{head_sharp, plain}
 use Rattle.text_fields.proofs.LineTexts.{cut_line, words_of-join}
 use Rattle.text_fields.proofs.NumberTexts.{same_first, same_number}
 use Rattle.book_text.specs.Grammar.{end_words}
 use Rattle.book_text.specs.BookRules.{whole_text}
 use Rattle.client_scripts.specs.Plans.{Plan, sizes}
-use Rattle.client_scripts.specs.Grammar.{by_number, caller_lines, stop_line, turns_words}
+use Rattle.client_scripts.specs.Grammar.{caller_lines, stop_line, turns_words}
 use Rattle.client_scripts.specs.ScriptRules.{IsScriptText, IsNoScriptText, IsFirstScriptFault}
 use Rattle.client_scripts.proofs.Readings.{no_first_fault, one_first_fault}
 use Rattle.client_scripts.proofs.ReadTexts.{read_is_written}

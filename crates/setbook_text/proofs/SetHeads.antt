@@ -1,19 +1,18 @@
 -- The head of a set book is read as one head, or has one first fault; and what it says in the text
 -- of a set book.
-use Rattle.std.proofs.Common.{◌≡◌, ℕ, List, [], ◌∷◌, length, refl, ap, sym, subst, ◌∙◌, inl, inr}
+use Rattle.std.proofs.Common.{◌≡◌, ℕ, List, [], ◌∷◌, refl, ap, sym, subst, ◌∙◌}
 use Rattle.std.proofs.lemmas.List.{length-replicate}
 use Rattle.book_base.specs.declared.fault.TextFault.{TextFault}
-use Rattle.book_base.specs.declared.fault.ReadFault.{ReadFault}
 use Rattle.book_base.specs.declared.fault.ReadFault.TheVariants.{Text}
 use Rattle.book_base.specs.declared.fault.What.{What}
-use Rattle.book_base.specs.Book.{Page, announced, unanswered_book}
+use Rattle.book_base.specs.Book.{announced, unanswered_book}
 use Rattle.text_fields.specs.Lines.{Unread}
 use Rattle.text_fields.specs.Faults.{ALine, AreSharp, IsWrong, IsFirstFault, GoesTo, StopsFor}
 use Rattle.text_fields.proofs.Readings.{one_part, no_part_fault}
 use Rattle.text_fields.proofs.Sharp.{one_fault}
 use Rattle.book_text.specs.BookRules.{whole_text}
 use Rattle.book_text.specs.CallLines.{no_call_read}
-use Rattle.book_text.proofs.Lifts.{goes_within, fault_within}
+use Rattle.text_fields.proofs.Within.{AreWithin, wrong_alike, goes_within, fault_within}
 use Rattle.setbook_text.specs.SetBookRules.{SetBookDue, TitleDue, ObjectDue, CallersDue, CountsDue, InCalls, AtEnd, in_calls, SetBookPasses, SetBookFails, setbook_wanted, setbook_rules, SetHeadPasses, SetHeadFails, set_head_wanted, set_head_rules, IsSetHead, IsSetHeadFault}
 use Rattle.setbook_text.proofs.SharpSetBooks.{setbook_sharp}
 
@@ -39,47 +38,31 @@ failing (AtEnd book) words name h = h
 wrong : (due : SetBookDue) (bytes : List ℕ) (what : What)
     → IsWrong set_head_rules due (set_head_wanted due) bytes what
     → IsWrong setbook_rules due (setbook_wanted due) bytes what
-wrong TitleDue bytes what (inl h) = inl h
-wrong TitleDue bytes what (inr h) = inr (record {
-  line = h.line;
-  rest = h.rest;
-  whole = h.whole;
-  test = record { fails = h.test.fails; first = h.test.first };
-})
-wrong ObjectDue bytes what (inl h) = inl h
-wrong ObjectDue bytes what (inr h) = inr (record {
-  line = h.line;
-  rest = h.rest;
-  whole = h.whole;
-  test = record { fails = h.test.fails; first = h.test.first };
-})
-wrong CallersDue bytes what (inl h) = inl h
-wrong CallersDue bytes what (inr h) = inr (record {
-  line = h.line;
-  rest = h.rest;
-  whole = h.whole;
-  test = record { fails = h.test.fails; first = h.test.first };
-})
-wrong (CountsDue n) bytes what (inl h) = inl h
-wrong (CountsDue n) bytes what (inr h) = inr (record {
-  line = h.line;
-  rest = h.rest;
-  whole = h.whole;
-  test = record { fails = h.test.fails; first = h.test.first };
-})
-wrong (InCalls book calls) bytes what h = absurd h
-wrong (AtEnd book) bytes what h = absurd h
+wrong TitleDue =
+    wrong_alike set_head_rules setbook_rules TitleDue TitleDue (λ words what. (λ h. h, λ h. h))
+wrong ObjectDue =
+    wrong_alike set_head_rules setbook_rules ObjectDue ObjectDue (λ words what. (λ h. h, λ h. h))
+wrong CallersDue =
+    wrong_alike set_head_rules setbook_rules CallersDue CallersDue (λ words what. (λ h. h, λ h. h))
+wrong (CountsDue n) =
+    wrong_alike set_head_rules setbook_rules (CountsDue n) (CountsDue n)
+    (λ words what. (λ h. h, λ h. h))
+wrong (InCalls book calls) = λ bytes what h. absurd h
+wrong (AtEnd book) = λ bytes what h. absurd h
+
+within : AreWithin set_head_rules setbook_rules (λ due. due)
+within = record { right = right; wrong = wrong }
 
 pub head_goes : (calls : List ℕ) (text left : Unread) → IsSetHead calls text left
     → GoesTo setbook_rules TitleDue text (in_calls (no_call_read calls)) left
-head_goes calls text left h = goes_within set_head_rules setbook_rules
-    (λ due. due) right wrong TitleDue (in_calls (no_call_read calls)) text left h
+head_goes calls text left h =
+    goes_within within TitleDue (in_calls (no_call_read calls)) text left h
 
 pub head_stops : (bytes : List ℕ) (text : Unread) (fault : TextFault) → text ≡ whole_text bytes
     → IsSetHeadFault text fault → StopsFor setbook_rules TitleDue (whole_text bytes) (Text fault)
 head_stops bytes text fault is h =
     subst (λ (t : Unread). IsFirstFault setbook_rules TitleDue t fault) is
-    (fault_within set_head_rules setbook_rules (λ due. due) right wrong TitleDue text fault h)
+    (fault_within within TitleDue text fault h)
 
 lines : (due after : SetBookDue) (words : List (List ℕ)) → SetHeadPasses due words after
     → set_head_wanted due ≡ ALine

@@ -1,6 +1,6 @@
 -- The rules of a set book's text are sharp: bytes are read as one set book, or have one first
 -- fault.
-use Rattle.std.proofs.Common.{◌≡◌, ℕ, ◌⊎◌, List, [], ◌∷◌, ◌++◌, map, decimal, Result, refl, sym, ap, subst, ◌∙◌, arith, inl, inr}
+use Rattle.std.proofs.Common.{◌≡◌, ℕ, ◌⊎◌, List, [], ◌∷◌, ◌++◌, map, decimal, Result, refl, sym, ap, subst, ◌∙◌, arith}
 use Rattle.std.specs.Prelude.{codes, IfOk, IfErr, MatchResult}
 use Rattle.book_base.specs.declared.call.Call.{Call}
 use Rattle.book_base.specs.declared.fault.TextFault.{TextFault}
@@ -21,7 +21,7 @@ use Rattle.book_text.specs.BookRules.{whole_text}
 use Rattle.book_text.specs.Ending.{IsEnded, IsNoEnd}
 use Rattle.book_text.proofs.Endings.{goes_end, stops_end}
 use Rattle.book_text.proofs.SharpBooks.{line_one_way, line_apart, line_solid}
-use Rattle.book_text.proofs.Lifts.{goes_within, stops_within}
+use Rattle.text_fields.proofs.Within.{AreWithin, wrong_alike}
 use Rattle.setbook_text.specs.JoinWords.{join_operations}
 use Rattle.setbook_text.specs.JoinLaws.{one_join, solid_join}
 use Rattle.setbook_text.specs.SetBookRules.{SetBookDue, TitleDue, ObjectDue, CallersDue, CountsDue, InCalls, AtEnd, in_calls, SetBookPasses, SetBookFails, setbook_wanted, setbook_rules, IsSetBookText, IsNoSetBookText, IsFirstSetBookFault}
@@ -144,26 +144,13 @@ calls_wrong due bytes what h = wrong_here due.book due.due h where
   wrong_here : (book : List Page) (calls : List Call) → IsWrong (call_rules Second join_operations)
       (record { book = book; due = calls }) (call_wanted calls) bytes what
       → IsWrong setbook_rules (InCalls book calls) ALine bytes what
-  wrong_here book [] h = absurd h
-  wrong_here book (call ∷ calls) (inl h) = inl h
-  wrong_here book (call ∷ calls) (inr h) = inr (record {
-    line = h.line;
-    rest = h.rest;
-    whole = h.whole;
-    test = record { fails = h.test.fails; first = h.test.first };
-  })
+  wrong_here book [] = λ h. absurd h
+  wrong_here book (call ∷ calls) = wrong_alike (call_rules Second join_operations) setbook_rules
+      (record { book = book; due = call ∷ calls }) (InCalls book (call ∷ calls))
+      (λ words what. (λ h. h, λ h. h)) bytes what
 
-pub calls_goes : (due after : Progress) (text left : Unread)
-    → GoesTo (call_rules Second join_operations) due text after left
-    → GoesTo setbook_rules (in_calls due) text (in_calls after) left
-calls_goes =
-    goes_within (call_rules Second join_operations) setbook_rules in_calls calls_right calls_wrong
-
-pub calls_stop : (due : Progress) (text : Unread) (e : ReadFault)
-    → StopsFor (call_rules Second join_operations) due text e
-    → StopsFor setbook_rules (in_calls due) text e
-calls_stop =
-    stops_within (call_rules Second join_operations) setbook_rules in_calls calls_right calls_wrong
+pub calls_within : AreWithin (call_rules Second join_operations) setbook_rules in_calls
+calls_within = record { right = calls_right; wrong = calls_wrong }
 
 -- ---- the end
 

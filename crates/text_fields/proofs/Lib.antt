@@ -7,3 +7,4 @@ pub mod Readings
 pub mod Leading
 pub mod Heads
 pub mod Spelled
+pub mod Within

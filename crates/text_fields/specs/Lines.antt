@@ -45,3 +45,9 @@ line_at text = line_from text.number (cut_at 10 text.bytes)
 -- the words of a line: the parts into which each of its spaces cuts it
 abbrev pub words_of : List ℕ → List (List ℕ)
 words_of line = slice_split (λ b. b == 32) line
+
+-- what is written of each item with its number, in order, the first of these items having this
+-- number
+abbrev pub by_number : {X Y : Type 0} → (ℕ → X → List Y) → ℕ → List X → List Y
+by_number write i [] = []
+by_number write i (x ∷ xs) = write i x ++ by_number write (i + 1) xs

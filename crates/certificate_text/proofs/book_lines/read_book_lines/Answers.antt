@@ -3,12 +3,13 @@ use Rattle.std.proofs.lemmas.Result.{err_from_is_err_and}
 use Rattle.text_fields.specs.declared.version.Version.TheVariants.{Second}
 use Rattle.text_fields.specs.Head.{TitleDue, HeadRead}
 use Rattle.text_fields.proofs.Sharp.{goes_then, stops_later}
+use Rattle.text_fields.proofs.Within.{goes_within, fault_within, stops_within}
 use Rattle.book_text.specs.CallLines.{no_call_read}
 use Rattle.book_text.specs.BookRules.{InCalls}
 use Rattle.book_text.proofs.CallTexts.{stops_then}
 use Rattle.book_text.proofs.Lifts.{few_calls}
 use Rattle.certificate_text.specs.CertificateRules.{InBook, OrderDue, nothing_read, certificate_rules}
-use Rattle.certificate_text.proofs.BookParts.{in_head, head_goes, head_fault, calls_goes, calls_stop}
+use Rattle.certificate_text.proofs.BookParts.{in_head, head_within, calls_within}
 use Rattle.certificate_text.proofs.book_lines.read_book_lines.Goals as goal
 
 pub read_calls-requires : goal.read_calls-requires
@@ -20,8 +21,8 @@ read_calls-requires c = record {
 pub returns-in_err-head-clause-refused : goal.returns-in_err-head-clause-refused
 returns-in_err-head-clause-refused c =
     let p = err_from_is_err_and c.from_residual.result c.from_residual.ensures.1 in
-    rw (p.1, p.2)
-    (head_fault TitleDue c.args.lines.now c.in_err-head.field-0.0 c.in_err-head.ensures.refused)
+    rw (p.1, p.2) (fault_within head_within TitleDue c.args.lines.now c.in_err-head.field-0.0
+    c.in_err-head.ensures.refused)
 
 pub returns-in_err-book-clause-refused : goal.returns-in_err-book-clause-refused
 returns-in_err-book-clause-refused c =
@@ -29,12 +30,12 @@ returns-in_err-book-clause-refused c =
     err_from_is_err_and c.from_residual-in_err-book.result c.from_residual-in_err-book.ensures.1 in
     let kind = c.in_ok-head.head.kind in
     let calls = c.in_ok-head.head.calls in
-    let start = head_goes TitleDue
+    let start = goes_within head_within TitleDue
     (HeadRead kind calls) c.args.lines.now c.read_head.new.lines c.in_ok-head.ensures.found in
     rw (p.1, p.2) (stops_then certificate_rules nothing_read (in_head (HeadRead kind calls))
     c.args.lines.now c.read_head.new.lines c.in_err-book.field-0.0 start
-    (calls_stop kind (no_call_read calls) c.read_head.new.lines c.in_err-book.field-0.0
-    c.in_err-book.ensures.refused))
+    (stops_within (calls_within kind) (no_call_read calls) c.read_head.new.lines
+    c.in_err-book.field-0.0 c.in_err-book.ensures.refused))
 
 pub returns-in_err-read_book_end-clause-refused : goal.returns-in_err-read_book_end-clause-refused
 returns-in_err-read_book_end-clause-refused c =
@@ -42,10 +43,11 @@ returns-in_err-read_book_end-clause-refused c =
     c.from_residual-in_err-read_book_end.ensures.1 in
     let kind = c.in_ok-head.head.kind in
     let calls = c.in_ok-head.head.calls in
-    let start = head_goes TitleDue
+    let start = goes_within head_within TitleDue
     (HeadRead kind calls) c.args.lines.now c.read_head.new.lines c.in_ok-head.ensures.found in
-    let lines = calls_goes kind (no_call_read calls) (record { book = c.in_ok-book.book; due = [] })
-    c.read_head.new.lines c.read_calls.new.lines c.in_ok-book.ensures.found in
+    let lines = goes_within (calls_within kind) (no_call_read calls)
+    (record { book = c.in_ok-book.book; due = [] }) c.read_head.new.lines c.read_calls.new.lines
+    c.in_ok-book.ensures.found in
     let both = goes_then certificate_rules nothing_read (in_head (HeadRead kind calls))
     (InBook (InCalls kind c.in_ok-book.book [])) c.args.lines.now c.read_head.new.lines
     c.read_calls.new.lines start lines in
@@ -58,10 +60,11 @@ pub returns-clause-found : goal.returns-clause-found
 returns-clause-found c =
     let kind = c.in_ok-head.head.kind in
     let calls = c.in_ok-head.head.calls in
-    let start = head_goes TitleDue
+    let start = goes_within head_within TitleDue
     (HeadRead kind calls) c.args.lines.now c.read_head.new.lines c.in_ok-head.ensures.found in
-    let lines = calls_goes kind (no_call_read calls) (record { book = c.in_ok-book.book; due = [] })
-    c.read_head.new.lines c.read_calls.new.lines c.in_ok-book.ensures.found in
+    let lines = goes_within (calls_within kind) (no_call_read calls)
+    (record { book = c.in_ok-book.book; due = [] }) c.read_head.new.lines c.read_calls.new.lines
+    c.in_ok-book.ensures.found in
     let both = goes_then certificate_rules nothing_read (in_head (HeadRead kind calls))
     (InBook (InCalls kind c.in_ok-book.book [])) c.args.lines.now c.read_head.new.lines
     c.read_calls.new.lines start lines in

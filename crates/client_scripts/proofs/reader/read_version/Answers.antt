@@ -5,13 +5,14 @@ use Rattle.text_fields.specs.Lines.{Unread}
 use Rattle.text_fields.specs.Head.{TitleDue, head_rules}
 use Rattle.text_fields.specs.Faults.{IsFirstFault}
 use Rattle.text_fields.proofs.Sharp.{stops_later}
+use Rattle.text_fields.proofs.Within.{fault_within}
 use Rattle.book_text.specs.BookRules.{whole_text}
 use Rattle.book_text.specs.CallLines.{all_calls}
 use Rattle.book_text.proofs.CallTexts.{stops_then}
 use Rattle.client_scripts.specs.Plans.{Plan}
 use Rattle.client_scripts.specs.ScriptRules.{InHead, InBody, Turned, begin, script_rules, IsScriptText}
 use Rattle.client_scripts.specs.ScriptLayout.{plan_in, told}
-use Rattle.client_scripts.proofs.Readings.{head_fault, script_no_end}
+use Rattle.client_scripts.proofs.Readings.{head_within, script_no_end}
 use Rattle.client_scripts.proofs.Stages.{to_calls, to_stops, to_end, to_text}
 use Rattle.client_scripts.proofs.ReadTexts.{read_is_written, plan_of_both}
 use Rattle.client_scripts.proofs.WrittenTexts.{most_both}
@@ -31,8 +32,8 @@ returns-in_err-head-clause-refused c =
     let p = err_from_is_err_and c.from_residual.result c.from_residual.ensures.1 in
     let fault = subst (λ (t : Unread). IsFirstFault (head_rules c.args.version (codes "script"))
     TitleDue t c.in_err-head.field-0.0) c.new-lines.ensures c.in_err-head.ensures.refused in
-    rw (p.1, p.2)
-    (head_fault c.args.version TitleDue (whole_text c.args.bytes.now) c.in_err-head.field-0.0 fault)
+    rw (p.1, p.2) (fault_within (head_within c.args.version) TitleDue
+    (whole_text c.args.bytes.now) c.in_err-head.field-0.0 fault)
 
 pub returns-in_err-clients-clause-refused : goal.returns-in_err-clients-clause-refused
 returns-in_err-clients-clause-refused c =

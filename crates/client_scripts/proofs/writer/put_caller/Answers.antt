@@ -1,8 +1,8 @@
 use Rattle.std.proofs.Common.{ℕ, List, ◌++◌, get_or, ap, ◌∙◌, arith}
 use Rattle.std.proofs.lemmas.List.{take_all}
-use Rattle.text_fields.specs.Lines.{text_of}
+use Rattle.text_fields.specs.Lines.{text_of, by_number}
 use Rattle.client_scripts.specs.Plans.{operations_of}
-use Rattle.client_scripts.specs.Grammar.{by_number, call_line, call_words}
+use Rattle.client_scripts.specs.Grammar.{call_line, call_words}
 use Rattle.client_scripts.proofs.Written.{part_more, one_line}
 use Rattle.client_scripts.proofs.writer.put_caller.Goals as goal
 

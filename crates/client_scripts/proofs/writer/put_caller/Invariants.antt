@@ -1,7 +1,7 @@
 use Rattle.std.proofs.Common.{◌≡◌, ◌++◌, take}
-use Rattle.text_fields.specs.Lines.{text_of}
+use Rattle.text_fields.specs.Lines.{text_of, by_number}
 use Rattle.client_scripts.specs.Plans.{operations_of}
-use Rattle.client_scripts.specs.Grammar.{by_number, call_line}
+use Rattle.client_scripts.specs.Grammar.{call_line}
 use Rattle.client_scripts.proofs.writer.put_caller.Given as goal
 
 abbrev pub invariant-loop-number : goal.invariant-loop-number

@@ -1,7 +1,7 @@
 use Rattle.std.proofs.Common.{ℕ, List, ◌++◌, [], ap, ◌∙◌, arith}
 use Rattle.std.proofs.lemmas.List.{take_all}
-use Rattle.text_fields.specs.Lines.{text_of}
-use Rattle.client_scripts.specs.Grammar.{by_number, caller_lines}
+use Rattle.text_fields.specs.Lines.{text_of, by_number}
+use Rattle.client_scripts.specs.Grammar.{caller_lines}
 use Rattle.client_scripts.proofs.Written.{part_more}
 use Rattle.client_scripts.proofs.writer.put_calls.Goals as goal
 

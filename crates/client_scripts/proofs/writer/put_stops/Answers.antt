@@ -1,8 +1,8 @@
 use Rattle.std.proofs.Common.{ℕ, List, ◌++◌, Option, None, length, ◌≡◌, ap, ◌∙◌, arith}
 use Rattle.std.proofs.lemmas.List.{take_all, length-map}
-use Rattle.text_fields.specs.Lines.{text_of}
+use Rattle.text_fields.specs.Lines.{text_of, by_number}
 use Rattle.client_scripts.specs.Plans.{sizes}
-use Rattle.client_scripts.specs.Grammar.{by_number, stop_line}
+use Rattle.client_scripts.specs.Grammar.{stop_line}
 use Rattle.client_scripts.proofs.Groups.{length-stops}
 use Rattle.client_scripts.proofs.Written.{part_more}
 use Rattle.client_scripts.proofs.writer.put_stops.Goals as goal

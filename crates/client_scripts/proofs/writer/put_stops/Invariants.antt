@@ -1,6 +1,6 @@
 use Rattle.std.proofs.Common.{◌≡◌, ◌++◌, take}
-use Rattle.text_fields.specs.Lines.{text_of}
-use Rattle.client_scripts.specs.Grammar.{by_number, stop_line}
+use Rattle.text_fields.specs.Lines.{text_of, by_number}
+use Rattle.client_scripts.specs.Grammar.{stop_line}
 use Rattle.client_scripts.proofs.writer.put_stops.Given as goal
 
 abbrev pub invariant-loop-caller : goal.invariant-loop-caller

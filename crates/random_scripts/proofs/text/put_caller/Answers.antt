@@ -1,7 +1,7 @@
 use Rattle.std.proofs.Common.{◌≡◌, ℕ, ◌<◌, ◌^◌, ◌++◌, map, ap, subst, ◌∙◌, arith, append-nil, sym}
 use Rattle.std.specs.List.{AllByRecursion, range_with_len}
-use Rattle.text_fields.specs.Lines.{text_of}
-use Rattle.client_scripts.specs.Grammar.{by_number, call_line, call_words}
+use Rattle.text_fields.specs.Lines.{text_of, by_number}
+use Rattle.client_scripts.specs.Grammar.{call_line, call_words}
 use Rattle.client_scripts.proofs.Written.{one_line}
 use Rattle.random_scripts.specs.Drawn.{drawn_operation}
 use Rattle.random_scripts.proofs.Drawing.{lines_drawn, all_drawn}

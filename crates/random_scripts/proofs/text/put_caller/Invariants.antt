@@ -1,7 +1,7 @@
 use Rattle.std.proofs.Common.{◌≡◌, ◌++◌, ◌<◌, ◌^◌, map}
 use Rattle.std.specs.List.{AllByRecursion, range_with_len}
-use Rattle.text_fields.specs.Lines.{text_of}
-use Rattle.client_scripts.specs.Grammar.{by_number, call_line}
+use Rattle.text_fields.specs.Lines.{text_of, by_number}
+use Rattle.client_scripts.specs.Grammar.{call_line}
 use Rattle.random_scripts.specs.Drawn.{drawn_operation}
 use Rattle.random_scripts.proofs.text.put_caller.Given as goal
 

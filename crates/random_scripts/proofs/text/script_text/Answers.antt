@@ -2,10 +2,10 @@ use Rattle.std.proofs.Common.{◌≡◌, ℕ, ◌<◌, ◌^◌, List, ◌++◌, 
 use Rattle.std.specs.Prelude.{codes}
 use Rattle.std.specs.List.{AllByRecursion, range_with_len}
 use Rattle.text_fields.specs.declared.version.Version.TheVariants.{Second}
-use Rattle.text_fields.specs.Lines.{text_of}
+use Rattle.text_fields.specs.Lines.{text_of, by_number}
 use Rattle.text_fields.specs.Head.{head_lines}
 use Rattle.client_scripts.specs.Plans.{Plan, sizes}
-use Rattle.client_scripts.specs.Grammar.{by_number, caller_lines, IsWrittenText}
+use Rattle.client_scripts.specs.Grammar.{caller_lines, IsWrittenText}
 use Rattle.client_scripts.proofs.Written.{whole_written}
 use Rattle.client_scripts.proofs.WrittenTexts.{written_is_read}
 use Rattle.random_scripts.specs.Drawn.{drawn_operations, drawn_plan}

@@ -6,6 +6,7 @@ use Rattle.text_fields.specs.Lines.{Unread}
 use Rattle.text_fields.specs.Head.{TitleDue, head_rules}
 use Rattle.text_fields.specs.Faults.{IsFirstFault}
 use Rattle.text_fields.proofs.Sharp.{stops_later}
+use Rattle.text_fields.proofs.Within.{fault_within}
 use Rattle.book_text.specs.BookRules.{whole_text}
 use Rattle.book_text.specs.CallLines.{all_calls}
 use Rattle.book_text.proofs.CallTexts.{stops_then}
@@ -13,7 +14,7 @@ use Rattle.book_text.proofs.Lifts.{few_calls}
 use Rattle.reports.specs.ReportLayout.{lines_in}
 use Rattle.report_text.specs.ReportRules.{InHead, InLines, report_rules, IsReportText}
 use Rattle.report_text.specs.Parts.{joined}
-use Rattle.report_text.proofs.Readings.{head_fault, report_no_end}
+use Rattle.report_text.proofs.Readings.{head_within, report_no_end}
 use Rattle.report_text.proofs.Stages.{to_lines, to_end, to_text}
 use Rattle.report_text.proofs.ReadTexts.{read_is_written}
 use Rattle.report_text.proofs.reader.read_text.Goals as goal
@@ -26,7 +27,8 @@ returns-in_err-head-clause-refused c =
     let p = err_from_is_err_and c.from_residual.result c.from_residual.ensures.1 in
     let fault = subst (λ (t : Unread). IsFirstFault (head_rules Second (codes "report")) TitleDue t
     c.in_err-head.field-0.0) c.new-lines.ensures c.in_err-head.ensures.refused in
-    rw (p.1, p.2) (head_fault TitleDue (whole_text c.args.bytes.now) c.in_err-head.field-0.0 fault)
+    rw (p.1, p.2) (fault_within head_within TitleDue (whole_text c.args.bytes.now)
+    c.in_err-head.field-0.0 fault)
 
 pub returns-in_err-callers-clause-refused : goal.returns-in_err-callers-clause-refused
 returns-in_err-callers-clause-refused c =

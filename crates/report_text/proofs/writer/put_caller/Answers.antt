@@ -3,8 +3,7 @@ use Rattle.std.proofs.lemmas.List.{take_all}
 use Rattle.std.proofs.lemmas.Option.{get_or_from_slice_get}
 use Rattle.book_base.specs.declared.call.Call.{Call}
 use Rattle.seq_objects.specs.declared.kind.Kind.{Kind}
-use Rattle.text_fields.specs.Lines.{text_of, line_text}
-use Rattle.client_scripts.specs.Grammar.{by_number}
+use Rattle.text_fields.specs.Lines.{text_of, line_text, by_number}
 use Rattle.client_scripts.proofs.Written.{part_more, one_line}
 use Rattle.report_lines.specs.declared.line.Line.{Line}
 use Rattle.report_lines.specs.Lines.{lines_at}

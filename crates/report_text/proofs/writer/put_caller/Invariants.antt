@@ -1,6 +1,5 @@
 use Rattle.std.proofs.Common.{◌≡◌, ◌++◌, take}
-use Rattle.text_fields.specs.Lines.{text_of}
-use Rattle.client_scripts.specs.Grammar.{by_number}
+use Rattle.text_fields.specs.Lines.{text_of, by_number}
 use Rattle.report_lines.specs.Lines.{lines_at}
 use Rattle.reports.specs.Grammar.{call_line}
 use Rattle.report_text.proofs.writer.put_caller.Given as goal

@@ -1,7 +1,6 @@
 use Rattle.std.proofs.Common.{◌++◌, [], List, ap, ◌∙◌, arith}
 use Rattle.std.proofs.lemmas.List.{take_all}
-use Rattle.text_fields.specs.Lines.{text_of}
-use Rattle.client_scripts.specs.Grammar.{by_number}
+use Rattle.text_fields.specs.Lines.{text_of, by_number}
 use Rattle.client_scripts.proofs.Written.{part_more}
 use Rattle.report_lines.specs.declared.line.Line.{Line}
 use Rattle.reports.specs.Grammar.{caller_lines}

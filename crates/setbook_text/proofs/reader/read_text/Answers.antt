@@ -3,11 +3,12 @@ use Rattle.std.proofs.lemmas.Result.{err_from_is_err_and}
 use Rattle.text_fields.specs.Lines.{Unread}
 use Rattle.text_fields.specs.Faults.{GoesTo}
 use Rattle.text_fields.proofs.Sharp.{goes_then, stops_later}
+use Rattle.text_fields.proofs.Within.{goes_within, stops_within}
 use Rattle.book_text.specs.CallLines.{no_call_read}
 use Rattle.book_text.specs.BookRules.{whole_text}
 use Rattle.book_text.proofs.CallTexts.{stops_then}
 use Rattle.setbook_text.specs.SetBookRules.{TitleDue, InCalls, AtEnd, in_calls, setbook_rules}
-use Rattle.setbook_text.proofs.SharpSetBooks.{calls_goes, calls_stop, set_book_ends, set_book_no_end}
+use Rattle.setbook_text.proofs.SharpSetBooks.{calls_within, set_book_ends, set_book_no_end}
 use Rattle.setbook_text.proofs.SetHeads.{head_goes, head_stops}
 use Rattle.setbook_text.proofs.reader.read_text.Goals as goal
 
@@ -27,7 +28,7 @@ returns-in_err-book-clause-refused c =
     (head_goes calls c.new-lines.result c.read_head.new.lines c.in_ok-n.ensures.found) in
     rw (p.1, p.2) (stops_then setbook_rules TitleDue (in_calls (no_call_read calls))
     (whole_text c.args.bytes.now) c.read_head.new.lines c.in_err-book.field-0.0 start
-    (calls_stop (no_call_read calls) c.read_head.new.lines c.in_err-book.field-0.0
+    (stops_within calls_within (no_call_read calls) c.read_head.new.lines c.in_err-book.field-0.0
     c.in_err-book.ensures.refused))
 
 pub returns-in_err-read_end-clause-refused : goal.returns-in_err-read_end-clause-refused
@@ -38,8 +39,9 @@ returns-in_err-read_end-clause-refused c =
     let start = subst (λ (t : Unread). GoesTo setbook_rules TitleDue t
     (in_calls (no_call_read calls)) c.read_head.new.lines) c.new-lines.ensures
     (head_goes calls c.new-lines.result c.read_head.new.lines c.in_ok-n.ensures.found) in
-    let lines = calls_goes (no_call_read calls) (record { book = c.in_ok-book.book; due = [] })
-    c.read_head.new.lines c.read_calls.new.lines c.in_ok-book.ensures.found in
+    let lines = goes_within calls_within (no_call_read calls)
+    (record { book = c.in_ok-book.book; due = [] }) c.read_head.new.lines c.read_calls.new.lines
+    c.in_ok-book.ensures.found in
     let both =
     goes_then setbook_rules TitleDue (in_calls (no_call_read calls)) (InCalls c.in_ok-book.book [])
     (whole_text c.args.bytes.now) c.read_head.new.lines c.read_calls.new.lines start lines in
@@ -54,8 +56,9 @@ returns-clause-found c =
     let start = subst (λ (t : Unread). GoesTo setbook_rules TitleDue t
     (in_calls (no_call_read calls)) c.read_head.new.lines) c.new-lines.ensures
     (head_goes calls c.new-lines.result c.read_head.new.lines c.in_ok-n.ensures.found) in
-    let lines = calls_goes (no_call_read calls) (record { book = c.in_ok-book.book; due = [] })
-    c.read_head.new.lines c.read_calls.new.lines c.in_ok-book.ensures.found in
+    let lines = goes_within calls_within (no_call_read calls)
+    (record { book = c.in_ok-book.book; due = [] }) c.read_head.new.lines c.read_calls.new.lines
+    c.in_ok-book.ensures.found in
     let both =
     goes_then setbook_rules TitleDue (in_calls (no_call_read calls)) (InCalls c.in_ok-book.book [])
     (whole_text c.args.bytes.now) c.read_head.new.lines c.read_calls.new.lines start lines in
