@@ -1,13 +1,10 @@
 -- How far a caller comes with a whole call, and that what it has found only grows.
-use Rattle.std.proofs.Common.{◌≡◌, ℕ, ◌+◌, ◌*◌, List, [], ◌∷◌, ◌++◌, Option, Result, Ok, Err, IfOk, IfErr, ◌≤◌, refl, sym, ap, subst, ◌∙◌, arith}
+use Rattle.std.proofs.Common.{◌≡◌, ℕ, ◌+◌, ◌*◌, List, [], ◌∷◌, ◌++◌, Result, Ok, Err, IfOk, IfErr, ◌≤◌, refl, sym, ap, subst, ◌∙◌, arith}
 use Rattle.book_base.specs.declared.call.Record.{Record}
 use Rattle.world_core.specs.Local.{Local, Given}
-use Rattle.report_lines.specs.Phases.{progress_of}
+use Rattle.report_lines.specs.Phases.{Progress, progress_of}
 use Rattle.report_lines.specs.Progress.{after_announcing, after_viewing, after_publishing, after_seeing}
-use Rattle.row_gather.specs.declared.gathered.Gathered.{Gathered}
-use Rattle.row_gather.specs.Gathered.{IsGatheredBy}
 use Rattle.row_gather.specs.Peeks.{with_peeked, HasOnlyPeeked}
-use Rattle.row_gather.proofs.Kept.{gathered_by_stays}
 use Rattle.drv_wrapper.specs.Growth.{Grows}
 use Rattle.drv_wrapper.proofs.Growing.{grows_by, grows_on}
 use Rattle.enforcer.specs.Enforced.{after_call}
@@ -46,30 +43,29 @@ pub peeks_grow : (l m : Local) (before after : ℕ) → HasOnlyPeeked l m before
 peeks_grow l m before after h = subst (Grows l) (sym h.local)
     (grows_by l (with_peeked l h.more) [] h.more [] refl refl (unchanged l.cuts))
 
--- A call step by step: of a caller with the local l, that had viewed with v, published with p, seen
--- with s, and peeked with m.
-pub whole_call : (op : ℕ) (viewed r told : Record) (seen cut : List ℕ) (l v p s m : Local)
-    (before after : ℕ)
+-- How far a caller has come that had seen with the local s, and then peeked with m.
+pub whole_call : (op : ℕ) (r told : Record) (seen cut : List ℕ) (before : Progress) (s m : Local)
+    (from to : ℕ) → progress_of s ≡ after_call op r seen before → HasOnlyPeeked s m from to
+    → told ≡ r → cut ≡ seen → progress_of m ≡ after_call op told cut before
+whole_call op r told seen cut before s m from to called peeks tells saw =
+    peeks_leave s m from to peeks
+    ∙ called
+    ∙ (λ i. after_call op (sym tells i) (sym saw i) before)
+
+-- A call step by step: of a caller with the local l, that had viewed with v, published with p, and
+-- seen with s.
+pub called : (op : ℕ) (viewed r : Record) (seen : List ℕ) (l v p s : Local)
     → progress_of v ≡ after_viewing viewed (after_announcing op (progress_of l)) → progress_of p
     ≡ after_publishing (progress_of v) → progress_of s ≡ after_seeing seen (progress_of p)
-    → HasOnlyPeeked s m before after → viewed ≡ r → told ≡ r → cut ≡ seen
-    → progress_of m ≡ after_call op told cut (progress_of l)
-whole_call op viewed r told seen cut l v p s m before after views publishes sees peeks
-    same tells saw =
-    peeks_leave s m before after peeks
-    ∙ sees
+    → r ≡ viewed → progress_of s ≡ after_call op r seen (progress_of l)
+called op viewed r seen l v p s views publishes sees same =
+    sees
     ∙ ap (after_seeing seen) (publishes ∙ ap after_publishing (views ∙ ap
-    (λ (x : Record). after_viewing x (after_announcing op (progress_of l))) (same ∙ sym tells)))
-    ∙ ap (λ (x : List ℕ). after_call op told x (progress_of l)) (sym saw)
+    (λ (x : Record). after_viewing x (after_announcing op (progress_of l))) (sym same)))
 
-pub grows_through : (l v p s m : Local) (before after : ℕ) → Grows l v → Grows v p → Grows p s
-    → HasOnlyPeeked s m before after → Grows l m
-grows_through l v p s m before after one two three peeks = grows_on l v m one
-    (grows_on v p m two (grows_on p s m three (peeks_grow s m before after peeks)))
-
--- the counter never falls through four parts of a call
-pub ticks_through : (a b c d e : ℕ) → a ≤ b → b ≤ c → c ≤ d → d ≤ e → a ≤ e
-ticks_through a b c d e one two three four = omega (arith, one, two, three, four)
+pub grows_peeking : (l s m : Local) (before after : ℕ) → Grows l s → HasOnlyPeeked s m before after
+    → Grows l m
+grows_peeking l s m before after grows peeks = grows_on l s m grows (peeks_grow s m before after peeks)
 
 -- four scans, two of the first part and one of each of the next two, tick together at most four
 -- times as often as one may
@@ -77,9 +73,3 @@ pub ticks_of_scans : (m a b c d : ℕ) → (a ≤ b) × (b ≤ a + (m + m)) → 
     × (d ≤ c + m) → (a ≤ d) × (d ≤ a + 4 * m)
 ticks_of_scans m a b c d two one more =
     (omega (arith, two.0, one.0, more.0), omega (arith, two.1, one.1, more.1))
-
--- what a caller has gathered stays so through the parts of a call that come before the judgement
-pub gathered_through : (l v p s : Local) (gathered : Option Gathered) → Grows l v → Grows v p
-    → Grows p s → IsGatheredBy l gathered → IsGatheredBy s gathered
-gathered_through l v p s gathered one two three =
-    gathered_by_stays l s gathered (grows_on l v s one (grows_on v p s two three)).peeked

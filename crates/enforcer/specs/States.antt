@@ -1,5 +1,6 @@
 -- The callers inside the states of a call after its publication, and what these states tell.
 use Rattle.std.specs.Prelude.{ℕ, List}
+use Rattle.book_base.specs.declared.call.Record.{Record}
 use Rattle.row_table.specs.declared.caller.Caller.{Caller}
 use Rattle.enforcer.specs.declared.published_call.Published.{Published}
 use Rattle.enforcer.specs.declared.seen_call.Seen.{Seen}
@@ -27,3 +28,7 @@ module _ {P : Type 0} where
 
   abbrev pub cut_seen : Seen P → List ℕ
   cut_seen s = s.cut
+
+  -- The record of the seen call.
+  abbrev pub record_seen : Seen P → Record
+  record_seen s = record { reply = s.reply; view = s.view }

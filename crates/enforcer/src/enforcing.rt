@@ -11,12 +11,11 @@ ghost use Rattle.enforcer.specs.Judged.{record_in, cut_in, stance_after, AreWide
 ghost use Rattle.enforcer.specs.Kept.{IsKeptAfterOutcome};
 ghost use Rattle.enforcer.specs.Enforced.{after_call, record_unjudged, reply_of, TicksForWholeCall};
 
+use crate::calling::call_and_see;
 use crate::judging::judge;
 use crate::outcome::{Outcome, Unjudged};
-use crate::publishing::publish;
-use crate::seeing::seen;
 use book_base::{OpWord, SeqObject};
-use drv_wrapper::{BlackBox, apply};
+use drv_wrapper::BlackBox;
 use frontier_check::Guide;
 use row_gather::Gathered;
 use row_table::{Caller, Rows, Steps};
@@ -257,8 +256,6 @@ pub fn enforce<S: SeqObject, B: BlackBox, L: Ledger>(
     // The counter of steps has not fallen.
     ensures ticks { steps.old ≤ steps.new }
 {
-    let viewed = apply(caller, rows, op, object, pass, steps);
-    let published = publish(viewed, rows, steps);
-    let seen = seen(published, rows, steps);
+    let seen = call_and_see(caller, rows, op, object, pass, steps);
     judge(alloc, sequential, rows, seen, gathered, guide, steps)
 }

@@ -12,13 +12,12 @@ ghost use Rattle.enforcer.specs.Enforced.{after_call, record_unjudged};
 ghost use Rattle.enforcer.specs.Lines.{StandsIn};
 ghost use Rattle.enforcer.specs.After.{record_judged, cut_judged, stance_judged, reply_after, IsOutcome, IsKeptAfter, TicksForCallAfter};
 
+use crate::calling::call_and_see;
 use crate::judged::Judged;
 use crate::judging_after::judge_after;
 use crate::outcome::Unjudged;
-use crate::publishing::publish;
-use crate::seeing::seen;
 use book_base::{OpWord, SeqObject};
-use drv_wrapper::{BlackBox, apply};
+use drv_wrapper::BlackBox;
 use frontier_check::KeptOrder;
 use row_gather::Gathered;
 use row_table::{Caller, Rows, Steps};
@@ -149,8 +148,6 @@ pub fn enforce_after<S: SeqObject, B: BlackBox, L: Ledger>(
     // The counter of steps has not fallen.
     ensures ticks { steps.old ≤ steps.new }
 {
-    let viewed = apply(caller, rows, op, object, pass, steps);
-    let published = publish(viewed, rows, steps);
-    let seen = seen(published, rows, steps);
+    let seen = call_and_see(caller, rows, op, object, pass, steps);
     judge_after(alloc, sequential, rows, seen, gathered, standing, steps)
 }

@@ -2,6 +2,7 @@
 //! book at it judged.
 #![tactic(auto)]
 
+mod calling;
 mod enforcing;
 mod enforcing_after;
 mod judged;

@@ -1,135 +1,101 @@
-use Rattle.std.proofs.Common.{◌≡◌, length, sym, ap, ◌∙◌}
+use Rattle.std.proofs.Common.{◌≡◌, length, ap, ◌∙◌}
 use Rattle.book_base.specs.declared.call.Record.{Record}
 use Rattle.row_table.specs.Callers.{local_with}
 use Rattle.report_lines.specs.Phases.{progress_of}
-use Rattle.collect_scan.specs.Scanned.{most_words}
 use Rattle.row_gather.specs.Peeks.{HasOnlyPeeked}
+use Rattle.row_gather.proofs.Kept.{gathered_by_stays}
 use Rattle.drv_wrapper.specs.Growth.{Grows}
 use Rattle.enforcer.specs.Judged.{record_in, cut_in}
 use Rattle.enforcer.specs.Kept.{TicksForNewAfter}
 use Rattle.enforcer.specs.Enforced.{after_call, record_unjudged, TicksForWholeCall}
-use Rattle.enforcer.proofs.WholeCalls.{ok_by, err_by, ok_from, err_from, whole_call, grows_through, ticks_through, ticks_of_scans, gathered_through}
+use Rattle.enforcer.proofs.WholeCalls.{ok_by, err_by, ok_from, err_from, whole_call, grows_peeking}
 use Rattle.enforcer.proofs.enforcing.enforce.Goals as goal
 
 pub returns-clause-grows : goal.returns-clause-grows
 returns-clause-grows g c =
-    ok_from c.judge.result (λ r. HasOnlyPeeked (local_with c.seen-seen.result.caller)
-    (local_with r.0) c.seen-seen.new.steps c.judge.new.steps)
+    let s = local_with c.call_and_see-seen.result.caller in
+    ok_from c.judge.result
+    (λ r. HasOnlyPeeked s (local_with r.0) c.call_and_see-seen.new.steps c.judge.new.steps)
     (λ r. Grows (local_with c.args.caller) (local_with r.0))
-    (λ r peeks. grows_through (local_with c.args.caller) (local_with c.apply-viewed.result.caller)
-    (local_with c.publish-published.result.caller) (local_with c.seen-seen.result.caller)
-    (local_with r.0)
-    c.seen-seen.new.steps c.judge.new.steps c.apply-viewed.ensures.grows
-    c.publish-published.ensures.grows c.seen-seen.ensures.grows peeks)
+    (λ r peeks. grows_peeking (local_with c.args.caller) s (local_with r.0)
+    c.call_and_see-seen.new.steps c.judge.new.steps c.call_and_see-seen.ensures.grows peeks)
     c.judge.ensures.peeks
 
 pub returns-clause-unjudged_grows : goal.returns-clause-unjudged_grows
 returns-clause-unjudged_grows g c =
-    err_from c.judge.result (λ u. HasOnlyPeeked (local_with c.seen-seen.result.caller)
-    (local_with u.caller) c.seen-seen.new.steps c.judge.new.steps)
+    let s = local_with c.call_and_see-seen.result.caller in
+    err_from c.judge.result
+    (λ u. HasOnlyPeeked s (local_with u.caller) c.call_and_see-seen.new.steps c.judge.new.steps)
     (λ u. Grows (local_with c.args.caller) (local_with u.caller))
-    (λ u peeks. grows_through (local_with c.args.caller) (local_with c.apply-viewed.result.caller)
-    (local_with c.publish-published.result.caller) (local_with c.seen-seen.result.caller)
-    (local_with u.caller) c.seen-seen.new.steps c.judge.new.steps c.apply-viewed.ensures.grows
-    c.publish-published.ensures.grows c.seen-seen.ensures.grows peeks)
+    (λ u peeks. grows_peeking (local_with c.args.caller) s (local_with u.caller)
+    c.call_and_see-seen.new.steps c.judge.new.steps c.call_and_see-seen.ensures.grows peeks)
     c.judge.ensures.unjudged_peeks
 
 pub returns-clause-progress : goal.returns-clause-progress
 returns-clause-progress g c =
-    let viewed : Record =
-    record { reply = c.apply-viewed.result.reply; view = c.apply-viewed.result.view } in
-    let r : Record = record { reply = c.seen-seen.result.reply; view = c.seen-seen.result.view } in
-    let replies = sym (c.seen-seen.ensures.record.0 ∙ c.publish-published.ensures.record.0) in
-    let views = sym (c.seen-seen.ensures.record.1 ∙ c.publish-published.ensures.record.1) in
-    ok_by c.judge.result (λ x. HasOnlyPeeked (local_with c.seen-seen.result.caller)
-    (local_with x.0) c.seen-seen.new.steps c.judge.new.steps) (λ x. record_in x.1 ≡ r)
-    (λ x. cut_in x.1 ≡ c.seen-seen.result.cut) (λ x. progress_of (local_with x.0)
-    ≡ after_call c.args.op (record_in x.1) (cut_in x.1) (progress_of (local_with c.args.caller)))
-    (λ x peeks record_is cut_is.
-    whole_call c.args.op viewed r (record_in x.1) c.seen-seen.result.cut (cut_in x.1)
-    (local_with c.args.caller) (local_with c.apply-viewed.result.caller)
-    (local_with c.publish-published.result.caller) (local_with c.seen-seen.result.caller)
-    (local_with x.0) c.seen-seen.new.steps c.judge.new.steps c.apply-viewed.ensures.progress
-    c.publish-published.ensures.progress c.seen-seen.ensures.progress peeks
-    (λ i. record { reply = replies i; view = views i }) record_is cut_is)
+    let seen = c.call_and_see-seen.result in
+    let r : Record = record { reply = seen.reply; view = seen.view } in
+    let before = progress_of (local_with c.args.caller) in
+    ok_by c.judge.result (λ x. HasOnlyPeeked (local_with seen.caller) (local_with x.0)
+    c.call_and_see-seen.new.steps c.judge.new.steps) (λ x. record_in x.1 ≡ r)
+    (λ x. cut_in x.1 ≡ seen.cut) (λ x. progress_of (local_with x.0)
+    ≡ after_call c.args.op (record_in x.1) (cut_in x.1) before)
+    (λ x peeks tells saw. whole_call c.args.op r (record_in x.1) seen.cut (cut_in x.1) before
+    (local_with seen.caller) (local_with x.0) c.call_and_see-seen.new.steps c.judge.new.steps
+    c.call_and_see-seen.ensures.progress peeks tells saw)
     c.judge.ensures.peeks c.judge.ensures.record c.judge.ensures.cut
 
 pub returns-clause-unjudged_progress : goal.returns-clause-unjudged_progress
 returns-clause-unjudged_progress g c =
-    let viewed : Record =
-    record { reply = c.apply-viewed.result.reply; view = c.apply-viewed.result.view } in
-    let r : Record = record { reply = c.seen-seen.result.reply; view = c.seen-seen.result.view } in
-    let replies = sym (c.seen-seen.ensures.record.0 ∙ c.publish-published.ensures.record.0) in
-    let views = sym (c.seen-seen.ensures.record.1 ∙ c.publish-published.ensures.record.1) in
-    err_by c.judge.result (λ u. HasOnlyPeeked (local_with c.seen-seen.result.caller)
-    (local_with u.caller) c.seen-seen.new.steps c.judge.new.steps)
-    (λ u. (u.reply ≡ c.seen-seen.result.reply) × (u.view ≡ c.seen-seen.result.view)
-    × (u.seen ≡ c.seen-seen.result.cut))
-    (λ u. progress_of (local_with u.caller)
-    ≡ after_call c.args.op (record_unjudged u) u.seen (progress_of (local_with c.args.caller)))
-    (λ u peeks tells. whole_call c.args.op viewed r (record_unjudged u) c.seen-seen.result.cut
-    u.seen (local_with c.args.caller) (local_with c.apply-viewed.result.caller)
-    (local_with c.publish-published.result.caller) (local_with c.seen-seen.result.caller)
-    (local_with u.caller) c.seen-seen.new.steps c.judge.new.steps c.apply-viewed.ensures.progress
-    c.publish-published.ensures.progress c.seen-seen.ensures.progress peeks
-    (λ i. record { reply = replies i; view = views i })
+    let seen = c.call_and_see-seen.result in
+    let r : Record = record { reply = seen.reply; view = seen.view } in
+    let before = progress_of (local_with c.args.caller) in
+    err_by c.judge.result (λ u. HasOnlyPeeked (local_with seen.caller) (local_with u.caller)
+    c.call_and_see-seen.new.steps c.judge.new.steps)
+    (λ u. (u.reply ≡ seen.reply) × (u.view ≡ seen.view) × (u.seen ≡ seen.cut))
+    (λ u. progress_of (local_with u.caller) ≡ after_call c.args.op (record_unjudged u) u.seen before)
+    (λ u peeks tells. whole_call c.args.op r (record_unjudged u) seen.cut u.seen before
+    (local_with seen.caller) (local_with u.caller) c.call_and_see-seen.new.steps c.judge.new.steps
+    c.call_and_see-seen.ensures.progress peeks
     (λ i. record { reply = tells.0 i; view = tells.1 i }) tells.2)
     c.judge.ensures.unjudged_peeks c.judge.ensures.unjudged_record
 
 pub returns-clause-wide : goal.returns-clause-wide
 returns-clause-wide g c =
     let n = c.args.rows.now.callers in
-    let view : length c.seen-seen.result.view ≡ n =
-    ap length (c.seen-seen.ensures.record.1 ∙ c.publish-published.ensures.record.1)
-    ∙ c.apply-viewed.ensures.wide in
-    ok_by c.judge.result (λ x.
-    record_in x.1 ≡ record { reply = c.seen-seen.result.reply; view = c.seen-seen.result.view })
-    (λ x. cut_in x.1 ≡ c.seen-seen.result.cut)
-    (λ x. cut_in x.1 ≡ c.seen-seen.result.cut)
+    let seen = c.call_and_see-seen.result in
+    let wide = c.call_and_see-seen.ensures.wide in
+    ok_by c.judge.result (λ x. record_in x.1 ≡ record { reply = seen.reply; view = seen.view })
+    (λ x. cut_in x.1 ≡ seen.cut) (λ x. cut_in x.1 ≡ seen.cut)
     (λ x. (length (record_in x.1).view ≡ n) × (length (cut_in x.1) ≡ n))
-    (λ x record_is cut_is again. (
-      ap (λ (r : Record). length r.view) record_is ∙ view,
-      ap length cut_is ∙ c.seen-seen.ensures.wide,
-    ))
+    (λ x tells saw again.
+    (ap (λ (r : Record). length r.view) tells ∙ wide.0, ap length saw ∙ wide.1))
     c.judge.ensures.record c.judge.ensures.cut c.judge.ensures.cut
 
 pub returns-clause-unjudged_wide : goal.returns-clause-unjudged_wide
 returns-clause-unjudged_wide g c =
     let n = c.args.rows.now.callers in
-    let view : length c.seen-seen.result.view ≡ n =
-    ap length (c.seen-seen.ensures.record.1 ∙ c.publish-published.ensures.record.1)
-    ∙ c.apply-viewed.ensures.wide in
-    err_from c.judge.result (λ u. (u.reply ≡ c.seen-seen.result.reply)
-    × (u.view ≡ c.seen-seen.result.view) × (u.seen ≡ c.seen-seen.result.cut))
+    let seen = c.call_and_see-seen.result in
+    let wide = c.call_and_see-seen.ensures.wide in
+    err_from c.judge.result
+    (λ u. (u.reply ≡ seen.reply) × (u.view ≡ seen.view) × (u.seen ≡ seen.cut))
     (λ u. (length u.view ≡ n) × (length u.seen ≡ n))
-    (λ u tells. (ap length tells.1 ∙ view, ap length tells.2 ∙ c.seen-seen.ensures.wide))
+    (λ u tells. (ap length tells.1 ∙ wide.0, ap length tells.2 ∙ wide.1))
     c.judge.ensures.unjudged_record
-
-pub returns-clause-ticks : goal.returns-clause-ticks
-returns-clause-ticks g c =
-    ticks_through c.args.steps.now c.apply-viewed.new.steps c.publish-published.new.steps
-    c.seen-seen.new.steps c.judge.new.steps
-    c.apply-viewed.ensures.ticks.0 c.publish-published.ensures.ticks.0 c.seen-seen.ensures.ticks.0
-    c.judge.ensures.ticks
 
 pub judge-requires-clause-gathered : goal.judge-requires-clause-gathered
 judge-requires-clause-gathered g c =
-    gathered_through (local_with c.args.caller) (local_with c.apply-viewed.result.caller)
-    (local_with c.publish-published.result.caller) (local_with c.seen-seen.result.caller)
-    c.args.gathered.now c.apply-viewed.ensures.grows c.publish-published.ensures.grows
-    c.seen-seen.ensures.grows c.requires.gathered
+    gathered_by_stays (local_with c.args.caller) (local_with c.call_and_see-seen.result.caller)
+    c.args.gathered.now c.call_and_see-seen.ensures.grows.peeked c.requires.gathered
 
 pub returns-clause-new_words : goal.returns-clause-new_words
 returns-clause-new_words g c =
     let n = c.args.rows.now.callers in
-    let before = c.args.steps.now in
-    let scanned = c.seen-seen.new.steps in
-    let after = c.judge.new.steps in
-    let few = ticks_of_scans
-    (most_words n) before c.apply-viewed.new.steps c.publish-published.new.steps scanned
-    c.apply-viewed.ensures.ticks c.publish-published.ensures.ticks c.seen-seen.ensures.ticks in
+    let scanned = c.call_and_see-seen.new.steps in
+    let few = c.call_and_see-seen.ensures.ticks in
     ok_from c.judge.result
-    (λ r. TicksForNewAfter n c.args.gathered.now r.1 c.judge.new.gathered scanned after)
-    (λ r. TicksForWholeCall n c.args.gathered.now r.1 c.judge.new.gathered before after)
+    (λ r. TicksForNewAfter n c.args.gathered.now r.1 c.judge.new.gathered scanned c.judge.new.steps)
+    (λ r. TicksForWholeCall n c.args.gathered.now r.1 c.judge.new.gathered c.args.steps.now
+    c.judge.new.steps)
     (λ r new_words. (scanned, few.0, few.1, new_words))
     c.judge.ensures.new_words

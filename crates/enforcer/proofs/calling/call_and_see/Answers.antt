@@ -1,0 +1,42 @@
+use Rattle.std.proofs.Common.{length, ap, ◌∙◌}
+use Rattle.book_base.specs.declared.call.Record.{Record}
+use Rattle.row_table.specs.Callers.{local_with}
+use Rattle.collect_scan.specs.Scanned.{most_words}
+use Rattle.drv_wrapper.proofs.Growing.{grows_on}
+use Rattle.enforcer.proofs.WholeCalls.{called, ticks_of_scans}
+use Rattle.enforcer.proofs.calling.call_and_see.Goals as goal
+
+pub returns-clause-progress : goal.returns-clause-progress
+returns-clause-progress g c =
+    let viewed : Record =
+    record { reply = c.apply-viewed.result.reply; view = c.apply-viewed.result.view } in
+    let r : Record = record { reply = c.seen.result.reply; view = c.seen.result.view } in
+    let replies = c.seen.ensures.record.0 ∙ c.publish-published.ensures.record.0 in
+    let views = c.seen.ensures.record.1 ∙ c.publish-published.ensures.record.1 in
+    called c.args.op viewed r c.seen.result.cut (local_with c.args.caller)
+    (local_with c.apply-viewed.result.caller) (local_with c.publish-published.result.caller)
+    (local_with c.seen.result.caller) c.apply-viewed.ensures.progress
+    c.publish-published.ensures.progress c.seen.ensures.progress
+    (λ i. record { reply = replies i; view = views i })
+
+pub returns-clause-wide : goal.returns-clause-wide
+returns-clause-wide g c = (
+  ap length (c.seen.ensures.record.1 ∙ c.publish-published.ensures.record.1)
+      ∙ c.apply-viewed.ensures.wide,
+  c.seen.ensures.wide,
+)
+
+pub returns-clause-grows : goal.returns-clause-grows
+returns-clause-grows g c =
+    let l = local_with c.args.caller in
+    let v = local_with c.apply-viewed.result.caller in
+    let p = local_with c.publish-published.result.caller in
+    let s = local_with c.seen.result.caller in
+    grows_on l v s c.apply-viewed.ensures.grows
+    (grows_on v p s c.publish-published.ensures.grows c.seen.ensures.grows)
+
+pub returns-clause-ticks : goal.returns-clause-ticks
+returns-clause-ticks g c =
+    ticks_of_scans (most_words c.args.rows.now.callers) c.args.steps.now c.apply-viewed.new.steps
+    c.publish-published.new.steps c.seen.new.steps c.apply-viewed.ensures.ticks
+    c.publish-published.ensures.ticks c.seen.ensures.ticks

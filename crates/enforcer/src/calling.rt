@@ -1,0 +1,56 @@
+ghost use Rattle.std.specs.Prelude.{◌≡◌, ◌+◌, ◌*◌, ◌<◌, ◌≤◌};
+ghost use Rattle.world_core.specs.Local.{IsIdle};
+ghost use Rattle.report_lines.specs.Phases.{progress_of};
+ghost use Rattle.row_table.specs.Callers.{who_of, local_with, stance_of, IsCallerOf, IsStill};
+ghost use Rattle.collect_scan.specs.Scanned.{most_words};
+ghost use Rattle.drv_wrapper.specs.Growth.{Grows};
+ghost use Rattle.drv_wrapper.specs.Stands.{ready};
+ghost use Rattle.drv_wrapper.specs.Telling.{told_after};
+ghost use Rattle.enforcer.specs.Judged.{AreWide};
+ghost use Rattle.enforcer.specs.States.{caller_seen, reply_seen, view_seen, cut_seen, record_seen};
+ghost use Rattle.enforcer.specs.Enforced.{after_call};
+
+use crate::publishing::publish;
+use crate::seeing::seen;
+use crate::seen_call::Seen;
+use book_base::OpWord;
+use drv_wrapper::{BlackBox, apply};
+use row_table::{Caller, Rows, Steps};
+use std::sync::ledger::Ledger;
+use world_core::{Outside, Program};
+
+/// Makes one call up to its seen cut: the call is announced, the object asked, the view taken and
+/// the record published; then the cut of what is published is seen. It ticks at most as often as
+/// four scans.
+pub fn call_and_see<B: BlackBox, L: Ledger>(
+    caller: Caller,
+    rows: &Rows,
+    op: OpWord,
+    object: &B,
+    pass: &mut B::Pass,
+    steps: &mut Steps<L>,
+) -> Seen
+    requires rows { IsCallerOf ⟦<Outside as Program>⟧.meaning rows.now caller }
+    requires idle { IsIdle (local_with caller) }
+    requires row { (local_with caller).announced < rows.now.cap }
+    requires stance { stance_of caller ≡ ready }
+    requires own { B.is_own object.now pass.old }
+    requires pass { B.Pass.caller pass.old ≡ who_of caller }
+    requires left { B.Pass.made pass.old < B.Pass.cap pass.old }
+    ensures caller { IsStill ⟦<Outside as Program>⟧.meaning rows.now caller (caller_seen result) }
+    ensures progress { progress_of (local_with (caller_seen result)) ≡ after_call op
+        (record_seen result) (cut_seen result) (progress_of (local_with caller)) }
+    ensures wide { AreWide rows.now.callers (view_seen result) (cut_seen result) }
+    ensures grows { Grows (local_with caller) (local_with (caller_seen result)) }
+    ensures own { B.is_own object.now pass.new }
+    ensures made { B.Pass.made pass.new ≡ B.Pass.made pass.old + 1 }
+    ensures same { (B.Pass.caller pass.new ≡ B.Pass.caller pass.old)
+        × (B.Pass.cap pass.new ≡ B.Pass.cap pass.old) }
+    ensures told { B.Pass.told pass.new ≡ told_after op (reply_seen result) (B.Pass.told pass.old) }
+    ensures ticks { (steps.old ≤ steps.new)
+        × (steps.new ≤ steps.old + 4 * most_words rows.now.callers) }
+{
+    let viewed = apply(caller, rows, op, object, pass, steps);
+    let published = publish(viewed, rows, steps);
+    seen(published, rows, steps)
+}
