@@ -1,1 +1,2 @@
 pub mod Caught
+pub mod Words

@@ -1,5 +1,6 @@
 //! What the `main` of a crate with an object of one's own hands everything to.
 
+ghost use Rattle.std.specs.Prelude.{None};
 ghost use Rattle.random_scripts.specs.Drawn.{IsWorkload};
 
 use crate::hunting::hunt_and_write;
@@ -28,6 +29,8 @@ struct RunCount {
 }
 
 impl Watch for RunCount {
+    ghost heard = { λ _. None };
+
     fn ran(&mut self, seed: u64, _counts: Counts) {
         self.runs = self.runs.saturating_add(1);
         self.seed = seed;

@@ -1,3 +1,9 @@
+//! What is to be shown of a catch.
+
+ghost use Rattle.std.specs.Prelude.{◌≡◌, ◌≢◌, map, string_bytes, IfSome, IfNone};
+ghost use Rattle.hunt_program.specs.declared.shown.Shown.{Shown as TheShown};
+ghost use Rattle.hunt_program.specs.Words.{words_of};
+
 /// What is written of a catch.
 #[derive(Clone, Copy, Debug, PartialEq, Eq)]
 pub enum Shown {
@@ -11,7 +17,13 @@ pub enum Shown {
 
 impl Shown {
     /// What the words of a program ask for: the smaller book where there is none.
-    pub(crate) fn from_words(words: &[String]) -> Option<Shown> {
+    pub(crate) fn from_words(words: &[String]) -> Option<Shown>
+        // The words are those that ask for what is answered.
+        ensures shown { IfSome result (λ shown. map string_bytes words.now ≡ words_of shown) }
+        // Where nothing is answered, the words ask for nothing that there is.
+        ensures none { IfNone result ((shown : TheShown)
+            → map string_bytes words.now ≢ words_of shown) }
+    {
         match words {
             [] => Some(Shown::Smaller),
             [word] if word.as_str() == "report" => Some(Shown::Report),

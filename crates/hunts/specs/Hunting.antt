@@ -1,6 +1,5 @@
 -- What a hunt says of the runs that it made.
-use Rattle.std.specs.Prelude.{◌≡◌, ℕ, ◌+◌, ◌<◌, ◌≤◌, ◌%◌, ◌^◌, List, length, Option, IfSome, IfNone}
-use Rattle.book_base.specs.Book.{Page}
+use Rattle.std.specs.Prelude.{zero, suc, ◌≡◌, ℕ, ◌+◌, ◌<◌, ◌≤◌, ◌%◌, ◌^◌, List, [], ◌∷◌, ◌++◌, length, Option, IfSome, IfNone}
 use Rattle.book_base.specs.Order.{HasLegalOrder}
 use Rattle.seq_objects.specs.Objects.{kind_init, kind_next}
 use Rattle.report_lines.specs.Lawful.{IsLawful}
@@ -14,6 +13,15 @@ use Rattle.run_report.specs.Reporting.{outside_shape, IsToldIn}
 use Rattle.hunts.specs.declared.trial.Catch.{Catch}
 use Rattle.hunts.specs.declared.runs.Settings.{Settings}
 use Rattle.hunts.specs.declared.runs.Hunted.{Hunted}
+
+-- The seed of a run of a hunt.
+abbrev pub seed_at : Settings → ℕ → ℕ
+seed_at settings number = (settings.seed + number) % 2 ^ 64
+
+-- the seeds of this many runs of a hunt, in order
+abbrev pub first_seeds : Settings → ℕ → List ℕ
+first_seeds settings zero = []
+first_seeds settings (suc number) = first_seeds settings number ++ seed_at settings number ∷ []
 
 module _ {T : Type 0} (made : T → ℕ) (told : T → Option (List (ℕ × ℕ))) where
   -- A run was made of this plan over an object outside the world, and reports these findings: they
@@ -44,10 +52,6 @@ module _ {T : Type 0} (made : T → ℕ) (told : T → Option (List (ℕ × ℕ)
     pub ran : IsMade catch.script catch.report
     pub witness : IsWitness catch.report.lines catch.witness
     pub no_order : ¬ HasLegalOrder (kind_init w.kind) (kind_next w.kind) catch.witness
-
-  -- The seed of a run of a hunt.
-  abbrev pub seed_at : Settings → ℕ → ℕ
-  seed_at settings number = (settings.seed + number) % 2 ^ 64
 
   -- All runs of a hunt before this one were made, and were quiet.
   abbrev pub AreQuietBefore : Settings → ℕ → Type 0

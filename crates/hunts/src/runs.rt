@@ -2,7 +2,8 @@
 
 ghost use Rattle.std.specs.Prelude.{◌≤◌, IfOk};
 ghost use Rattle.random_scripts.specs.Drawn.{IsWorkload};
-ghost use Rattle.hunts.specs.Hunting.{IsHunted};
+ghost use Rattle.hunts.specs.Hunting.{first_seeds, IsHunted};
+ghost use Rattle.hunts.specs.Watching.{Hears};
 
 use crate::maker::Maker;
 use crate::noise::Loudness;
@@ -57,7 +58,11 @@ where
     requires { IsWorkload settings.now.workload }
     // What a hunt ends with is caught by its last run, after quiet ones; or all its runs were made,
     // and were quiet.
-    ensures { IfOk result (λ hunted. IsHunted B.Pass.made B.Pass.told settings.now hunted) }
+    ensures hunted { IfOk result (λ hunted.
+        IsHunted B.Pass.made B.Pass.told settings.now hunted) }
+    // Whoever looks on was told of each run that was made, in order.
+    ensures heard { IfOk result (λ hunted.
+        Hears (W.heard watch.old) (first_seeds settings.now hunted.runs) (W.heard watch.new)) }
 {
     for number in 0..settings.runs {
         let seed = settings.seed.wrapping_add(number);

@@ -1,8 +1,9 @@
 //! A run of the script of a seed, and what it shows.
 
-ghost use Rattle.std.specs.Prelude.{IfOk, IfSome, IfNone};
+ghost use Rattle.std.specs.Prelude.{IfOk, IfSome, IfNone, OnOk, [], ◌∷◌};
 ghost use Rattle.random_scripts.specs.Drawn.{IsWorkload, drawn_plan};
 ghost use Rattle.hunts.specs.Hunting.{IsCaught, IsQuiet};
+ghost use Rattle.hunts.specs.Watching.{Hears};
 
 use crate::maker::Maker;
 use crate::noise::{Loudness, Noise};
@@ -46,6 +47,7 @@ where
         (IsCaught B.Pass.made B.Pass.told workload.now seed)) }
     ensures quiet { IfOk result (λ found. IfNone found
         (IsQuiet B.Pass.made B.Pass.told workload.now seed)) }
+    ensures heard { OnOk result (Hears (W.heard watch.old) (seed ∷ []) (W.heard watch.new)) }
 {
     let script = random_script(alloc, workload, seed)?;
     let within = Noise::new(seed, loudness);

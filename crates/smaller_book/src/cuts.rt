@@ -1,5 +1,5 @@
 //! The book at the earliest cuts at which it has no legal order.
-ghost use Rattle.std.specs.Prelude.{◌≡◌, ◌<◌, ◌≤◌, length, slice_index, slice_set, IfOk, IfSome};
+ghost use Rattle.std.specs.Prelude.{◌≡◌, ◌<◌, ◌≤◌, length, slice_index, slice_set, IfOk, IfSome, IsTrue};
 ghost use Rattle.book_base.specs.Cut.{IsWithin};
 ghost use Rattle.book_base.specs.Book.{answers_of, answered};
 ghost use Rattle.book_base.specs.Order.{HasLegalOrder};
@@ -10,7 +10,7 @@ ghost use Rattle.smaller_book.specs.Minimal.{IsSmaller};
 ghost use Rattle.smaller_book.specs.Earliest.{all_numbers, IsEarliest, IsIllegalCut, IsLeastAt, IsLeastCut};
 
 use crate::composing::numbers_of_all;
-use crate::judging::{calls_of_all, is_illegal_at};
+use crate::judging::{breaks_rule_at, calls_of_all, is_illegal_at};
 use crate::removal::{Smaller, has_fewer};
 use book_base::{Book, Call, Cut, NoMemory};
 use seq_objects::Kind;
@@ -20,7 +20,9 @@ use std::alloc::Global;
 /// calls are those that its views hold.
 ///
 /// An error is final (Castañeda and Rodríguez 2023), so that the cuts are found by halving: first
-/// those of the records whose views hold few calls, and then the least count of each caller.
+/// those of the records whose views hold few calls, and then the least count of each caller. Before
+/// that, records go while the book breaks a rule, which is cheap to see: a search for an order has
+/// more to try with each record that is gone, until few are left.
 pub fn earliest(alloc: Global, kind: Kind, book: &Book) -> Result<Book, NoMemory>
     // The book has no legal order.
     requires { ¬ HasLegalOrder (kind_init kind) (kind_next kind) book.now }
@@ -38,7 +40,8 @@ pub fn earliest(alloc: Global, kind: Kind, book: &Book) -> Result<Book, NoMemory
 {
     let _callers = book.callers();
     let begun = first_illegal(alloc, kind, book)?;
-    let cut = least_cut(alloc, kind, book, begun)?;
+    let broken = least_broken(alloc, kind, book, begun)?;
+    let cut = least_cut(alloc, kind, book, broken)?;
     let part = book.at(alloc, &cut)?;
     Ok(part)
 }
@@ -132,6 +135,76 @@ fn held_by(view: &Cut) -> u64 {
         held = held.saturating_add(*count);
     }
     held
+}
+
+// Takes as many records of each caller from a cut as can be while the book breaks a rule, one
+// caller after another. Where it breaks none at the cut, the cut stays.
+fn least_broken(alloc: Global, kind: Kind, book: &Book, cut: Cut) -> Result<Cut, NoMemory>
+    requires { IsIllegalCut (kind_init kind) (kind_next kind) book.now cut }
+    ensures { IfOk result (IsIllegalCut (kind_init kind) (kind_next kind) book.now) }
+{
+    let mut least = cut;
+    if !breaks_rule_at(alloc, kind, book, &cut)? {
+        return Ok(least);
+    }
+    for caller in 0..book.callers() {
+        let count = broken_count(alloc, kind, book, &least, caller)?;
+        least.set(caller, count);
+    }
+    Ok(least)
+}
+
+// A count of a caller at which the book breaks a rule, with the other counts of a cut, or that of
+// the cut. None is tried first, since most callers have nothing to do with a rule, and then halves
+// are.
+fn broken_count(
+    alloc: Global,
+    kind: Kind,
+    book: &Book,
+    cut: &Cut,
+    caller: u32,
+) -> Result<u64, NoMemory>
+    requires cut { IsIllegalCut (kind_init kind) (kind_next kind) book.now cut.now }
+    requires caller { caller < length book.now }
+    ensures { IfOk result (λ count.
+        IsIllegalCut (kind_init kind) (kind_next kind) book.now (slice_set cut.now caller count)) }
+{
+    if is_broken_with(alloc, kind, book, cut, caller, 0)? {
+        return Ok(0);
+    }
+    let mut low = 1;
+    let mut high = cut.get(caller);
+    while low < high {
+        let middle = low + (high - low) / 2;
+        if is_broken_with(alloc, kind, book, cut, caller, middle)? {
+            high = middle;
+        } else {
+            low = middle + 1;
+        }
+    }
+    Ok(high)
+}
+
+// Whether the book is found to break a rule with this count of a caller and the other counts of a
+// cut.
+fn is_broken_with(
+    alloc: Global,
+    kind: Kind,
+    book: &Book,
+    cut: &Cut,
+    caller: u32,
+    count: u64,
+) -> Result<bool, NoMemory>
+    requires cut { IsIllegalCut (kind_init kind) (kind_next kind) book.now cut.now }
+    requires caller { caller < length book.now }
+    requires few { count ≤ slice_index cut.now caller }
+    ensures { IfOk result (λ found. IsTrue found
+        → IsIllegalCut (kind_init kind) (kind_next kind) book.now
+        (slice_set cut.now caller count)) }
+{
+    let tried = with_count(cut, caller, count);
+    let found = breaks_rule_at(alloc, kind, book, &tried)?;
+    Ok(found)
 }
 
 // Takes as many records of each caller from a cut as can be, one caller after another.

@@ -20,7 +20,7 @@ pub fn is_illegal(alloc: Global, kind: Kind, book: &Book) -> Result<bool, NoMemo
     ensures legal { IfOk result (λ found. found ≡ false
         → HasLegalOrder (kind_init kind) (kind_next kind) book.now) }
 {
-    if breaks_rule(kind, book) {
+    if breaks_rule(kind, book, most_paired(book)) {
         return Ok(true);
     }
     match check(alloc, &kind, book)? {
@@ -37,19 +37,38 @@ const MOST_PAIRED: u64 = 256;
 /// finds little there that it may leave out.
 const MOST_PAIRED_OPEN: u64 = 512;
 
-// Whether a book is found to break a rule of its kind.
-fn breaks_rule(kind: Kind, book: &Book) -> bool
-    ensures { IsTrue result → ¬ HasLegalOrder (kind_init kind) (kind_next kind) book.now }
-{
-    let most = if has_one_open(book) {
+/// While records go from a cut, a book may have more calls still: no order is looked for.
+const MOST_PAIRED_AT_A_CUT: u64 = 2048;
+
+// How many calls a book may have, for which an order is looked for where it breaks no rule.
+fn most_paired(book: &Book) -> u64 {
+    if has_one_open(book) {
         MOST_PAIRED
     } else {
         MOST_PAIRED_OPEN
-    };
+    }
+}
+
+// Whether a book of at most this many calls is found to break a rule of its kind.
+fn breaks_rule(kind: Kind, book: &Book, most: u64) -> bool
+    ensures { IsTrue result → ¬ HasLegalOrder (kind_init kind) (kind_next kind) book.now }
+{
     if calls_of_all(book) > most {
         return false;
     }
     broken_rule(kind, book).is_some()
+}
+
+/// Whether a book is found to break a rule of its kind at a cut. No order is looked for.
+pub fn breaks_rule_at(alloc: Global, kind: Kind, book: &Book, cut: &Cut) -> Result<bool, NoMemory>
+    requires wide { length cut.now ≡ length book.now }
+    requires within { IsWithin cut.now (answered book.now) }
+    ensures { IfOk result (λ found. IsTrue found
+        → ¬ HasLegalOrder (kind_init kind) (kind_next kind) (book_at cut.now book.now)) }
+{
+    let _callers = book.callers();
+    let part = book.at(alloc, cut)?;
+    Ok(breaks_rule(kind, &part, MOST_PAIRED_AT_A_CUT))
 }
 
 /// How many calls a book has.

@@ -6,7 +6,7 @@ ghost use Rattle.book_base.specs.Refusal.{MayAnswer};
 ghost use Rattle.smaller_book.specs.Part.{numbers_of, count_below, IsPart, KeepsAnswers};
 ghost use Rattle.smaller_book.specs.Numbers.{numbers_in, AreNumbersOf};
 
-use book_base::{Book, BookFault, Call, Cut, NoMemory};
+use book_base::{Book, Call, Cut, NoMemory};
 use std::alloc::Global;
 
 /// The part of a book that has the calls with these numbers, a rising list for each caller. What is
@@ -124,22 +124,7 @@ fn put_answer(
     let _callers = book.callers();
     let record = book.record(Call { caller, number });
     let view = renumbered(&record.view, numbers);
-    add_answer(part, caller, record.reply, view)
-}
-
-// An answer that keeps the book valid is refused for want of memory alone.
-fn add_answer(book: &mut Book, caller: u32, reply: u64, view: Cut) -> Result<(), NoMemory>
-    requires caller { caller < length book.old }
-    requires wide { length view ≡ length book.old }
-    requires may { MayAnswer book.old caller view }
-    ensures { OnOk result (book.new
-        ≡ with_answer book.old caller (record { reply = reply; view = view })) }
-{
-    match book.add_answer(caller, reply, view) {
-        Ok(()) => Ok(()),
-        Err(BookFault::NoMemory) => Err(NoMemory),
-        Err(_) => unreachable!(),
-    }
+    part.put_answer(caller, record.reply, view)
 }
 
 // The view that counts of each caller the calls with these numbers alone.

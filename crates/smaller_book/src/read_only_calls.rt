@@ -188,6 +188,9 @@ fn without_slice(
     ensures { IfOk result (λ found. IfSome found (λ smaller.
         IsSmaller kind book.now (numbers_in smaller.numbers.items) smaller.book)) }
 {
+    if !has_slice(kind, book, size, slice) {
+        return Ok(None);
+    }
     let _callers = book.callers();
     let numbers = numbers_without_slice(alloc, kind, book, size, slice)?;
     let smaller = part(alloc, book, &numbers)?;
@@ -202,6 +205,31 @@ fn without_slice(
     } else {
         Ok(None)
     }
+}
+
+// Whether a book has calls of a slice that leave every list.
+fn has_slice(kind: Kind, book: &Book, size: u64, slice: u64) -> bool
+    requires { 0 < size }
+{
+    for caller in 0..book.callers() {
+        if caller_has_slice(kind, book, caller, size, slice) {
+            return true;
+        }
+    }
+    false
+}
+
+// Whether a caller has calls of a slice that leave every list.
+fn caller_has_slice(kind: Kind, book: &Book, caller: u32, size: u64, slice: u64) -> bool
+    requires caller { caller < length book.now }
+    requires size { 0 < size }
+{
+    for number in 0..book.calls(caller) {
+        if is_read_only_of(kind, book, Call { caller, number }, size, slice) {
+            return true;
+        }
+    }
+    false
 }
 
 // The numbers of all calls but those of a slice that leave every list.

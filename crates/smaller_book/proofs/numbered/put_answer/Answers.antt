@@ -7,8 +7,8 @@ use Rattle.smaller_book.specs.Numbers.{numbers_in}
 use Rattle.smaller_book.proofs.Building.{OnOk_then, answers_of-with_answer, answers_of-with_answer_other, due, may_answer, part-with_answer}
 use Rattle.smaller_book.proofs.numbered.put_answer.Goals as goal
 
-pub add_answer-requires-clause-may : goal.add_answer-requires-clause-may
-add_answer-requires-clause-may c =
+pub put_answer-requires-clause-may : goal.put_answer-requires-clause-may
+put_answer-requires-clause-may c =
     let book = c.args.book.now in
     let names = numbers_in c.args.numbers.now in
     let part = c.args.part.now in
@@ -35,7 +35,7 @@ returns-clause-part c =
     (caller_from_call part i (answers_of part i) room) room
     (due book names part i c.args.number whole c.requires.here c.record-record.ensures.record)
     (record { reply = refl; view = c.renumbered-view.ensures.counts }) in
-    OnOk_then c.add_answer.result c.add_answer.ensures
+    OnOk_then c.put_answer.result c.put_answer.ensures.ok
     (λ same. subst (IsPart book names) (sym same) new)
 
 pub returns-clause-answers : goal.returns-clause-answers
@@ -46,7 +46,7 @@ returns-clause-answers c =
     record { reply = c.record-record.result.reply; view = c.renumbered-view.result } in
     let room : answers_of part i < calls_of part i =
     omega (arith, c.requires.inside, c.requires.part.calls i) in
-    OnOk_then c.add_answer.result c.add_answer.ensures (λ same.
+    OnOk_then c.put_answer.result c.put_answer.ensures.ok (λ same.
     ap (λ (b : List Page). answers_of b i) same
     ∙ answers_of-with_answer part i answer (caller_from_call part i (answers_of part i) room))
 
@@ -56,6 +56,6 @@ returns-clause-others c =
     let i = c.args.caller in
     let answer : Record =
     record { reply = c.record-record.result.reply; view = c.renumbered-view.result } in
-    OnOk_then c.add_answer.result c.add_answer.ensures (λ same j other.
+    OnOk_then c.put_answer.result c.put_answer.ensures.ok (λ same j other.
     ap (λ (b : List Page). answers_of b j) same
     ∙ answers_of-with_answer_other part i answer j other)
