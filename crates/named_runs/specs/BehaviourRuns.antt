@@ -1,8 +1,7 @@
 -- What a run reports that opens the table of rows itself.
-use Rattle.std.specs.Prelude.{◌≡◌, ℕ, false, List, Option, Some, IsSome, length}
+use Rattle.std.specs.Prelude.{◌≡◌, ℕ, false, List, Option, IsSome, length}
 use Rattle.std.specs.List.{list_any}
 use Rattle.seq_objects.specs.Objects.{kind_init, kind_next}
-use Rattle.world_core.specs.Local.{Local}
 use Rattle.world_core.specs.Shape.{Shape}
 use Rattle.report_lines.specs.Lawful.{IsLawful}
 use Rattle.report_lines.specs.Lines.{any_error}
@@ -10,12 +9,11 @@ use Rattle.client_scripts.specs.Plans.{Plan}
 use Rattle.script_workers.specs.Places.{AreInOrder}
 use Rattle.script_workers.specs.Starts.{run_allotments, replay_allotments}
 use Rattle.reports.specs.Findings.{Findings}
-use Rattle.run_report.specs.Reporting.{outside_shape, IsReportOf, IsToldIn}
+use Rattle.run_report.specs.Reporting.{outside_shape, IsToldIn}
 use Rattle.faulty_objects.specs.declared.behaviour.Behaviour.{Behaviour}
 use Rattle.core_runs.specs.LoggedReports.{phases_in, calls_of_lines}
 use Rattle.named_runs.specs.NamedObjects.{IsOfBehaviour}
-use Rattle.named_runs.specs.declared.inside.Inside.{Inside}
-use Rattle.named_runs.specs.Worlds.{inside_of, shape_in, world_of}
+use Rattle.named_runs.specs.Worlds.{inside_of, world_of}
 
 -- A report of a plan's callers in a world of this shape that had these allotments: of the plan's
 -- kind, and lawful by the object of that kind.
@@ -30,14 +28,6 @@ pub record IsToldReport {T : Type 0} (made : T → ℕ) (told : T → Option (Li
     (passes : List T) (plan : Plan) (allotments : List ℕ) (findings : Findings) : Type 0 where
   pub report : IsLawfulReport (outside_shape (length plan.operations)) plan allotments findings
   pub told_in : AreInOrder (IsToldIn made told allotments findings) passes
-
--- The report of a run over an object inside the world: of the locals of the callers in a world of
--- that object, judged by the object of the plan's kind.
-pub record IsInsideReport (inside : Inside) (plan : Plan) (findings : Findings) : Type 0 where
-  pub locals : List Local
-  pub report : IsReportOf (kind_init plan.kind) (kind_next plan.kind)
-      (shape_in (Some inside) plan.kind (length plan.operations)) locals plan
-      (run_allotments plan) findings
 
 -- A lawful report of a world of this shape, whose calls the object of a behaviour answered.
 pub record IsNamedReport (s : Shape) (behaviour : Behaviour) (plan : Plan) (allotments : List ℕ)

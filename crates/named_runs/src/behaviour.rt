@@ -11,7 +11,6 @@ ghost use Rattle.named_runs.specs.Worlds.{inside_of};
 ghost use Rattle.named_runs.specs.BehaviourRuns.{IsNamedReport, IsNamedReplayReport, IsNamedRunReport};
 ghost use Rattle.named_runs.specs.Monitored.{AreNamedMonitored, IsMonitorOutput};
 
-use crate::inside::object_inside;
 use crate::inside_run::run_inside;
 use crate::named::{monitor_named, replay_named, run_named};
 use book_base::NoMemory;
@@ -91,12 +90,10 @@ pub fn run_behaviour<R: Threads + Sync, K: Sink>(
     ensures faults { LeavesSink K.faults result sink.old sink.new }
 {
     let kind = script.kind();
-    match object_inside(behaviour, kind) {
-        Some(inside) => match run_inside(rt, alloc, inside, script) {
-            Ok(report) => write_report(alloc, form, &kind, &report, sink),
-            Err(NoMemory) => Status::NoMemory,
-        },
-        None => run_outside(rt, alloc, behaviour, script, form, sink),
+    match run_inside(rt, alloc, behaviour, kind, script) {
+        Ok(Some(report)) => write_report(alloc, form, &kind, &report, sink),
+        Ok(None) => run_outside(rt, alloc, behaviour, script, form, sink),
+        Err(NoMemory) => Status::NoMemory,
     }
 }
 

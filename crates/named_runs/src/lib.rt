@@ -3,7 +3,6 @@
 
 mod behaviour;
 mod fresh;
-mod inside;
 mod inside_run;
 mod named;
 mod named_machine;

@@ -81,13 +81,11 @@ impl NamedObject for Tally {
         Tally::open(alloc, n, MAX_CALLS)
     }
 
-    fn close_with(self, passes: Vec<WordsPass>)
+    fn close_with(self, _passes: Vec<WordsPass>)
         ensures { HasAnswered behaviours.Tally (λ kind n. Unit {0})
             (⟦<Tally as BlackBox>⟧.is_own self)
-            ⟦<WordsPass as ObjectPass>⟧.caller ⟦<WordsPass as ObjectPass>⟧.told passes.items }
-    {
-        let _passes = passes;
-    }
+            ⟦<WordsPass as ObjectPass>⟧.caller ⟦<WordsPass as ObjectPass>⟧.told _passes.items }
+    {}
 }
 
 impl NamedObject for WordCell {
@@ -97,13 +95,11 @@ impl NamedObject for WordCell {
         WordCell::open(alloc, n, MAX_CALLS)
     }
 
-    fn close_with(self, passes: Vec<WordsPass>)
+    fn close_with(self, _passes: Vec<WordsPass>)
         ensures { HasAnswered behaviours.Cell (λ kind n. Unit {0})
             (⟦<WordCell as BlackBox>⟧.is_own self)
-            ⟦<WordsPass as ObjectPass>⟧.caller ⟦<WordsPass as ObjectPass>⟧.told passes.items }
-    {
-        let _passes = passes;
-    }
+            ⟦<WordsPass as ObjectPass>⟧.caller ⟦<WordsPass as ObjectPass>⟧.told _passes.items }
+    {}
 }
 
 impl NamedObject for SplitTally {
@@ -113,13 +109,11 @@ impl NamedObject for SplitTally {
         SplitTally::open(alloc, n, MAX_CALLS)
     }
 
-    fn close_with(self, passes: Vec<WordsPass>)
+    fn close_with(self, _passes: Vec<WordsPass>)
         ensures { HasAnswered behaviours.Split (λ kind n. Unit {0})
             (⟦<SplitTally as BlackBox>⟧.is_own self)
-            ⟦<WordsPass as ObjectPass>⟧.caller ⟦<WordsPass as ObjectPass>⟧.told passes.items }
-    {
-        let _passes = passes;
-    }
+            ⟦<WordsPass as ObjectPass>⟧.caller ⟦<WordsPass as ObjectPass>⟧.told _passes.items }
+    {}
 }
 
 impl NamedObject for OnePass {
@@ -129,11 +123,9 @@ impl NamedObject for OnePass {
         OnePass::open(alloc, n, MAX_CALLS)
     }
 
-    fn close_with(self, passes: Vec<WordsPass>)
+    fn close_with(self, _passes: Vec<WordsPass>)
         ensures { HasAnswered behaviours.Onepass (λ kind n. Unit {0})
             (⟦<OnePass as BlackBox>⟧.is_own self)
-            ⟦<WordsPass as ObjectPass>⟧.caller ⟦<WordsPass as ObjectPass>⟧.told passes.items }
-    {
-        let _passes = passes;
-    }
+            ⟦<WordsPass as ObjectPass>⟧.caller ⟦<WordsPass as ObjectPass>⟧.told _passes.items }
+    {}
 }

@@ -5,6 +5,7 @@ use Rattle.world_core.specs.Shape.{Meaning, Shape}
 use Rattle.world_core.specs.Local.{Local}
 use Rattle.report_lines.specs.declared.line.Line.{Line}
 use Rattle.report_lines.specs.Lines.{any_error}
+use Rattle.report_lines.specs.Lawful.{IsLawful}
 use Rattle.report_laws.proofs.Determined.{locals_determine_lines}
 use Rattle.seq_objects.specs.declared.kind.Kind.{Kind}
 use Rattle.seq_objects.specs.Objects.{kind_init, kind_next}
@@ -52,14 +53,15 @@ module _ (s : Shape) (locals : List Local) (plan : Plan) (allotments : List ℕ)
       IsFreeAgain b allotments (record { kind = g.kind; lines = lines }) i)
       (locals_determine_lines init next locals f.lines g.lines a.lines other.lines) (free i low)
 
-  -- a lawful report has each form, by an object that is the same
-  pub has_form : (object other : Sequential) (form : Form) (f : Findings) → object ≡ other
-      → IsReportOf object.init object.next s locals plan allotments f → HasForm other form f
-  has_form object other Report f same is = tt
-  has_form object other Counts f same is = tt
-  has_form object other Certificate f same is =
-      subst (λ (o : Sequential). HasForm o Certificate f) same (lawful_reports_have_an_order
-      object.init object.next s plan.operations allotments f.lines is.lawful)
+-- a lawful report has each form, by an object that is the same
+pub has_form : {s : Shape} {operations : List (List ℕ)} {allotments : List ℕ}
+    (object other : Sequential) (form : Form) (f : Findings) → object ≡ other
+    → IsLawful object.init object.next s operations allotments f.lines → HasForm other form f
+has_form object other Report f same lawful = tt
+has_form object other Counts f same lawful = tt
+has_form object other Certificate f same lawful =
+    subst (λ (o : Sequential). HasForm o Certificate f) same
+    (lawful_reports_have_an_order object.init object.next _ _ _ f.lines lawful)
 
 -- where memory was wanted, no report decides
 pub no_memory_ends : {P : Type 0} (object : Sequential) (meaning : P → ℕ → ℕ → Meaning)

@@ -6,9 +6,9 @@ use Rattle.run_writer.proofs.run.core_and_write.Goals as goal
 
 pub write_report-requires : goal.write_report-requires
 write_report-requires g c = record {
-  form = has_form _ _ c.args.script.now _ _ _ c.args.form c.in-Ok.report
+  form = has_form _ _ c.args.form c.in-Ok.report
       (ap (object_by g.O.S.SeqObject.init g.O.S.SeqObject.next) (sym c.sequential.ensures))
-      c.in-Ok.ensures.report;
+      c.in-Ok.ensures.report.lawful;
 }
 
 pub returns-in-Ok-clause-ends : goal.returns-in-Ok-clause-ends

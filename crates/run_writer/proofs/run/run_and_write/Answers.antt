@@ -6,8 +6,8 @@ use Rattle.run_writer.proofs.run.run_and_write.Goals as goal
 
 pub write_report-requires : goal.write_report-requires
 write_report-requires g c = record {
-  form = has_form _ _ _ _
-      (object_of_kind c.kind-kind.result) _ c.args.form _ refl c.in-Ok.ensures.report;
+  form = has_form (object_of_kind c.kind-kind.result) _ c.args.form _ refl
+      c.in-Ok.ensures.report.lawful;
 }
 
 pub returns-in-Ok-clause-ends : goal.returns-in-Ok-clause-ends
