@@ -24,6 +24,7 @@ impl MemoryWork {
         match name {
             "enforce" => Ok(MemoryWork::Enforced(Enforced::new(Turns::EnqueueFirst))),
             "enforce-turned" => Ok(MemoryWork::Enforced(Enforced::new(Turns::DequeueFirst))),
+            "enforce-after" => Ok(MemoryWork::Enforced(Enforced::new(Turns::AfterWhatStands))),
             "run_over" => Ok(MemoryWork::Ran(Ran::new(alloc)?)),
             _ => {
                 let command = TriedCommand::of_name(alloc, name)?;
