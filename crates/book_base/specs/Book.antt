@@ -11,7 +11,7 @@ pub record Page : Type 0 where
   pub operations : List ℕ
   pub records : List Record
 
--- the page of a caller; one that isn't there is empty
+-- the page of a caller, which is empty where the book has no such caller
 abbrev pub page_of : List Page → ℕ → Page
 page_of book i = slice_index_or book i (record { operations = []; records = [] })
 
@@ -39,11 +39,11 @@ IsCall book call = call.number < calls_of book call.caller
 abbrev pub IsAnswered : List Page → Call → Type 0
 IsAnswered book call = call.number < answers_of book call.caller
 
--- the numbers of all callers' calls, as a cut
+-- for each caller the number of its calls, as a cut
 abbrev pub announced : List Page → List ℕ
 announced book = map (λ page. length page.operations) book
 
--- the numbers of all callers' records, as a cut
+-- for each caller the number of its records, as a cut
 abbrev pub answered : List Page → List ℕ
 answered book = map (λ page. length page.records) book
 
@@ -64,7 +64,7 @@ pub record IsValid (book : List Page) : Type 0 where
   pub comparable : (a b : Call) (r s : Record) → record_of book a ≡ Some r
       → record_of book b ≡ Some s → AreComparable r.view s.view
 
--- the numbers of callers and of calls are those that a book may have
+-- A book has at least one caller, and no more callers and calls than a book may have.
 pub record IsSmall (book : List Page) : Type 0 where
   pub some : 1 ≤ length book
   pub callers : length book ≤ MAX_CALLERS

@@ -1,4 +1,4 @@
--- The book at a cut: what a book says of the records that the cut holds.
+-- The book at a cut: the part of a book that the records within the cut determine.
 use Rattle.std.specs.Prelude.{◌≡◌, ℕ, ◌↔◌, max, List, [], ◌∷◌, ◌++◌, length, map, take, Some, slice_index}
 use Rattle.std.specs.List.{range_with_len}
 use Rattle.book_base.specs.declared.call.Call.{Call}
@@ -6,7 +6,7 @@ use Rattle.book_base.specs.declared.call.Record.{Record}
 use Rattle.book_base.specs.Cut.{Holds}
 use Rattle.book_base.specs.Book.{Page, page_of, IsCall, operation_of, record_of}
 
--- The view of a record that the cut holds holds this call.
+-- Some record within the cut has a view that holds this call.
 abbrev pub IsHeldBySomeView : List Page → List ℕ → Call → Type 0
 IsHeldBySomeView book cut call = (answered : Call) × (r : Record) × Holds cut answered
     × (record_of book answered ≡ Some r) × Holds r.view call
@@ -15,12 +15,12 @@ IsHeldBySomeView book cut call = (answered : Call) × (r : Record) × Holds cut 
 pub record IsBookAt (book : List Page) (cut : List ℕ) (part : List Page) : Type 0 where
   -- it has the same callers
   pub callers : length part ≡ length book
-  -- its records are as many first ones of each caller as the cut counts
+  -- each caller has as many of its first records as the cut counts for it
   pub records : (i : ℕ)
       → (page_of part i).records ≡ take (slice_index cut i) (page_of book i).records
-  -- its calls are exactly those that some of these views hold
+  -- its calls are exactly those that the view of some record within the cut holds
   pub calls : (call : Call) → IsCall part call ↔ IsHeldBySomeView book cut call
-  -- each with its operation
+  -- each of its calls has the operation that the book has for it
   pub operations : (call : Call) → IsCall part call
       → operation_of part call ≡ operation_of book call
 
@@ -36,8 +36,8 @@ views_at [] (page ∷ pages) = []
 views_at (count ∷ counts) (page ∷ pages) =
     map (λ r. r.view) (take count page.records) ++ views_at counts pages
 
--- The page of a caller in the book at a cut: the caller's first records, and its calls up to the
--- last one that some view holds.
+-- The page of a caller in the book at a cut: as many of the caller's first records as the cut
+-- counts, and its calls up to the last one that some view of a record within the cut holds.
 abbrev pub page_at : List ℕ → List Page → ℕ → Page
 page_at cut book i = record {
   operations = take (greatest_count (views_at cut book) i) (page_of book i).operations;

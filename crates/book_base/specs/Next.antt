@@ -1,4 +1,4 @@
--- Legal orders, one call after another.
+-- How a legal order is built, one call after another.
 use Rattle.std.specs.Prelude.{◌≡◌, ℕ, ◌+◌, List, [], ◌∷◌, Some, slice_index, slice_set}
 use Rattle.book_base.specs.declared.call.Call.{Call}
 use Rattle.book_base.specs.declared.call.Record.{Record}
@@ -26,21 +26,21 @@ pub record MayComeNext (book : List Page) (cut : List ℕ) (call : Call) : Type 
   pub next : call.number ≡ slice_index cut call.caller
   pub preceded : (a : Call) → Precedes book a call → Holds cut a
 
--- A place may stand next after the calls of a cut, at this list of the object: its call may come
--- next, and its reply is the one that the object gives, and the recorded one where the call is
--- answered.
+-- A place may come next in an order, after the calls of a cut and at a list of the object: its call
+-- may come next, its reply is the one that the object gives, and also the recorded one where the
+-- call is answered.
 pub record MayStandNext (book : List Page) (next : List ℕ → ℕ → List ℕ × ℕ) (cut list : List ℕ)
     (place : Place) : Type 0 where
   pub may_come : MayComeNext book cut (call_at place)
   pub recorded : (r : Record) → record_of book (call_at place) ≡ Some r → r.reply ≡ place.reply
   pub reply : (next list (step_at book place).0).1 ≡ place.reply
 
--- the object's list after a place
+-- the object's list after the operation of a place
 abbrev pub list_after : List Page → (List ℕ → ℕ → List ℕ × ℕ) → List ℕ → Place → List ℕ
 list_after book next list place = (next list (step_at book place).0).0
 
--- The places may stand one after another, after the calls of a cut and from a list of the object
--- on, and then all answered calls stand.
+-- The places continue an order from a cut and a list of the object on: each may come next after
+-- those before it, and in the end the cut holds all answered calls.
 abbrev pub Continues : List Page → (List ℕ → ℕ → List ℕ × ℕ) → List ℕ → List ℕ → List Place → Type 0
 Continues book next cut list [] = HoldsAnswered book cut
 Continues book next cut list (place ∷ rest) =

@@ -17,8 +17,8 @@ high_of op = op / 2 ^ 64
 abbrev pub joined : ℕ → ℕ → ℕ
 joined low high = low + high * 2 ^ 64
 
--- A low and a high word below 2^64 are those of the operation word that they make, and each
--- operation word is made of its own.
+-- Joining a low and a high word below 2^64 gives an operation word with these two words, and each
+-- operation word is joined from its own low and high word.
 abbrev pub WordsAreJoinedAndParted : Type 0
 WordsAreJoinedAndParted =
     ((low high : ℕ) → low < 2 ^ 64 → high < 2 ^ 64 → IsOperationWord (joined low high)

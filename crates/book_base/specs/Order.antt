@@ -6,11 +6,11 @@ use Rattle.book_base.specs.declared.call.Place.{Place}
 use Rattle.book_base.specs.Book.{Page, IsCall, operation_of, record_of, Precedes}
 use Rattle.book_base.specs.Sequential.{IsLegalRun}
 
--- the call that stands at a place
+-- the call of a place in an order
 abbrev pub call_at : Place → Call
 call_at place = record { caller = place.caller; number = place.number }
 
--- the call stands in the order, at this index
+-- the order has the call at this index
 abbrev pub StandsAt : List Place → ℕ → Call → Type 0
 StandsAt order k call = (place : Place) × (slice_get order k ≡ Some place) × (call_at place ≡ call)
 
@@ -18,14 +18,14 @@ StandsAt order k call = (place : Place) × (slice_get order k ≡ Some place) ×
 abbrev pub step_at : List Page → Place → ℕ × ℕ
 step_at book place = (unwrap_or (operation_of book (call_at place)) 0, place.reply)
 
--- A legal order of a book, for the sequential object that begins with init and goes on by next
--- (Herlihy and Wing 1990, on views). An unanswered call may stand in it with the reply that the
--- object gives, or be left out.
+-- A legal order of a book, for the sequential object with the first list `init` and the transition
+-- function `next` (Herlihy and Wing 1990, on views). An unanswered call may stand in it with the
+-- reply that the object gives, or be left out.
 pub record IsLegalOrder (init : List ℕ) (next : List ℕ → ℕ → List ℕ × ℕ) (book : List Page)
     (order : List Place) : Type 0 where
   -- each call in it is a call of the book
   pub calls : (k : ℕ) (call : Call) → StandsAt order k call → IsCall book call
-  -- no call stands twice
+  -- no call stands in it twice
   pub once : (j k : ℕ) (call : Call) → StandsAt order j call → StandsAt order k call → j ≡ k
   -- where a call stands, all earlier calls of its caller stand before it
   pub earlier : (k : ℕ) (call : Call) → StandsAt order k call → (number : ℕ) → number < call.number

@@ -1,4 +1,4 @@
--- Where a search stands, and which calls it needn't try there.
+-- What a search knows at a cut and a list of the object, and which calls it needn't try there.
 use Rattle.std.specs.Prelude.{◌≡◌, ℕ, ◌+◌, ◌<◌, ◌≤◌, ◌↔◌, false, IsTrue, List, ◌∷◌, ◌++◌, length, slice_index, slice_index_or, Some}
 use Rattle.book_base.specs.declared.call.Call.{Call}
 use Rattle.book_base.specs.declared.call.Place.{Place}
@@ -16,13 +16,13 @@ abbrev pub HasOneOpen : List Page → Type 0
 HasOneOpen book = (call : Call) (r : Record) (i : ℕ) → record_of book call ≡ Some r
     → slice_index r.view i ≤ answers_of book i + 1
 
--- where both calls are answered, the view of one is within that of the other
+-- where both calls are answered, the view of the first is within that of the second
 abbrev pub ViewsAreWithin : List Page → Call → Call → Type 0
 ViewsAreWithin book a b = (r s : Record) → record_of book a ≡ Some r → record_of book b ≡ Some s
     → IsWithin r.view s.view
 
--- Of the callers below a number, the caller's first call outside the cut has the least view: it is
--- answered, and its view is within that of each of the others' first calls outside the cut that is
+-- A caller's first call outside a cut is answered, and of the callers below a number it has the
+-- least view: its view is within that of each other's first call outside the cut, where this is
 -- answered.
 pub record IsLeast (book : List Page) (cut : List ℕ) (below caller : ℕ) : Type 0 where
   pub answered : IsAnswered book (next_call cut caller)
@@ -34,20 +34,20 @@ pub record IsLeast (book : List Page) (cut : List ℕ) (below caller : ℕ) : Ty
 abbrev pub IsForced : List Page → List ℕ → ℕ → Type 0
 IsForced book cut caller = IsLeast book cut (length book) caller
 
--- A dead end: no places may stand one after another there, up to a legal order.
+-- A cut and a list of the object are a dead end: no places continue an order from there.
 abbrev pub IsDeadEnd : List Page → (List ℕ → ℕ → List ℕ × ℕ) → List ℕ → List ℕ → Type 0
 IsDeadEnd book next cut list = (rest : List Place) → Continues book next cut list rest → ⊥
 
--- A place may stand at once: it may stand next, and where an order goes on at all, one goes on by
--- it.
+-- A place may be taken at once, after a cut and at a list: it may come next, and where places
+-- continue an order from there, some that begin with this place do.
 pub record StandsAtOnce (book : List Page) (next : List ℕ → ℕ → List ℕ × ℕ) (cut list : List ℕ)
     (place : Place) : Type 0 where
   pub may_stand : MayStandNext book next cut list place
   pub goes_on : (rest : List Place) → Continues book next cut list rest → (other : List Place)
       × Continues book next cut list (place ∷ other)
 
--- An order from the start reaches a cut and a list, and makes a legal order with all that goes on
--- from there.
+-- Some order reaches a cut and a list, and whatever places continue it from there make a legal
+-- order with it.
 pub record IsReached (init : List ℕ) (next : List ℕ → ℕ → List ℕ × ℕ) (book : List Page)
     (cut list : List ℕ) : Type 0 where
   pub before : List Place
@@ -59,12 +59,12 @@ pub record IsReached (init : List ℕ) (next : List ℕ → ℕ → List ℕ × 
 abbrev pub IsMarked : Marks → ℕ → Type 0
 IsMarked marks i = IsTrue (slice_index_or marks.callers i false)
 
--- The callers are marked whose next calls may come next after a cut, and no others.
+-- Exactly those callers are marked whose next calls after a cut may come next.
 abbrev pub MarksAllNext : List Page → List ℕ → Marks → Type 0
 MarksAllNext book cut marks = (i : ℕ) → IsMarked marks i ↔ MayComeNext book cut (next_call cut i)
 
--- All that goes on from a cut and a list goes on by the next call of a marked caller as well, and
--- with no more places.
+-- Where places continue an order from a cut and a list, some that begin with the next call of a
+-- marked caller do, and they are no more.
 abbrev pub MarksSuffice : List Page → (List ℕ → ℕ → List ℕ × ℕ) → List ℕ → List ℕ → Marks → Type 0
 MarksSuffice book next cut list marks = (rest : List Place) → Continues book next cut list rest
     → (place : Place) × (other : List Place) × IsMarked marks place.caller

@@ -7,13 +7,13 @@ use Rattle.book_base.specs.Sequential.{IsRunFrom}
 use Rattle.book_base.specs.Order.{call_at, step_at, IsLegalOrder}
 use Rattle.book_base.specs.PruningRules.{Reaches, IsInfeasible, MustComeFirst, Leaves}
 
--- The order without places reaches the cut that holds no call, and the object's first list.
+-- The empty order reaches the cut that holds no call, and the object's first list.
 abbrev pub NoPlacesReachTheStart : Type 0
 NoPlacesReachTheStart = (init : List ℕ) (next : List ℕ → ℕ → List ℕ × ℕ) (book : List Page) (n : ℕ)
     → Reaches init next book [] (replicate n 0) init
 
--- One more place, the next call of its caller, reaches the cut with this call and the object's list
--- after its operation.
+-- An order that reaches a cut and a list, with the next call of some caller as one more place,
+-- reaches the cut with this call and the object's list after its operation.
 abbrev pub OneMorePlaceReachesOn : Type 0
 OneMorePlaceReachesOn = (init : List ℕ) (next : List ℕ → ℕ → List ℕ × ℕ) (book : List Page)
     (before : List Place) (cut list : List ℕ) (place : Place)
@@ -22,14 +22,15 @@ OneMorePlaceReachesOn = (init : List ℕ) (next : List ℕ → ℕ → List ℕ 
     → Reaches init next book (before ++ place ∷ []) (slice_set cut place.caller (place.number + 1))
     (next list (step_at book place).0).0
 
--- An order reaches one cut of a width, and one list.
+-- An order reaches at most one cut of a given number of callers, and at most one list.
 abbrev pub OneCutIsReached : Type 0
 OneCutIsReached = (init : List ℕ) (next : List ℕ → ℕ → List ℕ × ℕ) (book : List Page)
     (order : List Place) (cut other list last : List ℕ)
     → length cut ≡ length other → Reaches init next book order cut list
     → Reaches init next book order other last → (cut ≡ other) × (list ≡ last)
 
--- What stands in a legal order isn't infeasible where it stands.
+-- A call of a legal order isn't infeasible after the cut and at the list that the places before it
+-- reach.
 abbrev pub WhatStandsIsNotInfeasible : Type 0
 WhatStandsIsNotInfeasible = (init : List ℕ) (next : List ℕ → ℕ → List ℕ × ℕ) (book : List Page)
     (before rest : List Place) (place : Place) (cut list : List ℕ)
@@ -42,8 +43,8 @@ PrecedingComesFirst =
     (init : List ℕ) (next : List ℕ → ℕ → List ℕ × ℕ) (book : List Page) (a b : Call)
     → Precedes book a b → MustComeFirst init next book a b
 
--- In a run, a read-only operation with its reply may stand or be left out wherever the object gives
--- this reply.
+-- A run stays a run where a read-only operation with its reply is put in or left out at a list at
+-- which the object gives this reply.
 abbrev pub ReadOnlyMayBeLeftOut : Type 0
 ReadOnlyMayBeLeftOut =
     (next : List ℕ → ℕ → List ℕ × ℕ) (op reply : ℕ) (list : List ℕ) (steps : List (ℕ × ℕ))

@@ -1,5 +1,5 @@
--- What may be known of a book before a search: calls that no legal order has next, and replies that
--- leave every list.
+-- What may be known of a book before a search: calls that are infeasible next, and operations that
+-- are read-only with a reply.
 use Rattle.std.specs.Prelude.{◌≡◌, ℕ, ◌+◌, ◌<◌, ◌⊎◌, max, List, [], ◌∷◌, ◌++◌, map, length, replicate, slice_index, slice_index_or, slice_set, Contains, Option, IsSomeAnd}
 use Rattle.std.specs.Ordering.{nat_cmp}
 use Rattle.std.specs.BTreeMap.{is_at, insert_entry}
@@ -39,11 +39,12 @@ abbrev pub MustComeFirst : List ℕ → (List ℕ → ℕ → List ℕ × ℕ) �
 MustComeFirst init next book a b = (order : List Place) → IsLegalOrder init next book order
     → (q : ℕ) → StandsAt order q b → (p : ℕ) × (p < q) × StandsAt order p a
 
--- An operation with this reply leaves every list as it is.
+-- An operation is read-only with this reply: it doesn't change any list at which it has the reply.
 abbrev pub Leaves : (List ℕ → ℕ → List ℕ × ℕ) → ℕ → ℕ → Type 0
 Leaves next op reply = (list : List ℕ) → (next list op).1 ≡ reply → (next list op).0 ≡ list
 
--- What pruning rules hold: for each caller the bounds of its calls, and ranks of words.
+-- What is known of a book, as pruning rules: for each caller the bounds of its calls, and the ranks
+-- of words.
 pub record Known : Type 0 where
   pub call_bounds : List (List CallBound)
   pub ranks : List (ℕ × ℕ)
@@ -56,12 +57,12 @@ no_call_bound = record { predecessor_bound = replicate MAX_CALLERS 0; limit = 0 
 abbrev pub call_bounds_of : Known → ℕ → List CallBound
 call_bounds_of known i = slice_index_or known.call_bounds i []
 
--- the bound of a call; one that isn't there forbids nothing
+-- the bound of a call, which forbids nothing where the call has none
 abbrev pub call_bound_of : Known → Call → CallBound
 call_bound_of known call =
     slice_index_or (call_bounds_of known call.caller) call.number no_call_bound
 
--- there is a bound for a call
+-- what is known has a bound for the call
 abbrev pub HasCallBound : Known → Call → Type 0
 HasCallBound known call = (call.caller < length known.call_bounds)
     × (call.number < length (call_bounds_of known call.caller))
@@ -91,7 +92,7 @@ ArePruningRules init next book known = (cut list : List ℕ) (call : Call)
     → Forbids known cut list call
     → IsInfeasible init next book cut list call
 
--- nothing is known
+-- what is known without any bounds and ranks, which forbids nothing
 abbrev pub nothing_known : Known
 nothing_known = record { call_bounds = []; ranks = [] }
 
@@ -106,7 +107,7 @@ with_call_bound known call call_bound = record known {
       (slice_set (call_bounds_of known call.caller) call.number call_bound);
 }
 
--- what is known, with a call held back until another one stands: its predecessor bound holds the
+-- what is known, with a call held back until after another one: its predecessor bound holds the
 -- other one too
 abbrev pub held_back : Known → Call → Call → Known
 held_back known call other =
@@ -116,7 +117,7 @@ held_back known call other =
           (max (slice_index call_bound.predecessor_bound other.caller) (other.number + 1));
     })
 
--- what is known, with a limit of a call that is no lower than this one
+-- what is known, with the limit of a call raised to this one where it is lower
 abbrev pub limited : Known → Call → ℕ → Known
 limited known call limit = let call_bound : CallBound = call_bound_of known call in
     with_call_bound known call (record call_bound { limit = max call_bound.limit limit })

@@ -13,9 +13,9 @@ pub record MayAnswer (book : List Page) (i : ℕ) (view : List ℕ) : Type 0 whe
   pub unanswered : answers_of book i < calls_of book i
   -- the view lies within the announced counts
   pub within : IsWithin view (announced book)
-  -- it counts the caller's calls up to this one
+  -- the view counts the caller's calls up to the one that is answered
   pub own : slice_index view i ≡ answers_of book i + 1
-  -- it is comparable with each view of the book
+  -- the view is comparable with each view of the book
   pub comparable : (call : Call) (r : Record) → record_of book call ≡ Some r
       → AreComparable view r.view
 
@@ -25,20 +25,20 @@ abbrev pub FailsTest : List Page → ℕ → List ℕ → BookFault → Type 0
 FailsTest book i view NoSuchCall = calls_of book i ≤ answers_of book i
 -- the view's count for caller j is above the calls of j
 FailsTest book i view (ViewOutside j) = (j < length book) × (calls_of book j < slice_index view j)
--- the own count is below the call's number plus 1
+-- the view's count for caller i is below the number of the answered call plus 1
 FailsTest book i view (ViewLacksOwn count) = (count ≡ slice_index view i)
     × (count < answers_of book i + 1)
--- the own count is above the call's number plus 1
+-- the view's count for caller i is above the number of the answered call plus 1
 FailsTest book i view (ViewHasLater count) = (count ≡ slice_index view i)
     × (answers_of book i + 1 < count)
--- neither this view nor that of the call is within the other
+-- the view and the recorded view of the call that the fault names aren't comparable
 FailsTest book i view (ViewsCross call) =
     IsSomeAnd (record_of book call) (λ r. ¬ AreComparable view r.view)
--- no answer fails for these
+-- no test of an answer has these names
 FailsTest book i view TooManyCalls = ⊥
 FailsTest book i view NoMemory = ⊥
 
--- the turn at which a test is tried
+-- the turn at which the test that a fault names is tried
 abbrev pub turn_of : BookFault → ℕ
 turn_of NoSuchCall = 0
 turn_of (ViewOutside j) = 1

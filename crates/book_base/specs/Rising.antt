@@ -22,8 +22,8 @@ ViewsRise = (book : List Page) (a b : Call) (r s : Record) → IsValid book
     → record_of book a ≡ Some r → record_of book b ≡ Some s
     → a.caller ≡ b.caller → a.number ≤ b.number → IsWithin r.view s.view
 
--- An answered call precedes its caller's later calls by its view already: the view holds none of
--- them.
+-- An answered call precedes each later call of its caller by its view alone, since the view doesn't
+-- hold the later call.
 abbrev pub PrecedesByItsView : Type 0
 PrecedesByItsView = (book : List Page) (a b : Call) (r : Record) → IsValid book
     → record_of book a ≡ Some r

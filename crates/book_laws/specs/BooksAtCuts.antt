@@ -26,13 +26,14 @@ IsTheBookAtTheSmaller = (book : List Page) (smaller larger : List ℕ) → IsVal
     → IsWithin smaller larger
     → book_at smaller (book_at larger book) ≡ book_at smaller book
 
--- The record counts of the book at a cut, one that is within those of the book, are the cut.
+-- Where a cut counts no more records than a book has, the record counts of the book at the cut are
+-- the cut.
 abbrev pub RecordCountsAreTheCut : Type 0
 RecordCountsAreTheCut = (book : List Page) (cut : List ℕ) → length cut ≡ length book
     → IsWithin cut (answered book)
     → answered (book_at cut book) ≡ cut
 
--- The book at the cut of all its records has each record of the book.
+-- The book at the cut of all records of a book has each record of the book.
 abbrev pub KeepsEachRecord : Type 0
 KeepsEachRecord = (book : List Page) (call : Call) → IsValid book
     → record_of (book_at (answered book) book) call ≡ record_of book call
@@ -42,7 +43,8 @@ abbrev pub IsHeldByAView : List Page → Call → Type 0
 IsHeldByAView book call = (other : Call) × (r : Record) × (record_of book other ≡ Some r)
     × Holds r.view call
 
--- And it has exactly those calls of the book that some view holds, each with its operation.
+-- The book at the cut of all records of a book has exactly those calls of the book that some view
+-- holds, each with its operation.
 abbrev pub KeepsEachHeldCall : Type 0
 KeepsEachHeldCall = (book : List Page) (call : Call) → IsValid book
     → IsCall (book_at (answered book) book) call ↔ IsCall book call × IsHeldByAView book call
@@ -52,7 +54,7 @@ KeepsEachOperation = (book : List Page) (call : Call) → IsValid book
     → IsCall (book_at (answered book) book) call
     → operation_of (book_at (answered book) book) call ≡ operation_of book call
 
--- It has a legal order exactly where the book has one.
+-- The book at the cut of all records of a book has a legal order exactly where the book has one.
 abbrev pub HasOneWhereTheBookHas : Type 0
 HasOneWhereTheBookHas = (init : List ℕ) (next : List ℕ → ℕ → List ℕ × ℕ) (book : List Page)
     → IsValid book

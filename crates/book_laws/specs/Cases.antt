@@ -26,18 +26,18 @@ abbrev pub overtaken : List Page
 overtaken = caller_page (5 ∷ 0 ∷ 7 ∷ []) (answer 0 (1 ∷ 1 ∷ []) ∷ answer 6 (2 ∷ 1 ∷ []) ∷ [])
     ∷ caller_page (6 ∷ []) (answer 0 (1 ∷ 1 ∷ []) ∷ []) ∷ []
 
--- The book at the cut of its three records: the call that no view holds is gone.
+-- The book `overtaken` at the cut of its three records, which lacks the call that no view holds.
 abbrev pub overtaken_seen : List Page
 overtaken_seen = caller_page (5 ∷ 0 ∷ []) (answer 0 (1 ∷ 1 ∷ []) ∷ answer 6 (2 ∷ 1 ∷ []) ∷ [])
     ∷ caller_page (6 ∷ []) (answer 0 (1 ∷ 1 ∷ []) ∷ []) ∷ []
 
--- The book at the cut of caller 0's first record alone: its view holds the call of caller 1, which
--- is unanswered here.
+-- The book `overtaken` at the cut of caller 0's first record alone: the view of this record holds
+-- the call of caller 1, which is unanswered here.
 abbrev pub overtaken_early : List Page
 overtaken_early = caller_page (5 ∷ []) (answer 0 (1 ∷ 1 ∷ []) ∷ []) ∷ caller_page (6 ∷ []) [] ∷ []
 
--- One order of the three answered calls. At the early cut it has to end after its second place: the
--- third call isn't there.
+-- An order of the three answered calls of `overtaken`. Its first two places are an order of the
+-- book at the cut of caller 0's first record, which lacks the third call.
 abbrev pub overtaking : List Place
 overtaking = stand 1 0 0 ∷ stand 0 0 0 ∷ stand 0 1 6 ∷ []
 
@@ -45,7 +45,8 @@ overtaking = stand 1 0 0 ∷ stand 0 0 0 ∷ stand 0 1 6 ∷ []
 abbrev pub tenfold_next : List ℕ → ℕ → List ℕ × ℕ
 tenfold_next list op = (list, 10 * op)
 
--- Caller 0 got a wrong reply, and caller 1 a right one afterwards.
+-- A book of the object that replies ten times the operation, in which caller 0 got a wrong reply,
+-- and caller 1 a right one afterwards.
 abbrev pub mistaken : List Page
 mistaken = caller_page (5 ∷ []) (answer 51 (1 ∷ 0 ∷ []) ∷ [])
     ∷ caller_page (6 ∷ []) (answer 60 (1 ∷ 1 ∷ []) ∷ []) ∷ []

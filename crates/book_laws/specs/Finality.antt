@@ -1,4 +1,4 @@
--- An error is final: what has no legal order at a cut has none at a larger one.
+-- An error is final: a book that has no legal order at a cut has none at a larger cut.
 use Rattle.std.specs.Prelude.{ℕ, List, take}
 use Rattle.book_base.specs.declared.call.Place.{Place}
 use Rattle.book_base.specs.Cut.{IsWithin}
@@ -21,7 +21,7 @@ SmallerHasOne =
     → IsValid book → IsWithin smaller larger → HasLegalOrder init next (book_at larger book)
     → HasLegalOrder init next (book_at smaller book)
 
--- Where the book at a cut has none, the book at each larger cut has none.
+-- Where the book at a cut has no legal order, the book at each larger cut has none.
 abbrev pub LargerHasNone : Type 0
 LargerHasNone =
     (init : List ℕ) (next : List ℕ → ℕ → List ℕ × ℕ) (book : List Page) (smaller larger : List ℕ)

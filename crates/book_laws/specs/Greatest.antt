@@ -4,12 +4,12 @@ use Rattle.std.specs.List.{range_with_len}
 use Rattle.book_base.specs.Cut.{IsWithin, AreComparable}
 use Rattle.book_base.specs.BookAt.{greatest_count}
 
--- The greatest counts of some cuts of n callers: of each caller the greatest one, 0 where there is
--- no cut.
+-- The greatest counts of some cuts of n callers: for each caller the greatest count that a cut has
+-- for it, or 0 where there is no cut.
 abbrev pub greatest_counts : ℕ → List (List ℕ) → List ℕ
 greatest_counts n cuts = map (greatest_count cuts) (range_with_len 0 n)
 
--- these are cuts of n callers
+-- each of the cuts has n counts
 abbrev pub AreCutsOf : ℕ → List (List ℕ) → Type 0
 AreCutsOf n cuts = (k : ℕ) (cut : List ℕ) → slice_get cuts k ≡ Some cut → length cut ≡ n
 
@@ -18,7 +18,7 @@ abbrev pub ArePairwiseComparable : List (List ℕ) → Type 0
 ArePairwiseComparable cuts = (j k : ℕ) (a b : List ℕ) → slice_get cuts j ≡ Some a
     → slice_get cuts k ≡ Some b → AreComparable a b
 
--- The greatest counts of cuts that are pairwise comparable, and not none, are one of them.
+-- The greatest counts of one or more pairwise comparable cuts are one of these cuts.
 abbrev pub GreatestIsOne : Type 0
 GreatestIsOne = (n : ℕ) (first : List ℕ) (others : List (List ℕ)) → AreCutsOf n (first ∷ others)
     → ArePairwiseComparable (first ∷ others)

@@ -22,27 +22,27 @@ MayTake kind book value call = Took kind book value call ⊎ (did kind book call
 
 -- What a demand about two calls asks of a call.
 abbrev pub Meets : Kind → List Page → Demand → Call → Call → Call → Type 0
--- where it puts in the value of the first call, it comes after the first call
+-- a call that puts in the value of the first call comes after the first call
 Meets kind book demands.OwnPutsFollow first second call =
     Puts kind book (value_at kind book first) call → Precedes book first call
--- where it puts in the value of the second call, it comes after the first call
+-- a call that puts in the value of the second call comes after the first call
 Meets kind book demands.OtherPutsFollow first second call =
     Puts kind book (value_at kind book second) call → Precedes book first call
--- where it puts in the value of the second call, it comes before the first call, or after the
--- second one
+-- a call that puts in the value of the second call comes before the first call, or after the second
+-- one
 Meets kind book demands.OtherPutsOutside first second call =
     Puts kind book (value_at kind book second) call → Precedes book call first
     ⊎ Precedes book second call
--- where it puts in the value of the first call, it is the first call
+-- only the first call puts in its value
 Meets kind book demands.OnlyPut first second call = Puts kind book (value_at kind book first) call
     → call ≡ first
--- where it takes the value of the second call, it is the second call
+-- only the second call takes its value
 Meets kind book demands.OnlyTake first second call = Took kind book (value_at kind book second) call
     → call ≡ second
--- where it may take the value of the first call, it comes after the second call
+-- a call that may take the value of the first call comes after the second call
 Meets kind book demands.TakesFollow first second call =
     MayTake kind book (value_at kind book first) call → Precedes book second call
--- nothing is asked
+-- this demand asks nothing
 Meets kind book demands.Nothing first second call = Unit {0}
 
 -- All calls of the book meet a demand about two calls.

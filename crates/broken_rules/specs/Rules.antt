@@ -140,7 +140,7 @@ relation_of rules.FoundUnput = relations.Same
 abbrev pub SeesAtMost : List Page → Call → ℕ → Type 0
 SeesAtMost book call most = IsSomeAnd (record_of book call) (λ r. sum r.view ≤ most)
 
--- Two calls are so related.
+-- Two calls are related in this way.
 abbrev pub Related : Kind → List Page → Relation → Call → Call → Type 0
 -- they are one call
 Related kind book relations.Same first second = first ≡ second
@@ -166,7 +166,7 @@ pub record Breaks (kind : Kind) (book : List Page) (broken : BrokenRule) : Type 
   pub kept : keeps kind broken.rule ≡ true
   -- the calls did what the rule is about
   pub fit : fits broken.rule (did kind book broken.first) (did kind book broken.second) ≡ true
-  -- they are related as the rule says
+  -- the two calls are related as the rule says
   pub related : Related kind book (relation_of broken.rule) broken.first broken.second
   -- the calls that put in, and those that take, are where the rule says
   pub puts : AllMeet kind book (puts_demand broken.rule) broken.first broken.second

@@ -15,25 +15,25 @@ StandsFrom events from event = (place : ℕ) × (from ≤ place) × (slice_get e
 abbrev pub next_of : Call → Call
 next_of call = record call { number = call.number + 1 }
 
--- An interval is what the events of a book tell of its call.
+-- An interval agrees with the events of a book on its call.
 pub record IsIntervalOf (book : List Page) (events : List Event)
     (interval : Interval) : Type 0 where
-  -- it is of a call of the book, and begins where that is invoked
+  -- its call is one of the book's, and it begins where the call is invoked
   pub call : IsCall book interval.call
   pub begins : slice_get events interval.begin ≡ Some (Invoke interval.call)
-  -- it is open exactly where the call is unanswered
+  -- it is open exactly where its call is unanswered
   pub open_is : IsTrue interval.is_open ↔ ¬ (IsAnswered book interval.call)
-  -- that of an answered call ends after the call's return
+  -- the interval of an answered call ends one place after the call's return
   pub returns : IsAnswered book interval.call → (place : ℕ) × (interval.end ≡ place + 1)
       × (slice_get events place ≡ Some (Return interval.call))
-  -- that of an unanswered call ends where the next call of its caller is invoked, or after all
-  -- events where there is none
+  -- the interval of an unanswered call ends where the next call of its caller is invoked, or after
+  -- all events where there is no such call
   pub breaks_off : ¬ (IsAnswered book interval.call) → IsCall book (next_of interval.call)
       → slice_get events interval.end ≡ Some (Invoke (next_of interval.call))
   pub goes_on : ¬ (IsAnswered book interval.call) → ¬ (IsCall book (next_of interval.call))
       → interval.end ≡ length events
 
--- The intervals of a caller's calls, by number.
+-- The lane has the interval of each call of a caller, by number.
 pub record IsLaneOf (book : List Page) (events : List Event) (caller : ℕ)
     (lane : List Interval) : Type 0 where
   pub calls : (number : ℕ) → (number < length lane)
@@ -71,12 +71,12 @@ pub record HasOneInterval (lanes : List (List Interval)) (call : Call) : Type 0 
 abbrev pub HaveOneEach : List Page → List (List Interval) → Type 0
 HaveOneEach book lanes = (call : Call) → IsCall book call → HasOneInterval lanes call
 
--- Each interval is what the events of a book tell of its call.
+-- Each interval on the lanes agrees with the events of a book on its call.
 abbrev pub AreTold : List Page → List Event → List (List Interval) → Type 0
 AreTold book events lanes = (caller place : ℕ) (interval : Interval)
     → StandsOn lanes caller place interval → IsIntervalOf book events interval
 
--- Each interval has a place, and all its places are of events.
+-- Each interval on the lanes has at least one place, and ends no later than the events.
 abbrev pub LieWithin : List Event → List (List Interval) → Type 0
 LieWithin events lanes = (caller place : ℕ) (interval : Interval)
     → StandsOn lanes caller place interval

@@ -9,18 +9,18 @@ use Rattle.container_pruning.specs.declared.reader.Role.TheVariants as roles
 use Rattle.container_pruning.specs.declared.deal.Deal.{Deal}
 use Rattle.container_pruning.specs.declared.deal.Deal.TheVariants as deals
 
--- the deed that a role names
+-- the effect that a role of the code names
 abbrev pub deed_of : Role → Effect
 deed_of (roles.Put v) = Puts v
 deed_of roles.Take = Takes
 deed_of roles.Other = Neither
 
--- what a take did, by what its reply shows
+-- what an answered take did, by what its reply shows
 abbrev pub shown_deal : Option ℕ → Deal
 shown_deal None = deals.FoundNothing
 shown_deal (Some v) = deals.Took v
 
--- what a take did, by its record
+-- what a take did, by its record, where it has one
 abbrev pub recorded_deal : Reading → Option Record → Deal
 recorded_deal reading None = deals.OpenTake
 recorded_deal reading (Some r) = shown_deal (reading.shown r.reply)

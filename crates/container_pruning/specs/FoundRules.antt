@@ -1,4 +1,4 @@
--- What the readings of objects have.
+-- What the rules need of a reading beside what a container is.
 use Rattle.std.specs.Prelude.{◌≡◌, ℕ, List, Contains, Some}
 use Rattle.history_rules.specs.Container.{Reading}
 

@@ -1,4 +1,4 @@
--- What the calls of a book say of the puts of other values.
+-- Links: what a call of a book says of the puts of values that other calls take or keep.
 use Rattle.std.specs.Prelude.{◌≡◌, ℕ, ◌+◌, ◌⊎◌, ◌==◌, nat_lt, Bool, true, false, List, [], length, map, Option, Some, None, slice_index_or, sum, if◌then◌else◌}
 use Rattle.book_base.specs.declared.call.Call.{Call}
 use Rattle.book_base.specs.declared.call.Record.{Record}
@@ -20,12 +20,12 @@ use Rattle.container_pruning.specs.Uses.{use_of, IsEarly}
 abbrev pub no_link : Link
 no_link = record { before = None; after = None; reach = 0; is_kept = false }
 
--- the link of a call; one that isn't there says nothing
+-- the link of a call, which says nothing where the call has none
 abbrev pub link_at : Links → Call → Link
 link_at links call = slice_index_or
     (slice_index_or (map (λ row. row.items) links.rows.items) call.caller []) call.number no_link
 
--- the put of a value that one call puts in
+-- the only put of a value, where exactly one call puts it in
 abbrev pub only_put : Uses → ℕ → Option Call
 only_put uses v = if (use_of uses.by_value.entries v).puts == 1
     then Some (use_of uses.by_value.entries v).put else None
@@ -43,26 +43,30 @@ refuses uses deals.FoundNothing = false
 refuses uses deals.OpenTake = false
 refuses uses deals.Other = false
 
--- one more than what an answered call's view counts, and 0 for a call without an answer
+-- the reach of a call with this record: one more than the number of calls that its view counts, or
+-- 0 without a record
 abbrev pub reach_by : Option Record → ℕ
 reach_by None = 0
 reach_by (Some r) = sum r.view + 1
 
--- one more than what the view of a call counts, and 0 for a call without an answer
+-- the reach of a call of the book: one more than the number of calls that its view counts, or 0
+-- where it is unanswered
 abbrev pub reach_of : List Page → Call → ℕ
 reach_of book call = reach_by (record_of book call)
 
--- the reach is kept for a stack alone
+-- the reach that a link has by the object's discipline: of a queue always 0
 abbrev pub reach_for : Discipline → ℕ → ℕ
 reach_for Queue reach = 0
 reach_for Stack reach = reach
 
--- in a queue the put of what is taken stands before the puts of what is taken later
+-- the call that comes before the puts of what is taken after a take, by the only put of what the
+-- take itself takes: in a queue that put, in a stack none
 abbrev pub before_for : Discipline → Option Call → Option Call
 before_for Queue put = put
 before_for Stack put = None
 
--- the link of a call with this deal and reach
+-- the link of a call with this deal and reach, by the uses of values and the discipline of the
+-- object
 abbrev pub link_by : Uses → Discipline → Call → ℕ → Deal → Link
 link_by uses discipline call reach (deals.Put v) =
     record no_link { reach = reach; is_kept = keeps uses v }
@@ -76,13 +80,14 @@ link_by uses discipline call reach deals.FoundNothing =
 link_by uses discipline call reach deals.OpenTake = record no_link { reach = reach }
 link_by uses discipline call reach deals.Other = record no_link { reach = reach }
 
--- the link of a call that did this, by the use of values and the discipline of the object
+-- the link of a call of a book that did this, by the uses of values and the discipline of the
+-- object
 abbrev pub link_of : List Page → Uses → Discipline → Call → Deal → Link
 link_of book uses discipline call deal =
     link_by uses discipline call (reach_for discipline (reach_of book call)) deal
 
--- What stands before the puts of what is taken after a call: the call, where it found nothing; in a
--- queue, the only put of what the call takes.
+-- The call `first` comes before the puts of all that is taken after a call: it is that call itself,
+-- where this found nothing, or, in a queue, the only put of what the call takes.
 abbrev pub Leads : Reading → List Page → Discipline → Call → Call → Type 0
 Leads reading book discipline call first =
     (FindsNothing reading book call × (first ≡ call)) ⊎ ((discipline ≡ Queue)
@@ -98,7 +103,7 @@ pub record IsLink (reading : Reading) (book : List Page) (discipline : Disciplin
   pub kept : link.is_kept ≡ true → (v : ℕ) × PutsIn reading book call v
       × IsNeverTaken reading book v
 
--- no container from empty has a legal order of the book
+-- the book has no legal order for any container that begins empty
 abbrev pub HasNoneOfAny : Reading → List Page → Type 0
 HasNoneOfAny reading book = (init : List ℕ) (next : List ℕ → ℕ → List ℕ × ℕ)
     → IsContainer reading next → reading.values init ≡ [] → ¬ HasLegalOrder init next book
@@ -109,7 +114,7 @@ pub record AreLinks (reading : Reading) (book : List Page) (discipline : Discipl
   pub each : (call : Call) → IsLink reading book discipline call (link_at links call)
   pub refused : links.is_refused ≡ true → HasNoneOfAny reading book
 
--- the same, with the rows of this many callers
+-- the links are right for a book, and have rows for this many callers
 abbrev pub AreLinksTo : Reading → List Page → Discipline → ℕ → Links → Type 0
 AreLinksTo reading book discipline callers links = (length links.rows.items ≡ callers)
     × AreLinks reading book discipline links
@@ -119,9 +124,9 @@ abbrev pub AreLinksOf : List Page → Links → Type 0
 AreLinksOf book links = (call other : Call) → ((link_at links call).before ≡ Some other)
     ⊎ ((link_at links call).after ≡ Some other) → IsCall book other
 
--- What links say of calls that precede takes holds of an object: what leads from the first stands
--- before the put of what the other takes, and this put is infeasible at a list with a word of a
--- rank below the first one's reach.
+-- What the links say of a take b holds of an object, where a call a precedes b: the call that a's
+-- link names comes before the put of what b takes, and this put is infeasible at a list with a word
+-- of a rank below a's reach.
 pub record AreFollowed (init : List ℕ) (next : List ℕ → ℕ → List ℕ × ℕ) (book : List Page)
     (links : Links) (ranks : List (ℕ × ℕ)) : Type 0 where
   pub order : (a b first put : Call) → Precedes book a b → (link_at links a).before ≡ Some first
@@ -130,9 +135,9 @@ pub record AreFollowed (init : List ℕ) (next : List ℕ → ℕ → List ℕ �
       → (cut list : List ℕ) → HasEarly ranks list (link_at links a).reach
       → IsInfeasible init next book cut list put
 
--- What links say of puts of what no answered call takes holds of an object: what leads from a call
--- that precedes each unanswered take stands before them, and they are infeasible at a list with a
--- word of a rank below the reach of such a call.
+-- What the links say of a value that no answered call takes holds of an object, where a call a
+-- precedes each unanswered take: the call that a's link names comes before the put of the value,
+-- and this put is infeasible at a list with a word of a rank below a's reach.
 pub record AreKept (init : List ℕ) (next : List ℕ → ℕ → List ℕ × ℕ) (book : List Page)
     (links : Links) (open_from : List ℕ) (ranks : List (ℕ × ℕ)) : Type 0 where
   pub order : (a first put : Call) → IsEarly book open_from a → (link_at links a).before

@@ -1,4 +1,5 @@
--- What passed calls say of a put after them.
+-- Pasts: what the links of earlier calls say of a put after them, as a predecessor bound and a
+-- limit.
 use Rattle.std.specs.Prelude.{◌≡◌, ℕ, ◌+◌, ◌-◌, ◌<◌, ◌≤◌, ◌⊎◌, max, List, length, Option, Some, None, slice_index, slice_set}
 use Rattle.book_base.specs.declared.call.Call.{Call}
 use Rattle.book_base.specs.declared.TheConstants.{MAX_CALLS}
@@ -7,7 +8,7 @@ use Rattle.container_pruning.specs.declared.links.Links.{Links}
 use Rattle.container_pruning.specs.declared.past.Past.{Past}
 use Rattle.container_pruning.specs.Links.{link_at}
 
--- a cut that holds a call too
+-- a cut raised so that it holds a call too, where there is one
 abbrev pub raised_to : List ℕ → Option Call → List ℕ
 raised_to predecessor_bound None = predecessor_bound
 raised_to predecessor_bound (Some first) =
@@ -18,8 +19,9 @@ raised_to predecessor_bound (Some first) =
 abbrev pub last_held : List ℕ → ℕ → Call
 last_held predecessor_bound i = record { caller = i; number = slice_index predecessor_bound i - 1 }
 
--- What a past says comes from the calls that were passed: the last call of each caller in the
--- predecessor bound leads from one of them, and the limit is the reach of one of them.
+-- A past comes from the calls that were passed: the last call of each caller in the predecessor
+-- bound is the one that the link of some passed call names, and the limit is the reach of some
+-- passed call.
 pub record IsPast (passed : Call → Type 0) (book : List Page) (links : Links)
     (past : Past) : Type 0 where
   pub wide : length past.predecessor_bound ≡ length book

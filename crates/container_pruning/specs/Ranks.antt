@@ -7,7 +7,8 @@ use Rattle.history_rules.specs.Container.{Reading}
 use Rattle.history_rules.specs.Calls.{PutsInAlone, TakesOut}
 use Rattle.container_pruning.specs.Links.{reach_of}
 
--- a value's rank is what the view of a call counts that takes it out, and one call alone puts it in
+-- A rank of a value is right: some call takes the value out, the rank is how many calls the view of
+-- this call counts, and exactly one call puts the value in.
 pub record IsRanked (reading : Reading) (book : List Page) (v rank : ℕ) : Type 0 where
   pub take : Call
   pub put : Call
@@ -15,7 +16,7 @@ pub record IsRanked (reading : Reading) (book : List Page) (v rank : ℕ) : Type
   pub alone : PutsInAlone reading book put v
   pub rank_is : rank ≡ reach_of book take - 1
 
--- each rank is right
+-- each rank of a value is right
 abbrev pub AreRanks : Reading → List Page → List (ℕ × ℕ) → Type 0
 AreRanks reading book ranks = (v rank : ℕ) → rank_of ranks v ≡ Some rank
     → IsRanked reading book v rank

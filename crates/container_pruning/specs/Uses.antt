@@ -15,7 +15,8 @@ use Rattle.container_pruning.specs.declared.uses.Use.{Use}
 use Rattle.container_pruning.specs.declared.uses.Uses.{Uses}
 use Rattle.container_pruning.specs.Deals.{deal_of}
 
--- the calls of the first callers, and the first ones of the next caller
+-- the call has been read, where all calls of the first callers have been, and the first ones of the
+-- next caller
 abbrev pub IsReadTo : ℕ → ℕ → Call → Type 0
 IsReadTo caller number call = (call.caller < caller)
     ⊎ ((call.caller ≡ caller) × (call.number < number))
@@ -28,16 +29,17 @@ no_use = record { puts = 0; put = record { caller = 0; number = 0 }; takes = 0 }
 abbrev pub use_of : List (ℕ × Use) → ℕ → Use
 use_of uses v = unwrap_or (lookup (is_at (nat_cmp v)) uses) no_use
 
--- Of the calls that were read, this many put a value in and this many take it out, as listed.
+-- The use of a value is right: it says how many of the calls read so far put the value in and how
+-- many take it out, as listed here.
 pub record IsCounted (deal : Call → Deal) (read : Call → Type 0) (v : ℕ) (used : Use) : Type 0 where
-  -- the calls that put it in
+  -- the calls that put the value in
   pub putters : List Call
   pub puts : length putters ≡ used.puts
   pub all_putters : (call : Call) → read call → deal call ≡ deals.Put v → (k : ℕ)
       × (slice_get putters k ≡ Some call)
-  -- one of them
+  -- the put that the use names is one of the calls that put the value in
   pub put : 1 ≤ used.puts → deal used.put ≡ deals.Put v
-  -- the calls that take it out
+  -- the calls that take the value out
   pub takers : List Call
   pub takes : length takers ≡ used.takes
   pub all_takers : (call : Call) → read call → deal call ≡ deals.Took v → (k : ℕ)
@@ -46,7 +48,7 @@ pub record IsCounted (deal : Call → Deal) (read : Call → Type 0) (v : ℕ) (
       × (deal call ≡ deals.Took v)
   pub different : AreDifferent takers
 
--- The uses are those of the calls that were read.
+-- The uses are those of the calls read so far.
 pub record AreUsesOf (reading : Reading) (book : List Page) (caller number : ℕ)
     (uses : Uses) : Type 0 where
   pub each : (v : ℕ)
@@ -54,10 +56,11 @@ pub record AreUsesOf (reading : Reading) (book : List Page) (caller number : ℕ
   -- no value is used more often than calls were read
   pub few : (v : ℕ) → ((use_of uses.by_value.entries v).puts ≤ caller * MAX_CALLS + number)
       × ((use_of uses.by_value.entries v).takes ≤ caller * MAX_CALLS + number)
-  -- no take of a caller is unanswered before the number from which on they may be
+  -- the unanswered takes of a caller that were read have numbers from the one in `open_from` on
   pub answered : (call : Call) → IsReadTo caller number call → deal_of reading book call
       ≡ deals.OpenTake → slice_index uses.open_from call.caller ≤ call.number
 
--- An answered call's view counts no call of a caller from that number on.
+-- The call is answered, and its view holds no unanswered take: of each caller it counts no call
+-- from the number in `open_from` on.
 abbrev pub IsEarly : List Page → List ℕ → Call → Type 0
 IsEarly book open_from call = IsSomeAnd (record_of book call) (λ r. IsWithin r.view open_from)

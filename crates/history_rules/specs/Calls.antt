@@ -10,22 +10,22 @@ abbrev pub PutsIn : Reading → List Page → Call → ℕ → Type 0
 PutsIn reading book call v = (op : ℕ) × (operation_of book call ≡ Some op)
     × (reading.deed op ≡ Puts v)
 
--- it is the only call of the book that puts in the value
+-- the call is the only one of the book that puts in the value
 abbrev pub PutsInAlone : Reading → List Page → Call → ℕ → Type 0
 PutsInAlone reading book call v = PutsIn reading book call v
     × ((other : Call) → PutsIn reading book other v → other ≡ call)
 
--- an answered call of the book takes, and its reply shows this
+-- the call is an answered take of the book, and its reply shows this value, or that there was none
 abbrev pub TakesShowing : Reading → List Page → Call → Option ℕ → Type 0
 TakesShowing reading book call shown = (op : ℕ) × (r : Record) × (operation_of book call ≡ Some op)
     × (record_of book call ≡ Some r)
     × (reading.deed op ≡ Takes) × (reading.shown r.reply ≡ shown)
 
--- an answered call takes out a value
+-- the call is answered and takes out a value
 abbrev pub TakesOut : Reading → List Page → Call → ℕ → Type 0
 TakesOut reading book call v = TakesShowing reading book call (Some v)
 
--- an answered call wants to take, and finds nothing
+-- the call is answered and wanted to take, but found nothing
 abbrev pub FindsNothing : Reading → List Page → Call → Type 0
 FindsNothing reading book call = TakesShowing reading book call None
 

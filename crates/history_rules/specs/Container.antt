@@ -1,5 +1,5 @@
--- Objects that hold values: what is put in is held until it is taken out. What an object does is
--- read through parameters, so that each rule here is one for every object that can be read so.
+-- Objects that hold values: what is put in is held until it is taken out. How an object's
+-- operations and replies are read is a parameter, so that each rule is stated once for all objects.
 use Rattle.std.specs.Prelude.{◌≡◌, ℕ, ◌+◌, ◌==◌, Bool, true, false, List, [], ◌∷◌, ◌++◌, Option, Some, None}
 
 -- what an operation does to what is held: it puts a value in, it takes one out, or neither
@@ -15,7 +15,8 @@ pub record Reading : Type 0 where
   pub shown : ℕ → Option ℕ
   pub values : List ℕ → List ℕ
 
--- the value that a deed puts in, and the one that it takes out by what its reply shows
+-- the value that an operation of this effect puts in, and the value that it takes out, by what its
+-- reply shows
 abbrev pub value_put : Effect → Option ℕ
 value_put (Puts v) = Some v
 value_put Takes = None
@@ -26,7 +27,8 @@ value_taken (Puts v) shown = None
 value_taken Takes shown = shown
 value_taken Neither shown = None
 
--- the same of an operation and its reply
+-- the value that a step, which is an operation with its reply, puts in, and the value that it takes
+-- out
 abbrev pub put_by : Reading → ℕ × ℕ → Option ℕ
 put_by reading step = value_put (reading.deed step.0)
 

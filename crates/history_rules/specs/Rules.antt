@@ -1,4 +1,5 @@
--- The rules: what every legal order of a book has, where the values concerned are put in once.
+-- The rules of queues, stacks and all containers: what holds in every legal order of a book where
+-- the values concerned are put in once.
 use Rattle.std.specs.Prelude.{◌≡◌, ◌≢◌, ℕ, ◌+◌, ◌<◌, List, [], ◌++◌, length, Some, slice_get, Contains}
 use Rattle.std.specs.List.{filter_map}
 use Rattle.book_base.specs.declared.call.Call.{Call}
@@ -10,8 +11,8 @@ use Rattle.history_rules.specs.Container.{Reading, put_by, taken_by, times, IsCo
 use Rattle.history_rules.specs.Calls.{PutsIn, PutsInAlone, TakesOut, FindsNothing}
 use Rattle.book_base.specs.PruningRules.{list_after_run, IsInfeasible, MustComeFirst}
 
--- What a queue gives out in a legal run from empty is the first of what was put in, in that order:
--- all that was put in is what was given out, followed by what the queue still holds.
+-- A queue gives out values in the order in which they were put in: after a legal run from empty,
+-- all values put in are those given out, followed by those that the queue still holds.
 abbrev pub QueueGivesInOrder : Type 0
 QueueGivesInOrder =
     (reading : Reading) (init : List ℕ) (next : List ℕ → ℕ → List ℕ × ℕ) (steps : List (ℕ × ℕ))
@@ -19,8 +20,8 @@ QueueGivesInOrder =
     → filter_map (put_by reading) steps
     ≡ filter_map (taken_by reading) steps ++ reading.values (list_after_run next init steps)
 
--- What a container gives out in a legal run from empty was put in: each value was put in as often
--- as it was given out and is held.
+-- A container gives out only what was put in: after a legal run from empty, each value was put in
+-- as often as it was given out and is still held together.
 abbrev pub ContainerGivesWhatWasPut : Type 0
 ContainerGivesWhatWasPut = (reading : Reading) (init : List ℕ) (next : List ℕ → ℕ → List ℕ × ℕ)
     (steps : List (ℕ × ℕ)) (v : ℕ)
@@ -28,7 +29,7 @@ ContainerGivesWhatWasPut = (reading : Reading) (init : List ℕ) (next : List �
     → times v (filter_map (put_by reading) steps) ≡ times v (filter_map (taken_by reading) steps)
     + times v (reading.values (list_after_run next init steps))
 
--- Any container: a take that found nothing and precedes the take of v stands before the put of v.
+-- In any container, a take that found nothing and precedes the take of v comes before the put of v.
 abbrev pub EmptyBeforePut : Type 0
 EmptyBeforePut =
     (reading : Reading) (init : List ℕ) (next : List ℕ → ℕ → List ℕ × ℕ) (book : List Page)
@@ -37,7 +38,7 @@ EmptyBeforePut =
     → TakesOut reading book take_v v → Precedes book empty take_v
     → PutsInAlone reading book put_v v → MustComeFirst init next book empty put_v
 
--- A queue: where the take of x precedes the take of v, the put of x stands before the put of v.
+-- In a queue, where the take of x precedes the take of v, the put of x comes before the put of v.
 abbrev pub PutsInOrder : Type 0
 PutsInOrder =
     (reading : Reading) (init : List ℕ) (next : List ℕ → ℕ → List ℕ × ℕ) (book : List Page)
@@ -47,7 +48,7 @@ PutsInOrder =
     → PutsInAlone reading book put_x x → PutsInAlone reading book put_v v
     → MustComeFirst init next book put_x put_v
 
--- A stack: where the take of x precedes the take of v, the put of v is infeasible at a list that
+-- In a stack, where the take of x precedes the take of v, the put of v is infeasible at a list that
 -- holds x.
 abbrev pub PutIsCovered : Type 0
 PutIsCovered =
@@ -59,7 +60,7 @@ PutIsCovered =
     → (cut list : List ℕ) → Contains (reading.values list) x
     → IsInfeasible init next book cut list put_v
 
--- Any container: a book where a value is put in once and taken out twice has no legal order.
+-- In any container, a book where a value is put in once and taken out twice has no legal order.
 abbrev pub TakenOnce : Type 0
 TakenOnce = (reading : Reading) (init : List ℕ) (next : List ℕ → ℕ → List ℕ × ℕ) (book : List Page)
     → IsContainer reading next → reading.values init ≡ []
@@ -67,12 +68,12 @@ TakenOnce = (reading : Reading) (init : List ℕ) (next : List ℕ → ℕ → L
     → TakesOut reading book other v → PutsInAlone reading book put_v v
     → ¬ HasLegalOrder init next book
 
--- the calls of a list differ
+-- no call stands twice in the list
 abbrev pub AreDifferent : List Call → Type 0
 AreDifferent calls = (j k : ℕ) (call : Call) → slice_get calls j ≡ Some call
     → slice_get calls k ≡ Some call → j ≡ k
 
--- Any container: a book where more calls take a value out than put it in has no legal order.
+-- In any container, a book where more calls take a value out than put it in has no legal order.
 -- Unanswered puts count too.
 abbrev pub TakenNoMoreThanPut : Type 0
 TakenNoMoreThanPut =
@@ -83,7 +84,8 @@ TakenNoMoreThanPut =
     → ((call : Call) → PutsIn reading book call v → (k : ℕ) × (slice_get putters k ≡ Some call))
     → length putters < length takers → ¬ HasLegalOrder init next book
 
--- What must come first makes a call infeasible next, where the cut lacks it.
+-- Where call a must come first before call b, call b is infeasible next after each cut that lacks
+-- a.
 abbrev pub InfeasibleUntilThen : Type 0
 InfeasibleUntilThen =
     (init : List ℕ) (next : List ℕ → ℕ → List ℕ × ℕ) (book : List Page) (a b : Call)

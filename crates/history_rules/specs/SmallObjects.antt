@@ -1,6 +1,5 @@
--- Small objects that can be read as the rules read them: each puts in v by the operation v + 1 and
--- takes by the operation 0; a take replies v + 1 where it takes out v, and 0 where it finds
--- nothing.
+-- Small objects for worked cases: an operation v + 1 puts in v, and the operation 0 takes; a take
+-- replies v + 1 where it takes out v, and 0 where it finds nothing.
 use Rattle.std.specs.Prelude.{ℕ, zero, suc, List, [], ◌∷◌, ◌++◌, Option, Some, None}
 use Rattle.book_base.specs.declared.call.Call.{Call}
 use Rattle.book_base.specs.declared.call.Record.{Record}

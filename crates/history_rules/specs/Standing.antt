@@ -1,4 +1,4 @@
--- Answered calls that leave the object's list: they may stand at once.
+-- Answered read-only calls, which an order may take at once.
 use Rattle.std.specs.Prelude.{◌≡◌, ℕ, ◌≤◌, List, ◌∷◌, length, unwrap_or, Some}
 use Rattle.book_base.specs.declared.call.Call.{Call}
 use Rattle.book_base.specs.declared.call.Place.{Place}
@@ -11,12 +11,12 @@ use Rattle.book_base.specs.PruningRules.{Leaves}
 abbrev pub answered_place : Call → Record → Place
 answered_place call r = record { caller = call.caller; number = call.number; reply = r.reply }
 
--- the operation word of a call, 0 where it isn't there
+-- the operation word of a call, 0 where the book lacks the call
 abbrev pub word_of : List Page → Call → ℕ
 word_of book call = unwrap_or (operation_of book call) 0
 
--- An answered call may stand at once after the calls of a cut and at a list: it may come next, the
--- object gives its recorded reply, and with this reply it leaves every list.
+-- An order may take an answered call at once after the calls of a cut and at a list: the call may
+-- come next, the object gives its recorded reply, and with this reply its operation is read-only.
 pub record MayStandAtOnce (book : List Page) (next : List ℕ → ℕ → List ℕ × ℕ) (cut list : List ℕ)
     (call : Call) (r : Record) : Type 0 where
   pub may_come : MayComeNext book cut call
@@ -24,7 +24,8 @@ pub record MayStandAtOnce (book : List Page) (next : List ℕ → ℕ → List �
   pub gives : (next list (word_of book call)).1 ≡ r.reply
   pub leaves : Leaves next (word_of book call) r.reply
 
--- Where an order goes on from a cut and a list, one goes on with such a call.
+-- Where places continue an order from a cut and a list, some that begin with a call that may be
+-- taken at once do.
 abbrev pub GoesOnWithIt : Type 0
 GoesOnWithIt = (book : List Page) (next : List ℕ → ℕ → List ℕ × ℕ) (cut list : List ℕ) (call : Call)
     (r : Record) (rest : List Place) → length book ≤ length cut

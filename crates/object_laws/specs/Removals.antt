@@ -29,22 +29,23 @@ abbrev pub reply_with : Option ℕ → ℕ
 reply_with (Some value) = reply_value value
 reply_with None = reply_none
 
--- A dequeue gives the first of the values put in that isn't out, or none where each is out: as many
--- values were put in before that one as were given out.
+-- A dequeue gives the oldest value that is still in: where n values were given out before it, the
+-- one that n values were put in before; or none where there is no such value.
 abbrev pub DequeuesGiveTheOldest : Type 0
 DequeuesGiveTheOldest = (before rest : List (ℕ × ℕ)) (step : ℕ × ℕ)
     → IsRunOf Queue (before ++ step ∷ rest) → does deq step ≡ true
     → step.1
     ≡ reply_with (slice_get (put_in queue_reading before) (length (given_out queue_reading before)))
 
--- The steps give out just what they put in, of the values of a stack: as many values, and in no
--- first part of them more.
+-- The steps of a stack are even: they give out as many values as they put in, and no prefix of them
+-- gives out more than it puts in.
 pub record AreEven (steps : List (ℕ × ℕ)) : Type 0 where
   pub all : length (given_out stack_reading steps) ≡ length (put_in stack_reading steps)
   pub first : (prefix rest : List (ℕ × ℕ)) → steps ≡ prefix ++ rest
       → length (given_out stack_reading prefix) ≤ length (put_in stack_reading prefix)
 
--- The last value put in that isn't out: what was put in after it is out.
+-- The value is the newest one on the stack after these steps: all that is put in after a put of it
+-- is given out again.
 pub record IsNewest (steps : List (ℕ × ℕ)) (value : ℕ) : Type 0 where
   pub before : List (ℕ × ℕ)
   pub push : ℕ × ℕ
@@ -53,7 +54,7 @@ pub record IsNewest (steps : List (ℕ × ℕ)) (value : ℕ) : Type 0 where
   pub puts : put_by stack_reading push ≡ Some value
   pub even : AreEven later
 
--- A pop gives the last value put in that isn't out, or none where the steps before it are even.
+-- A pop gives the newest value on the stack, or none where the steps before it are even.
 abbrev pub GivesTheNewest : List (ℕ × ℕ) → ℕ → Type 0
 GivesTheNewest before reply = ((reply ≡ reply_none) × AreEven before)
     ⊎ ((value : ℕ) × (reply ≡ reply_value value) × IsNewest before value)
@@ -77,13 +78,13 @@ abbrev pub IsIn : List (ℕ × ℕ) → ℕ → Type 0
 IsIn steps value =
     times value (given_out pqueue_reading steps) < times value (put_in pqueue_reading steps)
 
--- The value is in, and no value that is in is less.
+-- The value is in a priority queue after these steps, and no lesser value is.
 pub record IsLeast (steps : List (ℕ × ℕ)) (value : ℕ) : Type 0 where
   pub inside : IsIn steps value
   pub least : (other : ℕ) → IsIn steps other → value ≤ other
   pub small : value < 2 ^ 32
 
--- A min gives the least value that is in, or none where no value is in.
+-- A min gives the least value in the priority queue, or none where no value is in it.
 abbrev pub GivesTheLeast : List (ℕ × ℕ) → ℕ → Type 0
 GivesTheLeast before reply = ((reply ≡ reply_none) × ((value : ℕ) → IsIn before value → ⊥))
     ⊎ ((value : ℕ) × (reply ≡ reply_value value) × IsLeast before value)

@@ -19,8 +19,8 @@ abbrev pub reply_at : List ℕ → (List ℕ → ℕ → List ℕ × ℕ) → Li
 reply_at init next book order p place =
     (next (list_before init next book order p) (step_at book place).0).1
 
--- The list of places fails the test that a fault names, for the sequential object that begins with
--- init and goes on by next.
+-- The list of places fails the test that a fault names, for the sequential object with the first
+-- list `init` and the transition function `next`.
 abbrev pub FailsTest : List ℕ → (List ℕ → ℕ → List ℕ × ℕ) → List Page → List Place
     → OrderFault → Type 0
 -- the call at place p isn't in the book
@@ -41,7 +41,7 @@ FailsTest init next book order (Record p wanted found) = (place : Place) × (r :
     × (slice_get order p ≡ Some place)
     × (record_of book (call_at place) ≡ Some r) × (wanted ≡ r.reply) × (found ≡ place.reply)
     × (wanted ≢ found)
--- the object gives a reply there that isn't the one at the place
+-- the object gives another reply at place p than the place has
 FailsTest init next book order (Run p wanted found) = (place : Place)
     × (slice_get order p ≡ Some place)
     × (wanted ≡ reply_at init next book order p place) × (found ≡ place.reply) × (wanted ≢ found)

@@ -9,7 +9,8 @@ use Rattle.book_base.specs.Order.{call_at, StandsAt}
 use Rattle.order_check.specs.declared.fault.OrderFault.{OrderFault}
 use Rattle.order_check.specs.Fault.{FailsTest, place_of, HasTurnBefore}
 
--- Before place p stand calls of the book, exactly those that the cut holds.
+-- The calls at the places before place p are calls of the book, and exactly those that the cut
+-- holds.
 pub record IsStanding (book : List Page) (order : List Place) (p : ℕ)
     (standing : List ℕ) : Type 0 where
   pub wide : length standing ≡ length book
@@ -21,15 +22,15 @@ pub record IsStanding (book : List Page) (order : List Place) (p : ℕ)
 pub record IsInPlace (book : List Page) (order : List Place) (p : ℕ) : Type 0 where
   -- it is a call of the book
   pub known : (call : Call) → StandsAt order p call → IsCall book call
-  -- it stands at no earlier place
+  -- it stands at no earlier place than p
   pub once : (j : ℕ) (call : Call) → StandsAt order p call → j < p → StandsAt order j call → ⊥
-  -- its caller's previous call does
+  -- the previous call of its caller, where there is one, stands at an earlier place
   pub in_turn : (call : Call) → StandsAt order p call → (number : ℕ) → number + 1 ≡ call.number
       → (j : ℕ) × (j < p) × StandsAt order j (record { caller = call.caller; number = number })
-  -- it precedes none of them
+  -- it precedes no call at an earlier place
   pub in_time : (j : ℕ) (a b : Call) → StandsAt order p a → j < p → StandsAt order j b
       → Precedes book a b → ⊥
-  -- and it has its recorded reply, where it is answered
+  -- the place has its recorded reply, where the call is answered
   pub recorded : (place : Place) (r : Record) → slice_get order p ≡ Some place
       → record_of book (call_at place) ≡ Some r → r.reply ≡ place.reply
 

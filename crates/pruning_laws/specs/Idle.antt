@@ -1,4 +1,4 @@
--- Idle calls: unanswered calls that leave the present list.
+-- Idle calls: unanswered calls that don't change the object's present list.
 use Rattle.std.specs.Prelude.{◌≡◌, ℕ, ◌≤◌, List, ◌∷◌, length}
 use Rattle.book_base.specs.declared.call.Place.{Place}
 use Rattle.book_base.specs.Book.{Page, IsAnswered}
@@ -6,8 +6,9 @@ use Rattle.book_base.specs.Order.{call_at}
 use Rattle.book_base.specs.Next.{list_after, Continues}
 use Rattle.book_base.specs.Pruning.{HasOneOpen}
 
--- In a book with one open, where an order goes on with an unanswered read-only call, one goes on
--- without it that is no longer than what follows it.
+-- In a book with one open, where places continue an order and the first is an unanswered call that
+-- doesn't change the list, some places without it continue the order too, no more than those after
+-- it.
 abbrev pub IdleMayBeLeftOut : Type 0
 IdleMayBeLeftOut = (book : List Page) (next : List ℕ → ℕ → List ℕ × ℕ) (cut list : List ℕ)
     (place : Place) (rest : List Place)

@@ -1,4 +1,5 @@
--- Twins: two calls of one operation that may come next, of which one serves for the other.
+-- Twins: two calls of one operation that may come next, of which one may be tried instead of the
+-- other.
 use Rattle.std.specs.Prelude.{◌≡◌, ◌≢◌, ℕ, ◌≤◌, ◌⊎◌, List, ◌∷◌, length, Some, unwrap_or}
 use Rattle.book_base.specs.declared.call.Call.{Call}
 use Rattle.book_base.specs.declared.call.Place.{Place}
@@ -8,17 +9,17 @@ use Rattle.book_base.specs.Order.{call_at}
 use Rattle.book_base.specs.Next.{MayComeNext, Continues}
 use Rattle.book_base.specs.Pruning.{HasOneOpen, ViewsAreWithin}
 
--- An answered call does what another one does: the other call has the same reply and no lesser
--- view, or it is unanswered and the object gives the reply.
+-- An answered call a does what a call b does: b has the same reply and a view that contains a's, or
+-- b is unanswered and the object gives a's reply.
 abbrev pub DoesTheSame : List Page → (List ℕ → ℕ → List ℕ × ℕ) → List ℕ → Call → Record
     → Call → Type 0
 DoesTheSame book next list a r b =
     ((s : Record) × (record_of book b ≡ Some s) × (s.reply ≡ r.reply) × ViewsAreWithin book a b)
     ⊎ ((IsAnswered book b → ⊥) × ((next list (unwrap_or (operation_of book a) 0)).1 ≡ r.reply))
 
--- A call is a twin that serves for another one, after a cut and at a list: both may come next, they
--- have one operation word, and the first is answered and does what the other does, or neither is
--- answered.
+-- A call a is a twin that serves for a call b, after a cut and at a list: both may come next, they
+-- are of two callers and have one operation word, and a is answered and does what b does, or
+-- neither is answered.
 pub record IsTwin (book : List Page) (next : List ℕ → ℕ → List ℕ × ℕ) (cut list : List ℕ)
     (a b : Call) : Type 0 where
   pub apart : a.caller ≢ b.caller
@@ -28,8 +29,8 @@ pub record IsTwin (book : List Page) (next : List ℕ → ℕ → List ℕ × �
   pub serves : ((r : Record) × (record_of book a ≡ Some r) × DoesTheSame book next list a r b)
       ⊎ ((IsAnswered book a → ⊥) × (IsAnswered book b → ⊥))
 
--- In a book with one open, where an order goes on with a call, one that is no longer goes on with a
--- twin that serves for it.
+-- In a book with one open, where places continue an order and a twin serves for the first call,
+-- some places that begin with the twin continue the order too, and they are no more.
 abbrev pub TwinServes : Type 0
 TwinServes = (book : List Page) (next : List ℕ → ℕ → List ℕ × ℕ) (cut list : List ℕ) (a : Call)
     (place : Place) (rest : List Place)

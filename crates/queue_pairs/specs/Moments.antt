@@ -1,5 +1,5 @@
--- Moments: the views of a book are comparable, so that each may be told from the others by how many
--- calls it counts.
+-- Moments: the views of a book are comparable, so that the number of calls that a view counts
+-- identifies it.
 use Rattle.std.specs.Prelude.{◌≡◌, ℕ, ◌<◌, ◌≤◌, ◌↔◌, List, [], ◌∷◌, Some, slice_get, sum}
 use Rattle.book_base.specs.declared.call.Call.{Call}
 use Rattle.book_base.specs.declared.call.Record.{Record}
@@ -11,13 +11,13 @@ use Rattle.book_base.specs.Pruning.{HasOneOpen}
 abbrev pub moment_of : Record → ℕ
 moment_of r = sum r.view
 
--- Some view holds a call at a moment, or at an earlier one.
+-- Some view that holds a call has this moment, or an earlier one.
 abbrev pub IsHeldBy : List Page → Call → ℕ → Type 0
 IsHeldBy book call m = (other : Call) × (s : Record) × (record_of book other ≡ Some s)
     × Holds s.view call × (moment_of s ≤ m)
 
--- A call may take effect at a moment: some view holds it then, and, where it is answered, the
--- moment is no later than its own.
+-- A call may take effect at a moment: some view up to this moment holds it, and, where it is
+-- answered, the moment is no later than that of its own view.
 pub record MayTakeEffect (book : List Page) (call : Call) (m : ℕ) : Type 0 where
   pub first : IsHeldBy book call m
   pub last : (r : Record) → record_of book call ≡ Some r → m ≤ moment_of r

@@ -1,4 +1,5 @@
--- What is next where calls of a queue's book stand, and the latest moments that it may have.
+-- The next entries: which calls of a queue's table come next after the calls that a standing
+-- covers, and the latest moments at which they may take effect.
 use Rattle.std.specs.Prelude.{◌≡◌, ℕ, ◌+◌, ◌<◌, ◌≤◌, ◌⊎◌, nat_lt, max, List, length, Option, Some, None, slice_get, slice_index, slice_index_or, if◌then◌else◌}
 use Rattle.book_base.specs.declared.TheConstants.{MAX_CALLERS}
 use Rattle.queue_pairs.specs.declared.TheConstants.{NEVER}
@@ -10,7 +11,7 @@ use Rattle.queue_pairs.specs.declared.table.TimedCall.{TimedCall}
 use Rattle.queue_pairs.specs.Pairs.{Paired, Pair}
 use Rattle.queue_pairs.specs.Tables.{put_at, take_at, IsFirstFrom}
 
--- what stands, as it is in memory
+-- the standing that the code keeps in memory
 abbrev pub paired : PairState → Paired
 paired s = record {
   puts = s.puts;
@@ -28,17 +29,18 @@ pair_of pair = record {
   take_moment = pair.take_moment;
 }
 
--- A number is the least of the first values of a function; without one that is less, it is NEVER.
+-- A value is the least of the first values of a function, or NEVER where there are none.
 pub record IsLeastOf (values : ℕ → ℕ) (below value : ℕ) : Type 0 where
   pub least : (k : ℕ) → k < below → value ≤ values k
   pub some : (value ≡ NEVER) ⊎ ((k : ℕ) × (k < below) × (value ≡ values k))
 
--- the latest moment that a call may have
+-- the latest moment at which a call may take effect, or NEVER where there is no call
 abbrev pub last_of : Option TimedCall → ℕ
 last_of None = NEVER
 last_of (Some t) = t.span.last
 
--- the latest moment of a call that no view holds up to a moment, and its first moment
+-- the latest moment, and the first one, at which a call may take effect that no view up to a given
+-- moment holds; NEVER of any other call
 abbrev pub last_after : ℕ → Option TimedCall → ℕ
 last_after found None = NEVER
 last_after found (Some t) = if nat_lt found t.span.first then t.span.last else NEVER
@@ -47,8 +49,9 @@ abbrev pub first_after : ℕ → Option TimedCall → ℕ
 first_after found None = NEVER
 first_after found (Some t) = if nat_lt found t.span.first then t.span.first else NEVER
 
--- The next calls of all callers where these stand, the first moment of the takes that find nothing
--- and don't stand, and the latest moments of all that don't stand.
+-- The next entries are right at a standing: they have the next put and the next take of each
+-- caller, the first moment of the remaining takes that find nothing, and the latest moments of all
+-- remaining calls.
 pub record AreNextEntries (table : Table) (s : PairState)
     (next_entries : NextEntries) : Type 0 where
   pub puts : (i : ℕ) → i < MAX_CALLERS
@@ -66,13 +69,14 @@ pub record AreNextEntries (table : Table) (s : PairState)
   pub find_limit : IsLeastOf (λ k. last_after s.found (slice_get table.finds.items k))
       (length table.finds.items) next_entries.find_limit
 
--- A call of a pair is the next one of its caller, of those that an entry is looked up for.
+-- An entry is the first one of some caller from the caller's number on, among the entries that a
+-- function finds.
 abbrev pub IsNextEntry : (ℕ → ℕ → Option TimedCall) → List ℕ → TimedCall → Type 0
 IsNextEntry at numbers t = (i : ℕ) × (i < MAX_CALLERS)
     × IsFirstFrom (λ n. at i n) (slice_index numbers i) (Some t)
 
--- A put and a take that are next, and that some views hold, at the earliest moments that they may
--- have as a pair.
+-- A pair consists of a next put and a next take that some views hold, with the earliest moments at
+-- which they may take effect as a pair.
 pub record IsNextPair (table : Table) (s : PairState) (pair : TimedPair) : Type 0 where
   pub put : IsNextEntry (λ i n. put_at table i n) s.puts pair.put
   pub take : IsNextEntry (λ i n. take_at table i n) s.takes pair.take
@@ -91,7 +95,8 @@ pub record Serves (other pair : TimedPair) : Type 0 where
   pub put_due : other.put.span.last ≤ pair.put.span.last
   pub take_due : other.take.span.last ≤ pair.take.span.last
 
--- some call that doesn't stand is due before its part of these moments
+-- some remaining put is due before the first of two moments, or some remaining take before the
+-- second
 abbrev pub IsPast : NextEntries → ℕ → ℕ → Type 0
 IsPast next_entries put_moment take_moment = (next_entries.put_limit < put_moment)
     ⊎ (next_entries.take_limit < take_moment) ⊎ (next_entries.find_limit < take_moment)

@@ -1,5 +1,5 @@
--- Pairs: what a queue's book has instead of an order. The k-th put and the k-th take of an order
--- are a pair, since the first value that is put in is the first that is taken out.
+-- Pairs, which a queue's book may have instead of an order: the k-th put and the k-th take of an
+-- order are a pair, since the first value that is put in is the first that is taken out.
 use Rattle.std.specs.Prelude.{◌≡◌, ℕ, ◌+◌, ◌<◌, ◌≤◌, ◌⊎◌, List, [], ◌∷◌, length, replicate, Some, slice_index, slice_set}
 use Rattle.book_base.specs.declared.call.Call.{Call}
 use Rattle.book_base.specs.declared.call.Record.{Record}
@@ -9,9 +9,9 @@ use Rattle.container_pruning.specs.declared.deal.Deal.TheVariants as deals
 use Rattle.container_pruning.specs.Deals.{deal_of}
 use Rattle.queue_pairs.specs.Moments.{moment_of, IsHeldBy, MayTakeEffect}
 
--- What stands of a queue's book: of each caller the puts and the takes below a number, and the
--- takes that find nothing and that some view holds up to a moment; and the moments of the last put
--- and of the last take.
+-- A standing says how far a queue's book has been paired. It covers of each caller the puts and the
+-- takes below a number, and the takes that find nothing and that some view holds up to a moment;
+-- and it has the moments of the last put and of the last take.
 pub record Paired : Type 0 where
   pub puts : List ℕ
   pub takes : List ℕ
@@ -26,7 +26,8 @@ pub record Pair : Type 0 where
   pub put_moment : ℕ
   pub take_moment : ℕ
 
--- What stands next: a pair, or all takes that find nothing and that some view holds at a moment.
+-- A step from one standing to the next: a pair, or all takes that find nothing and that some view
+-- holds at a moment.
 pub data Step : Type 0 where
   Pairs : Pair → Step
   FindNothing : ℕ → Step
@@ -46,15 +47,15 @@ MayTakeOut reading book v call = (deal_of reading book call ≡ deals.Took v)
 abbrev pub IsTake : Reading → List Page → Call → Type 0
 IsTake reading book call = (v : ℕ) × MayTakeOut reading book v call
 
--- Of its caller's calls that don't stand, from these numbers on, the call is the first of a kind.
+-- The call is the first of a kind among its caller's calls from the given number on.
 pub record IsNext (kind : Call → Type 0) (numbers : List ℕ) (call : Call) : Type 0 where
   pub outside : slice_index numbers call.caller ≤ call.number
   pub first : (n : ℕ) → slice_index numbers call.caller ≤ n → n < call.number
       → kind (record { caller = call.caller; number = n }) → ⊥
 
--- A pair may stand next: its calls are the next put and the next take of their callers, the take
--- takes out what is put in, and they take effect no earlier than what stands, the take no earlier
--- than the put.
+-- A pair may come next at a standing: its calls are the next put and the next take of their
+-- callers, the take takes out what is put in, and they take effect no earlier than the last put and
+-- the last take so far, the take no earlier than the put.
 pub record MayPair (reading : Reading) (book : List Page) (s : Paired) (pair : Pair) : Type 0 where
   pub value : ℕ
   pub puts : IsPutOf reading book value pair.put
@@ -67,8 +68,9 @@ pub record MayPair (reading : Reading) (book : List Page) (s : Paired) (pair : P
   pub put_effect : MayTakeEffect book pair.put pair.put_moment
   pub take_effect : MayTakeEffect book pair.take pair.take_moment
 
--- The takes that find nothing and that some view holds at a moment may stand next: it is no earlier
--- than what stands, and no later than the moments of those that don't stand yet.
+-- The takes that find nothing and that some view holds at a moment may come next at a standing: the
+-- moment is no earlier than that of the last take so far, and no later than those of the takes that
+-- find nothing and aren't covered yet.
 pub record MayFind (reading : Reading) (book : List Page) (s : Paired) (m : ℕ) : Type 0 where
   pub after_takes : s.take_moment ≤ m
   pub in_time : (e : Call) (r : Record) → deal_of reading book e ≡ deals.FoundNothing
@@ -79,7 +81,8 @@ abbrev pub MayStep : Reading → List Page → Paired → Step → Type 0
 MayStep reading book s (Pairs pair) = MayPair reading book s pair
 MayStep reading book s (FindNothing m) = MayFind reading book s m
 
--- what stands after a step: nothing is put in before a take that found nothing
+-- the standing after a step; after takes that find nothing the next put has no earlier moment than
+-- they
 abbrev pub after : Paired → Step → Paired
 after s (Pairs pair) = record s {
   puts = slice_set s.puts pair.put.caller (pair.put.number + 1);
@@ -89,7 +92,8 @@ after s (Pairs pair) = record s {
 }
 after s (FindNothing m) = record s { found = m; put_moment = m; take_moment = m }
 
--- All answered takes stand, and each answered put that doesn't may still take effect.
+-- A standing is whole: it covers all answered takes, and each answered put that it doesn't cover
+-- may still take effect.
 pub record IsWhole (reading : Reading) (book : List Page) (s : Paired) : Type 0 where
   pub taken : (t : Call) (v : ℕ) → deal_of reading book t ≡ deals.Took v
       → t.number < slice_index s.takes t.caller
@@ -98,13 +102,13 @@ pub record IsWhole (reading : Reading) (book : List Page) (s : Paired) : Type 0 
       → slice_index s.puts p.caller ≤ p.number
       → s.put_moment ≤ moment_of r
 
--- The steps may stand one after another, and then all answered takes stand.
+-- The steps lead from a standing, one after another, to one that is whole.
 abbrev pub AreSteps : Reading → List Page → Paired → List Step → Type 0
 AreSteps reading book s [] = IsWhole reading book s
 AreSteps reading book s (step ∷ steps) = MayStep reading book s step
     × AreSteps reading book (after s step) steps
 
--- Nothing stands, of this many callers.
+-- The standing of this many callers that covers no call.
 abbrev pub none_paired : ℕ → Paired
 none_paired callers = record {
   puts = replicate callers 0;
@@ -114,7 +118,8 @@ none_paired callers = record {
   take_moment = 0;
 }
 
--- A queue's book has pairs.
+-- A queue's book has pairs: some steps lead from the standing that covers no call to one that is
+-- whole.
 abbrev pub HasPairs : Reading → List Page → Type 0
 HasPairs reading book = (steps : List Step)
     × AreSteps reading book (none_paired (length book)) steps

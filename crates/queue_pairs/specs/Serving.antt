@@ -10,18 +10,19 @@ use Rattle.container_pruning.specs.Deals.{deal_of}
 use Rattle.queue_pairs.specs.Moments.{moment_of, MayTakeEffect}
 use Rattle.queue_pairs.specs.Pairs.{Paired, Pair, Step, Pairs, IsPutOf, IsPut, IsTake, IsNext, AreSteps}
 
--- Where a call is answered, so is another one, with no later moment.
+-- The other call is due no later than the call: where the call is answered, the other one is too,
+-- with no later moment.
 abbrev pub IsDueNoLater : List Page → Call → Call → Type 0
 IsDueNoLater book other call = (r : Record) → record_of book call ≡ Some r → (o : Record)
     × (record_of book other ≡ Some o) × (moment_of o ≤ moment_of r)
 
--- As many steps go on from what stands, with this pair first.
+-- As many steps as these lead from a standing to one that is whole, with this pair first.
 abbrev pub GoesOnWith : Reading → List Page → Paired → Pair → List Step → Type 0
 GoesOnWith reading book s pair steps = (other : List Step)
     × AreSteps reading book s (Pairs pair ∷ other) × (length other ≡ length steps)
 
--- Where steps go on with a pair, as many go on with another caller's next put of the same value, if
--- that may take effect no later and is due no later.
+-- Where steps from a standing begin with a pair, as many begin with another caller's next put of
+-- the same value in the place of its put, if that put may take effect no later and is due no later.
 abbrev pub EarlierPutServes : Type 0
 EarlierPutServes = (reading : Reading) (book : List Page) (s : Paired) (pair : Pair) (p : Call)
     (m : ℕ) (steps : List Step) → IsValid book → HasOneOpen book
@@ -31,7 +32,9 @@ EarlierPutServes = (reading : Reading) (book : List Page) (s : Paired) (pair : P
     → MayTakeEffect book p m → m ≤ pair.put_moment → IsDueNoLater book p pair.put
     → GoesOnWith reading book s (record pair { put = p; put_moment = m }) steps
 
--- And so with another caller's next take of the same deal.
+-- Where steps from a standing begin with a pair, as many begin with another caller's next take of
+-- the same deal in the place of its take, if that take may take effect no later and is due no
+-- later.
 abbrev pub EarlierTakeServes : Type 0
 EarlierTakeServes = (reading : Reading) (book : List Page) (s : Paired) (pair : Pair) (p : Call)
     (m : ℕ) (steps : List Step) → IsValid book → HasOneOpen book

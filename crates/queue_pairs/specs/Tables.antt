@@ -74,7 +74,8 @@ is_put did.FoundNothing = false
 is_put did.OpenTake = false
 is_put did.Other = false
 
--- it takes a value out, or is an unanswered take
+-- Whether a call with this deal takes a value out or is an unanswered take, and whether it finds
+-- nothing.
 abbrev pub is_take : QueueDeal → Bool
 is_take (did.Put v) = false
 is_take (did.Took v) = true
@@ -100,7 +101,7 @@ put_at table caller number = only_by is_put (timed_at table caller number)
 abbrev pub take_at : Table → ℕ → ℕ → Option TimedCall
 take_at table caller number = only_by is_take (timed_at table caller number)
 
--- The first entry from a number on, or there is none.
+-- The entry is the first one from a number on, or none where there is none.
 abbrev pub IsFirstFrom : (ℕ → Option TimedCall) → ℕ → Option TimedCall → Type 0
 IsFirstFrom at from None = (n : ℕ) → from ≤ n → at n ≡ None
 IsFirstFrom at from (Some t) = (n : ℕ) × (from ≤ n) × (at n ≡ Some t)

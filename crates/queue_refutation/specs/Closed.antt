@@ -1,4 +1,4 @@
--- Closed lists of standings: all that may stand next at each of them leads to one of them.
+-- Closed lists of standings: whatever may come next at one of them leads to one of them.
 use Rattle.std.specs.Prelude.{◌≡◌, ℕ, ◌<◌, ◌≤◌, ◌⊎◌, List, length, Some, slice_get, slice_index}
 use Rattle.book_base.specs.declared.call.Call.{Call}
 use Rattle.book_base.specs.declared.call.Record.{Record}
@@ -14,32 +14,32 @@ use Rattle.queue_pairs.specs.Serving.{IsDueNoLater}
 abbrev pub IsOnePaired : List Paired → Paired → Type 0
 IsOnePaired standings s = (k : ℕ) × (slice_get standings k ≡ Some s)
 
--- Some answered put that doesn't stand is due before a moment.
+-- Some answered put that the standing doesn't cover is due before a moment.
 abbrev pub HasPutBefore : Reading → List Page → Paired → ℕ → Type 0
 HasPutBefore reading book s m = (p : Call) × (r : Record) × IsPut reading book p
     × (record_of book p ≡ Some r) × (slice_index s.puts p.caller ≤ p.number) × (moment_of r < m)
 
--- Some take that shows a value and doesn't stand is due before a moment.
+-- Some take that shows a value and that the standing doesn't cover is due before a moment.
 abbrev pub HasTakeBefore : Reading → List Page → Paired → ℕ → Type 0
 HasTakeBefore reading book s m = (t : Call) × (v : ℕ) × (r : Record)
     × (deal_of reading book t ≡ deals.Took v) × (record_of book t ≡ Some r)
     × (slice_index s.takes t.caller ≤ t.number) × (moment_of r < m)
 
--- Some take that finds nothing and doesn't stand is due before a moment.
+-- Some take that finds nothing and that the standing doesn't cover is due before a moment.
 abbrev pub HasFindBefore : Reading → List Page → Paired → ℕ → Type 0
 HasFindBefore reading book s m = (e : Call) × (r : Record)
     × (deal_of reading book e ≡ deals.FoundNothing) × (record_of book e ≡ Some r)
     × (IsHeldBy book e s.found → ⊥) × (moment_of r < m)
 
--- Some put that doesn't stand is due before the first of two moments, or some take before the
+-- Some remaining put is due before the first of two moments, or some remaining take before the
 -- second.
 abbrev pub IsOverdue : Reading → List Page → Paired → ℕ → ℕ → Type 0
 IsOverdue reading book s put_moment take_moment = HasPutBefore reading book s put_moment
     ⊎ HasTakeBefore reading book s take_moment ⊎ HasFindBefore reading book s take_moment
 
--- One pair serves for another where they stand next: its put puts in the same value, its take
--- takes out the same or is unanswered too, each of them is next and takes effect no later, and
--- each is due no later.
+-- One pair serves for another at a standing: its put puts in the same value, its take takes out the
+-- same or is unanswered too, each of them is next and takes effect no later, and each is due no
+-- later.
 pub record PairServesFor (reading : Reading) (book : List Page) (s : Paired) (other pair : Pair)
     : Type 0 where
   pub puts : (v : ℕ) → IsPutOf reading book v pair.put → IsPutOf reading book v other.put
@@ -61,8 +61,8 @@ pub record IsUnanswered (book : List Page) (pair : Pair) : Type 0 where
   pub put : answers_of book pair.put.caller ≤ pair.put.number
   pub take : answers_of book pair.take.caller ≤ pair.take.number
 
--- A pair that may stand next leads to one of these standings, or to none: one that serves for it
--- does so, or some call is overdue with that one; or neither of its calls is answered.
+-- A pair that may come next leads to one of these standings or needn't be tried: a pair that serves
+-- for it leads to one of them, or leaves some call overdue; or neither of its calls is answered.
 abbrev pub PairLeads : Reading → List Page → List Paired → Paired → Pair → Type 0
 PairLeads reading book standings s pair =
     ((other : Pair) × PairServesFor reading book s other pair
@@ -70,22 +70,22 @@ PairLeads reading book standings s pair =
     ⊎ IsOverdue reading book s other.put_moment other.take_moment))
     ⊎ IsUnanswered book pair
 
--- all takes that find nothing and that some view holds at a moment stand already
+-- the standing covers all takes that find nothing and that some view holds at a moment
 abbrev pub NoneFindAt : Reading → List Page → Paired → ℕ → Type 0
 NoneFindAt reading book s m = (e : Call) → deal_of reading book e ≡ deals.FoundNothing
     → IsHeldBy book e m → IsHeldBy book e s.found
 
--- Takes that find nothing at a moment lead to one of these standings, or to none: all of them
--- stand already; or some moment that is no later, and later than that of those that stand, leads
--- to one, or some call is overdue then.
+-- Takes that find nothing at a moment lead to one of these standings or needn't be tried: the
+-- standing covers them all already; or an earlier or equal moment, later than those of the takes
+-- that it covers, leads to one of the standings, or leaves some call overdue.
 abbrev pub FindsLead : Reading → List Page → List Paired → Paired → ℕ → Type 0
 FindsLead reading book standings s m =
     NoneFindAt reading book s m
     ⊎ ((g : ℕ) × (s.found < g) × (g ≤ m)
     × (IsOnePaired standings (after s (FindNothing g)) ⊎ IsOverdue reading book s g g))
 
--- All that may stand next where these calls stand leads to one of these standings, and something
--- has to stand yet.
+-- Whatever may come next at a standing leads to one of these standings or needn't be tried, and the
+-- standing isn't whole.
 pub record AllLead (reading : Reading) (book : List Page) (standings : List Paired)
     (s : Paired) : Type 0 where
   pub in_turn : s.put_moment ≤ s.take_moment
@@ -93,15 +93,16 @@ pub record AllLead (reading : Reading) (book : List Page) (standings : List Pair
   pub pairs : (pair : Pair) → MayPair reading book s pair → PairLeads reading book standings s pair
   pub finds : (m : ℕ) → MayFind reading book s m → FindsLead reading book standings s m
 
--- Takes that find nothing may stand at once, which delays nothing: more of them stand at the
--- moment of the last take, no put is due before it, and they lead to one of these standings.
+-- Takes that find nothing may be covered at once, which delays no other call: they have no later
+-- moment than the last take so far, no remaining put is due before that moment, and they lead to
+-- one of these standings.
 pub record FindsStandAtOnce (reading : Reading) (book : List Page) (standings : List Paired)
     (s : Paired) : Type 0 where
   pub more : s.found < s.take_moment
   pub in_time : HasPutBefore reading book s s.take_moment → ⊥
   pub leads : IsOnePaired standings (after s (FindNothing s.take_moment))
 
--- The standing leads to these alone, and it has a number for each caller.
+-- The standing leads to these standings alone, and it has a number for each caller.
 pub record IsClosedAt (reading : Reading) (book : List Page) (standings : List Paired)
     (s : Paired) : Type 0 where
   pub wide_puts : length book ≤ length s.puts
@@ -113,7 +114,7 @@ abbrev pub AreClosed : Reading → List Page → List Paired → Type 0
 AreClosed reading book standings = (s : Paired) → IsOnePaired standings s
     → IsClosedAt reading book standings s
 
--- The standing isn't finished, and these have what stands after each step that may stand next at
+-- The standing isn't whole, and these standings have the one after each step that may come next at
 -- it.
 pub record HasSuccessors (reading : Reading) (book : List Page) (standings : List Paired)
     (s : Paired) : Type 0 where

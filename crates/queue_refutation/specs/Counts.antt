@@ -13,7 +13,7 @@ use Rattle.queue_pairs.specs.Tables.{rows_of, IsTable}
 use Rattle.queue_refutation.specs.declared.counts.Counted.{Counted}
 use Rattle.queue_refutation.specs.declared.counts.Counted.TheVariants as counted
 
--- a put of a value
+-- whether a call with this deal puts in a value
 abbrev pub puts_in : ℕ → QueueDeal → Bool
 puts_in v (did.Put w) = nat_eq w v
 puts_in v (did.Took w) = false
@@ -21,7 +21,7 @@ puts_in v did.FoundNothing = false
 puts_in v did.OpenTake = false
 puts_in v did.Other = false
 
--- a take that shows a value
+-- whether a call with this deal is a take that shows a value
 abbrev pub shows : ℕ → QueueDeal → Bool
 shows v (did.Put w) = false
 shows v (did.Took w) = nat_eq w v
@@ -29,7 +29,7 @@ shows v did.FoundNothing = false
 shows v did.OpenTake = false
 shows v did.Other = false
 
--- a take that shows a value, or an unanswered one
+-- whether a call with this deal is a take that shows a value, or an unanswered take
 abbrev pub may_take_out : ℕ → QueueDeal → Bool
 may_take_out v (did.Put w) = false
 may_take_out v (did.Took w) = nat_eq w v

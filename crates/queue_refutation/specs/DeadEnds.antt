@@ -1,5 +1,5 @@
--- Standings that a search entered, looked at once more: what is said of them holds in whatever book
--- has the table.
+-- Standings that a search has entered, checked once more: what is said of them holds for every book
+-- that has the table.
 use Rattle.std.specs.Prelude.{◌≡◌, ℕ, List, [], map}
 use Rattle.book_base.specs.declared.call.Call.{Call}
 use Rattle.book_base.specs.Book.{Page}
@@ -17,13 +17,13 @@ use Rattle.queue_refutation.specs.Closed.{IsOnePaired, PairLeads, FindsLead, Fin
 abbrev pub listed : List PairState → List Paired
 listed standings = map paired standings
 
--- A queue that begins with nothing, whose book has this table, has no legal order of it.
+-- A book with this table has no legal order for a queue that begins empty.
 abbrev pub QueueHasNoOrder : Table → List Page → Type 0
 QueueHasNoOrder table book = (reading : Reading) (init : List ℕ) (next : List ℕ → ℕ → List ℕ × ℕ)
     → IsTable reading book table → IsQueue reading next → reading.values init ≡ []
     → HasLegalOrder init next book → ⊥
 
--- Each pair that may stand next, and is one of these, leads to one of these standings, or to none.
+-- Each of these pairs that may come next leads to one of the standings or needn't be tried.
 abbrev pub Lead : (Pair → Type 0) → Table → List Paired → PairState → Type 0
 Lead these table standings s = (reading : Reading) (book : List Page) (pair : Pair)
     → IsTable reading book table → these pair → MayPair reading book (paired s) pair
@@ -49,18 +49,18 @@ IsOfPutter caller pair = pair.put.caller ≡ caller
 abbrev pub IsAny : Pair → Type 0
 IsAny pair = Unit {0}
 
--- Takes that find nothing and may stand next lead to one of these standings, or to none.
+-- Takes that find nothing and may come next lead to one of these standings or needn't be tried.
 abbrev pub FindsLeadOn : Table → List Paired → PairState → Type 0
 FindsLeadOn table standings s = (reading : Reading) (book : List Page) (m : ℕ)
     → IsTable reading book table → MayFind reading book (paired s) m
     → FindsLead reading book standings (paired s) m
 
--- Takes that find nothing stand at once, and lead to one of these standings.
+-- Takes that find nothing may be covered at once, and lead to one of these standings.
 abbrev pub StandAtOnce : Table → List Paired → PairState → Type 0
 StandAtOnce table standings s = (reading : Reading) (book : List Page) → IsTable reading book table
     → FindsStandAtOnce reading book standings (paired s)
 
--- The standing leads to these alone.
+-- The standing leads to these standings alone, whatever book has the table.
 abbrev pub ClosedAt : Table → List Paired → PairState → Type 0
 ClosedAt table standings s = (reading : Reading) (book : List Page) → IsTable reading book table
     → IsClosedAt reading book standings (paired s)

@@ -7,14 +7,15 @@ use Rattle.history_rules.specs.Container.{Reading, IsQueue}
 use Rattle.queue_pairs.specs.Pairs.{Paired, Pair, Step, Pairs, MayPair, AreSteps, none_paired}
 use Rattle.queue_refutation.specs.Closed.{IsOnePaired, PairServesFor, IsUnanswered, AreClosed, HasSuccessors}
 
--- No steps go on from any of a closed list of standings, in a valid book with one open.
+-- In a valid book with one open, no steps lead from a standing of a closed list to one that is
+-- whole.
 abbrev pub ClosedStandingsAreDead : Type 0
 ClosedStandingsAreDead = (reading : Reading) (book : List Page) (standings : List Paired)
     (s : Paired) (steps : List Step) → IsValid book → HasOneOpen book
     → AreClosed reading book standings → IsOnePaired standings s → AreSteps reading book s steps → ⊥
 
--- So a queue's valid book with one open has no legal order where one of them is the start, at
--- which nothing stands.
+-- A queue's valid book with one open has no legal order where a closed list of standings has the
+-- one that covers no call.
 abbrev pub ClosedStartsHaveNoOrder : Type 0
 ClosedStartsHaveNoOrder = (reading : Reading) (init : List ℕ) (next : List ℕ → ℕ → List ℕ × ℕ)
     (book : List Page) (callers : ℕ) (standings : List Paired)
@@ -22,7 +23,8 @@ ClosedStartsHaveNoOrder = (reading : Reading) (init : List ℕ) (next : List ℕ
     → AreClosed reading book standings → IsOnePaired standings (none_paired callers)
     → HasLegalOrder init next book → ⊥
 
--- Where steps go on with a pair of which neither call is answered, they go on without it.
+-- Where steps lead to a whole standing and begin with a pair of which neither call is answered, the
+-- steps without this pair do too.
 abbrev pub UnansweredPairsAreIdle : Type 0
 UnansweredPairsAreIdle = (reading : Reading) (book : List Page) (s : Paired) (pair : Pair)
     (steps : List Step) → HasOneOpen book → length book ≤ length s.puts
@@ -34,7 +36,7 @@ abbrev pub PairsServeForThemselves : Type 0
 PairsServeForThemselves = (reading : Reading) (book : List Page) (s : Paired) (pair : Pair)
     → MayPair reading book s pair → PairServesFor reading book s pair pair
 
--- So a list of standings is closed that has all successors of each.
+-- A list of standings that has all successors of each is closed.
 abbrev pub SuccessorsSuffice : Type 0
 SuccessorsSuffice = (reading : Reading) (book : List Page) (standings : List Paired)
     → ((s : Paired) → IsOnePaired standings s → HasSuccessors reading book standings s)

@@ -7,7 +7,7 @@ use Rattle.seq_objects.specs.declared.entry.Arity.{Arity}
 use Rattle.seq_objects.specs.declared.entry.Arity.TheVariants.{Nullary, Unary, Binary}
 use Rattle.seq_objects.specs.Words.{OperationEntry, entries, is_operation_of, argument_of, extra_of, argument_words}
 
--- An entry without where its name lies in memory.
+-- An entry of the code's table, with its name as a list of bytes.
 abbrev pub shown : code.OperationEntry → OperationEntry
 shown entry = record { name = entry.name.now; code = entry.code; arity = entry.arity }
 

@@ -16,8 +16,8 @@ use Rattle.seq_objects.specs.MapSteps.{key_of, map_operation}
 abbrev pub next_word : List Page → List ℕ → ℕ → ℕ
 next_word book cut caller = unwrap_or (operation_of book (next_call cut caller)) 0
 
--- Where the forced call has a key, those of the marked callers keep their marks whose next calls
--- have it too. Where it has none, all do.
+-- Where the forced call has a key, exactly those marked callers keep their marks whose next calls
+-- have this key; where it has none, all marked callers do.
 pub record IsNarrowedToKey (key : ℕ → Option ℕ) (book : List Page) (cut : List ℕ) (forced : ℕ)
     (old new : Marks) : Type 0 where
   pub keyed : (k : ℕ) → key (next_word book cut forced) ≡ Some k

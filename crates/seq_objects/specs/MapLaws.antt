@@ -31,12 +31,12 @@ abbrev pub PutIsGot : Type 0
 PutIsGot = (list : List ℕ) (key value : ℕ) → value < 2 ^ 32
     → got (after_put list key value) key ≡ reply_value value
 
--- A put leaves what each other key has.
+-- A put doesn't change the value of any other key.
 abbrev pub PutLeavesOthers : Type 0
 PutLeavesOthers = (list : List ℕ) (key value other : ℕ) → value < 2 ^ 32 → other ≢ key
     → got (after_put list key value) other ≡ got list other
 
--- A delete leaves what each other key has.
+-- A delete doesn't change the value of any other key.
 abbrev pub DeleteLeavesOthers : Type 0
 DeleteLeavesOthers = (list : List ℕ) (key other : ℕ) → other ≢ key
     → got (after_delete list key) other ≡ got list other

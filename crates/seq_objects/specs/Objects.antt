@@ -1,6 +1,6 @@
 -- The sequential objects by kind: the list that each begins with, and for every list and every
 -- operation word the new list and the reply. A list begins small, grows by one item at most, and
--- stays where the word is unknown.
+-- isn't changed by an unknown word.
 use Rattle.std.proofs.Common.{◌≡◌, ℕ, ◌+◌, ◌≤◌, false, List, [], ◌∷◌, length}
 use Rattle.book_base.specs.declared.TheConstants.{BAD}
 use Rattle.seq_objects.specs.declared.kind.Kind.{Kind}

@@ -6,7 +6,7 @@ use Rattle.seq_objects.specs.declared.pqueue.PqueueOperation.TheVariants.{Insert
 use Rattle.seq_objects.specs.PqueueSteps.{pqueue_operation}
 use Rattle.seq_objects.specs.Readings.{value_of, shown_value}
 
--- an insert puts in, a min takes
+-- the effect of a priority queue's operation: an insert puts in, a min takes
 abbrev pub pqueue_deed : Option PqueueOperation → Effect
 pqueue_deed (Some (Insert value)) = Puts value
 pqueue_deed (Some Min) = Takes

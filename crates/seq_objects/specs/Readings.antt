@@ -1,5 +1,5 @@
--- How queues and stacks are read: as puts and takes of values. A word of a list is the value that
--- its low 32 bits are, which is what a reply shows of it.
+-- How queues and stacks are read: as puts and takes of values. A word of a list counts as the value
+-- of its low 32 bits, which is what a reply shows of it.
 use Rattle.std.specs.Prelude.{ℕ, ◌%◌, ◌^◌, map, reverse, Option, Some, None, if◌then◌else◌}
 use Rattle.history_rules.specs.Container.{Effect, Puts, Takes, Neither, Reading}
 use Rattle.seq_objects.specs.declared.queue.QueueOperation.{QueueOperation}
@@ -18,7 +18,7 @@ value_of word = word % 2 ^ 32
 abbrev pub shown_value : ℕ → Option ℕ
 shown_value reply = if is_value reply then Some (value_of reply) else None
 
--- an enqueue puts in, a dequeue takes
+-- the effect of a queue's operation: an enqueue puts in, a dequeue takes
 abbrev pub queue_deed : Option QueueOperation → Effect
 queue_deed (Some (Enqueue value)) = Puts value
 queue_deed (Some Dequeue) = Takes
@@ -32,13 +32,13 @@ queue_reading = record {
   values = map value_of;
 }
 
--- a push puts in, a pop takes
+-- the effect of a stack's operation: a push puts in, a pop takes
 abbrev pub stack_deed : Option StackOperation → Effect
 stack_deed (Some (Push value)) = Puts value
 stack_deed (Some Pop) = Takes
 stack_deed None = Neither
 
--- the value that was pushed last comes first
+-- how a stack is read: a push puts in, a pop takes, and the value that was pushed last comes first
 abbrev pub stack_reading : Reading
 stack_reading = record {
   deed = λ word. stack_deed (stack_operation word);

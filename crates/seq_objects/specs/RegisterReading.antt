@@ -1,4 +1,5 @@
--- How a register is read: as puts and takes of the value that it holds. A take leaves the value.
+-- How a register is read: as puts and takes of the value that it holds. A take doesn't remove the
+-- value.
 use Rattle.std.specs.Prelude.{ℕ, List, map, Option, Some, None}
 use Rattle.history_rules.specs.Container.{Effect, Puts, Takes, Neither, Reading}
 use Rattle.seq_objects.specs.declared.register.RegisterOperation.{RegisterOperation}
@@ -11,7 +12,7 @@ use Rattle.seq_objects.specs.Readings.{value_of, shown_value}
 abbrev pub held_in : List ℕ → ℕ
 held_in list = value_of (first_or_zero list)
 
--- a write puts in, a read takes
+-- the effect of a register's operation: a write puts in, a read takes
 abbrev pub register_deed : Option RegisterOperation → Effect
 register_deed (Some (Write value)) = Puts value
 register_deed (Some Read) = Takes

@@ -5,27 +5,27 @@ use Rattle.std.specs.Prelude.{ℕ, ◌+◌, ◌*◌, ◌/◌, ◌%◌, ◌^◌, 
 abbrev pub tagged : ℕ → ℕ → ℕ
 tagged tag value = tag * 2 ^ 32 + value
 
--- The operation was made, and tells nothing.
+-- The reply `done`: the operation was made, and there is nothing more to say.
 abbrev pub reply_done : ℕ
 reply_done = tagged 0 0
 
--- The reply that there is no item.
+-- The reply `none`: there is no item.
 abbrev pub reply_none : ℕ
 reply_none = tagged 1 0
 
--- The reply that tells this item, modulo 2 ^ 32.
+-- The reply that gives an item, modulo 2 ^ 32.
 abbrev pub reply_value : ℕ → ℕ
 reply_value item = tagged 2 (item % 2 ^ 32)
 
--- No.
+-- The reply `no`.
 abbrev pub reply_no : ℕ
 reply_no = tagged 3 0
 
--- Yes.
+-- The reply `yes`.
 abbrev pub reply_yes : ℕ
 reply_yes = tagged 3 1
 
--- The object doesn't know the operation.
+-- The reply `bad`: the object doesn't know the operation.
 abbrev pub reply_bad : ℕ
 reply_bad = tagged 4 0
 

@@ -5,7 +5,8 @@ use Rattle.seq_objects.specs.Words.{operation_text}
 use Rattle.seq_objects.specs.Replies.{reply_word}
 use Rattle.seq_objects.specs.Objects.{kind_next}
 
--- An operation word has this text, and makes of a list that one, with a reply of that text.
+-- The operation word has the first text, it turns one list into the other, and its reply has the
+-- last text.
 pub record Makes (kind : Kind) (op : ℕ) (operation before after replied : List ℕ) : Type 0 where
   pub text : operation_text kind op ≡ operation
   pub list : (kind_next kind before op).0 ≡ after

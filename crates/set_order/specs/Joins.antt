@@ -1,5 +1,5 @@
--- An object whose operations each join a number below 32 to a set of numbers. Those that are served
--- at once see one another.
+-- An object whose operations each join a number below 32 to a set of numbers. Operations that are
+-- served at once see one another's numbers.
 use Rattle.std.specs.Prelude.{◌≡◌, ℕ, ◌+◌, ◌-◌, ◌/◌, ◌%◌, ◌^◌, Bool, true, false, nat_lt, nat_le, ◌&&◌, List, [], ◌∷◌, map, fold, count_by, bit_and, bit_or, Option, Some, if◌then◌else◌}
 use Rattle.seq_objects.specs.Replies.{reply_value, reply_bad}
 
@@ -29,17 +29,17 @@ abbrev pub list_joined : Bool → ℕ → List ℕ → List ℕ
 list_joined true mask list = mask ∷ []
 list_joined false mask list = list
 
--- the reply to an operation, where this many numbers are joined then
+-- the reply to an operation, where the numbers of this mask are joined then
 abbrev pub join_reply : ℕ → ℕ → ℕ
 join_reply mask op = if is_join op then reply_value mask else reply_bad
 
 -- Operations that are served at once all join first, and then all reply. An operation that joins
--- nothing leaves the list.
+-- nothing doesn't change the list.
 abbrev pub served_joins : List ℕ → List ℕ → Option (List ℕ × List ℕ)
 served_joins list ops =
     let mask : ℕ = with_joins (mask_of list) ops in
     Some (list_joined (joins_some ops) mask list, map (join_reply mask) ops)
 
--- A reply word is a mask that has all numbers of this one.
+-- A reply word gives a mask that has all numbers of this mask.
 abbrev pub HasMask : ℕ → ℕ → Type 0
 HasMask reply mask = (reply / 2 ^ 32 ≡ 2) × (bit_and (reply % 2 ^ 32) mask ≡ mask)

@@ -1,4 +1,5 @@
--- The search for a legal set order: where it stands, and what is known there.
+-- The search for a legal set order: the pairs of a cut and a list that it comes to, and what it
+-- knows there.
 use Rattle.std.specs.Prelude.{◌≡◌, ◌≢◌, ℕ, zero, suc, ◌+◌, ◌*◌, ◌-◌, ◌/◌, ◌%◌, ◌^◌, ◌<◌, ◌≤◌, ◌==◌, ◌⊎◌, List, [], ◌∷◌, length, map, replicate, Option, Some, unwrap_or, slice_index, slice_set, if◌then◌else◌}
 use Rattle.std.specs.List.{AllByRecursion}
 use Rattle.book_base.specs.declared.call.Record.{Record}
@@ -30,8 +31,8 @@ pub record MayStandIn (book : List Page) (cut : List ℕ) (place : Place) : Type
   pub may_come : MayComeNext book cut (call_at place)
   pub recorded : (r : Record) → record_of book (call_at place) ≡ Some r → r.reply ≡ place.reply
 
--- A set may stand next after the calls of a cut, at this list of the object, and the object goes on
--- to another list.
+-- A set may come next after the calls of a cut and at a list of the object, and serving it takes
+-- the object to another list.
 pub record MayStandTogether (served : List ℕ → List ℕ → Option (List ℕ × List ℕ)) (book : List Page)
     (cut list : List ℕ) (set : List Place) (after : List ℕ) : Type 0 where
   pub some : 1 ≤ length set
@@ -39,8 +40,8 @@ pub record MayStandTogether (served : List ℕ → List ℕ → Option (List ℕ
   pub each : AllByRecursion (MayStandIn book cut) set
   pub served_so : served list (operations_of book set) ≡ Some (after, replies_of set)
 
--- The sets may stand one after another, after the calls of a cut and from a list of the object on,
--- and then all answered calls stand.
+-- The sets continue an order from a cut and a list of the object on: each may come next after those
+-- before it, and in the end the cut holds all answered calls.
 abbrev pub SetsContinue : (List ℕ → List ℕ → Option (List ℕ × List ℕ)) → List Page → List ℕ → List ℕ
     → List (List Place) → Type 0
 SetsContinue served book cut list [] = HoldsAnswered book cut
@@ -48,7 +49,7 @@ SetsContinue served book cut list (set ∷ sets) =
     (after : List ℕ) × MayStandTogether served book cut list set after
     × SetsContinue served book (raised_by cut set) after sets
 
--- A dead end: no sets may stand one after another there, up to a legal set order.
+-- A cut and a list are a dead end: no sets continue an order from there.
 abbrev pub IsDeadEnd : (List ℕ → List ℕ → Option (List ℕ × List ℕ)) → List Page → List ℕ
     → List ℕ → Type 0
 IsDeadEnd served book cut list = (sets : List (List Place))
@@ -65,27 +66,27 @@ abbrev pub IsOneCaller : List ℕ → ℕ → Type 0
 IsOneCaller [] i = ⊥
 IsOneCaller (j ∷ callers) i = (i ≡ j) ⊎ IsOneCaller callers i
 
--- Callers whose next calls are all that may come next.
+-- The callers, in order, are all those whose next calls may come next.
 pub record AreCandidates (book : List Page) (cut callers : List ℕ) : Type 0 where
   pub rise : RiseFrom 0 callers
   pub may_come : AllByRecursion (λ i. MayComeNext book cut (next_call cut i)) callers
   pub all : (i : ℕ) → MayComeNext book cut (next_call cut i) → IsOneCaller callers i
 
--- No set of these callers may stand next.
+-- No set of the next calls of exactly these callers may come next.
 abbrev pub CannotStand : (List ℕ → List ℕ → Option (List ℕ × List ℕ)) → List Page → List ℕ → List ℕ
     → List ℕ → Type 0
 CannotStand served book cut list callers = (set : List Place) (after : List ℕ)
     → callers_of set ≡ callers → MayStandTogether served book cut list set after → ⊥
 
--- A set of these callers, where it may stand next, leads to a dead end.
+-- Each set of the next calls of exactly these callers that may come next leads to a dead end.
 abbrev pub LeadsNowhere : (List ℕ → List ℕ → Option (List ℕ × List ℕ)) → List Page → List ℕ → List ℕ
     → List ℕ → Type 0
 LeadsNowhere served book cut list callers = (set : List Place) (after : List ℕ)
     → callers_of set ≡ callers → MayStandTogether served book cut list set after
     → IsDeadEnd served book (raised_by cut set) after
 
--- What is known of a cut and a list: not all answered calls stand, these are the candidates, and
--- each part of them that a greater number picks leads nowhere.
+-- What is known at a cut and a list: the cut lacks an answered call, these callers are the
+-- candidates, and each part of them that a number above `left` picks leads nowhere.
 pub record IsOpen (served : List ℕ → List ℕ → Option (List ℕ × List ℕ)) (book : List Page)
     (cut list callers : List ℕ) (left : ℕ) : Type 0 where
   pub unended : HoldsAnswered book cut → ⊥
@@ -94,7 +95,8 @@ pub record IsOpen (served : List ℕ → List ℕ → Option (List ℕ × List �
   pub tried : (number : ℕ) → left < number → number < 2 ^ length callers
       → LeadsNowhere served book cut list (picked number callers)
 
--- A level stands at a cut and a list: its set stands next there, and leads to a list.
+-- A level belongs to a cut and a list: its set may come next there, and takes the object to another
+-- list.
 pub record IsLevel (served : List ℕ → List ℕ → Option (List ℕ × List ℕ)) (book : List Page)
     (cut list : List ℕ) (level : SetLevel) (after : List ℕ) : Type 0 where
   pub counts : level.counts.items ≡ cut
@@ -103,7 +105,7 @@ pub record IsLevel (served : List ℕ → List ℕ → Option (List ℕ × List 
   pub chosen : callers_of level.set ≡ picked (level.left + 1) level.callers.items
   pub stands : MayStandTogether served book cut list level.set after
 
--- The levels lead from a cut and a list to others.
+-- The levels lead from one cut and list to another, each by its set.
 abbrev pub Leads : (List ℕ → List ℕ → Option (List ℕ × List ℕ)) → List Page → List ℕ → List ℕ
     → List SetLevel → List ℕ → List ℕ → Type 0
 Leads served book cut list [] to_cut to_list = (cut ≡ to_cut) × (list ≡ to_list)
@@ -116,7 +118,8 @@ abbrev pub AllDead : (List ℕ → List ℕ → Option (List ℕ × List ℕ)) �
 AllDead served book walk = (cut list : List ℕ) → Remembers walk.memo cut list
     → IsDeadEnd served book cut list
 
--- A walk from the object's first list on.
+-- A walk is right: its levels lead from the cut without calls and the object's first list to where
+-- it is now, and what it remembers are dead ends.
 pub record IsWalk (init : List ℕ) (served : List ℕ → List ℕ → Option (List ℕ × List ℕ))
     (book : List Page) (walk : SetWalk) : Type 0 where
   pub leads : Leads served book
@@ -131,7 +134,7 @@ pub record IsWalk (init : List ℕ) (served : List ℕ → List ℕ → Option (
 abbrev pub order_of : List SetLevel → List (List Place)
 order_of levels = map (λ level. level.set) levels
 
--- how many ways there may be of this many sets
+-- a bound on how many sequences of at most this many sets there are
 unfoldable pub ways : ℕ → ℕ
 ways zero = 1
 ways (suc depth) = (2 ^ MAX_CALLERS + 2) * ways depth
@@ -146,8 +149,8 @@ weigh depth (level ∷ levels) left = (level.left + 1) * ways depth + weigh (dep
 abbrev pub weight : SetWalk → ℕ
 weight walk = weigh CAPACITY walk.levels.items walk.left
 
--- What came of a step is so: a legal set order is found, there is none, or the walk goes on with
--- less weight than before.
+-- The outcome of a step of the search is right: a legal set order is found, there is none, or the
+-- walk goes on with less weight than before.
 abbrev pub IsRightOutcome : List ℕ → (List ℕ → List ℕ → Option (List ℕ × List ℕ)) → List Page → ℕ
     → SetWalk → StepOutcome → Type 0
 IsRightOutcome init served book before walk Found =

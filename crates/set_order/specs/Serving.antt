@@ -7,8 +7,7 @@ NeverReplies served list op reply = (ops after replies : List ℕ) (p : ℕ)
     → served list ops ≡ Some (after, replies)
     → slice_get ops p ≡ Some op → slice_get replies p ≡ Some reply → ⊥
 
--- The object goes on from one list to another, by sets of operations that it serves one after
--- another.
+-- Serving sets of operations one after another takes the object from one list to another.
 abbrev pub ServesTo : (List ℕ → List ℕ → Option (List ℕ × List ℕ)) → List ℕ → List (List ℕ)
     → List ℕ → Type 0
 ServesTo served list [] later = list ≡ later
@@ -21,7 +20,8 @@ abbrev pub NeverRepliesFrom : (List ℕ → List ℕ → Option (List ℕ × Lis
 NeverRepliesFrom served list op reply = (sets : List (List ℕ)) (later : List ℕ)
     → ServesTo served list sets later → NeverReplies served later op reply
 
--- what a sequential object serves: one operation as it does, and more than one never
+-- what a sequential object serves: a set of one operation, as the object applies it, and no larger
+-- set
 abbrev pub served_alone : (List ℕ → ℕ → List ℕ × ℕ) → List ℕ → List ℕ → Option (List ℕ × List ℕ)
 served_alone next list (op ∷ []) = Some ((next list op).0, (next list op).1 ∷ [])
 served_alone next list _ = None

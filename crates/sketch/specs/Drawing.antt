@@ -1,4 +1,4 @@
--- Sketches, one event after another.
+-- How a sketch is drawn, one event after another.
 use Rattle.std.specs.Prelude.{◌≡◌, ◌≤◌, ◌⊎◌, ℕ, List, length, Some, slice_index}
 use Rattle.book_base.specs.declared.call.Call.{Call}
 use Rattle.book_base.specs.declared.call.Record.{Record}
@@ -17,13 +17,13 @@ IsDrawn drawn (Return call) = Holds drawn.returned call
 
 -- What is drawn is part of a sketch of the book.
 pub record IsPartOf (book : List Page) (drawn : Drawn) : Type 0 where
-  -- it counts the callers of the book
+  -- both cuts have a count for each caller of the book
   pub wide_invoked : length drawn.invoked ≡ length book
   pub wide_returned : length drawn.returned ≡ length book
-  -- no more calls than were made and answered
+  -- no more calls are invoked than were made, and no more have returned than are answered
   pub made : (i : ℕ) → slice_index drawn.invoked i ≤ calls_of book i
   pub answered : (i : ℕ) → slice_index drawn.returned i ≤ answers_of book i
-  -- and what a returned call saw is invoked
+  -- the calls that the view of a returned call holds are invoked
   pub seen : (call : Call) (r : Record) → record_of book call ≡ Some r → Holds drawn.returned call
       → IsWithin r.view drawn.invoked
 

@@ -13,7 +13,7 @@ abbrev pub BooksHaveOneSketch : Type 0
 BooksHaveOneSketch = (book : List Page) (events others : List Event) → IsSketch book events
     → IsSketch book others → events ≡ others
 
--- A valid book has one.
+-- A valid book has a sketch.
 abbrev pub ValidBooksHaveASketch : Type 0
 ValidBooksHaveASketch = (book : List Page) → IsValid book → (events : List Event)
     × IsSketch book events

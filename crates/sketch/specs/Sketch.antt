@@ -1,5 +1,5 @@
--- The sketch of a book: the history of invocations and returns that its views tell (Castañeda and
--- Rodríguez 2023).
+-- The sketch of a book: the history of invocations and returns that its views determine (Castañeda
+-- and Rodríguez 2023).
 use Rattle.std.specs.Prelude.{◌≡◌, ℕ, ◌<◌, ◌≤◌, ◌⊎◌, ◌↔◌, List, Some, slice_get, slice_index}
 use Rattle.book_base.specs.declared.call.Call.{Call}
 use Rattle.book_base.specs.declared.call.Record.{Record}
@@ -48,6 +48,6 @@ StandsIn events event = (k : ℕ) × (slice_get events k ≡ Some event)
 pub record IsSketch (book : List Page) (events : List Event) : Type 0 where
   -- it has the events of the book, and no others
   pub whole : (event : Event) → StandsIn events event ↔ IsEventOf book event
-  -- and each stands after all that come before it
+  -- each event in it comes before all that stand after it
   pub ordered : (j k : ℕ) (e f : Event) → slice_get events j ≡ Some e → slice_get events k ≡ Some f
       → j < k → ComesBefore book e f

@@ -7,8 +7,8 @@ use Rattle.book_base.specs.Next.{next_call}
 use Rattle.history_rules.specs.Container.{Puts, Takes, Reading}
 use Rattle.history_rules.specs.Calls.{PutsIn, TakesOut}
 
--- An object that holds the value written last. A read shows this value; what is no read has the
--- same reply at each list.
+-- An object that holds the value written last. A read shows this value; an operation that is no
+-- read has the same reply at each list.
 pub record HoldsLast (reading : Reading) (held : List ℕ → ℕ)
     (next : List ℕ → ℕ → List ℕ × ℕ) : Type 0 where
   pub write : (list : List ℕ) (op v : ℕ) → reading.deed op ≡ Puts v → held (next list op).0 ≡ v
@@ -37,7 +37,8 @@ IsRead reading book cut v = (call : Call) × ReadsOutside reading book cut v cal
 abbrev pub IsWritten : Reading → List Page → List ℕ → ℕ → Type 0
 IsWritten reading book cut v = (call : Call) × WritesOutside reading book cut v call
 
--- The value held is read by a call outside a cut, and written by none: it may not be lost yet.
+-- The value held is read by a call outside a cut, and written by none: it must not be overwritten
+-- yet.
 abbrev pub IsIrreplaceable : Reading → List Page → List ℕ → ℕ → Type 0
 IsIrreplaceable reading book cut held = IsRead reading book cut held
     × (IsWritten reading book cut held → ⊥)
@@ -51,16 +52,16 @@ IsUnreadWrite reading book cut call = (value : ℕ) × PutsIn reading book call 
 abbrev pub WritesAnother : Reading → List Page → Call → ℕ → Type 0
 WritesAnother reading book call held = (value : ℕ) × PutsIn reading book call value × (value ≢ held)
 
--- The next call of a caller is answered and writes what no call outside reads, and no call outside
--- reads the value held either.
+-- The next call of a caller is answered and writes what no answered call outside the cut reads, and
+-- none reads the value held either.
 pub record WritesUnread (reading : Reading) (book : List Page) (cut : List ℕ)
     (held caller : ℕ) : Type 0 where
   pub answered : IsAnswered book (next_call cut caller)
   pub write : IsUnreadWrite reading book cut (next_call cut caller)
   pub lost : IsRead reading book cut held → ⊥
 
--- The next call of a caller needn't be tried: it writes over a value that may not be lost yet, or
--- it is unanswered and writes what no call outside reads.
+-- The next call of a caller needn't be tried: it writes over a value that must not be overwritten
+-- yet, or it is unanswered and writes what no answered call outside the cut reads.
 abbrev pub IsNeedless : Reading → List Page → List ℕ → ℕ → ℕ → Type 0
 IsNeedless reading book cut held caller =
     (IsIrreplaceable reading book cut held × WritesAnother reading book (next_call cut caller) held)

@@ -1,4 +1,4 @@
--- The calls of each value, as a sight of a book lists them.
+-- Sights that list, for each value, the calls of a book that put it in or show it.
 use Rattle.std.specs.Prelude.{◌≡◌, ℕ, ◌<◌, ◌≤◌, List, [], length, map, Option, Some, None, slice_get, slice_index, slice_index_or}
 use Rattle.std.specs.Ordering.{nat_cmp}
 use Rattle.std.specs.BTreeMap.{is_at}
