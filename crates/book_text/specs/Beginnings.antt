@@ -1,4 +1,4 @@
--- Where bytes leave the texts of books: the first fault, said by what texts begin with.
+-- Where bytes stop being the beginning of a book's text: the first fault, by what texts begin with.
 use Rattle.std.specs.Prelude.{◌≡◌, ◌≢◌, ◌⊎◌, ◌+◌, ℕ, zero, suc, List, [], ◌∷◌, ◌++◌, Some, None}
 use Rattle.book_base.specs.declared.fault.TextFault.{TextFault}
 use Rattle.book_base.specs.declared.fault.What.{What}
@@ -26,7 +26,8 @@ AreWholeLines zero bytes = bytes ≡ []
 AreWholeLines (suc count) bytes = (line : List ℕ) × (rest : List ℕ)
     × (cut_at 10 bytes ≡ Some (line, rest)) × AreWholeLines count rest
 
--- After the first whole lines stands a further whole line, with which no text of a book goes on.
+-- After the first whole lines comes one more whole line, and no text of a book begins with all of
+-- these lines.
 pub record BreaksText (version : Version) (prefix rest : List ℕ) (what : What) : Type 0 where
   pub named : (what ≢ Cut) × (what ≢ Rest)
   pub line : List ℕ
@@ -39,7 +40,7 @@ pub record EndsEarly (rest : List ℕ) (what : What) : Type 0 where
   pub named : what ≡ Cut
   pub none : cut_at 10 rest ≡ None
 
--- The first whole lines are a book's text already, and bytes follow.
+-- The first whole lines are a whole text of a book already, and bytes follow.
 pub record GoesOn (version : Version) (prefix rest : List ℕ) (what : What) : Type 0 where
   pub named : what ≡ Rest
   pub kind : Kind
@@ -47,9 +48,9 @@ pub record GoesOn (version : Version) (prefix rest : List ℕ) (what : What) : T
   pub text : IsBookText version prefix kind book
   pub more : rest ≢ []
 
--- A fault says where bytes leave the texts of books: some text begins with the lines before the
--- fault's line, and none goes on with the fault's line, or that line isn't whole, or the lines
--- before it are a whole text.
+-- A fault is where bytes stop being the beginning of a book's text: some text begins with the lines
+-- before the fault's line, and none begins with these and the fault's line, or that line isn't
+-- whole, or the lines before it are a whole text already.
 pub record LeavesTexts (version : Version) (bytes : List ℕ) (fault : TextFault) : Type 0 where
   pub count : ℕ
   pub prefix : List ℕ

@@ -14,13 +14,13 @@ use Rattle.text_fields.specs.Operations.{kind_operations}
 use Rattle.book_text.specs.CallLines.{Progress, CallPasses, CallFails, no_call_read}
 use Rattle.book_text.specs.Grammar.{end_words}
 
--- what is due in the text of a book, with what the lines before say
+-- the states of reading a book's text, each with what the lines before say
 pub data BookDue : Type 0 where
   InHead : HeadDue → BookDue
   InCalls : Kind → List Page → List Call → BookDue
   AtEnd : Kind → List Page → BookDue
 
--- After the head come the calls.
+-- a state of reading the head, as one of reading the book: after the whole head the calls are due
 abbrev pub after_head : HeadDue → BookDue
 after_head TitleDue = InHead TitleDue
 after_head ObjectDue = InHead ObjectDue
@@ -28,7 +28,7 @@ after_head (CallersDue kind) = InHead (CallersDue kind)
 after_head (CountsDue kind n) = InHead (CountsDue kind n)
 after_head (HeadRead kind calls) = InCalls kind (no_call_read calls).book (no_call_read calls).due
 
--- the lines of calls go on, within a text of this kind
+-- how far the lines of calls are read, as a state of reading the book of an object of this kind
 abbrev pub in_calls : Kind → Progress → BookDue
 in_calls kind progress = InCalls kind progress.book progress.due
 
@@ -43,7 +43,7 @@ BookPasses version (InCalls kind book (call ∷ calls)) words after = (next : Pr
     × (after ≡ in_calls kind next)
 BookPasses version (AtEnd kind book) words after = ⊥
 
--- the tests of the lines of a book's text
+-- the tests that the lines of a book's text may fail
 abbrev pub BookFails : Version → BookDue → List (List ℕ) → What → Type 0
 BookFails version (InHead due) words what = HeadFails version (codes "book") due words what
 BookFails version (InCalls kind book []) words what = (what ≡ End) × (words ≢ end_words)
@@ -51,7 +51,7 @@ BookFails version (InCalls kind book (call ∷ calls)) words what =
     CallFails version (kind_operations version kind) book (call ∷ calls) words what
 BookFails version (AtEnd kind book) words what = ⊥
 
--- what is wanted in the text of a book
+-- what is wanted in each state of reading a book's text
 abbrev pub book_wanted : BookDue → Wanted
 book_wanted (InHead due) = ALine
 book_wanted (InCalls kind book calls) = ALine
@@ -62,7 +62,7 @@ abbrev pub book_rules : Version → Rules BookDue
 book_rules version =
     record { Passes = BookPasses version; Fails = BookFails version; wanted = book_wanted }
 
--- the bytes from their first line on
+-- bytes of which nothing is read yet, from line 1 on
 abbrev pub whole_text : List ℕ → Unread
 whole_text bytes = record { bytes = bytes; number = 1 }
 

@@ -52,7 +52,7 @@ pub record IsAfterReply (operations : Operations) (call : Call)
   pub small : reply < 2 ^ 64
   pub text : IsAfterOperation operations call words (reply_word reply ∷ suffix)
 
--- after the reply the line has this view of this many callers, and nothing else
+-- the words after the reply are this view of this many callers, and nothing else
 pub record HasView (version : Version) (operations : Operations) (n : ℕ) (call : Call)
     (words : List (List ℕ)) (view : List ℕ) : Type 0 where
   pub wide : length view ≡ n
@@ -105,7 +105,7 @@ EntryFails version operations n gap call words _ = ⊥
 
 -- ---- the tests of a view
 
--- the name of the test that a book refuses a view by
+-- the name in texts of the test by which a book refuses a view
 abbrev pub view_test : BookFault → Option What
 view_test tests.TooManyCalls = None
 view_test tests.NoSuchCall = None
@@ -126,7 +126,7 @@ MayRefuse _ = Unit {0}
 abbrev pub IsUnanswered : List Page → Call → Type 0
 IsUnanswered book call = answers_of book call.caller ≤ call.number
 
--- the line's view fails a test of views, beside the book that the lines before it give
+-- the line's view fails a test against the views of the book that the lines before it give
 pub record ViewFails (version : Version) (operations : Operations) (book : List Page) (call : Call)
     (words : List (List ℕ)) (name : What) : Type 0 where
   pub view : List ℕ
@@ -157,7 +157,7 @@ all_calls i (count ∷ counts) = calls_from i 0 count ++ all_calls (i + 1) count
 abbrev pub reading : List Page → List Call → Progress
 reading book due = record { book = book; due = due }
 
--- before the lines of calls
+-- how far the lines of calls are read before the first of them
 abbrev pub no_call_read : List ℕ → Progress
 no_call_read calls = record { book = unanswered_book calls; due = all_calls 0 calls }
 
@@ -209,7 +209,7 @@ CallFails version operations book (call ∷ calls) words name =
     EntryFails version operations (length book) (is_gap book call) call words name
     ⊎ ViewFails version operations book call words name
 
--- a line is wanted as long as a call is due
+-- a line is wanted as long as some call is due
 abbrev pub call_wanted : List Call → Wanted
 call_wanted [] = Nothing
 call_wanted (call ∷ calls) = ALine
@@ -233,7 +233,7 @@ AreRead version operations calls book text after left = (more : List Call)
     → GoesTo (call_rules version operations) (reading book (calls ++ more)) text
     (reading after more) left
 
--- The reading of the lines of these calls stops, whatever is due after them.
+-- The reading of the lines of these calls stops with this fault, whatever is due after them.
 abbrev pub AreStopped : Version → Operations → List Call → List Page → Unread → ReadFault → Type 0
 AreStopped version operations calls book text fault = (more : List Call)
     → StopsFor (call_rules version operations) (reading book (calls ++ more)) text fault
@@ -244,7 +244,8 @@ abbrev pub AreCallLines : Version → Operations → List ℕ → List Page → 
 AreCallLines version operations calls book text left =
     GoesTo (call_rules version operations) (no_call_read calls) text (reading book []) left
 
--- Why lines of calls, this many of each caller, aren't read: want of memory, or their first fault.
+-- Reading the lines of calls, this many of each caller, stops for want of memory or with their
+-- first fault.
 abbrev pub AreNoCallLines : Version → Operations → List ℕ → Unread → ReadFault → Type 0
 AreNoCallLines version operations calls text fault =
     StopsFor (call_rules version operations) (no_call_read calls) text fault

@@ -5,14 +5,14 @@ use Rattle.book_base.specs.declared.fault.What.TheVariants.{End, Rest}
 use Rattle.text_fields.specs.Lines.{Unread, line_at, words_of}
 use Rattle.book_text.specs.Grammar.{end_words}
 
--- the next line is the last of a text, and nothing is left after it
+-- the next line is 'end', and nothing is left after it
 pub record IsEnded (text left : Unread) : Type 0 where
   pub line : List ℕ
   pub next : line_at text ≡ Ok (line, left)
   pub words : words_of line ≡ end_words
   pub whole : left.bytes ≡ []
 
--- the next line is whole, and isn't the last of a text
+-- the next line is whole, and isn't 'end'
 pub record IsNoEndLine (text : Unread) (fault : TextFault) : Type 0 where
   pub line : List ℕ
   pub left : Unread
@@ -20,7 +20,7 @@ pub record IsNoEndLine (text : Unread) (fault : TextFault) : Type 0 where
   pub words : words_of line ≢ end_words
   pub fault_is : fault ≡ record { line = text.number; what = End }
 
--- bytes follow the last line
+-- the next line is 'end', and bytes follow it
 pub record HasRest (text : Unread) (fault : TextFault) : Type 0 where
   pub line : List ℕ
   pub left : Unread
@@ -29,7 +29,7 @@ pub record HasRest (text : Unread) (fault : TextFault) : Type 0 where
   pub more : left.bytes ≢ []
   pub fault_is : fault ≡ record { line = left.number; what = Rest }
 
--- why the next line isn't the end of a text: no line is whole, it isn't the last line, or bytes
--- follow it
+-- the fault for which the next line isn't the end of a text: the line isn't whole, it isn't 'end',
+-- or bytes follow it
 abbrev pub IsNoEnd : Unread → TextFault → Type 0
 IsNoEnd text fault = (line_at text ≡ Err fault) ⊎ (IsNoEndLine text fault ⊎ HasRest text fault)

@@ -10,7 +10,8 @@ use Rattle.text_fields.specs.Counts.{AreNumbers}
 use Rattle.text_fields.specs.Operations.{Operations}
 use Rattle.book_text.specs.CallLines.{call_words, IsNoView}
 
--- an answer that the words after an operation may give, in a text of this many callers
+-- an answer that the words after an operation may give, where `gap` says that an earlier call of
+-- the caller is unanswered
 abbrev pub IsEntryAnswer : ℕ → Bool → Option Record → Type 0
 IsEntryAnswer n gap None = Unit {0}
 IsEntryAnswer n gap (Some answer) = (gap ≡ false) × (answer.reply < 2 ^ 64)
@@ -33,7 +34,7 @@ abbrev pub BeginWithNone : Operations → List (List ℕ) → Type 0
 BeginWithNone operations words = (op : ℕ) (suffix : List (List ℕ)) → IsTrue (operations.has op)
     → words ≢ operations.words op ++ suffix
 
--- why the words after an operation give no answer
+-- the test that the words after an operation fail, so that they give no answer
 abbrev pub IsNoAnswer : Version → ℕ → Bool → List (List ℕ) → What → Type 0
 IsNoAnswer version n gap words what.Gap = (words ≢ []) × (gap ≡ true)
 IsNoAnswer version n gap words what.Reply = (word : List ℕ) × (suffix : List (List ℕ))

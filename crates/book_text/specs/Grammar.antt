@@ -21,7 +21,7 @@ abbrev pub call_lines : Version → Operations → List Page → List (List (Lis
 call_lines version operations book =
     map (line_of version operations book) (all_calls 0 (announced book))
 
--- the last line
+-- the last line of a text
 abbrev pub end_words : List (List ℕ)
 end_words = codes "end" ∷ []
 

@@ -1,4 +1,5 @@
--- Where bytes leave the texts of a kind: the first fault, said by what texts begin with.
+-- Where bytes stop being the beginning of a text of a kind: the first fault, by what texts begin
+-- with.
 use Rattle.std.specs.Prelude.{◌≡◌, ◌≢◌, ◌⊎◌, ◌+◌, ℕ, List, [], ◌∷◌, ◌++◌, Some}
 use Rattle.book_base.specs.declared.fault.TextFault.{TextFault}
 use Rattle.book_base.specs.declared.fault.What.{What}
@@ -14,7 +15,8 @@ BeginsSome {Said} IsText prefix = (said : Said) × (more : List ℕ) × IsText (
 abbrev pub BeginsNone : {Said : Type 0} → (List ℕ → Said → Type 0) → List ℕ → Type 0
 BeginsNone {Said} IsText prefix = (said : Said) (more : List ℕ) → ¬ (IsText (prefix ++ more) said)
 
--- After the first whole lines stands a further whole line, with which no text goes on.
+-- After the first whole lines comes one more whole line, and no text begins with all of these
+-- lines.
 pub record Breaks {Said : Type 0} (IsText : List ℕ → Said → Type 0) (prefix rest : List ℕ)
     (what : What) : Type 0 where
   pub named : (what ≢ Cut) × (what ≢ Rest)
@@ -23,7 +25,7 @@ pub record Breaks {Said : Type 0} (IsText : List ℕ → Said → Type 0) (prefi
   pub whole : cut_at 10 rest ≡ Some (line, suffix)
   pub none : BeginsNone IsText (prefix ++ (line ++ 10 ∷ []))
 
--- The first whole lines are a text already, and bytes follow.
+-- The first whole lines are a whole text already, and bytes follow.
 pub record GoesPast {Said : Type 0} (IsText : List ℕ → Said → Type 0) (prefix rest : List ℕ)
     (what : What) : Type 0 where
   pub named : what ≡ Rest
@@ -31,9 +33,9 @@ pub record GoesPast {Said : Type 0} (IsText : List ℕ → Said → Type 0) (pre
   pub text : IsText prefix said
   pub more : rest ≢ []
 
--- A fault says where bytes leave the texts: some text begins with the lines before the fault's
--- line, and none goes on with the fault's line, or that line isn't whole, or the lines before it
--- are a whole text.
+-- A fault is where bytes stop being the beginning of a text: some text begins with the lines before
+-- the fault's line, and none begins with these and the fault's line, or that line isn't whole, or
+-- the lines before it are a whole text already.
 pub record LeavesAt {Said : Type 0} (IsText : List ℕ → Said → Type 0) (bytes : List ℕ)
     (fault : TextFault) : Type 0 where
   pub count : ℕ

@@ -10,17 +10,18 @@ use Rattle.book_text.specs.BookRules.{IsBookText}
 use Rattle.sketch.specs.declared.event.Event.{Event}
 use Rattle.book_writer.specs.Sketches.{sketch_lines, AreEventsOf}
 
--- Two books of which the same is written are one, and so are their kinds.
+-- Two books with one written text are equal, and so are their kinds.
 abbrev pub WrittenBooksAreOne : Type 0
 WrittenBooksAreOne = (version : Version) (bytes : List ℕ) (k l : Kind) (a b : List Page)
     → IsWrittenText version bytes k a → IsWrittenText version bytes l b → (k ≡ l) × (a ≡ b)
 
--- No book's text begins another's: where more bytes follow it, the whole is no book's text.
+-- No book's text is a proper prefix of another's: where more bytes follow it, the whole is no
+-- book's text.
 abbrev pub NoBookTextBeginsAnother : Type 0
 NoBookTextBeginsAnother = (version : Version) (bytes more : List ℕ) (k l : Kind) (a b : List Page)
     → IsBookText version bytes k a → IsBookText version (bytes ++ more) l b → more ≡ []
 
--- No sketch's text begins another's.
+-- No sketch's text is a proper prefix of another's.
 abbrev pub NoSketchTextBeginsAnother : Type 0
 NoSketchTextBeginsAnother =
     (more : List ℕ) (k l : Kind) (a b : List Page) (events others : List Event)

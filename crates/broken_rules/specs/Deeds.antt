@@ -91,7 +91,7 @@ abbrev pub did : Kind → List Page → Call → Deal
 did kind book call =
     if is_keyed kind then deal_by_key kind book call else deal_of (reading_of kind) book call
 
--- The deal that an act of the code stands for in definitions.
+-- The deal, in the words of the readings, that an act names.
 abbrev pub deal_of_act : Act → Deal
 deal_of_act (acts.Put value) = deals.Put value
 deal_of_act (acts.Took value) = deals.Took value

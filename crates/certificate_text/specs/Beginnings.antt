@@ -1,4 +1,5 @@
--- Where bytes leave the texts of certificates: the first fault, said by what texts begin with.
+-- Where bytes stop being the beginning of a certificate's text: the first fault, by what texts
+-- begin with.
 use Rattle.std.specs.Prelude.{◌≡◌, ◌≢◌, ◌⊎◌, ◌+◌, ℕ, List, [], ◌∷◌, ◌++◌, Some}
 use Rattle.book_base.specs.declared.call.Place.{Place}
 use Rattle.book_base.specs.declared.fault.TextFault.{TextFault}
@@ -20,8 +21,8 @@ abbrev pub BeginsNoText : List ℕ → Type 0
 BeginsNoText prefix = (kind : Kind) (book : List Page) (order : List Place) (more : List ℕ)
     → ¬ (IsCertificateText (prefix ++ more) kind book order)
 
--- After the first whole lines stands a further whole line, with which no text of a certificate goes
--- on.
+-- After the first whole lines comes one more whole line, and no text of a certificate begins with
+-- all of these lines.
 pub record BreaksText (prefix rest : List ℕ) (what : What) : Type 0 where
   pub named : (what ≢ Cut) × (what ≢ Rest)
   pub line : List ℕ
@@ -29,7 +30,7 @@ pub record BreaksText (prefix rest : List ℕ) (what : What) : Type 0 where
   pub whole : cut_at 10 rest ≡ Some (line, suffix)
   pub none : BeginsNoText (prefix ++ (line ++ 10 ∷ []))
 
--- The first whole lines are a certificate's text already, and bytes follow.
+-- The first whole lines are a whole text of a certificate already, and bytes follow.
 pub record GoesOn (prefix rest : List ℕ) (what : What) : Type 0 where
   pub named : what ≡ Rest
   pub kind : Kind
@@ -38,9 +39,9 @@ pub record GoesOn (prefix rest : List ℕ) (what : What) : Type 0 where
   pub text : IsCertificateText prefix kind book order
   pub more : rest ≢ []
 
--- A fault says where bytes leave the texts of certificates: some text begins with the lines before
--- the fault's line, and none goes on with the fault's line, or that line isn't whole, or the lines
--- before it are a whole text.
+-- A fault is where bytes stop being the beginning of a certificate's text: some text begins with
+-- the lines before the fault's line, and none begins with these and the fault's line, or that line
+-- isn't whole, or the lines before it are a whole text already.
 pub record LeavesTexts (bytes : List ℕ) (fault : TextFault) : Type 0 where
   pub count : ℕ
   pub prefix : List ℕ

@@ -18,14 +18,15 @@ use Rattle.book_text.specs.Grammar.{end_words}
 use Rattle.book_text.specs.BookRules.{BookDue, InHead, InCalls, AtEnd, BookPasses, BookFails, whole_text}
 use Rattle.certificate_text.specs.Grammar.{order_words, place_line, IsNamed, IsPlace}
 
--- what is due in the text of a certificate, with what the lines before say
+-- the states of reading a certificate's text, each with what the lines before say
 pub data CertificateDue : Type 0 where
   InBook : BookDue → CertificateDue
   OrderDue : Kind → List Page → CertificateDue
   InPlaces : Kind → List Page → List Place → CertificateDue
   AllRead : Kind → List Page → List Place → CertificateDue
 
--- After the end of the book comes the title of the order.
+-- a state of reading the book, as one of reading the certificate: after the end of the book the
+-- title of the order is due
 abbrev pub after_book : BookDue → CertificateDue
 after_book (InHead due) = InBook (InHead due)
 after_book (InCalls kind book calls) = InBook (InCalls kind book calls)
@@ -38,7 +39,7 @@ pub record IsPlaceLine (words : List (List ℕ)) (place : Place) : Type 0 where
   pub may : IsPlace place
   pub text : words ≡ place_line place
 
--- the tests of a line after the title of the order
+-- the tests that a line after the title of the order may fail
 abbrev pub PlaceFails : List (List ℕ) → What → Type 0
 -- the line isn't the end, and doesn't begin with a caller and a number
 PlaceFails words what.Place = (words ≢ end_words)
@@ -71,7 +72,7 @@ CertificateFails (OrderDue kind book) words name = (name ≡ what.Head) × (word
 CertificateFails (InPlaces kind book order) words name = PlaceFails words name
 CertificateFails (AllRead kind book order) words name = ⊥
 
--- what is wanted in the text of a certificate
+-- what is wanted in each state of reading a certificate's text
 abbrev pub certificate_wanted : CertificateDue → Wanted
 certificate_wanted (InBook due) = ALine
 certificate_wanted (OrderDue kind book) = ALine
@@ -83,7 +84,7 @@ abbrev pub certificate_rules : Rules CertificateDue
 certificate_rules =
     record { Passes = CertificatePasses; Fails = CertificateFails; wanted = certificate_wanted }
 
--- before the first line
+-- the state of reading a certificate's text before its first line
 abbrev pub nothing_read : CertificateDue
 nothing_read = InBook (InHead TitleDue)
 

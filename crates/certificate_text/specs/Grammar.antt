@@ -13,7 +13,7 @@ use Rattle.text_fields.specs.Head.{title_words}
 use Rattle.book_text.specs.CallLines.{place_words}
 use Rattle.book_text.specs.Grammar.{end_words, book_lines, IsWritable}
 
--- the line after the book's lines
+-- the title of the order, which is the line after the book's lines
 abbrev pub order_words : List (List ℕ)
 order_words = title_words Second (codes "order")
 

@@ -8,7 +8,7 @@ use Rattle.certificate_text.specs.Grammar.{IsWrittenCertificate}
 use Rattle.certificate_text.specs.CertificateRules.{IsCertificateText, IsFirstCertificateFault}
 use Rattle.certificate_text.specs.Beginnings.{LeavesTexts}
 
--- two certificates are one
+-- two certificates are equal: their kinds, their books and their lists of places are
 pub record AreOne (k l : Kind) (a b : List Page) (p q : List Place) : Type 0 where
   pub kinds : k ≡ l
   pub books : a ≡ b
@@ -40,13 +40,13 @@ abbrev pub ATextIsItsLines : Type 0
 ATextIsItsLines = (bytes : List ℕ) (kind : Kind) (book : List Page) (order : List Place)
     → IsWrittenCertificate bytes kind book order ↔ IsCertificateText bytes kind book order
 
--- No certificate's text begins another's: where more bytes follow it, the whole is no certificate's
--- text.
+-- No certificate's text is a proper prefix of another's: where more bytes follow it, the whole is
+-- no certificate's text.
 abbrev pub NoTextBeginsAnother : Type 0
 NoTextBeginsAnother = (bytes more : List ℕ) (k l : Kind) (a b : List Page) (p q : List Place)
     → IsCertificateText bytes k a p → IsCertificateText (bytes ++ more) l b q → more ≡ []
 
--- A first fault stands where the bytes leave the texts of certificates.
+-- A first fault is where bytes stop being the beginning of a certificate's text.
 abbrev pub FirstFaultsLeaveTexts : Type 0
 FirstFaultsLeaveTexts = (bytes : List ℕ) (fault : TextFault) → IsFirstCertificateFault bytes fault
     → LeavesTexts bytes fault

@@ -12,11 +12,12 @@ use Rattle.book_text.specs.Grammar.{end_words}
 use Rattle.book_text.specs.BookRules.{InCalls}
 use Rattle.certificate_text.specs.CertificateRules.{CertificateDue, InBook, OrderDue, InPlaces, AllRead, IsPlaceLine, certificate_rules, nothing_read}
 
--- the text goes on from where this is due to where that is due, and leaves the rest unread
+-- the text begins with right lines of a certificate that lead from one state to another, and leaves
+-- the rest unread
 abbrev pub Goes : CertificateDue → Unread → CertificateDue → Unread → Type 0
 Goes due text after left = GoesTo certificate_rules due text after left
 
--- a reader stops for want of memory, or with the first fault
+-- a reader of a certificate stops from a state on for want of memory, or with the first fault
 abbrev pub Stops : CertificateDue → Unread → ReadFault → Type 0
 Stops due text fault = StopsFor certificate_rules due text fault
 
@@ -62,11 +63,11 @@ abbrev pub ArePlaces : Unread → List Place → Unread → Type 0
 ArePlaces text order left = (kind : Kind) (book : List Page)
     → Goes (InPlaces kind book []) text (AllRead kind book order) left
 
--- why the lines of places aren't read
+-- a reader of the lines of places stops with this fault
 abbrev pub AreNoPlaces : Unread → ReadFault → Type 0
 AreNoPlaces text fault = (kind : Kind) (book : List Page) → Stops (InPlaces kind book []) text fault
 
--- bytes stand after the end
+-- the fault is that bytes follow the end
 abbrev pub IsRest : Unread → TextFault → Type 0
 IsRest text fault = (kind : Kind) (book : List Page) (order : List Place)
     → IsFirstFault certificate_rules (AllRead kind book order) text fault

@@ -15,11 +15,11 @@ value_of number caller k = (number % 2 ^ 20) * 4096 + caller * 256 + k
 abbrev pub operation : OperationEntry → ℕ → ℕ → ℕ
 operation entry argument extra = word_of entry.code argument extra
 
--- the first of two for even numbers, else the second
+-- the first operation for even numbers, and the second one for odd ones
 abbrev pub by_halves : ℕ → ℕ → ℕ → ℕ
 by_halves k even odd = if k % 2 == 0 then even else odd
 
--- the first, the second or the third, one after the other
+-- the first, the second or the third operation, in turn by the number
 abbrev pub by_thirds : ℕ → ℕ → ℕ → ℕ → ℕ
 by_thirds k first second third =
     if k % 3 == 0 then first else (if k % 3 == 1 then second else third)
@@ -39,7 +39,7 @@ generated_operation CasRegister v k = by_thirds k (operation words.write (v % 8)
 generated_operation Map v k = by_thirds k (operation words.put (v % 8) v)
     (operation words.get (v % 8) 0) (operation words.del (v % 8) 0)
 
--- the operations of a caller
+-- the operations that are generated for a caller
 abbrev pub generated_operations : ℕ → ℕ → Kind → ℕ → List ℕ
 generated_operations number calls kind caller =
     map (λ k. generated_operation kind (value_of number caller k) k) (range_with_len 0 calls)

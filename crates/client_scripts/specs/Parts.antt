@@ -1,4 +1,5 @@
--- What the parts of a script's text say, each after whatever stands before it, and where they stop.
+-- What a reader finds in each part of a script's text, whatever the lines before it are, and with
+-- which fault it stops there.
 use Rattle.std.specs.Prelude.{◌≡◌, ◌⊎◌, ℕ, List, [], ◌∷◌, ◌++◌, length}
 use Rattle.book_base.specs.declared.call.Call.{Call}
 use Rattle.book_base.specs.declared.fault.TextFault.{TextFault}
@@ -38,7 +39,8 @@ AreCallsRead words i count text ops left =
     → GoesTo (script_rules words.version) (InBody words.kind begun (calls_from i 0 count ++ more))
     text (InBody words.kind (with_operations begun ops) more) left
 
--- in the next lines, which are to be those of this many calls of a caller, a reader stops
+-- a reader stops with this fault in the next lines, which are to be those of this many calls of a
+-- caller
 abbrev pub AreCallsStopped : KindWords → ℕ → ℕ → Unread → ReadFault → Type 0
 AreCallsStopped words i count text e = (begun : Begun) (more : List Call) → StopsFor
     (script_rules words.version) (InBody words.kind begun (calls_from i 0 count ++ more)) text e
@@ -50,7 +52,8 @@ AreClientsRead words calls text clients left =
     GoesTo (script_rules words.version) (InBody words.kind (begin calls) (all_calls 0 calls)) text
     (InBody words.kind (told clients 0) []) left
 
--- in the next lines, which are to be those of all calls of these numbers, a reader stops
+-- a reader stops with this fault in the next lines, which are to be those of all calls of these
+-- numbers
 abbrev pub AreClientsStopped : KindWords → List ℕ → Unread → ReadFault → Type 0
 AreClientsStopped words calls text e = StopsFor (script_rules words.version)
     (InBody words.kind (begin calls) (all_calls 0 calls)) text e
@@ -67,14 +70,14 @@ abbrev pub IsTailLineRefused : Begun → List (List ℕ) → ℕ → ReadFault �
 IsTailLineRefused begun words number e = (e ≡ NoMemory) ⊎ ((what : What)
     × (e ≡ Text (record { line = number; what = what })) × IsFirstTest (TailFails begun words) what)
 
--- after the calls of these clients the next lines are stops and turns: so those clients hold the
--- stops, and the turns are these
+-- after the calls of the clients `before` the next lines are stops and turns: the clients `after`
+-- are these clients with the stops, and the turns are these
 abbrev pub IsTailRead : List Client → Unread → List Client → List ℕ → Unread → Type 0
 IsTailRead before text after turns left =
     (version : Version) (kind : Kind) → GoesTo (script_rules version)
     (InBody kind (told before 0) []) text (Turned (plan_in kind after turns)) left
 
--- in the next lines, which are to be stops and turns, a reader stops
+-- a reader stops with this fault in the next lines, which are to be stops and turns
 abbrev pub IsTailStopped : List Client → Unread → ReadFault → Type 0
 IsTailStopped before text e = (version : Version) (kind : Kind)
     → StopsFor (script_rules version) (InBody kind (told before 0) []) text e

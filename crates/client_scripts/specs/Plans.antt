@@ -19,7 +19,7 @@ pub record Plan : Type 0 where
   -- the callers that take turns, one after the other
   pub turns : List ℕ
 
--- the operations of a caller; one that isn't there has none
+-- the operations of a caller, of which there are none where the plan has no such caller
 abbrev pub operations_of : Plan → ℕ → List ℕ
 operations_of plan i = slice_index_or plan.operations i []
 
@@ -27,12 +27,12 @@ operations_of plan i = slice_index_or plan.operations i []
 abbrev pub IsCall : Plan → Call → Type 0
 IsCall plan call = call.number < length (operations_of plan call.caller)
 
--- how many operations each caller has
+-- how many operations each caller of a plan has
 abbrev pub sizes : List (List ℕ) → List ℕ
 sizes operations = map (λ ops. length ops) operations
 
--- For callers with these numbers of calls there is a stop each, or none. A caller stops before the
--- phases of its calls are through.
+-- There is a stop or none for each caller with these numbers of calls, and a stop comes before the
+-- phases of the caller's calls are through.
 abbrev pub AreStops : List ℕ → List (Option ℕ) → Type 0
 AreStops [] [] = Unit {0}
 AreStops [] (stop ∷ stops) = ⊥

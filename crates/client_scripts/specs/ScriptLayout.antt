@@ -14,7 +14,7 @@ operations_in clients = map (λ client. client.operations.items) clients
 abbrev pub stops_in : List Client → List (Option ℕ)
 stops_in clients = map (λ client. client.stop) clients
 
--- what a script says that holds these
+-- the plan of a script that holds these clients and turns
 abbrev pub plan_in : Kind → List Client → List ℕ → Plan
 plan_in kind clients turns = record {
   kind = kind;
@@ -23,7 +23,8 @@ plan_in kind clients turns = record {
   turns = turns;
 }
 
--- the lines of all calls are read, and those of the stops before this caller
+-- what the lines say once those of all calls are read, and those of the stops of all callers before
+-- this one
 abbrev pub told : List Client → ℕ → Begun
 told clients least = record {
   calls = sizes (operations_in clients);

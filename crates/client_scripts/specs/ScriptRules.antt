@@ -31,23 +31,23 @@ pub record Begun : Type 0 where
   pub operations : List ℕ
   -- the stops so far, one place a caller
   pub stops : List (Option ℕ)
-  -- stops rise: the callers from this one on may have a further one
+  -- stops are given by rising callers: the callers from this one on may have a further stop
   pub least : ℕ
 
--- before the lines of calls
+-- what the lines say before those of calls
 abbrev pub begin : List ℕ → Begun
 begin calls =
     record { calls = calls; operations = []; stops = replicate (length calls) None; least = 0 }
 
--- with the operation of one more call
+-- what the lines say, with the operation of one more call
 abbrev pub with_operation : Begun → ℕ → Begun
 with_operation begun op = record begun { operations = begun.operations ++ op ∷ [] }
 
--- with the operations of further calls
+-- what the lines say, with the operations of further calls
 abbrev pub with_operations : Begun → List ℕ → Begun
 with_operations begun ops = record begun { operations = begun.operations ++ ops }
 
--- with one more stop
+-- what the lines say, with one more stop
 abbrev pub with_stop : Begun → ℕ → ℕ → Begun
 with_stop begun caller phases =
     record begun { stops = slice_set begun.stops caller (Some phases); least = caller + 1 }
@@ -57,7 +57,7 @@ abbrev pub grouped : {X : Type 0} → List ℕ → List X → List (List X)
 grouped [] items = []
 grouped (count ∷ counts) items = take count items ∷ grouped counts (drop count items)
 
--- the plan that the lines say, with these turns
+-- the plan that the lines determine, with these turns
 abbrev pub plan_with : Kind → Begun → List ℕ → Plan
 plan_with kind begun turns = record {
   kind = kind;
@@ -68,16 +68,16 @@ plan_with kind begun turns = record {
 
 -- ---- what is due
 
--- what is due in the text of a script, with what the lines before say
+-- the states of reading a script's text, each with what the lines before say
 pub data ScriptDue : Type 0 where
   InHead : HeadDue → ScriptDue
-  -- the lines of these calls, then stops, and then the turns
+  -- the lines of these calls, then stops, and then the turns are due
   InBody : Kind → Begun → List Call → ScriptDue
-  -- the end, after the turns
+  -- the end is due, after the turns
   Turned : Plan → ScriptDue
   AtEnd : Plan → ScriptDue
 
--- After the head come the calls.
+-- a state of reading the head, as one of reading the script: after the whole head the calls are due
 abbrev pub after_head : HeadDue → ScriptDue
 after_head TitleDue = InHead TitleDue
 after_head ObjectDue = InHead ObjectDue
@@ -103,7 +103,7 @@ abbrev pub CallFails : Version → Kind → Call → List (List ℕ) → What �
 -- the line doesn't begin with the caller and the number that are due
 CallFails version kind call words what.Place = (suffix : List (List ℕ))
     → words ≢ place_words call ++ suffix
--- the words after them are no operation, and nothing more
+-- the words after the caller and the number aren't exactly those of an operation
 CallFails version kind call words what.Op = (suffix : List (List ℕ))
     × (words ≡ place_words call ++ suffix)
     × ((op : ℕ) → op < word_limit version → suffix ≢ operation_words kind op)
@@ -111,29 +111,29 @@ CallFails version kind call words _ = ⊥
 
 -- ---- the lines of stops and of turns
 
--- a stop may be told after these lines: callers rise, and the caller has more phases than it makes
+-- a stop may be given here: callers rise, and the caller has more phases than it makes
 pub record IsStop (begun : Begun) (caller phases : ℕ) : Type 0 where
   pub rising : begun.least ≤ caller
   pub inside : caller < length begun.calls
   pub early : phases < PHASES * slice_index begun.calls caller
   pub numbers : AreNumbers (caller ∷ phases ∷ [])
 
--- turns of this many callers
+-- the turns are of this many callers, as texts can have them
 pub record AreTurns (n : ℕ) (turns : List ℕ) : Type 0 where
   pub callers : AllByRecursion (λ caller. caller < n) turns
   pub numbers : AreNumbers turns
 
--- the line of a stop that may be told
+-- the line is that of a stop that may be given here
 pub record IsStopLine (begun : Begun) (words : List (List ℕ)) (caller phases : ℕ) : Type 0 where
   pub may : IsStop begun caller phases
   pub text : words ≡ stop_words caller phases
 
--- the line of the turns of this many callers
+-- the line is that of the turns of this many callers
 pub record IsTurnsLine (n : ℕ) (words : List (List ℕ)) (turns : List ℕ) : Type 0 where
   pub may : AreTurns n turns
   pub text : words ≡ turns_words turns
 
--- the line begins with the word 'stop', and these words stand after it
+-- the line is the word 'stop', followed by these words
 abbrev pub BeginsAsStop : List (List ℕ) → List (List ℕ) → Type 0
 BeginsAsStop words suffix = words ≡ codes "stop" ∷ suffix
 
@@ -167,7 +167,7 @@ ScriptPasses version (InBody kind begun (call ∷ calls)) words after = (op : �
 ScriptPasses version (Turned plan) words after = (words ≡ end_words) × (after ≡ AtEnd plan)
 ScriptPasses version (AtEnd plan) words after = ⊥
 
--- the tests of the lines of a script's text
+-- the tests that the lines of a script's text may fail
 abbrev pub ScriptFails : Version → ScriptDue → List (List ℕ) → What → Type 0
 ScriptFails version (InHead due) words name = HeadFails version (codes "script") due words name
 ScriptFails version (InBody kind begun []) words name = TailFails begun words name
@@ -176,7 +176,7 @@ ScriptFails version (InBody kind begun (call ∷ calls)) words name =
 ScriptFails version (Turned plan) words name = (name ≡ what.End) × (words ≢ end_words)
 ScriptFails version (AtEnd plan) words name = ⊥
 
--- what is wanted in the text of a script
+-- what is wanted in each state of reading a script's text
 abbrev pub script_wanted : ScriptDue → Wanted
 script_wanted (InHead due) = ALine
 script_wanted (InBody kind begun calls) = ALine

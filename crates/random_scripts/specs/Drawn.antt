@@ -13,7 +13,7 @@ use Rattle.random_scripts.specs.declared.workload.Weights.{Weights}
 use Rattle.random_scripts.specs.declared.workload.Workload.{Workload}
 use Rattle.random_scripts.specs.Draws.{key_of, drawn}
 
--- A workload that texts of scripts have room for, with a value and an operation to draw.
+-- A workload within the limits of scripts' texts, with a value and an operation to draw.
 pub record IsWorkload (w : Workload) : Type 0 where
   pub some : 1 ≤ w.callers
   pub few : w.callers ≤ TEXT_CALLERS
@@ -50,7 +50,7 @@ operation_of Map First value further = operation words.put value further
 operation_of Map Second value further = operation words.get value 0
 operation_of Map Third value further = operation words.del value 0
 
--- The number of the first draw of a caller's call, which has the next ones too.
+-- The number of the first draw for a caller's call, which has four numbers of draws to itself.
 abbrev pub first_draw : ℕ → ℕ → ℕ
 first_draw caller number = (caller * 256 + number) * 4
 

@@ -15,15 +15,15 @@ use Rattle.book_text.specs.Grammar.{end_words}
 use Rattle.book_text.specs.BookRules.{whole_text}
 use Rattle.setbook_text.specs.JoinWords.{join_operations}
 
--- the line of the title
+-- the line of a set book's title
 abbrev pub title_words : List (List ℕ)
 title_words = codes "setbook" ∷ codes "2" ∷ []
 
--- the line of the object
+-- the line of a set book's object
 abbrev pub object_words : List (List ℕ)
 object_words = codes "object" ∷ codes "joins" ∷ []
 
--- what is due in the text of a set book, with what the lines before say
+-- the states of reading a set book's text, each with what the lines before say
 pub data SetBookDue : Type 0 where
   TitleDue : SetBookDue
   ObjectDue : SetBookDue
@@ -32,7 +32,7 @@ pub data SetBookDue : Type 0 where
   InCalls : List Page → List Call → SetBookDue
   AtEnd : List Page → SetBookDue
 
--- the lines of calls go on
+-- how far the lines of calls are read, as a state of reading the set book
 abbrev pub in_calls : Progress → SetBookDue
 in_calls progress = InCalls progress.book progress.due
 
@@ -49,7 +49,7 @@ SetBookPasses (InCalls book (call ∷ calls)) words after = (next : Progress)
     × CallPasses Second join_operations book (call ∷ calls) words next × (after ≡ in_calls next)
 SetBookPasses (AtEnd book) words after = ⊥
 
--- the tests of the lines of a set book's text
+-- the tests that the lines of a set book's text may fail
 abbrev pub SetBookFails : SetBookDue → List (List ℕ) → What → Type 0
 -- the line isn't the title of a set book
 SetBookFails TitleDue words name = (name ≡ what.Head) × (words ≢ title_words)
@@ -61,14 +61,14 @@ SetBookFails CallersDue words name = (name ≡ what.Callers)
 -- the line isn't 'calls' and as many numbers in range as there are callers
 SetBookFails (CountsDue n) words name = (name ≡ what.Calls)
     × ((calls : List ℕ) → AreCalls Second n calls → words ≢ calls_words calls)
--- the line isn't the last one
+-- the line isn't 'end'
 SetBookFails (InCalls book []) words name = (name ≡ what.End) × (words ≢ end_words)
 -- the line is no line for the call that is due
 SetBookFails (InCalls book (call ∷ calls)) words name =
     CallFails Second join_operations book (call ∷ calls) words name
 SetBookFails (AtEnd book) words name = ⊥
 
--- what is wanted in the text of a set book
+-- what is wanted in each state of reading a set book's text
 abbrev pub setbook_wanted : SetBookDue → Wanted
 setbook_wanted TitleDue = ALine
 setbook_wanted ObjectDue = ALine
@@ -81,7 +81,7 @@ setbook_wanted (AtEnd book) = TheEnd
 abbrev pub setbook_rules : Rules SetBookDue
 setbook_rules = record { Passes = SetBookPasses; Fails = SetBookFails; wanted = setbook_wanted }
 
--- The rules of the head alone: its four lines. Others read on after it.
+-- The right lines of the head alone, which are four; other rules read on after it.
 abbrev pub SetHeadPasses : SetBookDue → List (List ℕ) → SetBookDue → Type 0
 SetHeadPasses TitleDue words after = SetBookPasses TitleDue words after
 SetHeadPasses ObjectDue words after = SetBookPasses ObjectDue words after

@@ -5,7 +5,7 @@ use Rattle.text_fields.specs.Lines.{cut_at}
 use Rattle.text_fields.specs.declared.version.Version.{Version}
 use Rattle.text_fields.specs.declared.version.Version.TheVariants.{First, Second}
 
--- each of these numbers is at most this
+-- each of the counts is at most the first number
 abbrev pub AreAtMost : ℕ → List ℕ → Type 0
 AreAtMost most counts = AllByRecursion (λ n. n ≤ most) counts
 
@@ -32,7 +32,7 @@ cut_words Second cut = pair_words 0 cut
 abbrev pub has_colon : List ℕ → Bool
 has_colon word = is_some (cut_at 58 word)
 
--- what stands before the first colon of a word, and what stands after it
+-- a word with a colon is cut at its first one into these two parts
 abbrev pub AreParts : List ℕ → List ℕ → Type 0
 AreParts prefix suffix = cut_at 58 (prefix ++ 58 ∷ suffix) ≡ Some (prefix, suffix)
 
@@ -43,12 +43,12 @@ pub record IsPair (n : ℕ) (word : List ℕ) (j count : ℕ) : Type 0 where
   pub small : count < 2 ^ 64
   pub text : word ≡ pair_word j count
 
--- the word is no such pair
+-- the word is no pair J:C with J below n and C a number above 0
 abbrev pub IsNoPair : ℕ → List ℕ → Type 0
 IsNoPair n word = (j count : ℕ) → IsPair n word j count → ⊥
 
--- Of the words with a colon that these words begin with, one is no pair, or its caller is below
--- this one or not above that of the pair before it.
+-- Of the words with a colon that these words begin with, one is no pair, or its caller is below the
+-- least one allowed or not above that of the pair before it.
 abbrev pub HasBadPair : ℕ → ℕ → List (List ℕ) → Type 0
 HasBadPair n least [] = ⊥
 HasBadPair n least (word ∷ words) = IsTrue (has_colon word)

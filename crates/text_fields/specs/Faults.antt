@@ -8,20 +8,21 @@ use Rattle.book_base.specs.declared.fault.What.{What}
 use Rattle.book_base.specs.declared.fault.What.TheVariants.{Long, Cut, Head, Object, Callers, Calls, Place, Op, Gap, Reply, View, ViewOutside, ViewLacksOwn, ViewHasLater, ViewsCross, Mark, Seen, Last, Stop, Turns, End, Rest}
 use Rattle.text_fields.specs.Lines.{Unread, AreSolid, text_of, cut_at, words_of}
 
--- what is wanted next: a line, the end of the bytes, or nothing, since what follows is read by
--- others
+-- what a reader wants next: a line, the end of the bytes, or nothing, since other rules read what
+-- follows
 pub data Wanted : Type 0 where
   ALine : Wanted
   TheEnd : Wanted
   Nothing : Wanted
 
--- The rules of a kind of text. What is due next, as the lines so far have it, is a value of Due.
+-- The rules of a kind of text. A value of Due is a state of reading: it says what is due next, as
+-- the lines so far determine.
 pub record Rules (Due : Type 0) : Type 1 where
-  -- where this is due, a line of these words is right, and that is due after it
+  -- a line of these words is right in the first state, and leads to the second one
   pub Passes : Due → List (List ℕ) → Due → Type 0
-  -- where this is due, a line of these words fails the test with this name
+  -- a line of these words fails the test with this name in this state
   pub Fails : Due → List (List ℕ) → What → Type 0
-  -- what is wanted where this is due
+  -- what is wanted next in a state
   pub wanted : Due → Wanted
 
 -- the turn of a test: the tests of one line are tried in this order
@@ -62,22 +63,22 @@ pub record IsWrongLine {Due : Type 0} (rules : Rules Due) (due : Due) (bytes : L
   pub whole : cut_at 10 bytes ≡ Some (line, rest)
   pub test : IsFirstTest (rules.Fails due (words_of line)) what
 
--- What is wrong with these bytes, by what is wanted: no line is whole, the line fails a test, or
--- bytes follow the end.
+-- What is wrong with these bytes, by what is wanted: the next line isn't whole, the line fails a
+-- test, or bytes follow the end.
 abbrev pub IsWrong : {Due : Type 0} → Rules Due → Due → Wanted → List ℕ → What → Type 0
 IsWrong rules due ALine bytes what = ((what ≡ Cut) × (cut_at 10 bytes ≡ None))
     ⊎ IsWrongLine rules due bytes what
 IsWrong rules due TheEnd bytes what = (what ≡ Rest) × (bytes ≢ [])
 IsWrong rules due Nothing bytes what = ⊥
 
--- Each of these lines is right, from where this is due to where that is due.
+-- Each of these lines is right, and together they lead from the first state to the second.
 abbrev pub AllPass : {Due : Type 0} → (Due → List (List ℕ) → Due → Type 0) → Due
     → List (List (List ℕ)) → Due → Type 0
 AllPass Passes due [] after = due ≡ after
 AllPass {Due} Passes due (words ∷ lines) after = (next : Due) × Passes due words next
     × AllPass Passes next lines after
 
--- A text goes on by right lines, from where this is due to where that is due, and leaves the rest
+-- A text begins with right lines that lead from one state to another, and the rest of it is left
 -- unread.
 pub record GoesTo {Due : Type 0} (rules : Rules Due) (due : Due) (text : Unread) (after : Due)
     (left : Unread) : Type 0 where
@@ -86,8 +87,8 @@ pub record GoesTo {Due : Type 0} (rules : Rules Due) (due : Due) (text : Unread)
   pub bytes : text.bytes ≡ text_of lines ++ left.bytes
   pub number : left.number ≡ text.number + length lines
 
--- The first fault of a text from where this is due: all lines before the fault's line are right,
--- and what is wrong there is the first test that fails.
+-- The first fault of a text that is read from a state on: all lines before the fault's line are
+-- right, and what is wrong there is the first test that fails.
 pub record IsFirstFault {Due : Type 0} (rules : Rules Due) (due : Due) (text : Unread)
     (fault : TextFault) : Type 0 where
   pub reached : Due
@@ -96,7 +97,7 @@ pub record IsFirstFault {Due : Type 0} (rules : Rules Due) (due : Due) (text : U
   pub line : fault.line ≡ left.number
   pub wrong : IsWrong rules reached (rules.wanted reached) left.bytes fault.what
 
--- A fault of the text is one of these.
+-- A fault of reading is want of memory, or a fault of the text that has this property.
 abbrev pub IsFaultOf : (TextFault → Type 0) → ReadFault → Type 0
 IsFaultOf IsOne (Text fault) = IsOne fault
 IsFaultOf IsOne NoMemory = Unit {0}
@@ -106,14 +107,14 @@ abbrev pub StopsFor : {Due : Type 0} → Rules Due → Due → Unread → ReadFa
 StopsFor rules due text NoMemory = Unit {0}
 StopsFor rules due text (Text fault) = IsFirstFault rules due text fault
 
--- Nothing is left to be read by these rules, by what is wanted: the bytes have ended, or others
--- read them.
+-- Nothing is left for these rules to read: where the end is wanted, the bytes have ended; where
+-- nothing is wanted, other rules read on.
 abbrev pub IsThrough : Wanted → List ℕ → Type 0
 IsThrough ALine bytes = ⊥
 IsThrough TheEnd bytes = bytes ≡ []
 IsThrough Nothing bytes = Unit {0}
 
--- A text is read by right lines to its end, or to where others read on.
+-- A text is read by right lines to its end, or to where other rules read on.
 pub record IsReadTo {Due : Type 0} (rules : Rules Due) (due : Due) (text : Unread) (after : Due)
     (left : Unread) : Type 0 where
   pub goes : GoesTo rules due text after left
@@ -122,7 +123,7 @@ pub record IsReadTo {Due : Type 0} (rules : Rules Due) (due : Due) (text : Unrea
 -- Rules are sharp where a line is right in one way, no right line fails a test, and a right line
 -- can be read back.
 pub record AreSharp {Due : Type 0} (rules : Rules Due) : Type 0 where
-  -- what is due after a right line is one thing
+  -- a right line leads from a state to one other state only
   pub one_way : (due a b : Due) (words : List (List ℕ)) → rules.Passes due words a
       → rules.Passes due words b → a ≡ b
   -- a right line fails no test
@@ -131,6 +132,6 @@ pub record AreSharp {Due : Type 0} (rules : Rules Due) : Type 0 where
   -- the words of a right line have no space and no line feed
   pub solid : (due after : Due) (words : List (List ℕ)) → rules.Passes due words after
       → AreSolid words
-  -- a line is right only where a line is wanted
+  -- a line is right only in a state in which a line is wanted
   pub lines : (due after : Due) (words : List (List ℕ)) → rules.Passes due words after
       → rules.wanted due ≡ ALine

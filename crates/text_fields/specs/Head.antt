@@ -32,17 +32,17 @@ abbrev pub head_lines : Version → List ℕ → Kind → List ℕ → List (Lis
 head_lines version title kind calls = title_words version title ∷ object_words kind
     ∷ callers_words (length calls) ∷ calls_words calls ∷ []
 
--- the number of callers is one that texts have
+-- the number of callers is within the limits of a version's texts
 pub record AreCallers (version : Version) (n : ℕ) : Type 0 where
   pub some : 1 ≤ n
   pub few : n ≤ most_callers version
 
--- the numbers of calls of this many callers are those that texts have
+-- there are as many numbers of calls as callers, and each is within the limits of a version's texts
 pub record AreCalls (version : Version) (n : ℕ) (calls : List ℕ) : Type 0 where
   pub count : length calls ≡ n
   pub few : AreAtMost (most_calls version) calls
 
--- what is due in a head, with what the lines before say
+-- the states of reading a head, each with what the lines before say
 pub data HeadDue : Type 0 where
   TitleDue : HeadDue
   ObjectDue : HeadDue
@@ -77,7 +77,7 @@ HeadFails version title (CountsDue kind n) words what = (what ≡ Calls)
     × ((calls : List ℕ) → AreCalls version n calls → words ≢ calls_words calls)
 HeadFails version title (HeadRead kind calls) words what = ⊥
 
--- what is wanted in a head
+-- what is wanted in each state of reading a head
 abbrev pub head_wanted : HeadDue → Wanted
 head_wanted TitleDue = ALine
 head_wanted ObjectDue = ALine
@@ -93,11 +93,12 @@ head_rules version title = record {
   wanted = head_wanted;
 }
 
--- the text goes on from one thing that is due in its head to another, and leaves the rest unread
+-- the text begins with right lines of a head that lead from one state to another, and leaves the
+-- rest unread
 abbrev pub HeadGoes : Version → List ℕ → HeadDue → Unread → HeadDue → Unread → Type 0
 HeadGoes version title due text after left = GoesTo (head_rules version title) due text after left
 
--- the first fault of a text from where this is due in its head
+-- the first fault of a text that is read as a head from a state on
 abbrev pub IsHeadFault : Version → List ℕ → HeadDue → Unread → TextFault → Type 0
 IsHeadFault version title due text fault = IsFirstFault (head_rules version title) due text fault
 

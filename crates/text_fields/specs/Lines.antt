@@ -28,17 +28,20 @@ pub record Unread : Type 0 where
   pub bytes : List ℕ
   pub number : ℕ
 
--- what stands before the first such byte, and what stands after it
+-- bytes cut at the first of a given byte: what is before it and what is after it, or none where
+-- they don't have it
 abbrev pub cut_at : ℕ → List ℕ → Option (List ℕ × List ℕ)
 cut_at byte bytes =
     option_map (λ i. (take i bytes, drop (i + 1) bytes)) (position (λ b. b == byte) bytes)
 
--- the line with this number, where a line feed was found, and what is left after it
+-- the line with this number and what is left after it, where the bytes could be cut at a line feed;
+-- else the fault that the text is cut
 abbrev pub line_from : ℕ → Option (List ℕ × List ℕ) → Result (List ℕ × Unread) TextFault
 line_from number None = Err (record { line = number; what = Cut })
 line_from number (Some parts) = Ok (parts.0, record { bytes = parts.1; number = number + 1 })
 
--- The next line is what stands before the first line feed. Where none is left, the text is cut.
+-- The next line of a text: the bytes before the first line feed. Where no line feed is left, the
+-- text is cut.
 abbrev pub line_at : Unread → Result (List ℕ × Unread) TextFault
 line_at text = line_from text.number (cut_at 10 text.bytes)
 
@@ -46,8 +49,8 @@ line_at text = line_from text.number (cut_at 10 text.bytes)
 abbrev pub words_of : List ℕ → List (List ℕ)
 words_of line = slice_split (λ b. b == 32) line
 
--- what is written of each item with its number, in order, the first of these items having this
--- number
+-- what a function writes of each item of a list by the item's number, one after another, where the
+-- first item has this number
 abbrev pub by_number : {X Y : Type 0} → (ℕ → X → List Y) → ℕ → List X → List Y
 by_number write i [] = []
 by_number write i (x ∷ xs) = write i x ++ by_number write (i + 1) xs
