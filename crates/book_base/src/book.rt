@@ -36,7 +36,7 @@ pub struct Book {
 }
 
 impl CallerPage {
-    // This many calls without answers, with capacity for the answers.
+    // The page of this many calls without answers, with capacity for the answers.
     fn unanswered(alloc: Global, calls: u64) -> Result<CallerPage, NoMemory>
         requires { calls ≤ MAX_CALLS }
         ensures { IfOk result (λ rows. page rows ≡ unanswered_page calls) }
@@ -47,7 +47,7 @@ impl CallerPage {
         })
     }
 
-    // The first of the calls and of the records, this many of each.
+    // The page with the first calls and the first records of this one, this many of each.
     fn prefix(&self, alloc: Global, calls: u64, answers: u64) -> Result<CallerPage, NoMemory>
         requires calls { calls ≤ length self.now.operations.items }
         requires answers { answers ≤ length self.now.records.items }
@@ -97,8 +97,8 @@ impl Book {
     }
 
     /// The book in which each caller made this many calls, none answered. Each call has the
-    /// operation word 0 until [`Book::set_op`] puts in another, and the room for all answers is
-    /// taken with the calls.
+    /// operation word 0 until [`Book::set_op`] puts in another, and memory for all answers is taken
+    /// with the calls.
     pub fn with_calls(alloc: Global, calls: &Cut) -> Result<Book, NoMemory>
         // Each caller has at most `MAX_CALLS` calls.
         requires { (i : ℕ) → slice_index calls.now i ≤ MAX_CALLS }
@@ -136,7 +136,7 @@ impl Book {
         Ok(())
     }
 
-    /// Puts in the operation word of a call. All else stays.
+    /// Puts in the operation word of a call, and changes nothing else.
     pub fn set_op(&mut self, call: Call, op: OpWord)
         // The call is one of the book's.
         requires { IsCall self.old call }
@@ -176,8 +176,8 @@ impl Book {
         }
     }
 
-    /// Records the answer of a caller's first unanswered call as [`Book::add_answer`] does, where
-    /// the answer is known to pass each test: none is made.
+    /// Records the answer of a caller's first unanswered call as [`Book::add_answer`] does, but
+    /// makes no test, since the answer is known to pass each.
     pub fn put_answer(&mut self, caller: u32, reply: u64, view: Cut) -> Result<(), NoMemory>
         // The book has a caller with this number.
         requires caller { caller < length self.old }
@@ -242,7 +242,7 @@ impl Book {
         None
     }
 
-    // The least call, by caller and number, whose view and this one cross.
+    // The least call, by caller and number, whose view and the given one aren't comparable.
     fn first_crossing(&self, view: &Cut) -> Option<Call>
         requires { length view.now ≡ length self.now }
         ensures crossing { IfSome result
@@ -263,9 +263,9 @@ impl Book {
         None
     }
 
-    // The least call of a caller whose view and this one cross. A caller's views rise, so that only
-    // the first of them that isn't within this one may be it: this one is within all later ones
-    // where it is within that one.
+    // The least call of a caller whose view and the given one aren't comparable. Only the first
+    // view of the caller that isn't within the given one may be such a view: a caller's views rise,
+    // so that the given one is within all later ones where it is within that first one.
     fn first_crossing_of(&self, caller: u32, view: &Cut) -> Option<u64>
         requires valid { IsValid self.now }
         requires caller { caller < length self.now }
@@ -288,9 +288,9 @@ impl Book {
         Some(number)
     }
 
-    // How many of a caller's views are within this one: they are its first, since a caller's views
-    // rise. A new view mostly contains all of them, so that they are looked at from the last one
-    // backwards, at distances that double.
+    // How many of a caller's views are within the given one: they are its first, since a caller's
+    // views rise. A new view mostly contains all of them, so that they are looked at from the last
+    // one backwards, at distances that double.
     fn views_within(&self, caller: u32, view: &Cut) -> u64
         requires valid { IsValid self.now }
         requires caller { caller < length self.now }
@@ -310,8 +310,8 @@ impl Book {
         0
     }
 
-    // How many of a caller's views are within this one, where it is at least the lower and at most
-    // the higher number.
+    // How many of a caller's views are within the given one, where this number is between the lower
+    // and the higher one.
     fn views_within_between(&self, caller: u32, view: &Cut, lower: u64, higher: u64) -> u64
         requires valid { IsValid self.now }
         requires caller { caller < length self.now }
@@ -349,8 +349,8 @@ impl Book {
         Ok(Book { rows })
     }
 
-    // How many calls of a caller are held by the views of the records that a cut holds. A caller's
-    // views rise, so that its last one holds the most.
+    // How many calls of a caller are held by the views of the records that a cut holds. The views
+    // of each caller rise, so that only its last one is looked at.
     fn held_calls(&self, cut: &Cut, caller: u32) -> u64
         requires wide { length cut.now ≡ length self.now }
         requires answered { IsWithin cut.now (answered self.now) }
@@ -391,7 +391,7 @@ impl Book {
         self.view(last).get(caller)
     }
 
-    /// An equal book.
+    /// A copy of the book.
     pub fn copy(&self, alloc: Global) -> Result<Book, NoMemory>
         ensures { IfOk result (λ book. book ≡ self.now) }
     {
@@ -489,7 +489,7 @@ impl Book {
         earlier || (self.is_answered(a) && !self.view(a).holds(b.caller, b.number))
     }
 
-    // Whether the view of a caller's record is within this one.
+    // Whether the view of a caller's record is within the given one.
     fn is_within(&self, caller: u32, number: u64, view: &Cut) -> bool
         requires answered { number < answers_of self.now caller }
         requires wide { length view.now ≡ length self.now }

@@ -82,7 +82,7 @@ impl Cut {
         self.at[i as usize]
     }
 
-    /// Sets the count for a caller. All other counts stay.
+    /// Sets the count for a caller, and changes no other count.
     pub fn set(&mut self, i: u32, count: u64)
         // The cut has a count for this caller.
         requires { i < length self.old }

@@ -5,8 +5,8 @@ use crate::call::Place;
 pub enum Decision {
     /// A legal order.
     Order(Vec<Place>),
-    /// There is none.
+    /// The book has no legal order.
     NoOrder,
-    /// Nothing.
+    /// The object says nothing of the book.
     Unsaid,
 }

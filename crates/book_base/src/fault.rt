@@ -41,7 +41,7 @@ pub enum BookFault {
     /// The view's own count, which is above the call's number plus 1.
     #[error("the view counts {0} of its caller's calls, and has later ones")]
     ViewHasLater(u64),
-    /// Neither this view nor that of this call is within the other: the least such call.
+    /// Neither the answer's view nor that of this call is within the other: the least such call.
     #[error("neither the view nor that of call {number} of caller {caller} is within the other", number = .0.number, caller = .0.caller)]
     ViewsCross(Call),
     /// Want of memory.

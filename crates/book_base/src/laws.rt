@@ -30,7 +30,8 @@ pub fn views_of_a_caller_rise()
     ensures precedes { PrecedesByItsView }
 {}
 
-/// The low and the high word of an operation word are those that it is joined of.
+/// A low and a high word are those of the operation word that they are joined to, and each
+/// operation word is joined of its own.
 pub fn operation_words_are_two_words()
     // The low and the high word of a joined operation word are those of which it was joined, and
     // each operation word is joined of its own.
@@ -39,28 +40,29 @@ pub fn operation_words_are_two_words()
     ensures worked { joined 5 3 ≡ 55340232221128654853 }
 {}
 
-/// What an order reaches grows place by place, and is one cut and one list.
+/// An order reaches its cut and its list place by place, and reaches at most one of each.
 pub fn orders_reach_place_by_place()
     // No places reach the cut without calls and the list with which the object begins.
     ensures start { NoPlacesReachTheStart }
-    // One more place, the next call of its caller, reaches the cut with that call and the list
-    // after its operation.
+    // An order with one more place, the next call of its caller, reaches the cut with that call and
+    // the list after its operation.
     ensures more { OneMorePlaceReachesOn }
-    // An order reaches one cut of a width, and one list.
+    // An order reaches at most one cut of a given number of callers, and at most one list.
     ensures one { OneCutIsReached }
 {}
 
 /// An infeasible call stands in no legal order where it is infeasible, and a call that precedes
 /// another one must come first.
 pub fn infeasible_and_first_calls()
-    // A call isn't infeasible where it stands in a legal order.
+    // A call of a legal order isn't infeasible after the cut and at the list that the places before
+    // it reach.
     ensures infeasible { WhatStandsIsNotInfeasible }
     // A call that precedes another one stands before it in each legal order where the other one
     // stands.
     ensures first { PrecedingComesFirst }
 {}
 
-/// A read-only operation may stand in a run or be left out.
+/// A read-only operation may be put into a run or left out of it.
 pub fn read_only_operations_may_be_left_out()
     ensures { ReadOnlyMayBeLeftOut }
 {}

@@ -1,5 +1,4 @@
-//! Cuts, books, states and the trait of sequential objects: the words that every other crate
-//! speaks.
+//! Cuts, books, states and the trait of sequential objects, on which every other crate stands.
 #![tactic(auto)]
 
 mod book;

@@ -11,7 +11,7 @@ pub struct Marks {
 }
 
 impl Marks {
-    /// No caller is marked.
+    /// Marks on no caller.
     pub fn none() -> Marks
         // The answer marks no caller.
         ensures none { (i : ℕ) → IsMarked result i → ⊥ }
@@ -21,7 +21,7 @@ impl Marks {
         }
     }
 
-    /// One caller is marked.
+    /// The mark on one caller alone.
     pub fn only(caller: u32) -> Marks
         // The caller is below `MAX_CALLERS`.
         requires { caller < MAX_CALLERS }
@@ -31,7 +31,7 @@ impl Marks {
         Marks::none().with(caller)
     }
 
-    /// One more caller is marked.
+    /// These marks with one more, on this caller.
     pub fn with(self, caller: u32) -> Marks
         // The caller is below `MAX_CALLERS`.
         requires { caller < MAX_CALLERS }
@@ -43,7 +43,7 @@ impl Marks {
         marks
     }
 
-    /// One caller less is marked.
+    /// These marks without the one on this caller.
     pub fn without(self, caller: u32) -> Marks
         // The caller is below `MAX_CALLERS`.
         requires { caller < MAX_CALLERS }

@@ -1,11 +1,11 @@
 ghost use Rattle.std.specs.Prelude.{◌≡◌};
 ghost use Rattle.book_base.specs.OperationWord.{low_of, high_of, joined};
 
-/// An operation word: what a call asks of the object. It stands in a low and a high word of 64
+/// An operation word: what a call asks of the object. It is written as a low and a high word of 64
 /// bits.
 pub type OpWord = u128;
 
-// How many words there are.
+// How many values a word of 64 bits has.
 const WORDS: OpWord = 1 << 64;
 
 /// The low word of an operation word.

@@ -12,8 +12,8 @@ use std::alloc::Global;
 use std::collections::BTreeMap;
 use std::marker::Model;
 
-/// What forbids a call: it stands only after the calls that `predecessor_bound` holds, and at no
-/// list that has a word of a rank below `limit`.
+/// What forbids a call next: it comes only after the calls that `predecessor_bound` holds, and at
+/// no list that has a word of a rank below `limit`.
 #[derive(Clone, Copy, Debug)]
 pub struct CallBound {
     pub predecessor_bound: [u64; MAX_CALLERS],
@@ -53,7 +53,7 @@ impl Model for PruningRules {
 }
 
 impl PruningRules {
-    /// Nothing is known.
+    /// What is known without any bounds and ranks, which forbids nothing.
     pub fn none(alloc: Global) -> PruningRules
         // The answer has no bounds and no ranks.
         ensures none { result ≡ nothing_known }
@@ -89,7 +89,7 @@ impl PruningRules {
         })
     }
 
-    /// Forbids a call until another one stands.
+    /// Forbids a call next until after another one.
     pub fn hold_back(&mut self, call: Call, other: Call)
         // There is a bound for the call.
         requires call_bound { HasCallBound self.old call }
@@ -133,7 +133,8 @@ impl PruningRules {
         call_bound.limit = call_bound.limit.max(limit);
     }
 
-    /// Gives a word a rank, instead of the one that it has. After want of memory all is as it was.
+    /// Gives a word a rank, instead of the one that it has. After want of memory nothing has
+    /// changed.
     pub fn set_rank(&mut self, word: u64, rank: u64) -> Result<(), NoMemory>
         // After an answer Ok the word has this rank, and all else is as before.
         ensures ranked { OnOk result (self.new ≡ ranked self.old word rank) }
@@ -149,7 +150,7 @@ impl PruningRules {
             → rank < (call_bound_of self.old call).limit
             → IsInfeasible init next book cut list call)
             → ArePruningRules init next book self.new) }
-        // After want of memory all is as it was.
+        // After want of memory nothing has changed.
         ensures err { OnErr result (self.new ≡ self.old) }
     {
         self.ranks.insert(word, rank)?;
@@ -191,7 +192,7 @@ impl PruningRules {
         self.ranks.get(&word).copied()
     }
 
-    // The bound of a call, where there is one.
+    // The bound of a call, where it has one.
     fn call_bound(&self, call: Call) -> Option<&CallBound>
         ensures some { IfSome result (λ call_bound. call_bound.now ≡ call_bound_of self.now call) }
         ensures none { IfNone result (call_bound_of self.now call ≡ no_call_bound) }

@@ -36,16 +36,16 @@ pub trait SeqObject {
     fn known(&self, op: OpWord) -> bool
         ensures { result ≡ is_known self.now op };
 
-    /// Makes the list the one that the object begins with. The capacity stays.
+    /// Makes the list the one that the object begins with. The capacity doesn't change.
     fn reset(&self, state: &mut State)
-        // The state has room for one word.
+        // The state has capacity for one word.
         requires { 1 ≤ state.old.room }
         ensures { state.new ≡ record state.old { words = init self.now } };
 
-    /// Makes one operation: the list becomes the next one, and the answer is the reply. The room
-    /// stays.
+    /// Makes one operation: the list becomes the next one, and the answer is the reply. The
+    /// capacity doesn't change.
     fn step(&self, state: &mut State, op: OpWord) -> u64
-        // The state has room for one word more.
+        // The state has capacity for one word more.
         requires { length state.old.words < state.old.room }
         // The list becomes the one that follows it by the operation, and the capacity stays.
         ensures list { state.new
@@ -54,7 +54,8 @@ pub trait SeqObject {
         ensures reply { result ≡ (next self.now state.old.words op).1 };
 
     /// What the object knows of a book before a search: each call that it forbids next, after a cut
-    /// and at a list, stands so in no legal order. An object that leaves this out forbids nothing.
+    /// and at a list, is next in no legal order that reaches them. An object that leaves this out
+    /// forbids nothing.
     fn find_pruning_rules(&self, alloc: Global, book: &Book) -> Result<PruningRules, NoMemory>
         // What is answered is right: each call that it forbids next, after a cut and at a list, is
         // infeasible there.
@@ -63,10 +64,10 @@ pub trait SeqObject {
         Ok(PruningRules::none(alloc))
     }
 
-    /// Whether an operation with this reply is known to leave every list as it is. An object that
-    /// leaves this out knows of none.
+    /// Whether an operation is known to be read-only with this reply: it changes no list at which
+    /// it has the reply. An object that leaves this out knows of none.
     fn leaves(&self, op: OpWord, reply: u64) -> bool
-        // `true` is answered only where the operation leaves every list at which it has this reply.
+        // The answer is `true` only where the operation changes no list at which it has this reply.
         ensures { IsTrue result → Leaves (next self.now) op reply }
     {
         false
@@ -82,8 +83,8 @@ pub trait SeqObject {
     }
 
     /// Which of the calls that may come next a search tries, after a cut and at a list: of those
-    /// that are marked, some that suffice. The fewer are left, the less is tried: where one may
-    /// stand at once it is enough alone, and at a dead end none is needed. No clause says how few
+    /// that are marked, some that suffice. The fewer are left, the less is tried: a call that may
+    /// be taken at once is enough alone, and at a dead end none is needed. No clause says how few
     /// are left. The forced caller's first call outside the cut has the least view of all such
     /// calls.
     fn narrow(
@@ -101,17 +102,17 @@ pub trait SeqObject {
         requires open { HasOneOpen book.now }
         // The cut has a count for each caller of the book.
         requires wide { length cut.now ≡ length book.now }
-        // Some order reaches the cut and the list, and makes a legal order with all that goes on
-        // from there.
+        // Some order reaches the cut and the list, and whatever places continue it make a legal
+        // order with it.
         requires reached { IsReached (init self.now) (next self.now) book.now cut.now words.now }
         // Of all answered calls outside the cut the forced caller's first one has the least view.
         requires forced { IsForced book.now cut.now forced }
-        // The callers are marked whose next calls may come next after the cut, and no others.
+        // Exactly those callers are marked whose next calls after the cut may come next.
         requires marks { MarksAllNext book.now cut.now marks }
         // Each caller that the answer marks was marked.
         ensures fewer { IsMarkedWithin result marks }
-        // All that goes on from here goes on by the next call of a caller that the answer marks as
-        // well, with no more places.
+        // Where places continue an order from the cut and the list, some that begin with the next
+        // call of a caller that the answer marks do, and they are no more.
         ensures suffice { MarksSuffice book.now (next self.now) cut.now words.now result }
     {
         marks
@@ -120,8 +121,8 @@ pub trait SeqObject {
     /// What the object says of a whole book without a search. An object that leaves this out says
     /// nothing.
     fn decide(&self, alloc: Global, book: &Book) -> Result<Decision, NoMemory>
-        // What is answered is right: a legal order is one of the book, and none comes only where
-        // the book has none.
+        // An order that is answered is a legal one of the book, and that there is none is answered
+        // only where the book has none.
         ensures { IfOk result (IsRightDecision (init self.now) (next self.now) book.now) }
     {
         Ok(Decision::Unsaid)
@@ -134,7 +135,7 @@ pub trait SeqObject {
     ghost grows_by_one: { (object : Self) (list : List ℕ) (op : ℕ)
         → length (next object list op).0 ≤ length list + 1 };
 
-    /// An operation that the object doesn't know leaves the list, and its reply is `bad`.
+    /// An operation that the object doesn't know doesn't change the list, and its reply is `bad`.
     ghost unknown_is_bad: { (object : Self) (list : List ℕ) (op : ℕ) → is_known object op ≡ false
         → next object list op ≡ (list, BAD) };
 }

@@ -1,7 +1,8 @@
 use crate::call::Call;
 use std::collections::BTreeMap;
 
-/// The calls of one label: those that put it in, and the answered calls that show it.
+/// The calls of one label, such as a value: those that put it in, and the answered calls that show
+/// it.
 #[derive(Debug, Drop)]
 pub struct Labelled {
     pub label: u128,
@@ -9,8 +10,9 @@ pub struct Labelled {
     pub shows: Vec<Call>,
 }
 
-/// When a call may take effect, by moments: the number of calls that the first view which holds it
-/// counts, and the number that its own view counts. Without such a view it is the greatest number.
+/// When a call may take effect, by moments, which are the numbers of calls that views count: from
+/// the moment of the first view that holds the call to that of its own view. A moment without such
+/// a view is the greatest number.
 #[derive(Clone, Copy, Debug, Drop)]
 pub struct Span {
     pub first: u64,
@@ -18,8 +20,8 @@ pub struct Span {
 }
 
 /// What an object prepares of a book before a search, for [`SeqObject::narrow`] to look at: the
-/// calls of each label, where a label has its place among these, and the span of each call by
-/// caller and number.
+/// place of each label, the calls of each label by this place, and the span of each call by caller
+/// and number.
 ///
 /// It is plain data. What its labels mean, and that it has all calls of each, is said by the object
 /// that prepares it.

@@ -56,7 +56,7 @@ impl State {
         self.words.is_empty()
     }
 
-    /// The greatest length of the list.
+    /// The capacity of the list.
     pub fn room(&self) -> u64
         // The answer is the capacity of the list.
         ensures room { result ≡ self.now.room }
@@ -108,7 +108,7 @@ impl State {
         requires { i < length self.old.words }
         // The answer is the word that was at this place.
         ensures word { slice_get self.old.words i ≡ Some result }
-        // The list has the other words in their order, and the capacity stays.
+        // The list has the other words in their order, and the capacity doesn't change.
         ensures rest { self.new ≡ record self.old { words = remove self.old.words i } }
     {
         self.words.remove(i as usize)
@@ -121,7 +121,7 @@ impl State {
         self.words.clear();
     }
 
-    /// Takes over another state's list. The capacity stays.
+    /// Takes over another state's list. The capacity doesn't change.
     pub fn copy_from(&mut self, other: &State)
         // The other list has no more words than this state's capacity.
         requires { length other.now.words ≤ self.old.room }

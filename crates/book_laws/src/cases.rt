@@ -7,8 +7,8 @@ ghost use Rattle.book_base.specs.Order.{IsLegalOrder, HasLegalOrder};
 ghost use Rattle.book_laws.specs.Greatest.{greatest_counts};
 ghost use Rattle.book_laws.specs.Cases.{line_next, caller_page, overtaken, overtaken_seen, overtaken_early, overtaking, tenfold_next, mistaken};
 
-/// The books at three cuts of one book: a call stands there where a view of the cut holds it,
-/// whoever's view that is, and whether or not it is answered there.
+/// The books at three cuts of one book: each has the calls that some view of a record within the
+/// cut holds, whoever's view that is, and whether or not they are answered there.
 pub fn books_at_cuts()
     // The book whose calls overtake one another is valid.
     ensures valid { IsValid overtaken }
@@ -21,9 +21,9 @@ pub fn books_at_cuts()
     ensures none { book_at (0 ∷ 0 ∷ []) overtaken ≡ caller_page [] [] ∷ caller_page [] [] ∷ [] }
 {}
 
-/// An order that has to end early: what is legal for the book at all its records isn't for the book
-/// at the earlier cut, whose call of caller 1 is unanswered and stands, and which lacks the last
-/// call.
+/// An order that has to end early: what is legal for the book at the cut of all its records isn't
+/// for the book at the earlier cut, in which the call of caller 1 is unanswered, and which lacks
+/// the last call.
 pub fn an_order_ends_early()
     // The whole order is legal for the book at all its records.
     ensures whole { IsLegalOrder [] line_next overtaken_seen overtaking }

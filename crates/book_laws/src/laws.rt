@@ -5,8 +5,8 @@ ghost use Rattle.book_laws.specs.BooksAtCuts.{IsTheBookAt, IsTheOnlyOne, StaysVa
 ghost use Rattle.book_laws.specs.Finality.{SomePrefixIsLegal, SmallerHasOne, LargerHasNone};
 ghost use Rattle.book_laws.specs.Greatest.{GreatestIsOne, GreatestContainsEach};
 
-/// The computed book at a cut of a valid book is what the relation says, and nothing else is; it is
-/// valid (Castañeda and Rodríguez 2023).
+/// The computed book at a cut of a valid book is the only one that the relation takes for the book
+/// at this cut, and it is valid (Castañeda and Rodríguez 2023).
 pub fn book_at_is_the_book_at()
     // The computed book at a cut of a valid book is one that the relation takes for the book at
     // that cut.
@@ -17,8 +17,8 @@ pub fn book_at_is_the_book_at()
     ensures valid { StaysValid }
 {}
 
-/// The book at a cut of the book at a larger cut is the book at the smaller one, and its record
-/// counts are the cut.
+/// The book at a cut of the book at a larger cut is the book at the smaller one, and the record
+/// counts of the book at a cut are the cut.
 #[tactic(auto, using(crate::proofs::BookAtLaws::is_the_book_at_the_smaller, crate::proofs::BookAtLaws::record_counts_are_the_cut))]
 pub fn books_at_cuts_agree()
     // The book at a cut of the book at a larger cut is the book at the smaller one.
@@ -27,8 +27,8 @@ pub fn books_at_cuts_agree()
     ensures counts { RecordCountsAreTheCut }
 {}
 
-/// The book at the cut of all its records has all answered calls of the book, and of the others
-/// exactly those that some view holds. It has a legal order exactly where the book has one.
+/// The book at the cut of all records of a book has all answered calls of the book, and of the
+/// others exactly those that some view holds. It has a legal order exactly where the book has one.
 pub fn calls_without_a_view_are_free()
     // The book at the cut of all its records has each record of the book.
     ensures records { KeepsEachRecord }
@@ -54,8 +54,8 @@ pub fn error_is_final()
     ensures larger { LargerHasNone }
 {}
 
-/// Of cuts that are pairwise comparable, and not none, the greatest counts are one, and it contains
-/// each other.
+/// The greatest counts of one or more pairwise comparable cuts are one of these cuts, which
+/// contains each other.
 #[tactic(auto, using(crate::proofs::GreatestCuts::greatest_is_one, crate::proofs::GreatestCuts::greatest_contains_each))]
 pub fn greatest_of_comparable()
     // The greatest counts of some pairwise comparable cuts, at least one, are one of these cuts.

@@ -30,15 +30,15 @@ pub fn call_lanes(
     // Each call of the book has exactly one interval.
     ensures once { IfOk result (λ lanes. HaveOneEach book.now (rows_of lanes.items)) }
 
-    // Each interval begins and ends where the sketch says so of its call.
+    // Each interval agrees with the sketch on where its call is invoked and returns.
     ensures told { IfOk result (λ lanes. AreTold book.now events.now (rows_of lanes.items)) }
-    // Each interval has at least one place, and all its places are of events.
+    // Each interval has at least one place, and ends no later than the events.
     ensures within { IfOk result (λ lanes. LieWithin events.now (rows_of lanes.items)) }
 
     // Where a call precedes another, its interval ends before the other's begins.
     ensures apart { IfOk result (λ lanes. AreApart book.now (rows_of lanes.items)) }
     // Where the interval of an answered call ends before another begins, the call precedes the
-    // other's.
+    // other interval's call.
     ensures meet { IfOk result (λ lanes. Meet book.now (rows_of lanes.items)) }
 {
     let mut lanes = Vec::new(alloc);
@@ -94,7 +94,7 @@ fn interval_from(book: &Book, events: &[Event], from: usize, call: Call) -> Inte
     }
 }
 
-// Where the interval of an unanswered call ends that is invoked at this place.
+// Where the interval of an unanswered call ends, which is invoked at this place.
 fn open_end(book: &Book, events: &[Event], begin: usize, call: Call) -> usize
     requires sketch { IsSketch book.now events.now }
     requires call { IsCall book.now call }

@@ -29,7 +29,7 @@ pair_of pair = record {
   take_moment = pair.take_moment;
 }
 
--- A value is the least of the first values of a function, or NEVER where there are none.
+-- A value is the least of the first values of a function, or NEVER where none of them is less.
 pub record IsLeastOf (values : ℕ → ℕ) (below value : ℕ) : Type 0 where
   pub least : (k : ℕ) → k < below → value ≤ values k
   pub some : (value ≡ NEVER) ⊎ ((k : ℕ) × (k < below) × (value ≡ values k))

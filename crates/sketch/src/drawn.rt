@@ -48,10 +48,11 @@ impl Drawn {
         }
     }
 
-    /// The event that comes next, if all aren't drawn.
+    /// The event that comes next, unless all are drawn.
     ///
-    /// Until the least view of the calls that are still to return is invoked, a call that it holds
-    /// is; then its call returns. After the last return all other calls are invoked.
+    /// Of the calls that are still to return, one with the least view returns next. Until all calls
+    /// that this view holds are invoked, the first of them that isn't is invoked next. After the
+    /// last return all other calls are invoked.
     pub fn next(&self, book: &Book) -> Option<Event>
         requires valid { IsValid book.now }
         requires part { IsPartOf book.now self.now }
@@ -88,7 +89,7 @@ impl Drawn {
         None
     }
 
-    // The answered call that returns first of those that didn't yet.
+    // The answered call that returns first of those that haven't returned yet.
     fn first_waiting(&self, book: &Book) -> Option<Call>
         requires { IsPartOf book.now self.now }
         ensures answered { IfSome result (IsAnswered book.now) }

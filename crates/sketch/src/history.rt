@@ -6,7 +6,7 @@ use crate::event::Event;
 use book_base::{Book, NoMemory};
 use std::alloc::Global;
 
-/// The sketch of a book: the one history of invocations and returns that its views tell
+/// The sketch of a book: the one history of invocations and returns that its views determine
 /// (Castañeda and Rodríguez 2023).
 ///
 /// The distinct views are taken in rising order. For each, the calls that it holds and no smaller

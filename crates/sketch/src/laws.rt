@@ -17,7 +17,7 @@ pub fn valid_books_have_a_sketch()
 /// Each call of a book is invoked once, and each answered call returns once, after its invocation.
 #[tactic(auto, using(crate::proofs::Orderly::events_stand_once, crate::proofs::Orderly::calls_return_after_they_are_invoked))]
 pub fn calls_are_invoked_and_return_once()
-    // An event stands at one place of a book's sketch at most.
+    // An event is at one place of a book's sketch at most.
     ensures once { EventsStandOnce }
     // Each call of a valid book is invoked in its sketch, and each answered call returns after its
     // invocation.
@@ -30,8 +30,8 @@ pub fn views_hold_what_was_invoked()
     ensures { ViewsHoldWhatWasInvoked }
 {}
 
-/// The return of a call stands before the invocation of another exactly where its view doesn't hold
-/// it.
+/// The return of a call comes before the invocation of another exactly where the call's view
+/// doesn't hold the other.
 #[tactic(auto, using(crate::proofs::Orderly::returns_come_before_unseen_calls))]
 pub fn returns_come_before_unseen_calls()
     ensures { ReturnsComeBeforeUnseenCalls }

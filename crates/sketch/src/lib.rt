@@ -1,4 +1,4 @@
-//! The sketch of a book: the history of invocations and returns that its views tell.
+//! The sketch of a book: the history of invocations and returns that its views determine.
 #![tactic(auto)]
 
 mod drawn;
