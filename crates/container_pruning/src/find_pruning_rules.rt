@@ -14,7 +14,7 @@ use std::alloc::Global;
 
 /// The pruning rules of a queue's book (after Henzinger, Sezgin and Vafeiadis 2013): where the take
 /// of x precedes the take of v, x is put in before v; a take that finds nothing and precedes the
-/// take of v stands before the put of v; what no answered call takes is put in after whatever is
+/// take of v comes before the put of v; what no answered call takes is put in after whatever is
 /// taken, and after the takes that find nothing, of those takes that precede each unanswered one;
 /// and no value is taken more often than it is put in.
 pub fn queue_pruning_rules<R: Reader>(
@@ -36,9 +36,9 @@ pub fn queue_pruning_rules<R: Reader>(
 }
 
 /// The pruning rules of a stack's book: where the take of x precedes the take of v, v isn't put on
-/// x, so that a put of v which precedes the take of x stands before the put of x; a take that finds
-/// nothing and precedes the take of v stands before the put of v; what no answered call takes is
-/// put on nothing that is taken, and after the takes that find nothing, of those takes that precede
+/// x, so that a put of v which precedes the take of x comes before the put of x; a take that finds
+/// nothing and precedes the take of v comes before the put of v; what no answered call takes is put
+/// on nothing that is taken, and after the takes that find nothing, of those takes that precede
 /// each unanswered one; and no value is taken more often than it is put in.
 pub fn stack_pruning_rules<R: Reader>(
     alloc: Global,

@@ -14,7 +14,8 @@ use crate::stuck::is_stuck;
 use crate::uses::Uses;
 use book_base::{Book, Call, PruningRules};
 
-/// Holds back what the links of a book say, and each call of a book that is refused or stuck.
+/// Holds back puts as the links of a book say, and each call of a book that links refuse or that is
+/// stuck.
 pub fn hold(book: &Book, links: &Links, uses: &Uses, known: &mut PruningRules)
     requires links { AreLinksOf book.now links.now }
     requires call_bounds { (c : Call) → IsCall book.now c → HasCallBound known.old c }
@@ -36,7 +37,8 @@ pub fn hold(book: &Book, links: &Links, uses: &Uses, known: &mut PruningRules)
     }
 }
 
-// Holds back each put of what is taken after the calls that precede its take.
+// Holds back each put of what is taken, after what the links of the calls that precede its take
+// name.
 fn follow(book: &Book, links: &Links, known: &mut PruningRules)
     requires links { AreLinksOf book.now links.now }
     requires call_bounds { (c : Call) → IsCall book.now c → HasCallBound known.old c }
@@ -76,8 +78,8 @@ fn follow_caller(book: &Book, links: &Links, known: &mut PruningRules, caller: u
     }
 }
 
-// Holds back the puts of what no answered call takes, after what is taken or finds nothing before
-// each unanswered take.
+// Holds back the puts of what no answered call takes, after what the links name of the calls that
+// precede each unanswered take.
 fn keep(book: &Book, links: &Links, uses: &Uses, known: &mut PruningRules)
     requires links { AreLinksOf book.now links.now }
     requires call_bounds { (c : Call) → IsCall book.now c → HasCallBound known.old c }
@@ -121,7 +123,7 @@ fn keep_caller(
     }
 }
 
-// Makes each call of a book one that has to come before itself: the book has no legal order.
+// Holds back each call of a book after itself, so that the book has no legal order.
 fn refuse(book: &Book, known: &mut PruningRules)
     requires call_bounds { (c : Call) → IsCall book.now c → HasCallBound known.old c }
 {
@@ -130,7 +132,7 @@ fn refuse(book: &Book, known: &mut PruningRules)
     }
 }
 
-// Makes each call of a caller one that has to come before itself.
+// Holds back each call of a caller after itself.
 fn refuse_caller(book: &Book, known: &mut PruningRules, caller: u32)
     requires call_bounds { (c : Call) → IsCall book.now c → HasCallBound known.old c }
     requires small { IsSmall book.now }
@@ -143,7 +145,7 @@ fn refuse_caller(book: &Book, known: &mut PruningRules, caller: u32)
     }
 }
 
-// Holds back a put by a predecessor bound, and below a limit.
+// Holds back a put by the predecessor bound and the limit of a past.
 fn hold_after(known: &mut PruningRules, put: Call, past: &Past)
     requires call_bound { HasCallBound known.old put }
     requires few { (i : ℕ) → slice_index past.now.predecessor_bound i ≤ MAX_CALLS }

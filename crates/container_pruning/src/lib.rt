@@ -1,5 +1,5 @@
-//! Pruning rules of containers, made of a book before a search, from the rules of histories, in
-//! near linear time.
+//! Pruning rules of containers, which are made of a book before a search, from the rules of
+//! histories, in near linear time.
 #![tactic(auto)]
 
 mod deal;

@@ -15,20 +15,20 @@ use std::alloc::Global;
 /// Which value a take gives out.
 #[derive(Clone, Copy, Debug, PartialEq, Eq)]
 pub enum Discipline {
-    /// The one that was put in first.
+    /// The value that was put in first.
     Queue,
-    /// The one that was put in last.
+    /// The value that was put in last.
     Stack,
 }
 
 /// What a call of a book says of the puts of other values.
 #[derive(Clone, Copy, Debug)]
 pub struct Link {
-    /// What stands before the put of each value whose take this call precedes.
+    /// The call that comes before the put of each value whose take this call precedes.
     pub before: Option<Call>,
     /// The only put of the value that this call takes.
     pub after: Option<Call>,
-    /// One more than what this call's view counts, or 0.
+    /// The reach of this call, one more than the number of calls that its view counts; or 0.
     pub reach: u64,
     /// Whether this call puts in a value that no answered call takes.
     pub is_kept: bool,
@@ -159,7 +159,7 @@ impl Uses {
         link
     }
 
-    /// The put of a value that one call puts in.
+    /// The only put of a value, where exactly one call puts it in.
     pub fn only_put(&self, value: u64) -> Option<Call>
         ensures { result ≡ links.only_put self.now value }
     {
@@ -167,7 +167,7 @@ impl Uses {
         if used.puts == 1 { Some(used.put) } else { None }
     }
 
-    // Whether no answered take takes a value.
+    // Whether no answered call takes a value.
     fn keeps(&self, value: u64) -> bool
         ensures { result ≡ links.keeps self.now value }
     {
@@ -175,7 +175,8 @@ impl Uses {
     }
 }
 
-/// One more than what the view of an answered call counts, and 0 for one that isn't.
+/// The reach of a call: one more than the number of calls that its view counts, or 0 where it is
+/// unanswered.
 pub fn reach_of(book: &Book, call: Call) -> u64
     requires { IsCall book.now call }
     ensures { result ≡ links.reach_of book.now call }

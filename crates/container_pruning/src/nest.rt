@@ -10,8 +10,8 @@ use crate::uses::Uses;
 use book_base::{Book, Call, MAX_CALLS, NoMemory, PruningRules};
 use std::alloc::Global;
 
-/// For each put the call that takes its value, as far as it is known. Each use of it is tried, so
-/// that no clause says what it is.
+/// For each put of a stack the call that takes its value, as far as it is known. No clause says
+/// which call it is, since each use of it is checked.
 #[derive(Drop)]
 struct Takers {
     rows: Vec<Vec<Option<Call>>>,
@@ -32,7 +32,7 @@ impl Takers {
         Ok(takers)
     }
 
-    // Adds a call that takes.
+    // Adds a take to those of the puts.
     fn add(&mut self, links: &Links, take: Call) {
         if let Some(put) = links.at(take).after
             && let Some(row) = self.rows.get_mut(put.caller as usize)
@@ -54,8 +54,8 @@ impl Takers {
 }
 
 /// The puts of each caller that precede a take and may outlast it, the last one last, and how many
-/// of its calls were looked at. Each of them is tried before it is used, so that no clause says
-/// what they are.
+/// of the caller's calls were looked at. No clause says which puts they are, since each use of them
+/// is checked.
 #[derive(Drop)]
 struct Nests {
     passed: Vec<u64>,
@@ -74,7 +74,7 @@ impl Nests {
         })
     }
 
-    // Looks at the calls of a caller that precede a take, from those on that were looked at before.
+    // Looks at those calls of a caller that precede a take and weren't looked at before.
     fn look_on(&mut self, book: &Book, take: Call, caller: u32) -> Result<(), NoMemory>
         requires take { IsCall book.now take }
         requires caller { caller < length book.now }
@@ -109,7 +109,8 @@ impl Nests {
     }
 }
 
-/// Holds back each put of a stack after the puts that precede its take and whose values outlast it.
+/// Holds back each put of a stack after the puts that precede its take and whose values outlast
+/// this take.
 pub fn nest(
     alloc: Global,
     book: &Book,
@@ -134,7 +135,7 @@ pub fn nest(
     Ok(())
 }
 
-// Holds back the puts of what a caller takes.
+// Holds back the puts of what a caller takes, after the puts whose values outlast its takes.
 fn nest_caller(
     alloc: Global,
     book: &Book,
@@ -200,8 +201,8 @@ fn nest_take(
     Ok(())
 }
 
-// The last put of a caller that precedes a take and outlasts it. One that doesn't outlast it
-// outlasts no later take of its caller either, and is dropped.
+// The last put of a caller that precedes a take and whose value outlasts it. A put whose value
+// doesn't outlast the take is dropped, since it outlasts no later take of the same caller either.
 fn last_outlasting(
     book: &Book,
     links: &Links,
@@ -256,7 +257,7 @@ fn outlasts(
     }
 }
 
-// Whether a call takes what a put puts in, after a take.
+// Whether a later call takes what a put puts in, after a take.
 fn is_taken_later(book: &Book, links: &Links, first: Call, take: Call, later: Call) -> bool
     requires { IsCall book.now take }
     ensures { IsTrue result → ((link_at links.now later).after ≡ Some first)
@@ -271,7 +272,7 @@ fn is_taken_later(book: &Book, links: &Links, first: Call, take: Call, later: Ca
     }
 }
 
-// Whether two calls are one.
+// Whether two calls are the same call.
 fn is_same(a: Call, b: Call) -> bool
     ensures { IsTrue result ↔ (a ≡ b) }
 {

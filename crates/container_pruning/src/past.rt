@@ -9,20 +9,20 @@ use crate::links::{Link, Links};
 use crate::uses::Uses;
 use book_base::{Book, Call, Cut};
 
-/// What the calls that were passed say: a predecessor bound that must stand before a put, and the
-/// greatest reach.
+/// What the links of the calls that were passed say: a predecessor bound whose calls must come
+/// before a put, and the greatest reach.
 #[derive(Clone, Copy)]
 pub struct Past {
     /// How many of each caller's calls were passed.
     pub passed: Cut,
-    /// The calls that stand before the put.
+    /// The calls that come before the put.
     pub predecessor_bound: Cut,
-    /// The greatest reach.
+    /// The greatest reach of a call that was passed.
     pub limit: u64,
 }
 
 impl Past {
-    /// No call was passed.
+    /// The past before any call is passed.
     pub fn none(book: &Book) -> Past
         ensures passed { result.passed ≡ replicate (length book.now) 0 }
         ensures predecessor_bound { result.predecessor_bound ≡ replicate (length book.now) 0 }
@@ -36,7 +36,7 @@ impl Past {
         }
     }
 
-    /// The calls of a book that precede each unanswered take were passed.
+    /// The past that has passed the calls of a book that precede each unanswered take.
     pub fn early(book: &Book, links: &Links, uses: &Uses) -> Past
         requires { AreLinksOf book.now links.now }
         ensures { IsPast (IsEarly book.now uses.now.open_from) book.now links.now result }
@@ -64,7 +64,7 @@ impl Past {
         }
     }
 
-    /// Passes the calls that precede a call, from those of each caller on that were passed before.
+    /// Passes the calls that precede a call and weren't passed before.
     pub fn pass_preceding(&mut self, book: &Book, links: &Links, call: Call)
         requires valid { IsValid book.now }
         requires small { IsSmall book.now }

@@ -10,9 +10,9 @@ use crate::reader::Reader;
 use crate::uses::Uses;
 use book_base::{Book, Call, NoMemory, PruningRules};
 
-/// Gives each value that one call puts in and an answered call takes what the take's view counts as
-/// its rank: so takes with a less rank precede what one of a greater rank precedes, since views are
-/// a chain.
+/// Gives each value that one call puts in and an answered call takes a rank: the number of calls
+/// that the take's view counts. Since views are comparable, a take of a lesser rank precedes all
+/// that a take of a greater rank precedes.
 pub fn rank_takes<R: Reader>(
     reader: &R,
     book: &Book,

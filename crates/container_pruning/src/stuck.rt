@@ -9,9 +9,9 @@ ghost use Rattle.container_pruning.specs.Stuck.{IsBlocked};
 
 use book_base::{Book, Call, Cut, MAX_CALLERS, MAX_CALLS, PruningRules};
 
-/// Whether each order of a book ends too early: the calls that predecessor bounds and precedence
-/// let stand, one after another, don't reach all answered ones. So puts of which each must stand
-/// before the other are found before a search.
+/// Whether a book is stuck: the calls that predecessor bounds and precedence allow, one after
+/// another, don't include all answered ones. So puts of which each must come before the other are
+/// found before a search.
 pub fn is_stuck(book: &Book, known: &PruningRules) -> bool
     ensures { (init : List ℕ) (next : List ℕ → ℕ → List ℕ × ℕ)
         → ArePruningRules init next book.now known.now → IsTrue result
@@ -22,7 +22,7 @@ pub fn is_stuck(book: &Book, known: &PruningRules) -> bool
     lacks_an_answer(book, &cut) && is_end(book, known, &cut)
 }
 
-// Lets calls come, one after another, as long as any comes.
+// Adds to a cut the calls that aren't blocked, one after another, until no more can be added.
 fn grow(book: &Book, known: &PruningRules, cut: &mut Cut)
     requires { length cut.old ≡ length book.now }
     ensures { length cut.new ≡ length book.now }
@@ -34,7 +34,8 @@ fn grow(book: &Book, known: &PruningRules, cut: &mut Cut)
     }
 }
 
-// Lets the calls of each caller come, as long as they do: whether any came.
+// Adds to a cut the next calls of each caller that aren't blocked, and answers whether any was
+// added.
 fn grow_once(book: &Book, known: &PruningRules, cut: &mut Cut) -> bool
     requires { length cut.old ≡ length book.now }
     ensures { length cut.new ≡ length book.now }
@@ -52,9 +53,9 @@ fn grow_once(book: &Book, known: &PruningRules, cut: &mut Cut) -> bool
     has_grown
 }
 
-// Whether a call can't stand while the calls outside a cut don't: the cut lacks one of its
-// predecessor bound, or an answered one that precedes it. A caller's first call outside the cut has
-// its least view there, so that no other one is asked.
+// Whether a call is blocked after a cut: the cut lacks a call of its predecessor bound, or an
+// answered one that precedes it. Of each caller only the first call outside the cut is looked at,
+// since its view is within those of the caller's later calls.
 fn is_blocked(book: &Book, known: &PruningRules, cut: &Cut, call: Call) -> bool
     requires wide { length cut.now ≡ length book.now }
     requires call { IsCall book.now call }

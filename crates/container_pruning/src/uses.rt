@@ -20,7 +20,7 @@ pub struct Use {
 }
 
 /// How often each value of a book is put in and taken out, and for each caller the number from
-/// which on its takes may be unanswered.
+/// which on its takes may be unanswered, in `open_from`.
 #[derive(Drop)]
 pub struct Uses {
     pub by_value: BTreeMap<u64, Use>,
@@ -143,7 +143,7 @@ impl Uses {
     }
 
     /// Whether an answered call precedes each unanswered take. No clause says that each such call
-    /// is found: that costs time alone.
+    /// is found, since one that isn't found costs time alone.
     pub fn is_early(&self, book: &Book, call: Call) -> bool
         requires { IsAnswered book.now call }
         ensures { IsTrue result → IsEarly book.now self.now.open_from call }

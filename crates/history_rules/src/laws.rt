@@ -1,27 +1,26 @@
-//! The rules, each the contract of a function with nothing in it. They hold for every object that
-//! can be read as the rule says, and where the values concerned are put in once.
+//! The rules, each the contract of a function with nothing in it. Each holds for every object that
+//! can be read as the rule asks, where the values concerned are put in once.
 
 ghost use Rattle.history_rules.specs.Rules.{QueueGivesInOrder, ContainerGivesWhatWasPut, EmptyBeforePut, PutsInOrder, PutIsCovered, TakenOnce, TakenNoMoreThanPut, InfeasibleUntilThen};
 ghost use Rattle.history_rules.specs.Standing.{GoesOnWithIt};
 
-/// A queue gives out the first of what was put in, in that order; any container gives out what was
-/// put in.
+/// A queue gives out values in the order in which they were put in, and any container gives out
+/// only what was put in.
 pub fn what_is_given_out_was_put_in()
-    // All that was put into a queue in a legal run from empty is what it gave out, followed by what
-    // it holds, in order.
+    // After a legal run of a queue from empty, all values put in are those given out, followed by
+    // those that it still holds, in order.
     ensures queue { QueueGivesInOrder }
-    // A container was given each value in a legal run from empty as often as it gave it out and
-    // holds it.
+    // After a legal run of a container from empty, each value was put in as often as it was given
+    // out and is still held together.
     ensures container { ContainerGivesWhatWasPut }
 {}
 
-/// A take that found nothing stands before the put of what is taken after it, whatever the
-/// container.
+/// In any container a take that found nothing comes before the put of what is taken after it.
 pub fn empty_takes_stand_before_puts()
     ensures { EmptyBeforePut }
 {}
 
-/// A queue's puts stand in the order of their takes.
+/// A queue's puts come in the order of their takes.
 pub fn puts_stand_in_the_order_of_takes()
     ensures { PutsInOrder }
 {}
@@ -39,13 +38,13 @@ pub fn no_more_is_taken_than_put()
     ensures any { TakenNoMoreThanPut }
 {}
 
-/// An answered call that may come next, gives its recorded reply and leaves every list with it may
-/// stand at once, whatever the object.
+/// Whatever the object, an order may take an answered call at once that may come next and whose
+/// recorded reply the object gives, where its operation is read-only with this reply.
 pub fn read_only_calls_stand_at_once()
     ensures { GoesOnWithIt }
 {}
 
-/// A call is infeasible next while a call that must come first doesn't stand.
+/// A call is infeasible next after each cut that lacks a call that must come first.
 pub fn infeasible_until_the_first_stands()
     ensures { InfeasibleUntilThen }
 {}

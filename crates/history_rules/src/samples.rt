@@ -5,18 +5,18 @@ ghost use Rattle.history_rules.specs.Container.{IsQueue, IsStack};
 ghost use Rattle.book_base.specs.PruningRules.{IsInfeasible, MustComeFirst};
 ghost use Rattle.history_rules.specs.SmallObjects.{sample, queue_next, stack_next, call_of, six_first};
 
-/// The small queue and stack are what the rules ask for.
+/// The small queue and the small stack can be read as the rules ask.
 pub fn small_objects_are_read_so()
-    // The small queue is a queue, as the rules ask for.
+    // The small queue is a queue, by the definition that the rules use.
     ensures queue { IsQueue sample queue_next }
-    // The small stack is a stack, as the rules ask for.
+    // The small stack is a stack, by the definition that the rules use.
     ensures stack { IsStack sample stack_next }
 {}
 
 /// Both values were put in at once, and 6 was taken first: in every legal order 6 is put in first,
 /// so that the put of 5 is infeasible at the start.
 pub fn six_is_put_first()
-    // The put of 6 stands before the put of 5 in each legal order.
+    // The put of 6 comes before the put of 5 in each legal order.
     ensures order { MustComeFirst [] queue_next six_first (call_of 1 0) (call_of 0 0) }
     // The put of 5 is infeasible at the start.
     ensures infeasible { IsInfeasible [] queue_next six_first (0 ∷ 0 ∷ []) [] (call_of 0 0) }

@@ -7,13 +7,13 @@ ghost use Rattle.book_base.specs.Pruning.{IsLeast, MarksAllNext, ViewsAreWithin}
 
 use book_base::{Book, Call, Cut, Marks};
 
-/// Of the callers with an answered call outside a cut the one whose first such call has the least
-/// view; there is none where the cut holds all answered calls.
+/// The caller whose first call outside a cut has the least view of all answered calls outside it;
+/// there is none where the cut holds all answered calls.
 pub fn least_open(book: &Book, counts: &[u16]) -> Option<u32>
     // The cut has a count for each caller of the book.
     requires { length counts.now ≡ length book.now }
     // A caller that is answered has the least view of all: its first call outside the cut is
-    // answered, with a view within that of each answered call outside.
+    // answered, with a view within that of each answered call outside the cut.
     ensures least { IfSome result (IsLeast book.now counts.now (length book.now)) }
     // None is answered only where the cut holds all answered calls.
     ensures none { IfNone result (HoldsAnswered book.now counts.now) }
@@ -56,26 +56,26 @@ pub fn first_view<'b>(book: &'b Book, counts: &[u16], caller: u32) -> &'b Cut
     // The answer is the view that this call recorded.
     ensures view { (r : Record) → record_of book.now (next_call counts.now caller) ≡ Some r
         → r.view ≡ result.now }
-    // It has a count for each caller of the book.
+    // The answer has a count for each caller of the book.
     ensures wide { length result.now ≡ length book.now }
 {
     let number = u64::from(counts[caller as usize]);
     book.view(Call { caller, number })
 }
 
-/// The callers whose next calls may come next after a cut. The caller's first call outside the cut
-/// has the least view of all such calls.
+/// The callers whose next calls may come next after a cut, where `first` is the caller whose first
+/// call outside the cut has the least view of all answered calls outside it.
 pub fn all_next(book: &Book, cut: &Cut, view: &Cut, first: u32) -> Marks
     // The cut has a count for each caller of the book.
     requires wide { length cut.now ≡ length book.now }
     // Of all answered calls outside the cut the first caller's first one has the least view.
     requires first { IsLeast book.now cut.now (length book.now) first }
-    // This is its view.
+    // The view is that of this first call.
     requires view { (r : Record) → record_of book.now (next_call cut.now first) ≡ Some r
         → r.view ≡ view.now }
     // The view has a count for each caller of the book.
     requires views { length view.now ≡ length book.now }
-    // The answer marks the callers whose next calls may come next, and no others.
+    // The answer marks exactly the callers whose next calls may come next.
     ensures { MarksAllNext book.now cut.now result }
 {
     let mut marks = Marks::none();
@@ -91,7 +91,7 @@ pub fn all_next(book: &Book, cut: &Cut, view: &Cut, first: u32) -> Marks
 pub fn cut_of(counts: &[u16]) -> Cut
     // There is at least one count.
     requires some { 1 ≤ length counts.now }
-    // There are no more than a book may have callers.
+    // There are no more counts than a book may have callers.
     requires few { length counts.now ≤ MAX_CALLERS }
     ensures { result ≡ counts.now }
 {

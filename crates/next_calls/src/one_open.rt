@@ -5,11 +5,11 @@ ghost use Rattle.book_base.specs.Pruning.{HasOneOpen};
 use book_base::{Book, Call, Cut};
 
 /// Looks whether each view of a book holds at most one unanswered call of each caller, as in each
-/// book that a run gathers. A caller's views rise, so that its last one is looked at alone. No
-/// clause says that a book with one open is found to be one: where it isn't, a search only tries
-/// more.
+/// book that a run gathers. Of each caller only the last view is looked at, since it contains the
+/// others. No clause says that a book with one open is found to be one: where it isn't, a search
+/// only tries more.
 pub fn has_one_open(book: &Book) -> bool
-    // `true` is answered only where each view holds at most one unanswered call of each caller.
+    // The answer is `true` only where each view holds at most one unanswered call of each caller.
     ensures { IsTrue result → HasOneOpen book.now }
 {
     for caller in 0..book.callers() {

@@ -3,16 +3,16 @@ use thiserror::Error;
 /// Why a list of places is no legal order of a book. Places are counted from 0.
 ///
 /// Places are tried from the first, and at each place the tests in the order of the variants;
-/// what is missing is looked for after all places.
+/// answered calls that are missing are looked for after all places.
 #[derive(Clone, Copy, Debug, PartialEq, Eq, Error)]
 pub enum OrderFault {
     /// The call at this place isn't in the book.
     #[error("the call at place {0} isn't in the book")]
     Unknown(u64),
-    /// The call at this place stands at an earlier one.
+    /// The call at this place is at an earlier one too.
     #[error("the call at place {0} stands at an earlier one")]
     Twice(u64),
-    /// The previous call of the caller at this place doesn't stand earlier.
+    /// The previous call of the caller at this place is at no earlier place.
     #[error("the previous call of the caller at place {0} doesn't stand earlier")]
     Skipped(u64),
     /// The call at the second place precedes the call at the first, the least such earlier place.
@@ -24,7 +24,7 @@ pub enum OrderFault {
     /// At this place the sequential object gives the second reply word; the place has the third.
     #[error("at place {0} the object gives the reply word {1}, and the place has {2}")]
     Run(u64, u64, u64),
-    /// The least answered call, by caller and number, that stands at no place.
+    /// The least answered call, by caller and number, that is at no place.
     #[error("call {1} of caller {0} is answered, and stands at no place")]
     Missing(u32, u64),
 }

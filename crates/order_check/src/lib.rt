@@ -1,4 +1,4 @@
-//! The judge of a given order: a list of places is a legal order of a book, or has a first fault.
+//! The test of a given order: a list of places is a legal order of a book, or has a first fault.
 #![tactic(auto)]
 
 mod fault;

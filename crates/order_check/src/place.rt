@@ -7,7 +7,7 @@ ghost use Rattle.order_check.specs.Standing.{IsStanding, IsInPlace, IsFirstAt};
 use crate::fault::OrderFault;
 use book_base::{Book, Call, Cut, Place};
 
-/// The call that stands at a place.
+/// The call of a place.
 pub fn call_at(place: Place) -> Call
     ensures { result ≡ call_at place }
 {
@@ -17,9 +17,10 @@ pub fn call_at(place: Place) -> Call
     }
 }
 
-/// The first of the tests on calls and records that a place fails, where those before it stand.
+/// The first of the tests on calls and records that a place fails, where the places before it pass
+/// theirs.
 ///
-/// Each caller's calls stand in their order, so that `standing`, the cut of the calls before the
+/// Each caller's calls are in their order, so that `standing`, the cut of the calls before the
 /// place, decides all but the place that a late call should have come before.
 pub fn first_fault_at(book: &Book, order: &[Place], at: usize, standing: &Cut) -> Option<OrderFault>
     requires valid { IsValid book.now }
@@ -61,8 +62,8 @@ fn is_call(book: &Book, call: Call) -> bool
     call.caller < book.callers() && call.number < book.calls(call.caller)
 }
 
-// The least place before another whose call this one precedes. Where its view holds all calls that
-// stand, there is none.
+// The least place before another one whose call the call of that other place precedes. There is
+// none where this call's view holds all calls before it.
 fn first_preceded(
     book: &Book,
     order: &[Place],

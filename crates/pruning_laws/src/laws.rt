@@ -4,15 +4,15 @@ ghost use Rattle.pruning_laws.specs.Twins.{TwinServes};
 ghost use Rattle.pruning_laws.specs.Idle.{IdleMayBeLeftOut};
 ghost use Rattle.pruning_laws.specs.Keys.{ForcedKeyGoesFirst};
 
-/// Of two calls of one operation that may come next, the one that is answered serves for the other:
-/// with the same reply and no greater view, or where the other is unanswered. Of two unanswered
+/// Of two calls of one operation that may come next, an answered one serves for the other where the
+/// other has the same reply and a view that contains its own, or is unanswered. Of two unanswered
 /// ones either serves.
 #[tactic(auto, using(crate::proofs::Exchanging::twin_serves))]
 pub fn twins_serve_for_one_another()
     ensures { TwinServes }
 {}
 
-/// An unanswered call that leaves the present list may be left out.
+/// An unanswered call that doesn't change the object's present list may be left out.
 #[tactic(auto, using(crate::proofs::Omitting::idle_may_be_left_out))]
 pub fn idle_calls_may_be_left_out()
     ensures { IdleMayBeLeftOut }

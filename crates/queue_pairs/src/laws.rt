@@ -9,23 +9,23 @@ ghost use Rattle.queue_pairs.specs.Serving.{EarlierPutServes, EarlierTakeServes}
 /// exactly where each has a moment, from the first view that holds it up to its own view, and
 /// moments don't fall. Of calls that no view holds, no clause speaks.
 pub fn moments_keep_precedence()
-    // What precedes what, by moments.
+    // An answered call precedes exactly those calls that no view holds up to its own moment.
     ensures precedes { PrecedesByMoments }
-    // Which orders keep precedence, by moments.
+    // Calls that views hold keep precedence exactly where they may take effect one after another.
     ensures order { MomentsKeepPrecedence }
 {}
 
 /// A queue's book with one open that has a legal order has pairs of puts and takes that may take
-/// effect one after another. So one without such pairs has none.
+/// effect one after another. So a book without such pairs has no legal order.
 pub fn legal_orders_have_pairs()
-    // A legal order gives pairs.
+    // A queue's book with one open that has a legal order has pairs.
     ensures { LegalOrdersHavePairs }
 {}
 
-/// In a valid book with one open, of two callers' next puts of one value, and of two callers'
-/// next takes of one deal, the one that may take effect no later and is due no later serves for
-/// the other: where steps go on with a pair that has the other, as many go on with it in the
-/// other's place. That `decide_queue` rests on this, no clause says.
+/// In a valid book with one open, of two callers' next puts of one value, and of two callers' next
+/// takes of one deal, the one that may take effect no later and is due no later serves for the
+/// other: where steps begin with a pair that has the other, as many begin with the pair that has it
+/// in the other's place. No clause says that `decide_queue` rests on this.
 pub fn choices_serve_for_one_another()
     // Of two puts the earlier one serves for the other.
     ensures puts { EarlierPutServes }

@@ -1,5 +1,5 @@
 //! Pairs of a queue's book: the k-th put and the k-th take are looked for together, as pairs that
-//! may take effect one after another, with no list and no order.
+//! may take effect one after another, without the object's list and without an order of all calls.
 #![tactic(auto)]
 
 pub mod laws;

@@ -7,13 +7,14 @@ use crate::standing::PairState;
 use crate::table::{Table, TimedCall};
 use book_base::MAX_CALLERS;
 
-/// The next calls that don't stand, and the latest moments that they may have: the least `last` of
-/// all puts, of all takes that show a value, and of all takes that find nothing that don't stand.
+/// The next calls of all callers after those that a standing covers, and the latest moments that
+/// the remaining calls may have: the least `last` of all puts, of all takes that show a value, and
+/// of all takes that find nothing.
 #[derive(Clone, Copy)]
 pub struct NextEntries {
     pub puts: [Option<TimedCall>; MAX_CALLERS],
     pub takes: [Option<TimedCall>; MAX_CALLERS],
-    /// The first moment of the takes that find nothing and don't stand.
+    /// The first moment of the remaining takes that find nothing.
     pub find_first: u64,
     pub put_limit: u64,
     pub take_limit: u64,
@@ -30,17 +31,17 @@ pub struct TimedPair {
 }
 
 impl TimedPair {
-    /// The pair of a put and a take, at the earliest moments that they may have where these stand.
+    /// The pair of a put and a take, at the earliest moments that they may have after a standing.
     pub fn earliest(standing: &PairState, put: TimedCall, take: TimedCall) -> TimedPair
-        // The put is this one.
+        // The put of the answer is this one.
         ensures put { result.put ≡ put }
-        // The take is this one.
+        // The take of the answer is this one.
         ensures take { result.take ≡ take }
-        // The put takes effect at the first moment that is no earlier than those of the puts that
-        // stand, at which a view holds it.
+        // The put takes effect at the first moment at which a view holds it, or at that of the last
+        // put so far, where this is later.
         ensures put_moment { result.put_moment ≡ max standing.now.put_moment put.span.first }
-        // The take takes effect at the first moment that is no earlier than that of its put and
-        // those of the takes that stand, at which a view holds it.
+        // The take takes effect at the first moment at which a view holds it, or at that of its put
+        // or of the last take so far, where one of these is later.
         ensures take_moment { result.take_moment ≡ max
             (max standing.now.take_moment result.put_moment) take.span.first }
     {
@@ -54,7 +55,7 @@ impl TimedPair {
     }
 
     /// Whether a pair serves for another one: its calls did the same, it has no later moments, and
-    /// its calls are due no later, so that the two may be exchanged wherever they stand.
+    /// its calls are due no later, so that it may be tried instead of the other.
     pub fn serves(&self, other: &TimedPair) -> bool
         ensures { IsTrue result → Serves self.now other.now }
     {
@@ -69,7 +70,7 @@ impl TimedPair {
 }
 
 impl NextEntries {
-    /// What is next where these stand.
+    /// The next entries of a table at a standing.
     pub fn of(table: &Table, standing: &PairState) -> NextEntries
         ensures { AreNextEntries table.now standing.now result }
     {
@@ -111,7 +112,8 @@ impl NextEntries {
         }
     }
 
-    /// Whether all answered takes stand, and the puts that don't may still take effect.
+    /// Whether a standing with these next entries covers all answered takes, and the answered puts
+    /// that it doesn't cover may still take effect.
     pub fn is_whole(&self, standing: &PairState) -> bool
         ensures { IsTrue result ↔ ((NEVER ≤ self.now.find_first) × (NEVER ≤ self.now.take_limit)
             × (standing.now.put_moment ≤ self.now.put_limit)) }
@@ -121,8 +123,8 @@ impl NextEntries {
             && standing.put_moment <= self.put_limit
     }
 
-    /// Whether some call that doesn't stand is due before its part of these moments, so that
-    /// nothing may stand next at them.
+    /// Whether some remaining call is due before one of these moments, a put before the first or a
+    /// take before the second, so that no pair may come next at them.
     pub fn is_past(&self, put_moment: u64, take_moment: u64) -> bool
         ensures { IsTrue result ↔ IsPast self.now put_moment take_moment }
     {
@@ -143,7 +145,7 @@ fn least_last(calls: &[Option<TimedCall>; MAX_CALLERS]) -> u64
     least
 }
 
-// The latest moment that a call may have.
+// The latest moment that a call may have, where there is one.
 fn last_of(timed: Option<TimedCall>) -> u64
     ensures { result ≡ last_of timed }
 {

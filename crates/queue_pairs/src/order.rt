@@ -6,7 +6,7 @@ use crate::walk::{Choice, PairWalk, Step};
 use book_base::{Book, Call, MAX_CALLERS, MAX_CALLS, NoMemory, Place, SeqObject, State};
 use std::alloc::Global;
 
-// A capacity of as many words as a book has calls, and one more.
+// The capacity of a list with one word more than a book has calls.
 const CAPACITY: u64 = MAX_CALLERS as u64 * MAX_CALLS + 1;
 
 /// A call, and the moment at which it takes effect.
@@ -16,8 +16,8 @@ struct Event {
     call: Call,
 }
 
-/// The calls of a walk's pairs, and all other answered calls, in the order of their moments: at one
-/// moment as they stand in the walk, and the puts that nobody takes last.
+/// The calls of a walk's pairs, and all other answered calls, in the order of their moments. Calls
+/// of one moment come in the order of the walk, and the puts whose values nobody takes come last.
 pub fn calls_in_order(
     alloc: Global,
     table: &Table,
@@ -74,8 +74,8 @@ fn add_step(table: &Table, choice: Choice, events: &mut Vec<Event>) -> Result<()
     Ok(())
 }
 
-// The moment of an answered call that is in no step of a walk, if it is none: a put that nobody
-// takes, or neither a put nor a take.
+// The moment of an answered call that is in no step of a walk: of a put whose value nobody takes,
+// or of a call that is neither a put nor a take.
 fn left_moment(walk: &PairWalk, caller: usize, timed: TimedCall) -> Option<u64> {
     if caller >= MAX_CALLERS || !timed.is_answered() {
         return None;

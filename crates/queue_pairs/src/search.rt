@@ -10,14 +10,14 @@ use std::alloc::Global;
 use std::cmp::Reverse;
 use std::mem;
 
-/// What a search comes to.
+/// What a search for pairs answers.
 #[derive(Drop)]
 pub enum PairsFound {
     /// A walk whose levels have pairs for all answered takes.
     Pairs(PairWalk),
-    /// All was tried, and none was found: the standings that were entered.
+    /// All was tried, and no pairs were found: the standings that the search entered.
     DeadEnds(IndexSet<PairState>),
-    /// The steps that a search has didn't suffice.
+    /// The search had too few steps to say.
     Unsaid,
 }
 
@@ -26,7 +26,7 @@ pub struct PairSearch<'a> {
     pub alloc: Global,
     pub table: &'a Table,
     pub surplus: &'a Surplus,
-    /// Whether unanswered takes take only what the answered ones leave. Otherwise they may take any
+    /// Whether unanswered takes take only what answered ones leave. Otherwise they may take any
     /// value, so that more is tried.
     pub by_surplus: bool,
     /// How many steps the search has.
@@ -73,7 +73,8 @@ impl PairSearch<'_> {
         Ok(PairsFound::Unsaid)
     }
 
-    // Goes on by a choice, unless the walk was there, and tells whether all is whole there.
+    // Goes on to the standing of a choice, unless the walk was there before, and answers whether
+    // that standing is whole.
     fn enter(&self, walk: &mut PairWalk, choice: Choice) -> Result<bool, NoMemory> {
         if !walk.entered.insert(choice.to)? {
             return Ok(false);
@@ -90,8 +91,7 @@ impl PairSearch<'_> {
         Ok(next_entries.is_whole(&choice.to))
     }
 
-    // What may be tried where these stand, with the best choice last: the one whose take is due
-    // first.
+    // What may be tried at a standing, with the best choice last: the one whose take is due first.
     fn choices(
         &self,
         walk: &PairWalk,
@@ -124,8 +124,8 @@ impl PairSearch<'_> {
         Ok(choices)
     }
 
-    // Adds the pairs of a take with each put that it may take out, but for those that another pair
-    // serves for.
+    // Adds the pairs of a take with each put whose value it may take out, but for those for which
+    // another pair serves.
     fn add_pairs(
         &self,
         walk: &PairWalk,
@@ -147,8 +147,8 @@ impl PairSearch<'_> {
         Ok(())
     }
 
-    // Whether a take may take out what a put puts in. An unanswered one takes only what the
-    // answered ones leave, and no unanswered put.
+    // Whether a take may take out what a put puts in. An unanswered take takes only what the
+    // answered ones leave, and nothing of an unanswered put.
     fn may_pair(&self, walk: &PairWalk, put: TimedCall, take: TimedCall) -> bool {
         match (put.deal, take.deal) {
             (QueueDeal::Put(value), QueueDeal::Took(shown)) => value == shown,
@@ -158,13 +158,13 @@ impl PairSearch<'_> {
         }
     }
 
-    // Whether the answered takes leave one more of a value.
+    // Whether the answered takes leave one more item of a value.
     fn is_left(&self, walk: &PairWalk, value: u64) -> bool {
         !self.by_surplus || walk.times_spent(value) < self.surplus.of_value(value)
     }
 }
 
-// The takes that find nothing and may stand next, at the earliest moment.
+// The takes that find nothing and may come next at a standing, at the earliest moment.
 fn finds_next(standing: &PairState, next_entries: &NextEntries) -> Option<Choice> {
     if next_entries.find_first == NEVER {
         return None;
@@ -198,7 +198,7 @@ fn pair_next(
     })
 }
 
-// Of two calls the one that some view holds first.
+// Of two calls the one that is held by the earlier first view.
 fn earlier_of(one: Option<TimedCall>, other: TimedCall) -> Option<TimedCall> {
     match one {
         Some(first) if first.span.first <= other.span.first => one,
@@ -206,7 +206,7 @@ fn earlier_of(one: Option<TimedCall>, other: TimedCall) -> Option<TimedCall> {
     }
 }
 
-// Whether one choice serves for another one, so that this one needn't be tried.
+// Whether one choice serves for another one, so that the other needn't be tried.
 fn serves(one: &Choice, other: &Choice) -> bool {
     match (one.step, other.step) {
         (Step::Pair(pair), Step::Pair(others)) => pair.serves(&others),

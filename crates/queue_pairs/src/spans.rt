@@ -9,8 +9,8 @@ ghost use Rattle.queue_pairs.specs.Spans.{IsSpanOf, AreHolding, IsFirstBelow};
 use crate::NEVER;
 use book_base::{Book, Call, Cut, Span};
 
-/// When a call may take effect: the moments of the first view that holds it and of its own view,
-/// each of which is how many calls the view counts. It is [`NEVER`] where there is no such view.
+/// When a call may take effect: from the moment of the first view that holds it to that of its own
+/// view, where a moment is how many calls a view counts. A moment without such a view is [`NEVER`].
 pub fn span_of(book: &Book, call: Call) -> Span
     requires { IsCall book.now call }
     ensures { IsSpanOf book.now call result }
@@ -54,7 +54,7 @@ fn first_of_caller(book: &Book, caller: u32, call: Call) -> u64
 }
 
 // The number of a caller's first record whose view holds a call, or how many records it has where
-// none does. A caller's views rise, so that those of all later records hold it too.
+// none does. The views of all later records hold the call too, since a caller's views rise.
 fn first_holding(book: &Book, caller: u32, call: Call) -> u64
     requires valid { IsValid book.now }
     requires caller { caller < length book.now }

@@ -6,12 +6,12 @@ ghost use Rattle.queue_pairs.specs.Pairs.{Pairs, FindNothing, after, none_paired
 use crate::next_entries::TimedPair;
 use book_base::{Call, MAX_CALLERS, MAX_CALLS};
 
-/// What stands of a queue's book: of each caller the puts and the takes below a number, and the
-/// takes that find nothing and that some view holds up to a moment; and the moments of the last put
-/// and of the last take.
+/// A standing: how far a queue's book has been paired. It covers of each caller the puts and the
+/// takes below a number, and the takes that find nothing and that some view holds up to a moment;
+/// and it has the moments of the last put and of the last take.
 ///
-/// Each pair has the earliest moments that it may have, so that what goes on from the same calls at
-/// later moments goes on from here too.
+/// Each pair has the earliest moments that it may have, so that whatever steps lead on from the
+/// same calls at later moments lead on from here too.
 #[derive(Clone, Copy, Debug, PartialEq, Eq, Hash)]
 pub struct PairState {
     pub puts: [u16; MAX_CALLERS],
@@ -22,7 +22,7 @@ pub struct PairState {
 }
 
 impl PairState {
-    /// No call stands.
+    /// The standing that covers no call.
     pub fn start() -> PairState
         ensures { paired result ≡ none_paired MAX_CALLERS }
     {
@@ -35,7 +35,7 @@ impl PairState {
         }
     }
 
-    /// A pair stands too.
+    /// The standing that covers a pair too.
     pub fn with_pair(self, pair: &TimedPair) -> PairState
         ensures { pair.now.put.call.caller < MAX_CALLERS → pair.now.put.call.number < MAX_CALLS
             → pair.now.take.call.caller < MAX_CALLERS → pair.now.take.call.number < MAX_CALLS
@@ -49,8 +49,8 @@ impl PairState {
         standing
     }
 
-    /// The takes that find nothing stand that some view holds at a moment. What is put in or taken
-    /// afterwards is so no earlier.
+    /// The standing that also covers the takes that find nothing and that some view holds at a
+    /// moment. A later put or take has no earlier moment.
     pub fn with_finds(self, moment: u64) -> PairState
         ensures { paired result ≡ after (paired self) (FindNothing moment) }
     {
@@ -61,7 +61,7 @@ impl PairState {
         standing
     }
 
-    /// Whether the same stands at the same moments.
+    /// Whether two standings cover the same calls with the same moments.
     pub fn is_same(&self, other: &PairState) -> bool
         ensures { IsTrue result → self.now ≡ other.now }
     {
@@ -74,7 +74,7 @@ impl PairState {
     }
 }
 
-// The calls of a caller stand up to this one.
+// Covers the calls of a caller up to this one.
 fn raise(numbers: &mut [u16; MAX_CALLERS], call: Call)
     ensures { call.caller < MAX_CALLERS → call.number < MAX_CALLS
         → numbers.new ≡ slice_set numbers.old call.caller (call.number + 1) }

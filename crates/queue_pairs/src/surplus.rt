@@ -3,8 +3,8 @@ use book_base::NoMemory;
 use std::alloc::Global;
 use std::collections::BTreeMap;
 
-/// How many more puts than answered takes there are of each value: as many may be taken by
-/// unanswered takes.
+/// How many more puts than answered takes there are of each value, which is how many unanswered
+/// takes may take it.
 #[derive(Drop)]
 pub struct Surplus {
     by_value: BTreeMap<u64, usize>,

@@ -222,7 +222,7 @@ impl Table {
         least
     }
 
-    /// The least moment of all calls that take and find nothing and that no view holds up to a
+    /// The least last moment of all calls that take and find nothing and that no view holds up to a
     /// moment.
     pub fn find_limit(&self, found: u64) -> u64
         ensures { IsLeastOf (λ k. last_after found (slice_get self.now.finds.items k))
@@ -235,7 +235,8 @@ impl Table {
         least
     }
 
-    // The first moment of a call that finds nothing, where no view holds it up to a moment.
+    // The first moment of a call that finds nothing, or `NEVER` where some view holds it up to a
+    // given moment.
     fn first_after(&self, found: u64, k: usize) -> u64
         ensures { result ≡ first_after found (slice_get self.now.finds.items k) }
     {
@@ -251,7 +252,8 @@ impl Table {
         }
     }
 
-    // The moment of a call that finds nothing, where no view holds it up to a moment.
+    // The last moment of a call that finds nothing, or `NEVER` where some view holds it up to a
+    // given moment.
     fn last_after(&self, found: u64, k: usize) -> u64
         ensures { result ≡ last_after found (slice_get self.now.finds.items k) }
     {

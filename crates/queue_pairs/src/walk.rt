@@ -5,13 +5,13 @@ use indexmap::IndexSet;
 use std::alloc::Global;
 use std::mem;
 
-/// What is put next in a search of pairs.
+/// A step of a search of pairs.
 #[derive(Clone, Copy)]
 pub enum Step {
     /// A put, and the take that takes its value out.
     Pair(TimedPair),
-    /// The takes that find nothing and whose first moments lie after one moment, and not after
-    /// another one.
+    /// The takes that find nothing and that some view holds at the second moment and none at the
+    /// first.
     Finds(u64, u64),
 }
 
@@ -23,7 +23,7 @@ pub struct Choice {
     pub to: PairState,
 }
 
-/// A standing on the way to where a walk stands: the step that was put next there, and what is
+/// A standing on the way to the present one of a walk: the step that was taken there, and what is
 /// still to be tried there besides it.
 #[derive(Drop)]
 pub struct PairLevel {
@@ -32,9 +32,9 @@ pub struct PairLevel {
     pub choices: Vec<Choice>,
 }
 
-/// Where a walk stands: the levels that lead there, its standing, what is still to be tried there
-/// with the best choice last, the values that unanswered takes took on the way, and all standings
-/// that were entered.
+/// How far a search has come: the levels that lead to its present standing, this standing, what is
+/// still to be tried there with the best choice last, the values that unanswered takes took on the
+/// way, and all standings that were entered.
 #[derive(Drop)]
 pub struct PairWalk {
     pub levels: Vec<PairLevel>,
@@ -45,7 +45,7 @@ pub struct PairWalk {
 }
 
 impl PairWalk {
-    /// A walk that stands at the start.
+    /// A walk at the standing that covers no call.
     pub fn new(alloc: Global) -> PairWalk {
         PairWalk {
             levels: Vec::new(alloc),
@@ -56,7 +56,7 @@ impl PairWalk {
         }
     }
 
-    /// Goes on by a choice, to where these may be tried.
+    /// Goes on to the standing of a choice, at which these choices may be tried.
     pub fn enter(&mut self, choice: Choice, choices: Vec<Choice>) -> Result<(), NoMemory> {
         let level = PairLevel {
             from: self.here,

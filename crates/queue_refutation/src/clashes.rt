@@ -8,13 +8,13 @@ use book_base::{Book, NoMemory};
 use queue_pairs::{NEVER, QueueDeal, Table, TimedCall};
 use std::alloc::Global;
 
-// How many different values are counted at most. Where there are more, few calls share one, and
-// pairs leave few choices.
+// How many different values are counted at most. Where there are more, few calls have the same
+// value, so that pairs leave few choices.
 const MOST_VALUES: usize = 64;
 
-/// The moments of a value's calls, each list in order: its answered puts by their own views, its
-/// puts by the first views that hold them, and so the takes that show it; unanswered takes are
-/// among the last.
+/// The moments of a value's calls, each list in order: of its answered puts those of their own
+/// views, of its puts those of the first views that hold them, and both likewise of the takes that
+/// show it; unanswered takes are in the last list too.
 #[derive(Drop)]
 struct Moments {
     value: u64,
@@ -29,8 +29,8 @@ struct Moments {
 /// puts of another one are ahead of its takes, which no queue allows; or a take finds nothing where
 /// a value was left.
 ///
-/// Where to count is looked for by lists of moments, which aren't trusted: what they say is counted
-/// once more.
+/// The moments at which to count are found by lists of moments, which aren't trusted: the calls are
+/// counted once more at these moments.
 pub fn refute_by_counts(alloc: Global, table: &Table, book: &Book) -> Result<bool, NoMemory>
     ensures { IfOk result (λ refuted. IsTrue refuted → QueueHasNoOrder table.now book.now) }
 {
@@ -72,7 +72,8 @@ fn takes_refute_alone(table: &Table, ahead: &Moments) -> bool
     }
 }
 
-// Whether more of this value has been taken out, and more of another one put in.
+// Whether more of the one value has been taken out than put in, while more of another one has been
+// put in than taken out.
 fn takes_refute(table: &Table, moments: &[Moments], ahead: &Moments) -> bool
     ensures { IsTrue result → HasNoPairs table.now }
 {
@@ -99,8 +100,8 @@ fn finds_refute(table: &Table, left: &Moments) -> bool
     false
 }
 
-// Whether takes of one value are ahead of its puts, which are counted up to no earlier moment, or
-// puts of another value are ahead of its takes.
+// Whether takes of one value are ahead of its puts at moments of which that of the takes is no
+// later, or while puts of another value are ahead of its takes.
 fn refutes(table: &Table, ahead: u64, other: u64, put_moment: u64, take_moment: u64) -> bool
     ensures { IsTrue result → HasNoPairs table.now }
 {
@@ -138,7 +139,7 @@ fn find_refutes(table: &Table, value: u64, place: usize) -> bool
     puts_are_ahead(table, value, find.span.first - 1, find.span.last)
 }
 
-// By which moment more of a value has been taken out than put in, if by any.
+// The moment by which more of a value has been taken out than put in, if there is one.
 fn overtaken(ahead: &Moments) -> Option<u64> {
     for place in 0..ahead.due_takes.len() {
         let moment = ahead.due_takes[place];
@@ -149,8 +150,8 @@ fn overtaken(ahead: &Moments) -> Option<u64> {
     None
 }
 
-// Up to which moments puts and takes are counted so that the first value's puts are ahead, and the
-// second one's takes.
+// The moments up to which to count puts and takes so that the first value's puts are ahead, and the
+// second value's takes.
 fn clash_of(other: &Moments, ahead: &Moments) -> Option<(u64, u64)> {
     for place in 0..other.due_puts.len() {
         let put_moment = other.due_puts[place];
@@ -163,7 +164,8 @@ fn clash_of(other: &Moments, ahead: &Moments) -> Option<(u64, u64)> {
     None
 }
 
-// Whether more of a value was put in before a take that finds nothing than may have been taken out.
+// Whether more items of a value were put in before a take that finds nothing than may have been
+// taken out.
 fn is_left(table: &Table, left: &Moments, place: usize) -> bool {
     match table.finds.get(place) {
         Some(find) => {
@@ -175,12 +177,12 @@ fn is_left(table: &Table, left: &Moments, place: usize) -> bool {
     }
 }
 
-// How many of these moments are no later than one.
+// How many of these moments, which are in order, are no later than the given one.
 fn up_to(moments: &[u64], moment: u64) -> usize {
     moments.partition_point(|other| *other <= moment)
 }
 
-// The moment at a place, or one later than all others.
+// The moment at a place, or `NEVER` where there is none.
 fn moment_at(moments: &[u64], place: usize) -> u64 {
     match moments.get(place) {
         Some(moment) => *moment,
@@ -209,8 +211,8 @@ fn moments_of(alloc: Global, table: &Table) -> Result<Option<Vec<Moments>>, NoMe
     Ok(Some(moments))
 }
 
-// Adds the moments of a call that some view holds. It answers whether its value has a place among
-// the counted ones.
+// Adds the moments of a call that some view holds, and answers whether its value is among the
+// counted ones.
 fn add(alloc: Global, timed: TimedCall, moments: &mut Vec<Moments>) -> Result<bool, NoMemory> {
     if !timed.is_held() {
         return Ok(true);

@@ -7,13 +7,13 @@ use queue_pairs::{QueueDeal, Table, TimedCall};
 /// Which calls of a value are counted, up to a moment.
 #[derive(Clone, Copy)]
 pub enum Counted {
-    /// Puts that have taken effect by then: their own view is no later.
+    /// The puts that have taken effect by the moment: their own view is no later.
     DuePuts,
-    /// Puts that may have taken effect by then: some view that is no later holds them.
+    /// The puts that may have taken effect by the moment: some view that is no later holds them.
     EarlyPuts,
-    /// Takes that show the value and have taken effect by then.
+    /// The takes that show the value and have taken effect by the moment.
     DueTakes,
-    /// Takes that show the value, or are unanswered, and may have taken effect by then.
+    /// The takes that show the value, or are unanswered, and may have taken effect by the moment.
     EarlyTakes,
 }
 
@@ -50,7 +50,7 @@ fn is_less(one: Option<usize>, other: Option<usize>) -> bool
     }
 }
 
-// How many calls of a table are counted, if that is no number too great.
+// How many calls of a table are counted, or `None` where the number is too great.
 fn count(table: &Table, what: Counted, value: u64, moment: u64) -> Option<usize>
     ensures { IfSome result (λ all. all ≡ count_in (is_counted what value moment) table.now) }
 {

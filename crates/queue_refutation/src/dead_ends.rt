@@ -15,8 +15,8 @@ use book_base::{Book, Call, MAX_CALLERS, MAX_CALLS};
 use indexmap::IndexSet;
 use queue_pairs::{NEVER, NextEntries, PairState, QueueDeal, Table, TimedCall, TimedPair};
 
-/// Standings that a search entered, to be looked at once more. Where all that may stand next at
-/// each of them leads to one of them, or to none, no pairs go on from any.
+/// Standings that a search entered, to be checked once more. Where whatever may come next at each
+/// of them leads to one of them or needn't be tried, no pairs can be completed from any.
 pub struct DeadEnds<'a> {
     pub table: &'a Table,
     pub standings: &'a IndexSet<PairState>,
@@ -32,8 +32,9 @@ impl Drop for DeadEnds<'_> {
 }
 
 impl DeadEnds<'_> {
-    /// Whether the standings show that a queue's book has no legal order: they have the start, and
-    /// lead to one another alone. No clause says that they do so wherever there is none.
+    /// Whether the standings show that a queue's book has no legal order: they have the one that
+    /// covers no call, and each leads to these standings alone. No clause says that they do so
+    /// wherever the book has no legal order.
     pub fn refute(&self, book: &Book) -> bool
         ensures { IsTrue result → QueueHasNoOrder self.now.table.now book.now }
     {
@@ -46,7 +47,7 @@ impl DeadEnds<'_> {
         self.are_closed()
     }
 
-    // Whether each of the standings leads to one of them alone.
+    // Whether each of the standings leads to these standings alone.
     fn are_closed(&self) -> bool
         ensures { IsTrue result → (reading : Reading) (book : List Page)
             → IsTable reading book self.now.table.now
@@ -60,7 +61,7 @@ impl DeadEnds<'_> {
         true
     }
 
-    // Whether the standing at a place leads to one of them alone.
+    // Whether the standing at a place leads to these standings alone.
     fn is_closed_at(&self, place: usize) -> bool
         ensures { IsTrue result → (s : PairState)
             → slice_get self.now.standings.now.keys place ≡ Some s
@@ -72,7 +73,7 @@ impl DeadEnds<'_> {
         }
     }
 
-    // Whether a standing leads to one of them alone.
+    // Whether a standing leads to these standings alone.
     fn is_closed(&self, standing: &PairState) -> bool
         ensures { IsTrue result
             → ClosedAt self.now.table.now (listed self.now.standings.now.keys) standing.now }
@@ -108,8 +109,8 @@ impl DeadEnds<'_> {
         }
     }
 
-    // Whether takes that find nothing stand at once, which delays nothing, and lead to one of the
-    // standings.
+    // Whether takes that find nothing may be covered at once, which delays no other call, and lead
+    // to one of the standings.
     fn finds_stand_at_once(&self, standing: &PairState, next_entries: &NextEntries) -> bool
         requires next_entries { AreNextEntries self.now.table.now standing.now next_entries.now }
         requires few { standing.now.take_moment < NEVER }
@@ -125,8 +126,8 @@ impl DeadEnds<'_> {
         self.has(&standing.with_finds(standing.take_moment))
     }
 
-    // Whether the takes that find nothing and may stand next lead to one of the standings, or to
-    // none.
+    // Whether the takes that find nothing and may come next lead to one of the standings, or
+    // needn't be tried.
     fn finds_lead(&self, standing: &PairState, next_entries: &NextEntries) -> bool
         requires next_entries { AreNextEntries self.now.table.now standing.now next_entries.now }
         requires few { standing.now.take_moment < NEVER }
@@ -143,7 +144,7 @@ impl DeadEnds<'_> {
         self.has(&standing.with_finds(moment))
     }
 
-    // Whether each pair that may stand next leads to one of the standings, or to none.
+    // Whether each pair that may come next leads to one of the standings, or needn't be tried.
     fn pairs_lead(&self, standing: &PairState, next_entries: &NextEntries) -> bool
         requires next_entries { AreNextEntries self.now.table.now standing.now next_entries.now }
         requires turn { standing.now.put_moment ≤ standing.now.take_moment }
@@ -159,7 +160,7 @@ impl DeadEnds<'_> {
         true
     }
 
-    // Whether each pair of a caller's next put leads to one of the standings, or to none.
+    // Whether each pair of a caller's next put leads to one of the standings, or needn't be tried.
     fn putter_leads(&self, standing: &PairState, next_entries: &NextEntries, caller: usize) -> bool
         requires next_entries { AreNextEntries self.now.table.now standing.now next_entries.now }
         requires turn { standing.now.put_moment ≤ standing.now.take_moment }
@@ -174,7 +175,8 @@ impl DeadEnds<'_> {
         }
     }
 
-    // Whether each pair of a put that may stand next leads to one of the standings, or to none.
+    // Whether each pair of a put that may come next leads to one of the standings, or needn't be
+    // tried.
     fn put_leads(&self, standing: &PairState, next_entries: &NextEntries, put: TimedCall) -> bool
         requires next_entries { AreNextEntries self.now.table.now standing.now next_entries.now }
         requires turn { standing.now.put_moment ≤ standing.now.take_moment }
@@ -191,7 +193,8 @@ impl DeadEnds<'_> {
         true
     }
 
-    // Whether the pair of a put and a caller's next take leads to one of the standings, or to none.
+    // Whether the pair of a put and a caller's next take leads to one of the standings, or needn't
+    // be tried.
     fn taker_leads(
         &self,
         standing: &PairState,
@@ -213,8 +216,8 @@ impl DeadEnds<'_> {
         }
     }
 
-    // Whether the pair of a put and a take leads to one of the standings, or to none. A pair of
-    // which neither call is answered is idle.
+    // Whether the pair of a put and a take leads to one of the standings, or needn't be tried. A
+    // pair of which neither call is answered is idle.
     fn calls_lead(
         &self,
         standing: &PairState,
@@ -247,7 +250,7 @@ impl DeadEnds<'_> {
         self.pair_leads(standing, next_entries, &pair)
     }
 
-    // Whether a pair at its earliest moments leads to one of the standings, or to none.
+    // Whether a pair at its earliest moments leads to one of the standings, or needn't be tried.
     fn pair_leads(&self, standing: &PairState, next_entries: &NextEntries, pair: &TimedPair) -> bool
         requires next_entries { AreNextEntries self.now.table.now standing.now next_entries.now }
         requires turn { standing.now.put_moment ≤ standing.now.take_moment }
@@ -265,7 +268,7 @@ impl DeadEnds<'_> {
         self.is_served(standing, next_entries, pair)
     }
 
-    // Whether one of the standings stands after a pair.
+    // Whether the standing after a pair is one of the standings.
     fn leads(&self, standing: &PairState, pair: &TimedPair) -> bool
         ensures { IsTrue result → IsOnePaired (listed self.now.standings.now.keys)
             (after (paired standing.now) (Pairs (pair_of pair.now))) }

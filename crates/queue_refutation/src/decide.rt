@@ -14,8 +14,8 @@ use queue_pairs::{
 };
 use std::alloc::Global;
 
-// How many steps the search for pairs has, and how many it has once more, where unanswered takes
-// may take any value.
+// How many steps the search for pairs has, and how many a second search has, in which unanswered
+// takes may take any value.
 const STEPS: u64 = 500_000;
 
 const STEPS_ANEW: u64 = 200_000;
@@ -23,11 +23,12 @@ const STEPS_ANEW: u64 = 200_000;
 /// What the pairs of a queue's book say of it (after Henzinger, Sezgin and Vafeiadis 2013, whose
 /// order of puts and takes they keep).
 ///
-/// Counts of puts and takes are compared first: where they clash, there is no order, and no search.
+/// Counts of puts and takes are compared first: where they contradict one another, the book has no
+/// legal order, and there is no search.
 ///
-/// The search isn't trusted: the order that it finds is judged, and one that isn't legal isn't
-/// delivered; and the standings that it entered without finding any are looked at once more. No
-/// clause says how often anything is said: that costs time alone.
+/// The search isn't trusted: the order that it finds is judged, and is answered only where it is
+/// legal; and the standings that it entered without finding an order are checked once more. No
+/// clause says how often the answer is a decision, since an undecided book costs time alone.
 pub fn decide_queue<Q: SeqObject + Reader>(
     alloc: Global,
     queue: &Q,
@@ -35,7 +36,7 @@ pub fn decide_queue<Q: SeqObject + Reader>(
 ) -> Result<Decision, NoMemory>
     // The object is a queue.
     requires queue { IsQueue (Q.reading queue.now) (Q.next queue.now) }
-    // The object begins with nothing.
+    // The object begins empty.
     requires empty { (Q.reading queue.now).values (Q.init queue.now) ≡ [] }
     // A decision is right of this object and this book.
     ensures { IfOk result (IsRightDecision (Q.init queue.now) (Q.next queue.now) book.now) }
@@ -67,8 +68,8 @@ pub fn decide_queue<Q: SeqObject + Reader>(
     }
 }
 
-// Whether the standings of a search in which unanswered takes may take any value show that there is
-// no order.
+// Whether the standings of a search in which unanswered takes may take any value show that the book
+// has no legal order.
 fn refute_anew(
     alloc: Global,
     book: &Book,
@@ -90,7 +91,7 @@ fn refute_anew(
     }
 }
 
-// Whether these standings show that there is no order.
+// Whether these standings show that the book has no legal order.
 fn refute(book: &Book, table: &Table, standings: &IndexSet<PairState>) -> bool
     ensures { IsTrue result → QueueHasNoOrder table.now book.now }
 {

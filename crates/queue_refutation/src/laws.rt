@@ -10,37 +10,39 @@ ghost use Rattle.queue_refutation.specs.RefutationLaws.{
   UnansweredPairsAreIdle,
 };
 
-/// No standing of a closed list can be gone on from to the end: each would lead to one of the list
-/// with fewer steps left, or with as many left and one more take that has found nothing.
+/// No steps lead from a standing of a closed list to one that is whole: each standing leads to one
+/// of the list with fewer steps left, or with as many left and more takes that find nothing
+/// covered.
 pub fn closed_standings_are_dead()
-    // No steps go on from a closed list.
+    // In a valid book with one open, no steps lead from a standing of a closed list to a whole one.
     ensures { ClosedStandingsAreDead }
 {}
 
-/// A queue's valid book with one open has no legal order where a closed list of standings has
-/// the start, at which nothing stands.
+/// A queue's valid book with one open has no legal order where a closed list of standings has the
+/// one that covers no call.
 pub fn closed_starts_have_no_order()
-    // A closed list with the start refutes the book.
+    // A closed list with the standing that covers no call refutes the book.
     ensures { ClosedStartsHaveNoOrder }
 {}
 
-/// Where steps go on with a pair of which neither call is answered, they go on without it.
+/// Where steps lead to a whole standing and begin with a pair of which neither call is answered,
+/// the steps without this pair do too.
 pub fn unanswered_pairs_are_idle()
-    // Pairs of unanswered calls may be left out.
+    // A pair of unanswered calls may be left out of steps that lead to a whole standing.
     ensures { UnansweredPairsAreIdle }
 {}
 
-/// A pair that may stand next serves for itself. So a list of standings is closed where none of
-/// them is finished and it has what stands after each step that may stand next.
+/// A pair that may come next serves for itself. So a list of standings is closed where none of them
+/// is whole and it has the standing after each step that may come next at one of them.
 pub fn successors_suffice()
-    // A pair serves for itself.
+    // A pair that may come next serves for itself.
     ensures serves { PairsServeForThemselves }
-    // A list that has all successors is closed.
+    // A list of standings that has all successors of each is closed.
     ensures closed { SuccessorsSuffice }
 {}
 
-/// The values put in and those taken out begin one list, so that not both those put in by one
-/// moment and those taken out by another one have more of some value.
+/// The values put in and those taken out are prefixes of one list, so that not both those put in by
+/// one moment and those taken out by another one have more of some value.
 pub fn takes_follow_puts()
     ensures { TakesFollowPuts }
 {}

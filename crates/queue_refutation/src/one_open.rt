@@ -9,7 +9,8 @@ ghost use Rattle.queue_pairs.specs.Tables.{IsTable};
 use book_base::Book;
 use queue_pairs::Table;
 
-/// Looks in the table of a book whether each view holds at most one unanswered call of each caller.
+/// Looks, by the table of a book, whether each view holds at most one unanswered call of each
+/// caller.
 pub fn has_one_open(table: &Table, book: &Book) -> bool
     ensures { IsTrue result → (reading : Reading) → IsTable reading book.now table.now
         → HasOneOpen book.now }

@@ -11,10 +11,10 @@ use book_base::{Book, Call, Cut, Marks, Sight};
 use container_pruning::Reader;
 
 /// Which of the calls that may come next a search has to try, of a register that holds a value:
-/// some of those that are marked, and they suffice. Which ones, no clause says. One answered
-/// write alone, where no call outside the cut reads its value or the one held; and else no write
-/// over a value that is still read and no longer written, and no unanswered write of what isn't
-/// read.
+/// some of those that are marked, and they suffice. No clause says which. It is one answered write
+/// alone, where no answered call outside the cut reads its value or the one held; and else all but
+/// the writes over a value that is still read and no longer written, and the unanswered writes of
+/// what isn't read.
 pub fn narrow_holds_last<R: Reader>(
     reader: &R,
     sight: &Sight,
@@ -33,12 +33,13 @@ pub fn narrow_holds_last<R: Reader>(
     requires wide { length cut.now ≡ length book.now }
     // Of all answered calls outside the cut the forced caller's first one has the least view.
     requires forced { IsForced book.now cut.now forced }
-    // The callers are marked whose next calls may come next after the cut, and no others.
+    // Exactly those callers are marked whose next calls after the cut may come next.
     requires marks { MarksAllNext book.now cut.now marks }
     // Each caller that the answer marks was marked.
     ensures fewer { IsMarkedWithin result marks }
-    // For each object that holds the value written last, and holds this one: all that goes on from
-    // here goes on by the next call of a caller that the answer marks as well, with no more places.
+    // For each object that holds the value written last, and holds this one: where places continue
+    // an order from here, some that begin with the next call of a caller that the answer marks do,
+    // and they are no more.
     ensures suffice { (held_in : List ℕ → ℕ) (next : List ℕ → ℕ → List ℕ × ℕ) (list : List ℕ)
         → HoldsLast (R.reading reader.now) held_in next
         → held_in list ≡ held → MarksSuffice book.now next cut.now list result }
@@ -50,8 +51,8 @@ pub fn narrow_holds_last<R: Reader>(
     }
 }
 
-// A marked caller whose next call is answered and writes what no call outside reads, where none
-// reads the value held either.
+// A marked caller whose next call is answered and writes what no answered call outside the cut
+// reads, where none reads the value held either.
 fn unread_write<R: Reader>(
     reader: &R,
     sight: &Sight,
@@ -78,7 +79,7 @@ fn unread_write<R: Reader>(
     None
 }
 
-// Whether a caller's next call is answered and writes what no call outside reads.
+// Whether a caller's next call is answered and writes what no answered call outside the cut reads.
 fn writes_unread<R: Reader>(reader: &R, sight: &Sight, book: &Book, cut: &Cut, caller: u32) -> bool
     requires sight { ListsValues (R.reading reader.now) book.now sight.now }
     requires wide { length cut.now ≡ length book.now }
@@ -122,7 +123,7 @@ fn without_needless<R: Reader>(
 }
 
 // Whether a caller's next call writes over a value that is irreplaceable, or is unanswered and
-// writes what no call outside reads.
+// writes what no answered call outside the cut reads.
 fn is_needless<R: Reader>(
     reader: &R,
     sight: &Sight,

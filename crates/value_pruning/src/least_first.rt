@@ -13,11 +13,11 @@ use book_base::{Book, Call, Cut, Marks, Sight};
 use container_pruning::{Reader, Role};
 
 /// Which of the calls that may come next a search has to try, of a priority queue: some of those
-/// that are marked, and they suffice. Which ones, no clause says. Of the takes that show the
-/// least item one alone, where it has the least view of all that show it, also of those that may
-/// not come next yet; and else a put of a lesser value that is put in once, where its take may
-/// come next too; and else all takes, the forced call, and the puts of lesser values that a call
-/// which may come next may take.
+/// that are marked, and they suffice. No clause says which. It is one take alone that shows the
+/// least item, where it has the least view of all that show it, also of those that may not come
+/// next yet; and else a put of a lesser value that is put in once, where its take may come next
+/// too; and else all takes, the forced call, and the puts of lesser values that a call which may
+/// come next may take.
 pub fn narrow_least_first<R: Reader>(
     reader: &R,
     sight: &Sight,
@@ -36,13 +36,13 @@ pub fn narrow_least_first<R: Reader>(
     requires wide { length cut.now ≡ length book.now }
     // Of all answered calls outside the cut the forced caller's first one has the least view.
     requires forced { IsForced book.now cut.now forced }
-    // The callers are marked whose next calls may come next after the cut, and no others.
+    // Exactly those callers are marked whose next calls after the cut may come next.
     requires marks { MarksAllNext book.now cut.now marks }
     // Each caller that the answer marks was marked.
     ensures fewer { IsMarkedWithin result marks }
-    // For each object that gives its least value first, from a rising list on that some order
-    // reaches with this cut: all that goes on from here goes on by the next call of a caller that
-    // the answer marks as well, with no more places.
+    // For each object that gives its least value first, at a rising list that some order reaches
+    // with this cut: where places continue an order from here, some that begin with the next call
+    // of a caller that the answer marks do, and they are no more.
     ensures suffice { (init : List ℕ) (next : List ℕ → ℕ → List ℕ × ℕ) (bound : ℕ)
         → GivesLeastFirst (R.reading reader.now) next bound
         → IsRising bound init → IsReached init next book.now cut.now words.now
@@ -80,7 +80,8 @@ fn first_take<R: Reader>(
 }
 
 /// A marked caller whose next call takes out a value, with the least view of all answered calls
-/// outside the cut that take it out. No clause says that one is found: that costs time alone.
+/// outside the cut that take it out. No clause says that one is found, since not finding it costs
+/// time alone.
 pub fn next_take<R: Reader>(
     reader: &R,
     sight: &Sight,

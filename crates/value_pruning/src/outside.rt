@@ -38,7 +38,7 @@ pub fn is_written<R: Reader>(reader: &R, sight: &Sight, book: &Book, cut: &Cut, 
     }
 }
 
-// Whether one of these calls is an answered one outside a cut that reads a value.
+// Whether some of these calls is answered, outside a cut, and reads a value.
 fn some_reads<R: Reader>(reader: &R, book: &Book, cut: &Cut, calls: &[Call], value: u64) -> bool
     requires wide { length cut.now ≡ length book.now }
     ensures found { IsTrue result → IsRead (R.reading reader.now) book.now cut.now value }
@@ -53,7 +53,7 @@ fn some_reads<R: Reader>(reader: &R, book: &Book, cut: &Cut, calls: &[Call], val
     false
 }
 
-// Whether one of these calls is one outside a cut that writes a value.
+// Whether some of these calls is outside a cut and writes a value.
 fn some_writes<R: Reader>(reader: &R, book: &Book, cut: &Cut, calls: &[Call], value: u64) -> bool
     requires wide { length cut.now ≡ length book.now }
     ensures found { IsTrue result → IsWritten (R.reading reader.now) book.now cut.now value }
@@ -68,7 +68,7 @@ fn some_writes<R: Reader>(reader: &R, book: &Book, cut: &Cut, calls: &[Call], va
     false
 }
 
-/// Whether a call is an answered one outside a cut that reads a value.
+/// Whether a call is answered, outside a cut, and reads a value.
 pub fn reads_outside<R: Reader>(reader: &R, book: &Book, cut: &Cut, call: Call, value: u64) -> bool
     // The cut has a count for each caller of the book.
     requires wide { length cut.now ≡ length book.now }
@@ -83,7 +83,7 @@ pub fn reads_outside<R: Reader>(reader: &R, book: &Book, cut: &Cut, call: Call, 
     }
 }
 
-// Whether a call is one outside a cut that writes a value.
+// Whether a call is outside a cut and writes a value.
 fn writes_outside<R: Reader>(reader: &R, book: &Book, cut: &Cut, call: Call, value: u64) -> bool
     requires wide { length cut.now ≡ length book.now }
     ensures { IsTrue result ↔ WritesOutside (R.reading reader.now) book.now cut.now value call }

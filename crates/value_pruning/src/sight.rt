@@ -133,7 +133,7 @@ pub fn labelled_of(sight: &Sight, value: u64) -> Option<&Labelled>
 
 /// Whether one call alone puts in a value.
 pub fn is_put_once(sight: &Sight, value: u64) -> bool
-    // `true` is answered only where the sight lists exactly one call that puts in the value.
+    // The answer is `true` only where the sight lists exactly one call that puts in the value.
     ensures { IsTrue result → length (sights.puts_of sight.now value) ≡ 1 }
 {
     match labelled_of(sight, value) {
@@ -143,7 +143,7 @@ pub fn is_put_once(sight: &Sight, value: u64) -> bool
 }
 
 /// Of the answered calls outside a cut that take out a value one with the least view. No clause
-/// says that one is found: that costs time alone.
+/// says that one is found, since not finding it costs time alone.
 pub fn least_take(sight: &Sight, book: &Book, cut: &Cut, value: u64) -> Option<Call>
     requires { length cut.now ≡ length book.now }
     ensures answered { IfSome result (IsAnswered book.now) }
@@ -153,7 +153,7 @@ pub fn least_take(sight: &Sight, book: &Book, cut: &Cut, value: u64) -> Option<C
     least_outside(book, cut, &labelled_of(sight, value)?.shows)
 }
 
-// Of the answered ones among these calls that are outside a cut one with the least view.
+// Of those of these calls that are answered and outside a cut one with the least view.
 fn least_outside(book: &Book, cut: &Cut, calls: &[Call]) -> Option<Call>
     requires { length cut.now ≡ length book.now }
     ensures answered { IfSome result (IsAnswered book.now) }
