@@ -15,8 +15,8 @@ use book_base::{Book, BookFault, Call, Cut, ReadFault, Record, TextFault, What};
 use std::alloc::Global;
 use text_fields::{Lines, OpText, Version};
 
-/// The book whose calls the lines tell, by the words of these operations; the lines after them
-/// stay.
+/// The book whose calls the lines tell, by the words of these operations; the lines after them are
+/// left.
 ///
 /// `calls` has the number of calls of each of the `n` callers. A text fault is the first fault of
 /// the lines of the calls. After a refusal the lines stay as they were.
@@ -145,7 +145,7 @@ fn is_gap(book: &Book, call: Call) -> bool
     book.answers(call.caller) < call.number
 }
 
-/// Puts what the line of this call says into the book.
+/// Puts into the book what the line of this call says.
 fn record_entry(book: &mut Book, call: Call, entry: CallEntry) -> Result<(), BookFault>
     requires call { IsCall book.old call }
     requires unanswered { IsUnanswered book.old call }
@@ -167,7 +167,7 @@ fn record_entry(book: &mut Book, call: Call, entry: CallEntry) -> Result<(), Boo
     Ok(())
 }
 
-/// What a text is refused with where the book refused the view in this line.
+/// The fault with which a text is refused where the book refused the view in this line.
 pub fn refusal(line: u64, fault: BookFault) -> ReadFault
     // The fault is one of a test of views, or want of memory.
     requires { MayRefuse fault }

@@ -9,12 +9,12 @@ ghost use Rattle.book_text.specs.Grammar.{end_words};
 use book_base::{TextFault, What};
 use text_fields::{Lines, Words};
 
-/// The last line of a text, and nothing after it.
+/// Reads the last line of a text, which nothing may follow.
 pub fn read_end(lines: &mut Lines) -> Result<(), TextFault>
     // An answer Ok comes only where the next line is the last of a text, with nothing after it, and
     // it is taken.
     ensures found { IfOk result (λ _. IsEnded lines.old lines.new) }
-    // A fault says that no line is whole, that the next one isn't the last line of a text, or that
+    // A fault says that the next line isn't whole, that it isn't the last line of a text, or that
     // bytes follow it.
     ensures refused { IfErr result (IsNoEnd lines.old) }
     // Where the next line is the last of a text with nothing after it, the answer is Ok, and the

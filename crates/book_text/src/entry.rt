@@ -62,7 +62,7 @@ pub fn take_place(words: &mut Words, call: Call) -> Option<()>
     take_due(words, call.number)
 }
 
-/// Takes the next word, which is to be this number.
+/// Takes the next word, which is to be the number that is due.
 fn take_due(words: &mut Words, due: u64) -> Option<()>
     ensures found { IfSome result (λ _. words.old ≡ decimal due ∷ words.new) }
     ensures none { IfNone result ((suffix : List (List ℕ)) → words.old ≢ decimal due ∷ suffix) }
@@ -76,7 +76,7 @@ pub fn take_operation<T: OpText>(operations: &T, words: &mut Words) -> Option<Op
     // An operation that was found is that with whose words the words began, and these are taken.
     ensures found { IfSome result (λ op.
         BeginWith (T.operations operations.now) words.old op words.new) }
-    // No operation is found only where the words begin with those of none.
+    // No operation is found only where the words begin with those of no operation.
     ensures none { IfNone result (BeginWithNone (T.operations operations.now) words.old) }
 {
     let first = words.next()?;

@@ -40,17 +40,17 @@ pub fn a_text_is_its_books_lines()
         → IsWrittenText version bytes kind book ↔ IsBookText version bytes kind book }
 {}
 
-/// A first fault stands where the bytes leave the texts of books: some text begins with the lines
-/// before the fault's line, and none goes on with that line; or it isn't whole, or bytes follow a
-/// whole text.
+/// A first fault is where the bytes stop being the beginning of a book's text: some text begins
+/// with the lines before the fault's line, and none begins with these and that line; or that line
+/// isn't whole, or bytes follow a whole text.
 pub fn first_faults_leave_texts()
     ensures { (version : Version) (bytes : List ℕ) (fault : TextFault)
         → IsFirstBookFault version bytes fault → LeavesTexts version bytes fault }
 {}
 
-/// The rules of a head, of the lines of calls and of a whole book are sharp: a right line is right
-/// in one way, fails no test, and can be read back. Those of a head are sharp for any title that is
-/// a word, and those of the lines of calls for the operations of any texts.
+/// The rules of a head, of the lines of calls and of a whole book are sharp: a right line leads to
+/// one state only, fails no test, and can be read back. The rules of a head are sharp for any title
+/// that is a word, and those of the lines of calls for the operations of any texts.
 pub fn rules_are_sharp<T: OpText>()
     ensures head { (version : Version) (title : List ℕ)
         → IsSolid title → AreSharp (head_rules version title) }

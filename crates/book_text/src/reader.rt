@@ -20,7 +20,7 @@ use text_fields::{KindWords, Lines, Version, read_head_of};
 ///
 /// A text fault names the first line that is wrong, and of its tests the first that it fails.
 pub fn read_book(alloc: Global, bytes: &[u8]) -> Result<(Kind, Book), ReadFault>
-    // What is read is this book's text.
+    // A book that was read is the one that the bytes are the text of.
     ensures found { IfOk result (λ (kind, book). IsBookText Second bytes.now kind book) }
     // A text of a book is read as that book, unless memory runs out.
     ensures only { (kind : Kind) (book : List Page) → IsBookText Second bytes.now kind book
@@ -41,7 +41,7 @@ pub fn read_book(alloc: Global, bytes: &[u8]) -> Result<(Kind, Book), ReadFault>
 ///
 /// A text fault names the first line that is wrong, and of its tests the first that it fails.
 pub fn read_book1(alloc: Global, bytes: &[u8]) -> Result<(Kind, Book), ReadFault>
-    // What is read is this book's text.
+    // A book that was read is the one that the bytes are the text of.
     ensures found { IfOk result (λ (kind, book). IsBookText First bytes.now kind book) }
     // A text of a book is read as that book, unless memory runs out.
     ensures only { (kind : Kind) (book : List Page) → IsBookText First bytes.now kind book

@@ -8,7 +8,7 @@ ghost use Rattle.book_text.specs.CallLines.{AreView, IsNoView};
 use book_base::Cut;
 use text_fields::{Version, Words, read_counts, read_pairs};
 
-/// The view after a reply, and nothing after it.
+/// The view after a reply, which nothing may follow.
 pub(crate) fn read_view(version: Version, words: &mut Words, n: u32) -> Option<Cut>
     requires some { 1 ≤ n }
     requires few { n ≤ MAX_CALLERS }
@@ -21,7 +21,7 @@ pub(crate) fn read_view(version: Version, words: &mut Words, n: u32) -> Option<C
     }
 }
 
-/// A view as all its counts.
+/// A view that is written as all its counts.
 fn first_view(words: &mut Words, n: u32) -> Option<Cut>
     requires some { 1 ≤ n }
     requires few { n ≤ MAX_CALLERS }
@@ -32,7 +32,7 @@ fn first_view(words: &mut Words, n: u32) -> Option<Cut>
     read_counts(words, n, u64::MAX)
 }
 
-/// A view as pairs.
+/// A view that is written as pairs.
 fn second_view(words: &mut Words, n: u32) -> Option<Cut>
     requires some { 1 ≤ n }
     requires few { n ≤ MAX_CALLERS }
@@ -47,11 +47,11 @@ fn second_view(words: &mut Words, n: u32) -> Option<Cut>
     }
 }
 
-/// Takes the next word, which is to be this.
+/// Takes the next word, which is to be the wanted one.
 pub fn take_word(words: &mut Words, wanted: &[u8]) -> Option<()>
-    // An answer Some comes only where the next word was this, and it is taken.
+    // An answer Some comes only where the next word was the wanted one, and it is taken.
     ensures found { IfSome result (λ _. words.old ≡ wanted.now ∷ words.new) }
-    // An answer None comes only where the next word isn't this.
+    // An answer None comes only where the next word isn't the wanted one.
     ensures none { IfNone result ((suffix : List (List ℕ)) → words.old ≢ wanted.now ∷ suffix) }
 {
     if words.next()? == wanted {

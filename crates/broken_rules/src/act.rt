@@ -17,27 +17,27 @@ const KEYS: u64 = 1 << 32;
 /// The code of the operation that puts a key in.
 const PUT: u64 = 1;
 
-/// What the reply of a map has above the value of a key.
+/// The number that the reply of a map has above a key's value.
 const VALUE_TAG: u64 = 2;
 
 /// What a call of a book did. An increment takes the count that it replies, a read takes the value
 /// that it shows, and an operation of a set or a map takes its key where it found the key.
 #[derive(Clone, Copy, Debug)]
 pub(crate) enum Act {
-    /// It puts a value in.
+    /// The call puts a value in.
     Put(u64),
-    /// It is answered, and takes a value.
+    /// The call is answered, and takes a value.
     Took(u64),
-    /// It is answered, and found nothing to take.
+    /// The call is answered, and found nothing to take.
     FoundNothing,
-    /// It is a take without an answer.
+    /// The call is a take without an answer.
     OpenTake,
-    /// It does neither.
+    /// The call neither puts in nor takes.
     Other,
 }
 
 impl Act {
-    /// The value that it is about, and 0 where it is about none.
+    /// The value that the act is about, and 0 where it is about none.
     pub(crate) fn value(self) -> u64
         ensures { result ≡ value_by (deal_of_act self) }
     {
@@ -48,49 +48,49 @@ impl Act {
         }
     }
 
-    /// Whether it is a put.
+    /// Whether the act is a put.
     pub(crate) fn is_put(self) -> bool
         ensures { result ≡ is_put (deal_of_act self) }
     {
         matches!(self, Act::Put(_))
     }
 
-    /// Whether it is an answered take that shows a value.
+    /// Whether the act is an answered take that shows a value.
     pub(crate) fn is_take(self) -> bool
         ensures { result ≡ is_take (deal_of_act self) }
     {
         matches!(self, Act::Took(_))
     }
 
-    /// Whether it is an answered take that found nothing.
+    /// Whether the act is an answered take that found nothing.
     pub(crate) fn is_nothing(self) -> bool
         ensures { result ≡ is_nothing (deal_of_act self) }
     {
         matches!(self, Act::FoundNothing)
     }
 
-    /// Whether it is a take without an answer.
+    /// Whether the act is a take without an answer.
     fn is_open(self) -> bool
         ensures { result ≡ is_open (deal_of_act self) }
     {
         matches!(self, Act::OpenTake)
     }
 
-    /// Whether it puts this value in.
+    /// Whether the act puts this value in.
     pub(crate) fn puts(self, value: u64) -> bool
         ensures { result ≡ (is_put (deal_of_act self) && (value_by (deal_of_act self) == value)) }
     {
         self.is_put() && self.value() == value
     }
 
-    /// Whether it is an answered take of this value.
+    /// Whether the act is an answered take of this value.
     pub(crate) fn took(self, value: u64) -> bool
         ensures { result ≡ (is_take (deal_of_act self) && (value_by (deal_of_act self) == value)) }
     {
         self.is_take() && self.value() == value
     }
 
-    /// Whether it may take this value: it took it, or it has no answer.
+    /// Whether the act may take this value: it is a take of it, or a take without an answer.
     pub(crate) fn may_take(self, value: u64) -> bool
         ensures { result ≡ ((is_take (deal_of_act self) && (value_by (deal_of_act self) == value))
             || is_open (deal_of_act self)) }

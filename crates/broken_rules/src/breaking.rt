@@ -35,7 +35,7 @@ pub(crate) fn is_broken(kind: Kind, book: &Book, broken: BrokenRule) -> bool
     all_meet(kind, book, rule.takes_demand(), broken.first, broken.second)
 }
 
-// Whether two calls are so related.
+// Whether two calls are related in this way.
 fn are_related(kind: Kind, book: &Book, relation: Relation, first: Call, second: Call) -> bool
     requires first { IsCall book.now first }
     requires second { IsCall book.now second }
@@ -51,7 +51,8 @@ fn are_related(kind: Kind, book: &Book, relation: Relation, first: Call, second:
     }
 }
 
-// Whether two calls are one, whose view holds no more calls than the count that it replies.
+// Whether two calls are the same call, whose view holds no more calls than the count that it
+// replies.
 fn is_unseen(kind: Kind, book: &Book, first: Call, second: Call) -> bool
     requires first { IsCall book.now first }
     requires second { IsCall book.now second }

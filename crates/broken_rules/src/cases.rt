@@ -7,7 +7,8 @@ ghost use Rattle.broken_rules.specs.Deeds.{did};
 ghost use Rattle.broken_rules.specs.Rules.{SeesAtMost};
 ghost use Rattle.broken_rules.specs.Worked.{of_a_set, of_a_map, of_a_counter};
 
-/// A call of a set takes its value where it found the value, and puts it in where it added it.
+/// A call of a set takes its value where it found the value there, and puts it in where it added
+/// the value.
 pub fn calls_of_a_set()
     // An `add` that replies yes puts its value in.
     ensures adds { did kinds.IntSet of_a_set (record { caller = 0; number = 0 }) ≡ deals.Put 3 }
@@ -17,13 +18,13 @@ pub fn calls_of_a_set()
     // A `has` that replies yes found its value.
     ensures looks { did kinds.IntSet of_a_set (record { caller = 0; number = 2 })
         ≡ deals.Took 3 }
-    // A `has` that replies no did neither.
+    // A `has` that replies no neither puts in nor takes.
     ensures misses { did kinds.IntSet of_a_set (record { caller = 0; number = 3 })
         ≡ deals.Other }
     // A `remove` that replies yes found its value.
     ensures removes { did kinds.IntSet of_a_set (record { caller = 0; number = 4 })
         ≡ deals.Took 3 }
-    // A `remove` that replies no did neither.
+    // A `remove` that replies no neither puts in nor takes.
     ensures removes_again { did kinds.IntSet of_a_set (record { caller = 0; number = 5 })
         ≡ deals.Other }
     // An `add` without an answer may have put its value in.
@@ -31,7 +32,7 @@ pub fn calls_of_a_set()
         ≡ deals.Put 5 }
 {}
 
-/// A call of a map takes its key where it found the key, and puts it in where it put it newly.
+/// A call of a map takes its key where it found the key there, and puts it in where the key is new.
 pub fn calls_of_a_map()
     // A `put` that replies none puts its key in.
     ensures puts { did kinds.Map of_a_map (record { caller = 0; number = 0 }) ≡ deals.Put 3 }
@@ -39,11 +40,11 @@ pub fn calls_of_a_map()
     ensures replaces { did kinds.Map of_a_map (record { caller = 0; number = 1 }) ≡ deals.Took 3 }
     // A `get` that replies a value found its key.
     ensures gets { did kinds.Map of_a_map (record { caller = 0; number = 2 }) ≡ deals.Took 3 }
-    // A `get` that replies none did neither.
+    // A `get` that replies none neither puts in nor takes.
     ensures misses { did kinds.Map of_a_map (record { caller = 0; number = 3 }) ≡ deals.Other }
     // A `del` that replies a value found its key.
     ensures deletes { did kinds.Map of_a_map (record { caller = 0; number = 4 }) ≡ deals.Took 3 }
-    // A `get` without an answer did neither.
+    // A `get` without an answer neither puts in nor takes.
     ensures unanswered { did kinds.Map of_a_map (record { caller = 0; number = 5 })
         ≡ deals.Other }
 {}

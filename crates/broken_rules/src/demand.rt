@@ -24,7 +24,7 @@ pub(crate) enum Demand {
     OnlyTake,
     /// The takes that may take the first call's value come after the second call.
     TakesFollow,
-    /// Nothing.
+    /// The demand asks nothing.
     Nothing,
 }
 
@@ -83,7 +83,7 @@ fn meets(kind: Kind, book: &Book, demand: Demand, first: Call, second: Call, cal
     }
 }
 
-// Whether a call comes after another one, where it puts in the value of a third one.
+// Whether a call comes after another one, if it puts in the value of a third one.
 fn put_follows(kind: Kind, book: &Book, valued: Call, first: Call, call: Call) -> bool
     requires valued { IsCall book.now valued }
     requires first { IsCall book.now first }
@@ -98,7 +98,7 @@ fn put_follows(kind: Kind, book: &Book, valued: Call, first: Call, call: Call) -
     }
 }
 
-// Whether a call comes before a first call or after a second one, where it puts in the value of the
+// Whether a call comes before a first call or after a second one, if it puts in the value of the
 // second one.
 fn put_is_outside(kind: Kind, book: &Book, first: Call, second: Call, call: Call) -> bool
     requires first { IsCall book.now first }
@@ -128,7 +128,7 @@ fn is_outside(book: &Book, first: Call, second: Call, call: Call) -> bool
     }
 }
 
-// Whether a call is another one, where it puts in the value of that one.
+// Whether a call is this only one, if it puts in the only one's value.
 fn put_is_only(kind: Kind, book: &Book, only: Call, call: Call) -> bool
     requires only { IsCall book.now only }
     requires call { IsCall book.now call }
@@ -142,7 +142,7 @@ fn put_is_only(kind: Kind, book: &Book, only: Call, call: Call) -> bool
     }
 }
 
-// Whether a call is another one, where it takes the value of that one.
+// Whether a call is this only one, if it takes the only one's value.
 fn take_is_only(kind: Kind, book: &Book, only: Call, call: Call) -> bool
     requires only { IsCall book.now only }
     requires call { IsCall book.now call }
@@ -156,7 +156,7 @@ fn take_is_only(kind: Kind, book: &Book, only: Call, call: Call) -> bool
     }
 }
 
-// Whether a call comes after a second call, where it may take the value of a first one.
+// Whether a call comes after a second call, if it may take the value of a first one.
 fn take_follows(kind: Kind, book: &Book, first: Call, second: Call, call: Call) -> bool
     requires first { IsCall book.now first }
     requires second { IsCall book.now second }
@@ -202,7 +202,7 @@ fn may_take_value(kind: Kind, book: &Book, valued: Call, call: Call) -> bool
     act_of(kind, book, call).may_take(value)
 }
 
-/// Whether two calls are one.
+/// Whether two calls are the same call.
 pub(crate) fn is_same(a: Call, b: Call) -> bool
     ensures { IsTrue result ↔ (a ≡ b) }
 {

@@ -61,17 +61,17 @@ pub struct BrokenRule {
 /// How two calls that break a rule are related.
 #[derive(Clone, Copy, Debug)]
 pub(crate) enum Relation {
-    /// They are one call.
+    /// The two are the same call.
     Same,
-    /// They are one call, whose view holds no more calls than the count that it replies.
+    /// The two are the same call, whose view holds no more calls than the count that it replies.
     Unseen,
-    /// They are two calls.
+    /// The two are different calls.
     Apart,
     /// The first call precedes the second one.
     Before,
     /// Another call takes what the second one takes.
     TakenByAnother,
-    /// Nothing is asked.
+    /// The relation asks nothing.
     Any,
 }
 
@@ -96,7 +96,7 @@ impl Rule {
         }
     }
 
-    /// Whether two calls that did so may break the rule.
+    /// Whether two calls with these acts may break the rule.
     pub(crate) fn fits(self, first: Act, second: Act) -> bool
         ensures { result ≡ rules.fits self (deal_of_act first) (deal_of_act second) }
     {
@@ -124,7 +124,7 @@ impl Rule {
         }
     }
 
-    /// Whether the rule is broken by one call, which is both its calls.
+    /// Whether the rule is broken by one call, which is both of its calls.
     pub(crate) fn is_of_one_call(self) -> bool
         ensures { result ≡ rules.is_of_one_call self }
     {
@@ -170,7 +170,7 @@ impl Rule {
         }
     }
 
-    /// How the two calls are related.
+    /// How the two calls of the rule are related.
     pub(crate) fn relation(self) -> Relation
         ensures { result ≡ rules.relation_of self }
     {

@@ -31,11 +31,11 @@ const RULES: [Rule; 12] = [
 ];
 
 /// A rule that a book breaks, with the two calls by which it does; none, where it breaks none of
-/// the rules of [`Rule`]. A book that breaks one has no legal order. One that breaks none may have
-/// one or not.
+/// the rules of [`Rule`]. A book that breaks a rule has no legal order. A book that breaks none may
+/// have a legal order or not.
 ///
-/// For a rule of two calls all pairs of calls are tried, and for some of them all calls: it is made
-/// for small books.
+/// For a rule of two calls all pairs of calls are tried, and for some of these all calls: the
+/// function is made for small books.
 pub fn broken_rule(kind: Kind, book: &Book) -> Option<BrokenRule>
     // The book breaks the rule that is answered, by the calls that are answered.
     ensures broken { IfSome result (λ broken. Breaks kind book.now broken) }
@@ -102,8 +102,8 @@ fn broken_by_caller(kind: Kind, book: &Book, rule: Rule, caller: u32) -> Option<
     None
 }
 
-// A call by which and this one a book breaks a rule: this one itself, where the rule is of one
-// call.
+// A call by which, with the given one, a book breaks a rule: the given one itself, where the rule
+// is of one call.
 fn broken_at(kind: Kind, book: &Book, rule: Rule, first: Call) -> Option<BrokenRule>
     requires { IsCall book.now first }
     ensures broken { IfSome result (λ broken. Breaks kind book.now broken) }
@@ -117,7 +117,7 @@ fn broken_at(kind: Kind, book: &Book, rule: Rule, first: Call) -> Option<BrokenR
     }
 }
 
-// This call, where a book breaks a rule of one call by it.
+// The given call, where a book breaks a rule of one call by it.
 fn broken_alone(kind: Kind, book: &Book, rule: Rule, only: Call) -> Option<BrokenRule>
     requires call { IsCall book.now only }
     requires rule { is_of_one_call rule ≡ true }
@@ -137,7 +137,7 @@ fn broken_alone(kind: Kind, book: &Book, rule: Rule, only: Call) -> Option<Broke
     }
 }
 
-// A call by which and this one a book breaks a rule.
+// A call by which, with the given one, a book breaks a rule.
 fn broken_with(kind: Kind, book: &Book, rule: Rule, first: Call) -> Option<BrokenRule>
     requires { IsCall book.now first }
     ensures broken { IfSome result (λ broken. Breaks kind book.now broken) }
@@ -153,7 +153,7 @@ fn broken_with(kind: Kind, book: &Book, rule: Rule, first: Call) -> Option<Broke
     None
 }
 
-// A call of a caller by which and a first one a book breaks a rule.
+// A call of a caller by which, with a first one, a book breaks a rule.
 fn broken_with_caller(
     kind: Kind,
     book: &Book,

@@ -1,5 +1,5 @@
-//! Runs that are worked by hand, and beside them steps that are no run: a reply of another
-//! operation of the run, or one too early or too late.
+//! Runs that are worked by hand, and beside them lists of steps that are no run, since a reply is
+//! another operation's, or comes too early or too late.
 
 ghost use Rattle.std.specs.Prelude.{[], ◌∷◌};
 ghost use Rattle.seq_objects.specs.declared.kind.Kind.TheVariants as kinds;
@@ -72,17 +72,17 @@ pub fn runs_of_a_counter()
     ensures from_one { ¬ IsRunOf kinds.Counter ((operation words.inc 0, reply_value 1) ∷ []) }
 {}
 
-/// Runs of a set: an add stands until a remove.
+/// Runs of a set: a value is in from an add to a remove.
 pub fn runs_of_a_set()
     // A value is in the set from its first add to its first remove.
     ensures run { IsRunOf kinds.IntSet ((operation words.add 3, reply_yes)
         ∷ (operation words.add 3, reply_no) ∷ (operation words.has 3, reply_yes)
         ∷ (operation words.remove 3, reply_yes) ∷ (operation words.remove 3, reply_no)
         ∷ (operation words.has 3, reply_no) ∷ []) }
-    // The add of one value doesn't make another one be in.
+    // An add of one value doesn't put another value in.
     ensures other { ¬ IsRunOf kinds.IntSet ((operation words.add 3, reply_yes)
         ∷ (operation words.has 4, reply_yes) ∷ []) }
-    // A second add isn't replied yes.
+    // The reply to a second add isn't yes.
     ensures added_twice { ¬ IsRunOf kinds.IntSet ((operation words.add 3, reply_yes)
         ∷ (operation words.add 3, reply_yes) ∷ []) }
     // A value that was added twice isn't in after one remove.

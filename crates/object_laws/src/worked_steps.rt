@@ -9,13 +9,13 @@ ghost use Rattle.seq_objects.specs.WorkedSteps.{Makes};
 pub fn worked_register_steps()
     // The register begins with the list of 0 alone.
     ensures begins { kind_init kinds.Register ≡ 0 ∷ [] }
-    // A write of 7 leaves the list of 7 alone, and is replied done.
+    // A write of 7 makes the list 7 alone, and the reply is done.
     ensures writes { Makes kinds.Register 4294967303 (codes "write 7")
         (4 ∷ 9 ∷ []) (7 ∷ []) (codes "done") }
     // A read at 4 leaves the list, and is replied 4.
     ensures reads { Makes kinds.Register 8589934592 (codes "read")
         (4 ∷ 9 ∷ []) (4 ∷ 9 ∷ []) (codes "=4") }
-    // A read at the empty list leaves it, and is replied 0.
+    // A read at the empty list doesn't change it, and the reply is 0.
     ensures reads_an_empty_list { Makes kinds.Register 8589934592 (codes "read")
         [] [] (codes "=0") }
     // A read gives the low 32 bits of the first word.
@@ -26,17 +26,17 @@ pub fn worked_register_steps()
         (4 ∷ []) (4 ∷ []) (codes "bad") }
 {}
 
-/// Steps of a counter. The count goes on with 0 after the greatest number below 2^32.
+/// Steps of a counter. After the greatest number below 2^32 the count is 0.
 pub fn worked_counter_steps()
     // The counter begins with the list of 0 alone.
     ensures begins { kind_init kinds.Counter ≡ 0 ∷ [] }
-    // An increment at 5 leaves the list of 6 alone, and is replied 5.
+    // An increment at 5 makes the list 6 alone, and the reply is 5.
     ensures counts { Makes kinds.Counter 4294967296 (codes "inc")
         (5 ∷ 9 ∷ []) (6 ∷ []) (codes "=5") }
-    // An increment at the empty list leaves 1, and is replied 0.
+    // An increment at the empty list makes it 1, and the reply is 0.
     ensures counts_an_empty_list { Makes kinds.Counter 4294967296 (codes "inc")
         [] (1 ∷ []) (codes "=0") }
-    // An increment at the greatest number below 2^32 leaves 0.
+    // An increment at the greatest number below 2^32 makes the list 0.
     ensures goes_on_with_zero { Makes kinds.Counter 4294967296 (codes "inc")
         (4294967295 ∷ []) (0 ∷ []) (codes "=4294967295") }
     // An increment counts the low 32 bits of the first word.
@@ -78,7 +78,8 @@ pub fn worked_set_steps()
     // A look for a value that isn't there is replied no.
     ensures has_not { Makes kinds.IntSet 12884901892 (codes "has 4")
         (1 ∷ 3 ∷ []) (1 ∷ 3 ∷ []) (codes "no") }
-    // A look for a value isn't replied yes for an item of which only the low 32 bits are it.
+    // The reply to a look for a value isn't yes where only the low 32 bits of an item are this
+    // value.
     ensures has_not_by_the_low_bits { Makes kinds.IntSet 12884901891 (codes "has 3")
         (4294967299 ∷ []) (4294967299 ∷ []) (codes "no") }
     // A word that no entry has leaves the list, and is replied `bad`.
@@ -86,7 +87,8 @@ pub fn worked_set_steps()
         (4 ∷ []) (4 ∷ []) (codes "bad") }
 {}
 
-/// Steps of a priority queue. A value is put before the first greater item, and the first leaves.
+/// Steps of a priority queue. A value is put before the first greater item, and the first item is
+/// taken out.
 pub fn worked_pqueue_steps()
     // The priority queue begins with the empty list.
     ensures begins { kind_init kinds.Pqueue ≡ [] }

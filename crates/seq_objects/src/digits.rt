@@ -56,7 +56,7 @@ pub fn put_marked(out: &mut Vec<u8>, mark: u8, n: u64) -> Result<(), NoMemory>
     put_number(out, n)
 }
 
-/// What stands after a byte that a word begins with.
+/// What follows a byte that a word begins with.
 pub fn suffix(mark: u8, word: &[u8]) -> Option<&[u8]>
     ensures found { IfSome result (λ rest. word.now ≡ mark ∷ rest.now) }
     ensures none { IfNone result ((rest : List ℕ) → word.now ≢ mark ∷ rest) }

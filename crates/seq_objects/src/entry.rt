@@ -7,7 +7,7 @@ use crate::digits::{argument, put_marked};
 use crate::kind::Kind;
 use book_base::{NoMemory, OpWord, high, join, low};
 
-/// How many arguments there are: an argument is below this number.
+/// How many values an argument can have.
 const ARGUMENTS: u64 = 1 << 32;
 
 /// How many numbers follow an operation's name.

@@ -135,7 +135,7 @@ impl SeqObject for IntSet {
         Ok(Some(empty_sight(alloc)))
     }
 
-    /// Only calls with the forced call's key are tried.
+    /// Narrows the marked callers to those whose next calls have the forced call's key.
     fn narrow(
         &self,
         sight: &Sight,

@@ -19,7 +19,7 @@ pub trait Keyed {
         ensures { result ≡ key_of self.now op };
 }
 
-/// A sight of nothing, for an object that looks at the book alone.
+/// An empty sight, for an object that looks at the book alone.
 pub fn empty_sight(alloc: Global) -> Sight {
     Sight {
         labelled: Vec::new(alloc),
@@ -31,8 +31,8 @@ pub fn empty_sight(alloc: Global) -> Sight {
 /// Of the marked callers those whose next calls have the forced call's key, or all where it has
 /// none.
 ///
-/// They suffice: in any order that goes on, all that stands before the first call with this key may
-/// change places with it, and it may come next (after Herlihy and Wing 1990, on locality).
+/// They suffice: in any order that continues, the first call with this key may change places with
+/// all before it, and it may come next (after Herlihy and Wing 1990, on locality).
 pub fn narrow_to_key<K: Keyed>(
     object: &K,
     book: &Book,

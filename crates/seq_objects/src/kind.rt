@@ -63,7 +63,7 @@ impl Kind {
             .copied()
     }
 
-    /// The name in texts.
+    /// The name of the kind in texts.
     #[tactic(auto, unfolding(crate::specs::Words::kind_name))]
     pub fn name(self) -> &'static str
         ensures { result.now ≡ kind_name self }
@@ -184,7 +184,7 @@ impl SeqObject for Kind {
         }
     }
 
-    /// What the object knows of a book before a search. Queues and stacks alone know anything.
+    /// What the object knows of a book before a search. Only queues and stacks know anything.
     #[tactic(auto, unfolding(crate::specs::Objects::kind_next))]
     fn find_pruning_rules(&self, alloc: Global, book: &Book) -> Result<PruningRules, NoMemory> {
         match self {
@@ -199,8 +199,8 @@ impl SeqObject for Kind {
         }
     }
 
-    /// Whether an operation with this reply leaves every list as it is. A reply that the operation
-    /// never gives does so too, since no list is changed with it.
+    /// Whether an operation is read-only with this reply. It is so too with a reply that it never
+    /// gives, since it changes no list with that reply.
     #[tactic(auto, unfolding(crate::specs::Objects::kind_next))]
     fn leaves(&self, op: OpWord, reply: u64) -> bool
         ensures { IsTrue result ↔ Leaves (kind_next self.now) op reply }

@@ -14,13 +14,13 @@ pub fn one_name_per_kind()
     ensures word { (kind : Kind) → IsWord (kind_name kind) }
 {}
 
-/// Each operation word has one text per kind: no two words of a kind share a text, words are read
-/// as one operation at most, and a text is words with one space between two.
+/// Each operation word has one text per kind: no two words of a kind share a text, words of a text
+/// are read as at most one operation, and a text is its words with one space between two.
 pub fn one_text_per_operation()
-    // Two operation words with one text of a kind are one.
+    // Two operation words that have one text of a kind are equal.
     ensures text { (kind : Kind) (a b : ℕ) → IsOperationWord a → IsOperationWord b
         → operation_text kind a ≡ operation_text kind b → a ≡ b }
-    // Words that begin with those of two operation words of a kind begin with those of one.
+    // Where words begin with those of two operation words of a kind, the two are equal.
     ensures reading { (kind : Kind) (words : List (List ℕ)) (a b a_used b_used : ℕ)
         → IsOperationWord a → IsOperationWord b
         → Spells kind words a a_used → Spells kind words b b_used
@@ -33,7 +33,7 @@ pub fn one_text_per_operation()
 
 /// Each reply word has one text: no two share a text, and a text is a word.
 pub fn one_text_per_reply()
-    // Two reply words with one text are one.
+    // Two reply words with one text are equal.
     ensures text { (a b : ℕ) → a < 2 ^ 64 → b < 2 ^ 64 → reply_word a ≡ reply_word b → a ≡ b }
     // The text of each reply word is a word: it isn't empty, and each of its bytes is a printed
     // character.
@@ -45,13 +45,13 @@ pub fn one_text_per_reply()
 pub fn maps_keep_what_is_put()
     // A get after a put of its key gives the value that was put.
     ensures put { PutIsGot }
-    // A put leaves what a get gives of each other key.
+    // A put doesn't change what a get gives of any other key.
     ensures put_leaves_others { PutLeavesOthers }
-    // A delete leaves what a get gives of each other key.
+    // A delete doesn't change what a get gives of any other key.
     ensures delete_leaves_others { DeleteLeavesOthers }
     // A get after a delete of its key gives none, where no two items of the list have one key.
     ensures deleted { DeletedIsNone }
-    // Each operation leaves no two items with one key, where no two items of the list before have
+    // After each operation no two items have one key, where no two items of the list before have
     // one.
     ensures once { KeysStayOnce }
 {}

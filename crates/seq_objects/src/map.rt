@@ -152,7 +152,8 @@ impl SeqObject for Map {
         ensures { IsTrue result ↔ Leaves (λ list op. map_after list (map_operation op)) op reply }
     {
         match MapOperation::from_word(op) {
-            // A put that replies the very value that it puts found it there.
+            // A put that found its key may reply any value, and also the one that it puts, which is
+            // there already then.
             Some(MapOperation::Put(_, value)) => {
                 reply == value_reply(u64::from(value)) || reply != NONE && !is_value(reply)
             }
@@ -166,7 +167,7 @@ impl SeqObject for Map {
         Ok(Some(empty_sight(alloc)))
     }
 
-    /// Only calls with the forced call's key are tried.
+    /// Narrows the marked callers to those whose next calls have the forced call's key.
     fn narrow(
         &self,
         sight: &Sight,

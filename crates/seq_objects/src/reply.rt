@@ -7,13 +7,13 @@ ghost use Rattle.seq_objects.specs.Readings.{shown_value};
 use crate::digits::{argument, number, put_marked, suffix};
 use book_base::{BAD, NoMemory};
 
-/// How many values there are: the value of a reply word is below this number.
+/// How many values a reply word can give.
 const VALUES: u64 = 1 << 32;
 
 /// The tag of a reply word that gives a value.
 const VALUE_TAG: u64 = 2;
 
-/// The reply word of an operation that was made and tells nothing.
+/// The reply word of an operation that was made, with nothing more to say.
 pub const DONE: u64 = 0;
 
 /// The reply word where there is no item.

@@ -24,7 +24,7 @@ pub fn worked_cas_register_steps()
     // A compare-and-set of 0 to 5 at a first word of 2^32 makes it 5, since the low 32 bits count.
     ensures takes_the_low_bits { Makes kinds.CasRegister 92233720381432659968 (codes "cas 0 5")
         (4294967296 ∷ 9 ∷ []) (5 ∷ []) (codes "yes") }
-    // A write of 7 leaves the list of 7 alone, and replies done.
+    // A write of 7 makes the list 7 alone, and replies done.
     ensures writes { Makes kinds.CasRegister 4294967303 (codes "write 7")
         (4 ∷ 9 ∷ []) (7 ∷ []) (codes "done") }
     // A read at 4 leaves the list, and replies 4.

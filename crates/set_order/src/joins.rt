@@ -6,20 +6,20 @@ use crate::set_object::SetObject;
 use book_base::{BAD, OpWord, State};
 use seq_objects::value_reply;
 
-// The operation word that joins the number 0: those of the numbers above it follow.
+// The operation word that joins the number 0, which those of the other numbers follow.
 const FIRST_JOIN: OpWord = 1 << 32;
 
 // How many numbers may be joined.
 const JOINS: OpWord = 32;
 
-// The masks are below this number.
+// How many masks there are.
 const MASKS: u64 = 1 << 32;
 
 // The tag of a reply word that gives a mask.
 const VALUE_TAG: u64 = 2;
 
 /// A set of numbers below 32, to which each operation joins one. Operations that are served at once
-/// see one another: each replies with all numbers that are joined then (Neiger 1994).
+/// see one another's numbers: each replies with all numbers that are joined then (Neiger 1994).
 #[derive(Clone, Copy, Debug)]
 pub struct Joins;
 
@@ -64,8 +64,8 @@ impl SetObject for Joins {
         true
     }
 
-    /// Numbers stay joined: so a reply that an operation may still get has all that are joined, and
-    /// its own.
+    /// Numbers stay joined, so that an operation may still get only a reply with all numbers that
+    /// are joined now, and its own.
     fn may_reply(&self, state: &State, op: OpWord, reply: u64) -> bool {
         if Joins::knows(op) {
             has_mask(reply, with_join(mask(state), op))
@@ -110,7 +110,7 @@ fn with_joins(mask: u64, ops: &[OpWord]) -> u64
     ops.iter().fold(mask, |mask, op| with_join(mask, *op))
 }
 
-// Whether a reply word is a mask that has all numbers of this one.
+// Whether a reply word gives a mask that has all numbers of this one.
 fn has_mask(reply: u64, mask: u64) -> bool
     ensures { IsTrue result ↔ HasMask reply mask }
 {
@@ -124,7 +124,7 @@ fn joins_some(ops: &[OpWord]) -> bool
     ops.iter().filter(|op| Joins::knows(**op)).count() > 0
 }
 
-// The reply to an operation, where this many numbers are joined then.
+// The reply to an operation, where the numbers of this mask are joined then.
 fn join_reply(mask: u64, op: OpWord) -> u64
     ensures { result ≡ join_reply mask op }
 {

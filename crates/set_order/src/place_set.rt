@@ -34,7 +34,7 @@ impl PlaceSet {
         &self.places
     }
 
-    /// A set with the same places.
+    /// A copy of the set.
     pub(crate) fn copy(&self, alloc: Global) -> Result<PlaceSet, NoMemory>
         ensures { IfOk result (λ set. set ≡ self.now) }
     {

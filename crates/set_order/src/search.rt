@@ -63,7 +63,7 @@ impl<O: SetObject> SetSearch<'_, O> {
         self.go_on(&mut walk, &mut spare, &mut replies)
     }
 
-    // Goes on with a walk until it has found a legal set order, or all is tried.
+    // Continues a walk until it has found a legal set order, or all is tried.
     fn go_on(
         &self,
         walk: &mut SetWalk,
@@ -91,7 +91,7 @@ impl<O: SetObject> SetSearch<'_, O> {
         }
     }
 
-    // Tries the part of the candidates that the greatest number that is left picks, or leaves a
+    // Tries the part of the candidates that the greatest remaining number picks, or retreats from a
     // dead end.
     fn advance(
         &self,
@@ -124,8 +124,8 @@ impl<O: SetObject> SetSearch<'_, O> {
         }
     }
 
-    // The set of the part that the greatest number that is left picks, where it may stand next. The
-    // spare state has the list after it then.
+    // The set of the part of the candidates that the greatest remaining number picks, where it may
+    // come next. The spare state has the list after the set then.
     fn next_set(
         &self,
         walk: &SetWalk,
@@ -180,7 +180,7 @@ impl<O: SetObject> SetSearch<'_, O> {
         Ok(operations)
     }
 
-    // The set of callers' next calls with these replies, if they are the recorded ones.
+    // The set of callers' next calls with these replies, unless one differs from a recorded reply.
     fn places(
         &self,
         counts: &[u16],
@@ -216,8 +216,8 @@ impl<O: SetObject> SetSearch<'_, O> {
         Ok(Some(PlaceSet::new(places)))
     }
 
-    // Puts a set next, unless that leads to a dead end: a remembered one, or one where an answered
-    // call is lost. The spare state has the list after it.
+    // Takes a set as the next one, unless that leads to a dead end: a remembered one, or one where
+    // an answered call is lost. The spare state has the list after the set.
     fn enter(
         &self,
         walk: &mut SetWalk,
@@ -248,7 +248,7 @@ impl<O: SetObject> SetSearch<'_, O> {
         self.descend(walk, spare, set, counts)
     }
 
-    // Puts a set next, with the counts and the list after it.
+    // Takes a set as the next one, with the counts and the list after it.
     fn descend(
         &self,
         walk: &mut SetWalk,
@@ -368,8 +368,8 @@ impl<O: SetObject> SetSearch<'_, O> {
         true
     }
 
-    // Whether an answered call outside the cut can't get its recorded reply any more: one of those
-    // that are their callers' next ones.
+    // Whether an answered call outside the cut can't get its recorded reply any more. Only the
+    // callers' next calls are looked at.
     fn is_lost(&self, counts: &[u16], here: &State) -> bool
         requires { length counts.now ≡ length self.now.book.now }
         ensures { IsTrue result

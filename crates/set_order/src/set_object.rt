@@ -15,27 +15,27 @@ pub trait SetObject {
 
     /// Makes the list the one that the object begins with. The capacity stays.
     fn reset(&self, state: &mut State)
-        // The state has room for one word.
+        // The state has capacity for one word.
         requires { 1 ≤ state.old.room }
         ensures { state.new ≡ record state.old { words = init self.now } };
 
     /// Serves operations at once: the list becomes the next one, and `replies` the reply to each of
     /// them in turn. Where they may not be served together the answer is `false`, and the state
-    /// stays. Both capacities stay, and no memory is taken.
+    /// doesn't change. Neither capacity changes, and no memory is taken.
     fn serve(&self, state: &mut State, ops: &[OpWord], replies: &mut State) -> bool
         // There is at least one operation.
         requires some { 1 ≤ length ops.now }
-        // The state has room for one word more for each operation.
+        // The state has capacity for one word more for each operation.
         requires room { length state.old.words + length ops.now ≤ state.old.room }
-        // The replies have room for one word for each operation.
+        // The replies have capacity for one word for each operation.
         requires replies { length ops.now ≤ replies.old.room }
-        // An answer `true` comes only where the object serves the operations at once, and leaves
-        // the list and the replies that it gives.
+        // An answer `true` comes only where the object serves the operations at once, and then the
+        // list and the replies are those that it gives.
         ensures served { IsTrue result → served self.now state.old.words ops.now
             ≡ Some (state.new.words, replies.new.words) }
         // The answer is `false` exactly where the object doesn't serve these operations at once.
         ensures refused { IsFalse result ↔ (served self.now state.old.words ops.now ≡ None) }
-        // The state stays where the answer is `false`.
+        // The state doesn't change where the answer is `false`.
         ensures unchanged { IsFalse result → state.new ≡ state.old }
         // The capacity of the state stays.
         ensures room { state.new.room ≡ state.old.room }
@@ -43,7 +43,7 @@ pub trait SetObject {
         ensures replies { replies.new.room ≡ replies.old.room };
 
     /// Whether an operation may still get this reply, alone or beside others, at this list or after
-    /// more is served. An object that leaves this out knows of none that may not.
+    /// more is served. An object that leaves this out rules out no reply.
     fn may_reply(&self, state: &State, op: OpWord, reply: u64) -> bool
         // `false` is answered only where the operation never gets this reply, at this list or after
         // more is served.
@@ -55,7 +55,7 @@ pub trait SetObject {
     /// The list begins with at most one word.
     ghost begins_small: { (object : Self) → length (init object) ≤ 1 };
 
-    /// Operations make the list at most as many words longer.
+    /// Operations make the list longer by at most as many words as there are operations.
     ghost grows_by_each: { (object : Self) (list ops after replies : List ℕ)
         → served object list ops ≡ Some (after, replies)
         → length after ≤ length list + length ops };

@@ -5,8 +5,8 @@ ghost use Rattle.set_order.specs.ServingLaws.{served_alone-grows, served_alone-r
 use crate::set_object::SetObject;
 use book_base::{OpWord, SeqObject, State};
 
-/// A sequential object as one that serves sets: it serves one operation as the object does, and
-/// more than one never.
+/// A sequential object as one that serves sets: it serves a set of one operation as the object
+/// does, and no larger set.
 #[derive(Clone, Copy, Debug)]
 pub struct Single<S> {
     pub object: S,

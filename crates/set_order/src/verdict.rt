@@ -12,17 +12,17 @@ use std::alloc::Global;
 pub enum SetVerdict {
     /// A legal set order.
     Legal(Vec<PlaceSet>),
-    /// There is none.
+    /// The book has no legal set order.
     Illegal,
 }
 
-/// Looks for a legal set order of a book: `Legal` carries one, and `Illegal` comes where there is
-/// none.
+/// Looks for a legal set order of a book: `Legal` carries one, and `Illegal` is the answer where
+/// there is none.
 ///
-/// The search goes depth first through the pairs of a cut and a list, and remembers those that it
-/// has left (after Wing and Gong 1993, and Lowe 2017). A set is taken of the callers' next calls
-/// that no call outside the cut precedes, and the search leaves where an answered call can't get
-/// its reply any more.
+/// The search goes depth first through the pairs of a cut and a list, and remembers those that are
+/// dead ends (after Wing and Gong 1993, and Lowe 2017). A set is taken of the callers' next calls
+/// that no call outside the cut precedes, and the search gives a pair up where an answered call
+/// can't get its reply any more.
 pub fn check_sets<O: SetObject>(
     alloc: Global,
     object: &O,

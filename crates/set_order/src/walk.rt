@@ -8,11 +8,11 @@ use book_base::{MAX_CALLERS, MAX_CALLS, NoMemory, Place, State};
 use frontier_check::Memo;
 use std::alloc::Global;
 
-/// A capacity of as many words as a book has calls, one more, and those of one set.
+/// The capacity of a list with as many words as a book has calls, one more, and those of one set.
 pub const CAPACITY: u64 = MAX_CALLERS as u64 * MAX_CALLS + 1 + MAX_CALLERS as u64;
 
-/// A cut and a list on the way to where a search stands: the counts, the list's words, the set that
-/// was put next there, the candidates, and up to which number their parts are still to be tried.
+/// A level: a cut and a list on the way to the present ones of a search, with the set that was
+/// taken next there, the candidates, and the number up to which their parts are still to be tried.
 #[derive(Drop)]
 pub struct SetLevel {
     pub counts: Vec<u16>,
@@ -22,9 +22,9 @@ pub struct SetLevel {
     pub left: u32,
 }
 
-/// Where a search stands: the levels that lead there, the counts of its cut, its list, the
-/// candidates for the next set, up to which number their parts are still to be tried, and the dead
-/// ends that were left.
+/// How far a search has come: the levels that lead to its present cut and list, these, the
+/// candidates for the next set, the number up to which their parts are still to be tried, and the
+/// dead ends that were found.
 #[derive(Drop)]
 pub struct SetWalk {
     pub levels: Vec<SetLevel>,
@@ -35,12 +35,12 @@ pub struct SetWalk {
     pub memo: Memo,
 }
 
-/// What came of one more step of a search.
+/// The outcome of one more step of a search.
 #[derive(Drop)]
 pub enum StepOutcome {
     /// The levels have the sets of a legal set order.
     Found,
-    /// There is none.
+    /// The book has no legal set order.
     NoneLeft,
     /// The search goes on.
     GoesOn,
@@ -57,7 +57,7 @@ pub fn sets(alloc: Global, levels: &[SetLevel]) -> Result<Vec<PlaceSet>, NoMemor
     Ok(order)
 }
 
-/// The counts with those of a set's calls too.
+/// The counts of a cut raised by the calls of a set.
 pub fn raised(alloc: Global, counts: &[u16], set: &[Place]) -> Result<Vec<u16>, NoMemory>
     requires callers { AllByRecursion (λ place. place.caller < length counts.now) set.now }
     requires numbers { AllByRecursion (λ place. place.number < MAX_CALLS) set.now }

@@ -8,11 +8,11 @@ use crate::words::Words;
 use book_base::Cut;
 use seq_objects::number;
 
-/// The next word as a number that is at most this.
+/// The next word as a number that is at most `most`.
 pub fn next_number(words: &mut Words, most: u64) -> Option<u64>
-    // A number that was found is at most this, and its digits were the next word, which is taken.
+    // A number that was found is at most `most`, and its digits were the next word, which is taken.
     ensures found { IfSome result (λ n. (n ≤ most) × (words.old ≡ decimal n ∷ words.new)) }
-    // No number is found only where the next word is no number, or one above this.
+    // No number is found only where the next word is no number, or one above `most`.
     ensures none { IfNone result
         ((n : ℕ) (suffix : List (List ℕ)) → n ≤ most → words.old ≢ decimal n ∷ suffix) }
 {
@@ -20,18 +20,18 @@ pub fn next_number(words: &mut Words, most: u64) -> Option<u64>
     if n <= most { Some(n) } else { None }
 }
 
-/// As many numbers as there are callers, each at most this, and nothing after them.
+/// As many numbers as there are callers, each at most `most`, and nothing after them.
 pub fn read_counts(words: &mut Words, n: u32, most: u64) -> Option<Cut>
     // There is at least one caller.
     requires some { 1 ≤ n }
     // There are at most `MAX_CALLERS` callers.
     requires few { n ≤ MAX_CALLERS }
-    // The counts that were found are one for each caller, each at most this, and the words were
+    // The counts that were found are one for each caller, each at most `most`, and the words were
     // theirs alone.
     ensures found { IfSome result
         (λ counts. (length counts ≡ n) × AreAtMost most counts × (words.old ≡ map decimal counts)) }
     // No counts are found only where the words aren't one number for each caller, each at most
-    // this.
+    // `most`.
     ensures none { IfNone result ((counts : List ℕ) → length counts ≡ n → AreAtMost most counts
         → words.old ≢ map decimal counts) }
 {

@@ -1,7 +1,7 @@
 ghost use Rattle.std.specs.Prelude.{◌≡◌, ◌==◌, position, option_map};
 ghost use Rattle.text_fields.specs.Lines.{cut_at as cut_at_lem};
 
-/// What stands before the first such byte, and what stands after it.
+/// Bytes cut at the first of a given byte: what is before it and what is after it.
 pub(crate) fn cut_at(byte: u8, bytes: &[u8]) -> Option<(&[u8], &[u8])>
     ensures { option_map (λ parts. (parts.0.now, parts.1.now)) result ≡ cut_at_lem byte bytes.now }
 {

@@ -107,7 +107,7 @@ pub fn read_head_of(version: Version, lines: &mut Lines, title: &[u8]) -> Result
     Ok(head)
 }
 
-/// The four lines of a head.
+/// Reads the four lines of a head.
 fn read_lines(version: Version, lines: &mut Lines, title: &[u8]) -> Result<Head, TextFault>
     ensures found { IfOk result (λ head.
         IsHead version title.now head.kind head.calls lines.old lines.new) }
@@ -122,7 +122,7 @@ fn read_lines(version: Version, lines: &mut Lines, title: &[u8]) -> Result<Head,
     Ok(Head { kind, n, calls })
 }
 
-/// The line of the title.
+/// Reads the line of the title.
 fn read_title(version: Version, lines: &mut Lines, title: &[u8]) -> Result<(), TextFault>
     ensures found { IfOk result (λ _.
         HeadGoes version title.now TitleDue lines.old ObjectDue lines.new) }
@@ -147,7 +147,7 @@ pub fn are_words(words: &mut Words, first: &[u8], second: &[u8]) -> bool
     words.next() == Some(first) && words.next() == Some(second) && words.next().is_none()
 }
 
-/// The line of the object.
+/// Reads the line of the object.
 fn read_object(version: Version, lines: &mut Lines, title: &[u8]) -> Result<Kind, TextFault>
     ensures found { IfOk result (λ kind.
         HeadGoes version title.now ObjectDue lines.old (CallersDue kind) lines.new) }
@@ -184,7 +184,7 @@ fn object_of(version: Version, words: &mut Words) -> Option<Kind>
     }
 }
 
-/// The line of the number of callers.
+/// Reads the line of the number of callers.
 fn read_callers(
     version: Version,
     lines: &mut Lines,
@@ -231,7 +231,7 @@ pub fn callers_of(version: Version, words: &mut Words) -> Option<u32>
     }
 }
 
-/// The line of the numbers of calls.
+/// Reads the line of the numbers of calls.
 fn read_calls_line(
     version: Version,
     lines: &mut Lines,

@@ -29,7 +29,7 @@ pub trait OpText {
         ensures found { IfSome result (λ (op, used).
             let others = further (option_copied second.entry) (option_copied third.entry) in
             IsSpelled (operations self.now) (first.now ∷ others) op used) }
-        // No operation is found only where the words begin with those of none.
+        // No operation is found only where the words begin with those of no operation.
         ensures none { IfNone result ((op used : ℕ) →
             let others = further (option_copied second.entry) (option_copied third.entry) in
             ¬ (IsSpelled (operations self.now) (first.now ∷ others) op used)) };

@@ -24,7 +24,7 @@ pub fn read_pairs(words: &mut Words, n: u32) -> Option<Cut>
         (λ cut. (length cut ≡ n) × AreNumbers cut × (words.old ≡ pair_words 0 cut ++ words.new)) }
     // The words after the pairs of a cut don't begin with a word with a colon.
     ensures whole { IfSome result (λ cut. NoPairFirst words.new) }
-    // No cut is found only where one of the first words with a colon is no pair, or not in the
+    // No cut is found only where one of the first words with a colon is no pair, or isn't in the
     // callers' order.
     ensures none { IfNone result (HasBadPair n 0 words.old) }
 {
@@ -43,8 +43,7 @@ pub fn read_pairs(words: &mut Words, n: u32) -> Option<Cut>
     }
 }
 
-/// Takes the next word, where it has a colon: what stands before its first colon, and what after
-/// it.
+/// Takes the next word, where it has a colon: its parts before and after its first colon.
 fn next_parts<'a>(words: &mut Words<'a>) -> Option<(&'a [u8], &'a [u8])>
     ensures found { IfSome result
         (λ (prefix, suffix). (words.old ≡ (prefix.now ++ 58 ∷ suffix.now) ∷ words.new)
@@ -57,7 +56,7 @@ fn next_parts<'a>(words: &mut Words<'a>) -> Option<(&'a [u8], &'a [u8])>
     Some(parts)
 }
 
-/// The caller and the count of a pair, which stand before its colon and after it.
+/// The caller and the count of a pair, from the parts before and after its colon.
 fn pair(caller: &[u8], count: &[u8], n: u32) -> Option<(u32, u64)>
     requires { AreParts caller.now count.now }
     ensures found { IfSome result (λ (j, c). IsPair n (caller.now ++ 58 ∷ count.now) j c) }

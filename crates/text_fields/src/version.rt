@@ -18,7 +18,7 @@ pub enum Version {
 }
 
 impl Version {
-    /// The word in a title.
+    /// The word for the version in a title.
     pub fn word(self) -> &'static [u8]
         ensures { result.now ≡ version_word self }
     {
@@ -28,7 +28,7 @@ impl Version {
         }
     }
 
-    /// The greatest number of callers.
+    /// The greatest number of callers in texts of this version.
     pub fn most_callers(self) -> u64
         ensures { result ≡ most_callers self }
     {
@@ -38,7 +38,7 @@ impl Version {
         }
     }
 
-    /// The greatest number of calls of a caller.
+    /// The greatest number of calls of a caller in texts of this version.
     pub fn most_calls(self) -> u64
         ensures { result ≡ most_calls self }
     {

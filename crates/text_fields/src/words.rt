@@ -53,7 +53,7 @@ impl<'a> Words<'a> {
         }
     }
 
-    /// Another cursor at the same place, to look ahead with.
+    /// A copy of the cursor, to look ahead with.
     pub fn copy(&self) -> Words<'a>
         ensures { result ≡ self.now }
     {
