@@ -40,8 +40,8 @@ pub fn read_calls<T: OpText>(
         (AreNoCallLines Second (T.operations operations.now) calls.now lines.old) }
     // A refusal leaves the lines as they were.
     ensures unchanged { IfErr result (λ _. lines.new ≡ lines.old) }
-    // The lines of a book's calls are read as that book, unless memory runs out, and leave what
-    // stands after them.
+    // The lines of a book's calls are read as that book, unless memory runs out, and what follows
+    // them is left.
     ensures only { (book : List Page) (left : Unread)
         → AreCallLines Second (T.operations operations.now) calls.now book lines.old left
         → MatchResult result (λ b. (b ≡ book) × (lines.new ≡ left)) (λ e. e ≡ ReadFault.NoMemory) }

@@ -18,8 +18,7 @@ pub enum BookVerdict {
 }
 
 /// Judges the book that the bytes are the text of.
-///
-/// A text fault names the first line that is wrong, and of its tests the first that it fails.
+/// A text fault names the first wrong line, and the first test that this line fails.
 pub fn verify(alloc: Global, bytes: &[u8]) -> Result<BookVerdict, ReadFault>
     // A verdict is that on the book that the bytes are the text of.
     ensures verdict { IfOk result (IsBookVerdict bytes.now) }
@@ -37,7 +36,7 @@ pub fn verify(alloc: Global, bytes: &[u8]) -> Result<BookVerdict, ReadFault>
     judged(alloc, bytes)
 }
 
-/// What the reader and the search make of the bytes.
+/// The verdict by the reader and the search.
 #[tactic(auto, unfolding(crate::specs::Books::IsLegalBook, crate::specs::Books::IsIllegalBook))]
 fn judged(alloc: Global, bytes: &[u8]) -> Result<BookVerdict, ReadFault>
     ensures verdict { IfOk result (IsBookVerdict bytes.now) }

@@ -13,8 +13,7 @@ use std::alloc::Global;
 
 /// The text of a certificate of the book that the bytes are the text of: the book, with a legal
 /// order of it. There is none where the book has no legal order.
-///
-/// A text fault names the first line that is wrong, and of its tests the first that it fails.
+/// A text fault names the first wrong line, and the first test that this line fails.
 pub fn certify(alloc: Global, bytes: &[u8]) -> Result<Option<Vec<u8>>, ReadFault>
     // A text that is answered certifies the book that the bytes are the text of, and none is
     // answered only where that book has no legal order.
@@ -25,7 +24,8 @@ pub fn certify(alloc: Global, bytes: &[u8]) -> Result<Option<Vec<u8>>, ReadFault
     // A book with a legal order has a certificate answered, unless memory runs out.
     ensures legal { IsLegalBook bytes.now
         → MatchResult result IsSome (λ e. e ≡ ReadFault.NoMemory) }
-    // A book without a legal order has no certificate, and is answered so, want of memory aside.
+    // For a book without a legal order the answer is that there is no certificate, want of memory
+    // aside.
     ensures illegal { IsIllegalBook bytes.now
         → MatchResult result IsNone (λ e. e ≡ ReadFault.NoMemory) }
     // Where the bytes have a first fault, the answer is that fault, unless memory runs out.
@@ -36,7 +36,7 @@ pub fn certify(alloc: Global, bytes: &[u8]) -> Result<Option<Vec<u8>>, ReadFault
     written(alloc, bytes)
 }
 
-/// What the reader, the search and the writer make of the bytes.
+/// The certificate by the reader, the search and the writer.
 #[tactic(auto, unfolding(crate::specs::Books::Certifies, crate::specs::Books::IsIllegalBook))]
 fn written(alloc: Global, bytes: &[u8]) -> Result<Option<Vec<u8>>, ReadFault>
     ensures certificate { IfOk result (λ found.

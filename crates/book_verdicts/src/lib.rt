@@ -1,5 +1,5 @@
 //! Verdicts on texts: whether the bytes are the text of a book with a legal order, or of a
-//! certificate whose list is one, and the certificate of a book.
+//! certificate whose list is a legal order, and the certificate of a book.
 #![tactic(auto)]
 
 mod book_verdict;

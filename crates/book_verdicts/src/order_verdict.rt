@@ -17,8 +17,7 @@ pub enum OrderVerdict {
 }
 
 /// Judges the certificate that the bytes are the text of.
-///
-/// A text fault names the first line that is wrong, and of its tests the first that it fails.
+/// A text fault names the first wrong line, and the first test that this line fails.
 pub fn order(alloc: Global, bytes: &[u8]) -> Result<OrderVerdict, ReadFault>
     // A verdict is that on the certificate that the bytes are the text of.
     ensures verdict { IfOk result (IsOrderVerdict bytes.now) }
@@ -37,7 +36,7 @@ pub fn order(alloc: Global, bytes: &[u8]) -> Result<OrderVerdict, ReadFault>
     judged(alloc, bytes)
 }
 
-/// What the reader and the judge of orders make of the bytes.
+/// The verdict by the reader and the test of orders.
 #[tactic(auto, using(crate::proofs::CertificateLemmas::certificate_is_legal, crate::proofs::CertificateLemmas::certificate_is_faulty))]
 fn judged(alloc: Global, bytes: &[u8]) -> Result<OrderVerdict, ReadFault>
     ensures verdict { IfOk result (IsOrderVerdict bytes.now) }

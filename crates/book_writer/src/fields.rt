@@ -1,5 +1,5 @@
-//! The fields of texts, each appended to the text so far. After want of memory the text is given
-//! up.
+//! The fields of texts, each appended to the text so far. After want of memory the text is of no
+//! use.
 
 ghost use Rattle.std.specs.Prelude.{◌≡◌, ℕ, ◌<◌, ◌^◌, [], ◌∷◌, ◌++◌, List, length, map, decimal, OnOk};
 ghost use Rattle.seq_objects.specs.Words.{operation_words};
@@ -100,7 +100,7 @@ pub fn put_pairs(out: &mut Vec<u8>, cut: &Cut) -> Result<(), NoMemory>
     Ok(())
 }
 
-/// Appends the pair of a caller and a count after a space. A count of 0 has none.
+/// Appends the pair of a caller and a count after a space, or nothing where the count is 0.
 fn put_pair(out: &mut Vec<u8>, j: u32, count: u64) -> Result<(), NoMemory>
     ensures { OnOk result (out.new.items ≡ out.old.items ++ spaced (pair_words j (count ∷ []))) }
 {

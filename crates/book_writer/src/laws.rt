@@ -1,10 +1,10 @@
 //! Laws of what is written of books and sketches. Each is the contract of a function with nothing
-//! in it. That a book's text is read exactly where it is what is written of it is
-//! `book_text::a_text_is_its_books_lines`.
+//! in it. The law `book_text::a_text_is_its_books_lines` says that bytes are read as a book exactly
+//! where they are what is written of it.
 
 ghost use Rattle.book_writer.specs.Laws.{WrittenBooksAreOne, NoBookTextBeginsAnother, NoSketchTextBeginsAnother};
 
-/// Two books of which the same is written are one, and so are their kinds, in both versions.
+/// Two books with one written text are equal, and so are their kinds, in both versions.
 pub fn written_books_are_one()
     ensures { WrittenBooksAreOne }
 {}

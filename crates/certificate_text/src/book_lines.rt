@@ -1,4 +1,4 @@
-//! The lines of a book that others follow.
+//! The lines of a book that other lines follow.
 
 ghost use Rattle.std.specs.Prelude.{◌≡◌, ◌↔◌, IsTrue, IfOk, IfErr};
 ghost use Rattle.book_text.specs.Grammar.{end_words};
@@ -12,7 +12,7 @@ use std::alloc::Global;
 use text_fields::{Lines, Words, read_head};
 
 /// The book that the lines begin with, up to its end, and the kind of its object; the lines after
-/// them stay.
+/// it are left.
 pub(crate) fn read_book_lines(alloc: Global, lines: &mut Lines) -> Result<(Kind, Book), ReadFault>
     ensures found { IfOk result (λ (kind, book). IsBookRead lines.old kind book lines.new) }
     ensures refused { IfErr result (Stops nothing_read lines.old) }
@@ -23,7 +23,7 @@ pub(crate) fn read_book_lines(alloc: Global, lines: &mut Lines) -> Result<(Kind,
     Ok((head.kind, book))
 }
 
-/// The line after a book's calls.
+/// Reads the line after a book's calls.
 fn read_book_end(lines: &mut Lines) -> Result<(), TextFault>
     ensures found { IfOk result (λ _. IsBookEnd lines.old lines.new) }
     ensures refused { IfErr result (IsNoBookEnd lines.old) }

@@ -1,9 +1,9 @@
 use book_base::{Book, Place};
 use seq_objects::Kind;
 
-/// A book, and a list of calls with the replies that they are said to get in this order. Whether it
-/// is a legal order of the book is for `order_check::check_order` to say: a list may name calls
-/// that the book doesn't have.
+/// A book, and a list of calls with the replies that they are said to get in this order. The list
+/// may name calls that the book doesn't have: `order_check::check_order` says whether it is a legal
+/// order of the book.
 #[derive(Debug, Drop)]
 pub struct Certificate {
     /// The kind of the book's object.

@@ -1,4 +1,4 @@
-//! The judge of a given order beside the search for one.
+//! The test of a given order, applied to the order that a search finds.
 
 ghost use Rattle.std.specs.Prelude.{◌↔◌, IsTrue, IfOk};
 ghost use Rattle.book_base.specs.Order.{HasLegalOrder};
@@ -15,7 +15,7 @@ pub fn has_accepted_order<S: SeqObject>(
     object: &S,
     book: &Book,
 ) -> Result<bool, NoMemory>
-    // `true` is answered exactly where the book has a legal order, want of memory aside.
+    // The answer is `true` exactly where the book has a legal order, want of memory aside.
     ensures { IfOk result (λ found.
         IsTrue found ↔ HasLegalOrder (S.init object.now) (S.next object.now) book.now) }
 {

@@ -32,9 +32,9 @@ pub fn no_certificate_text_begins_another()
     ensures { NoTextBeginsAnother }
 {}
 
-/// A first fault stands where the bytes leave the texts of certificates: some text begins with the
-/// lines before the fault's line, and none goes on with that line; or it isn't whole, or bytes
-/// follow a whole text.
+/// A first fault is where the bytes stop being the beginning of a certificate's text: some text
+/// begins with the lines before the fault's line, and none begins with these and that line; or that
+/// line isn't whole, or bytes follow a whole text.
 pub fn first_faults_leave_texts()
     ensures { FirstFaultsLeaveTexts }
 {}

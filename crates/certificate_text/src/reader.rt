@@ -17,12 +17,11 @@ use std::alloc::Global;
 use text_fields::Lines;
 
 /// The certificate that the bytes are the text of.
-///
-/// A text fault names the first line that is wrong, and of its tests the first that it fails. The
-/// lines of the book are refused as in a book's text, and whether its calls are those that the
-/// order names is no question of the text.
+/// A text fault names the first wrong line, and the first test that this line fails. The lines of
+/// the book are refused as in a book's text, and whether its calls are those that the order names
+/// is no question of the text.
 pub fn read_certificate(alloc: Global, bytes: &[u8]) -> Result<Certificate, ReadFault>
-    // What is read is this certificate's text.
+    // A certificate that was read is the one that the bytes are the text of.
     ensures found { IfOk result (λ read.
         IsCertificateText bytes.now read.kind read.book read.order.items) }
     // A text of a certificate is read as that certificate, unless memory runs out.
@@ -56,7 +55,7 @@ fn read_parts(alloc: Global, bytes: &[u8]) -> Result<Certificate, ReadFault>
     Ok(Certificate { kind, book, order })
 }
 
-/// Nothing stands after the end.
+/// Refuses bytes after the end.
 fn no_more(lines: &Lines) -> Result<(), TextFault>
     ensures whole { IfOk result (λ _. lines.now.bytes ≡ []) }
     ensures refused { IfErr result (IsRest lines.now) }

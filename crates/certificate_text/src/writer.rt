@@ -12,7 +12,7 @@ use seq_objects::{Kind, put_number, put_reply};
 use std::alloc::Global;
 
 /// The one text of a certificate: of a book, for an object of this kind, and a list of places. Any
-/// list can be written, a legal order of the book or not.
+/// list can be written, whether it is a legal order of the book or not.
 pub fn write_certificate(
     alloc: Global,
     kind: Kind,

@@ -25,9 +25,9 @@ pub fn make_script(
 ) -> Result<Script, NoMemory>
     // There is at least one caller.
     requires some { 1 ≤ callers }
-    // There are at most as many callers as texts have.
+    // There are at most as many callers as texts may have.
     requires few { callers ≤ TEXT_CALLERS }
-    // Each caller has at most as many calls as texts have.
+    // Each caller has at most as many calls as texts may have.
     requires calls { calls ≤ TEXT_CALLS }
     ensures { IfOk result (λ script. script ≡ generated number callers calls kind) }
 {
@@ -93,14 +93,14 @@ fn word(code: u64, argument: u64, extra: u64) -> OpWord
     join(code * (1 << 32) + argument, extra)
 }
 
-/// The first of two for even numbers, else the second.
+/// The first operation for even numbers, and the second one for odd ones.
 fn by_halves(k: u64, even: OpWord, odd: OpWord) -> OpWord
     ensures { result ≡ by_halves k even odd }
 {
     if k % 2 == 0 { even } else { odd }
 }
 
-/// The first, the second or the third, one after the other.
+/// The first, the second or the third operation, in turn by the number.
 fn by_thirds(k: u64, first: OpWord, second: OpWord, third: OpWord) -> OpWord
     ensures { result ≡ by_thirds k first second third }
 {

@@ -44,9 +44,9 @@ pub fn no_script_text_begins_another()
         → IsScriptText version bytes a → IsScriptText version (bytes ++ more) b → more ≡ [] }
 {}
 
-/// A first fault stands where the bytes leave the texts of scripts: some text begins with the lines
-/// before the fault's line, and none goes on with that line; or it isn't whole, or bytes follow a
-/// whole text.
+/// A first fault is where the bytes stop being the beginning of a script's text: some text begins
+/// with the lines before the fault's line, and none begins with these and that line; or that line
+/// isn't whole, or bytes follow a whole text.
 pub fn first_faults_leave_texts()
     ensures { (version : Version) (bytes : List ℕ) (fault : TextFault)
         → IsFirstScriptFault version bytes fault → LeavesAt (IsScriptText version) bytes fault }

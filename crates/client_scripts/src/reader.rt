@@ -19,10 +19,9 @@ use std::alloc::Global;
 use text_fields::{KindWords, Lines, Version, read_head_of};
 
 /// The script that the bytes are the text of, in version 2.
-///
-/// A text fault names the first line that is wrong, and of its tests the first that it fails.
+/// A text fault names the first wrong line, and the first test that this line fails.
 pub fn read_script(alloc: Global, bytes: &[u8]) -> Result<Script, ReadFault>
-    // What is read is this script's text.
+    // A script that was read is the one that the bytes are the text of.
     ensures found { IfOk result (λ script. IsScriptText Second bytes.now script) }
     // A text of a script is read as that script, unless memory runs out.
     ensures only { (plan : Plan) → IsScriptText Second bytes.now plan
@@ -40,10 +39,9 @@ pub fn read_script(alloc: Global, bytes: &[u8]) -> Result<Script, ReadFault>
 }
 
 /// The script that the bytes are the text of, in version 1.
-///
-/// A text fault names the first line that is wrong, and of its tests the first that it fails.
+/// A text fault names the first wrong line, and the first test that this line fails.
 pub fn read_script1(alloc: Global, bytes: &[u8]) -> Result<Script, ReadFault>
-    // What is read is this script's text.
+    // A script that was read is the one that the bytes are the text of.
     ensures found { IfOk result (λ script. IsScriptText First bytes.now script) }
     // A text of a script is read as that script, unless memory runs out.
     ensures only { (plan : Plan) → IsScriptText First bytes.now plan

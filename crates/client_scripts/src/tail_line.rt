@@ -15,14 +15,14 @@ use text_fields::{Words, next_number, number};
 
 /// What a line after the calls says.
 pub(crate) enum TailLine {
-    /// This caller stops after this many phases.
+    /// The caller stops after this many phases.
     Stop(u32, u64),
     /// The callers that take turns.
     Turns(Vec<u32>),
 }
 
-/// What this line says, where the callers from the least one on may still have a stop. `number` is
-/// the line's.
+/// What the line with this number says, where the callers from the least one on may still have a
+/// stop.
 pub(crate) fn read_tail_line(
     alloc: Global,
     line: &[u8],
@@ -60,7 +60,7 @@ fn fault(line: u64, what: What) -> ReadFault
     ReadFault::Text(TextFault { line, what })
 }
 
-/// The caller and the phases after the word `stop`, and nothing after them.
+/// The caller and the phases after the word `stop`, which nothing may follow.
 fn read_stop(words: &mut Words, clients: &[Client], least: u32) -> Option<(u32, u64)>
     requires { length clients.now ≤ MAX_CALLERS }
     ensures found { IfSome result (λ (caller, phases). IsStop (told clients.now least) caller phases
@@ -91,7 +91,7 @@ fn may_stop(clients: &[Client], least: u32, caller: u64, phases: u64) -> bool
     phases / PHASES < clients[caller as usize].operations.len() as u64
 }
 
-/// The callers after the word `turns`, each one of `n`, and nothing after them.
+/// The callers after the word `turns`, each one of `n`, which nothing may follow.
 fn read_turns(alloc: Global, words: &mut Words, n: u32) -> Result<Option<Vec<u32>>, NoMemory>
     ensures found { IfOk result (λ found. IfSome found (λ turns. AreTurns n turns.items
         × (words.old ≡ map decimal turns.items))) }

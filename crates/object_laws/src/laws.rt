@@ -25,7 +25,8 @@ pub fn registers_give_the_last_write()
     ensures done { AreDone kinds.Register words.write }
 {}
 
-/// A set tells whether an add of a value stands, without a later remove of it.
+/// A set's replies say whether an add of a value stands, which is one without a later remove of the
+/// value.
 pub fn sets_tell_what_stands()
     // The reply to `has` tells whether an add of the value stands, without a later remove of it.
     ensures has { HasTells }
@@ -37,26 +38,26 @@ pub fn sets_tell_what_stands()
 
 /// A queue gives the values in the order in which they were put in.
 pub fn queues_give_the_oldest()
-    // The reply to a dequeue is the first of the values put in that isn't out, or none where each
-    // is out.
+    // The reply to a dequeue is the first of the values put in that wasn't given out yet, or none
+    // where all were.
     ensures order { DequeuesGiveTheOldest }
     // The reply to each enqueue is done.
     ensures done { AreDone kinds.Queue words.enq }
 {}
 
-/// A stack gives the value that was put in last and isn't out.
+/// A stack gives the last value put in that wasn't given out yet.
 pub fn stacks_give_the_newest()
-    // The reply to a pop is the last value put in that isn't out, or none where what was put in is
-    // out.
+    // The reply to a pop is the last value put in that wasn't given out yet, or none where all
+    // were.
     ensures order { PopsGiveTheNewest }
     // The reply to each push is done.
     ensures done { AreDone kinds.Stack words.push }
 {}
 
-/// A priority queue gives the least value that is in, and each value at most as often as it was put
-/// in.
+/// A priority queue gives the least value that is in it, and each value at most as often as it was
+/// put in.
 pub fn priority_queues_give_the_least()
-    // The reply to `min` is the least value that is in, or none where no value is in.
+    // The reply to `min` is the least value in the priority queue, or none where no value is in it.
     ensures least { MinsGiveTheLeast }
     // Each value comes out at most as often as it was put in.
     ensures often { ComesOutAtMostAsOften }
@@ -64,8 +65,8 @@ pub fn priority_queues_give_the_least()
     ensures done { AreDone kinds.Pqueue words.insert }
 {}
 
-/// What is taken was put in before, and isn't taken yet: it was put in more often than it was given
-/// out. So each value comes out at most as often as it was put in.
+/// A value that is taken was put in before, more often than it was given out. So each value comes
+/// out at most as often as it was put in.
 pub fn takes_take_what_was_put()
     // A dequeue gives a value that was put in before it more often than it was given out.
     ensures queues { TakesTakeWhatWasPut kinds.Queue queue_reading }

@@ -59,7 +59,7 @@ pub fn runs_of_a_counter()
     // Three increments give 0, 1 and 2.
     ensures run { IsRunOf kinds.Counter ((operation words.inc 0, reply_value 0)
         ∷ (operation words.inc 0, reply_value 1) ∷ (operation words.inc 0, reply_value 2) ∷ []) }
-    // An operation that the counter doesn't know is replied `bad`, and isn't counted.
+    // An operation that the counter doesn't know has the reply `bad`, and isn't counted.
     ensures unknown { IsRunOf kinds.Counter ((operation words.read 0, reply_bad)
         ∷ (operation words.inc 0, reply_value 0) ∷ []) }
     // Two increments don't give the same count.

@@ -12,7 +12,7 @@ pub fn worked_register_steps()
     // A write of 7 makes the list 7 alone, and the reply is done.
     ensures writes { Makes kinds.Register 4294967303 (codes "write 7")
         (4 ∷ 9 ∷ []) (7 ∷ []) (codes "done") }
-    // A read at 4 leaves the list, and is replied 4.
+    // A read at 4 doesn't change the list, and the reply is 4.
     ensures reads { Makes kinds.Register 8589934592 (codes "read")
         (4 ∷ 9 ∷ []) (4 ∷ 9 ∷ []) (codes "=4") }
     // A read at the empty list doesn't change it, and the reply is 0.
@@ -21,7 +21,7 @@ pub fn worked_register_steps()
     // A read gives the low 32 bits of the first word.
     ensures reads_the_low_bits { Makes kinds.Register 8589934592 (codes "read")
         (4294967301 ∷ []) (4294967301 ∷ []) (codes "=5") }
-    // A word that no entry has leaves the list, and is replied `bad`.
+    // A word that no entry has doesn't change the list, and the reply is `bad`.
     ensures leaves_an_unknown_word { Makes kinds.Register 12884901888 (codes "#12884901888")
         (4 ∷ []) (4 ∷ []) (codes "bad") }
 {}
@@ -42,10 +42,10 @@ pub fn worked_counter_steps()
     // An increment counts the low 32 bits of the first word.
     ensures counts_the_low_bits { Makes kinds.Counter 4294967296 (codes "inc")
         (4294967298 ∷ []) (3 ∷ []) (codes "=2") }
-    // An increment with an argument leaves the list, and is replied `bad`.
+    // An increment with an argument doesn't change the list, and the reply is `bad`.
     ensures leaves_an_argument { Makes kinds.Counter 4294967297 (codes "#4294967297")
         (4 ∷ []) (4 ∷ []) (codes "bad") }
-    // A word that no entry has leaves the list, and is replied `bad`.
+    // A word that no entry has doesn't change the list, and the reply is `bad`.
     ensures leaves_an_unknown_word { Makes kinds.Counter 8589934592 (codes "#8589934592")
         (4 ∷ []) (4 ∷ []) (codes "bad") }
 {}
@@ -66,23 +66,23 @@ pub fn worked_set_steps()
     // A value that is there isn't put in again, and the reply is no.
     ensures adds_nothing_twice { Makes kinds.IntSet 4294967299 (codes "add 3")
         (1 ∷ 3 ∷ []) (1 ∷ 3 ∷ []) (codes "no") }
-    // A remove takes out the first of two equal items, and is replied yes.
+    // A remove takes out the first of two equal items, and the reply is yes.
     ensures takes_out_the_first { Makes kinds.IntSet 8589934595 (codes "remove 3")
         (1 ∷ 3 ∷ 2 ∷ 3 ∷ []) (1 ∷ 2 ∷ 3 ∷ []) (codes "yes") }
-    // A remove of a value that isn't there leaves the list, and is replied no.
+    // A remove of a value that isn't there doesn't change the list, and the reply is no.
     ensures takes_out_none { Makes kinds.IntSet 8589934596 (codes "remove 4")
         (1 ∷ 3 ∷ []) (1 ∷ 3 ∷ []) (codes "no") }
-    // A look for a value that is there is replied yes.
+    // The reply to a look for a value that is there is yes.
     ensures has { Makes kinds.IntSet 12884901891 (codes "has 3")
         (1 ∷ 3 ∷ []) (1 ∷ 3 ∷ []) (codes "yes") }
-    // A look for a value that isn't there is replied no.
+    // The reply to a look for a value that isn't there is no.
     ensures has_not { Makes kinds.IntSet 12884901892 (codes "has 4")
         (1 ∷ 3 ∷ []) (1 ∷ 3 ∷ []) (codes "no") }
     // The reply to a look for a value isn't yes where only the low 32 bits of an item are this
     // value.
     ensures has_not_by_the_low_bits { Makes kinds.IntSet 12884901891 (codes "has 3")
         (4294967299 ∷ []) (4294967299 ∷ []) (codes "no") }
-    // A word that no entry has leaves the list, and is replied `bad`.
+    // A word that no entry has doesn't change the list, and the reply is `bad`.
     ensures leaves_an_unknown_word { Makes kinds.IntSet 17179869184 (codes "#17179869184")
         (4 ∷ []) (4 ∷ []) (codes "bad") }
 {}
@@ -107,9 +107,9 @@ pub fn worked_pqueue_steps()
     // A take gives the low 32 bits of the first item.
     ensures takes_the_low_bits { Makes kinds.Pqueue 8589934592 (codes "min")
         (4294967298 ∷ 9 ∷ []) (9 ∷ []) (codes "=2") }
-    // A take at the empty list leaves it, and is replied none.
+    // A take at the empty list leaves it, and the reply is none.
     ensures takes_none { Makes kinds.Pqueue 8589934592 (codes "min") [] [] (codes "none") }
-    // A word that no entry has leaves the list, and is replied `bad`.
+    // A word that no entry has doesn't change the list, and the reply is `bad`.
     ensures leaves_an_unknown_word { Makes kinds.Pqueue 12884901888 (codes "#12884901888")
         (4 ∷ []) (4 ∷ []) (codes "bad") }
 {}
@@ -118,7 +118,7 @@ pub fn worked_pqueue_steps()
 pub fn worked_queue_steps()
     // The queue begins with the empty list.
     ensures begins { kind_init kinds.Queue ≡ [] }
-    // A put adds its value at the end, and is replied done.
+    // A put adds its value at the end, and the reply is done.
     ensures puts_at_the_end { Makes kinds.Queue 4294967303 (codes "enq 7")
         (4 ∷ 2 ∷ []) (4 ∷ 2 ∷ 7 ∷ []) (codes "done") }
     // A take takes out the first item.
@@ -127,9 +127,9 @@ pub fn worked_queue_steps()
     // A take gives the low 32 bits of the first item.
     ensures takes_the_low_bits { Makes kinds.Queue 8589934592 (codes "deq")
         (4294967298 ∷ 9 ∷ []) (9 ∷ []) (codes "=2") }
-    // A take at the empty list leaves it, and is replied none.
+    // A take at the empty list leaves it, and the reply is none.
     ensures takes_none { Makes kinds.Queue 8589934592 (codes "deq") [] [] (codes "none") }
-    // A word that no entry has leaves the list, and is replied `bad`.
+    // A word that no entry has doesn't change the list, and the reply is `bad`.
     ensures leaves_an_unknown_word { Makes kinds.Queue 12884901888 (codes "#12884901888")
         (4 ∷ []) (4 ∷ []) (codes "bad") }
 {}
@@ -138,7 +138,7 @@ pub fn worked_queue_steps()
 pub fn worked_stack_steps()
     // The stack begins with the empty list.
     ensures begins { kind_init kinds.Stack ≡ [] }
-    // A put adds its value at the end, and is replied done.
+    // A put adds its value at the end, and the reply is done.
     ensures puts_at_the_end { Makes kinds.Stack 4294967303 (codes "push 7")
         (4 ∷ 2 ∷ []) (4 ∷ 2 ∷ 7 ∷ []) (codes "done") }
     // A take takes out the last item.
@@ -147,9 +147,9 @@ pub fn worked_stack_steps()
     // A take gives the low 32 bits of the last item.
     ensures takes_the_low_bits { Makes kinds.Stack 8589934592 (codes "pop")
         (9 ∷ 4294967298 ∷ []) (9 ∷ []) (codes "=2") }
-    // A take at the empty list leaves it, and is replied none.
+    // A take at the empty list leaves it, and the reply is none.
     ensures takes_none { Makes kinds.Stack 8589934592 (codes "pop") [] [] (codes "none") }
-    // A word that no entry has leaves the list, and is replied `bad`.
+    // A word that no entry has doesn't change the list, and the reply is `bad`.
     ensures leaves_an_unknown_word { Makes kinds.Stack 12884901888 (codes "#12884901888")
         (4 ∷ []) (4 ∷ []) (codes "bad") }
 {}

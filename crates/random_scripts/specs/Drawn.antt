@@ -28,8 +28,7 @@ chosen w draw =
     if nat_lt share w.first then First
     else (if nat_lt share (w.first + w.second) then Second else Third)
 
--- The operation of a kind that is chosen, with these arguments, of which it leaves out those that
--- it doesn't take.
+-- The operation of a kind that is chosen, with those of these arguments that it takes.
 abbrev pub operation_of : Kind → Choice → ℕ → ℕ → ℕ
 operation_of Queue First value further = operation words.enq value 0
 operation_of Queue _ value further = operation words.deq 0 0

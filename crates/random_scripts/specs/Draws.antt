@@ -5,11 +5,11 @@ use Rattle.std.specs.Prelude.{ℕ, ◌+◌, ◌*◌, ◌/◌, ◌%◌, ◌^◌}
 abbrev pub key_of : ℕ → ℕ
 key_of seed = (((seed * 11400714819323198485) % 2 ^ 64) + 15111065706836454659) % 2 ^ 64
 
--- A word of 64 bits whose halves have changed places.
+-- A word of 64 bits with its two halves exchanged.
 abbrev pub turned : ℕ → ℕ
 turned word = (word % 2 ^ 32) * 2 ^ 32 + word / 2 ^ 32
 
--- The square of a word and a second word, added, modulo 2^64.
+-- The square of a word plus a second word, modulo 2^64.
 abbrev pub squared : ℕ → ℕ → ℕ
 squared word more = (((word * word) % 2 ^ 64) + more) % 2 ^ 64
 

@@ -23,14 +23,14 @@ pub fn draw(key: u64, number: u64) -> u32
     (squared(three, second) / (1 << 32)) as u32
 }
 
-/// The square of a word and a second word, added.
+/// The square of a word plus a second word, modulo 2^64.
 fn squared(word: u64, more: u64) -> u64
     ensures { result ≡ squared word more }
 {
     word.wrapping_mul(word).wrapping_add(more)
 }
 
-/// A word whose halves have changed places.
+/// A word with its two halves exchanged.
 fn turned(word: u64) -> u64
     ensures { result ≡ turned word }
 {

@@ -1,4 +1,4 @@
-//! The operation of a call, drawn.
+//! The operation of a call, as it is drawn.
 
 ghost use Rattle.std.specs.Prelude.{◌≡◌, ◌<◌, ◌≤◌, ◌^◌, true};
 ghost use Rattle.text_fields.specs.declared.TheConstants.{TEXT_CALLERS, TEXT_CALLS};
@@ -10,7 +10,7 @@ use crate::workload::{Choice, Workload, choose};
 use book_base::{Call, OpWord, join};
 use seq_objects::Kind;
 
-/// The operation of a call under a key.
+/// The operation that is drawn for a call under a key.
 pub(crate) fn draw_operation(workload: &Workload, key: u64, call: Call) -> OpWord
     requires workload { IsWorkload workload.now }
     requires caller { call.caller < TEXT_CALLERS }
@@ -24,8 +24,7 @@ pub(crate) fn draw_operation(workload: &Workload, key: u64, call: Call) -> OpWor
     operation(workload.kind, choice, u64::from(value), u64::from(further))
 }
 
-/// The operation of a kind that is chosen, with these arguments, of which it leaves out those that
-/// it doesn't take.
+/// The operation of a kind that is chosen, with those of these arguments that it takes.
 fn operation(kind: Kind, choice: Choice, value: u64, further: u64) -> OpWord
     requires value { value < 2 ^ 32 }
     requires further { further < 2 ^ 32 }

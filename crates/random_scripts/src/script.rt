@@ -10,11 +10,10 @@ use client_scripts::{Script, read_script};
 use std::alloc::Global;
 
 /// The script of a seed: each caller makes as many calls as the workload says, none stops, and
-/// there are no turns. The operation of each call is drawn by itself, so a seed with more calls
-/// begins with the same ones.
+/// there are no turns. The operation of each call is drawn by itself, so that with more calls the
+/// script of a seed begins with the same ones.
 pub fn random_script(alloc: Global, workload: &Workload, seed: u64) -> Result<Script, NoMemory>
-    // The workload is one that texts of scripts have room for, with a value and an operation to
-    // draw.
+    // The workload is within the limits of scripts' texts, with a value and an operation to draw.
     requires { IsWorkload workload.now }
     // The answer is the script that is drawn of this seed for this workload.
     ensures { IfOk result (λ script. script ≡ drawn_plan workload.now seed) }

@@ -12,7 +12,7 @@ pub enum Choice {
 }
 
 /// How often each of a kind's operations comes, in the order of the operations' codes. Where a kind
-/// has fewer operations, the further weights are the last one's.
+/// has fewer operations than there are weights, the last operation has the further weights too.
 #[derive(Clone, Copy, Debug, PartialEq, Eq)]
 pub struct Weights {
     pub first: u32,
@@ -29,8 +29,7 @@ pub struct Workload {
     pub callers: u32,
     /// How many calls each caller makes: at most 256.
     pub calls: u64,
-    /// How many values the arguments of operations have: they are below this number, which is at
-    /// least 1.
+    /// The number below which the arguments of operations are, which is at least 1.
     pub values: u32,
     /// How often each operation comes. One of them is at least 1.
     pub weights: Weights,

@@ -95,8 +95,8 @@ impl SeqObject for CasRegister {
     }
 
     fn leaves(&self, op: OpWord, reply: u64) -> bool
-        // The answer is whether the operation of a register with compare-and-set leaves every list
-        // at which it has this reply.
+        // The answer is whether the operation of a register with compare-and-set is read-only with
+        // this reply: it changes no list at which it has this reply.
         ensures { IsTrue result
             ↔ Leaves (λ list op. cas_register_after list (cas_register_operation op)) op reply }
     {

@@ -71,8 +71,8 @@ impl SeqObject for Counter {
     }
 
     fn leaves(&self, op: OpWord, reply: u64) -> bool
-        // The answer is whether the operation of a counter leaves every list at which it has this
-        // reply.
+        // The answer is whether the operation of a counter is read-only with this reply: it changes
+        // no list at which it has this reply.
         ensures { IsTrue result
             ↔ Leaves (λ list op. counter_after list (counter_operation op)) op reply }
     {

@@ -119,8 +119,8 @@ impl SeqObject for IntSet {
     }
 
     fn leaves(&self, op: OpWord, reply: u64) -> bool
-        // The answer is whether the operation of a set leaves every list at which it has this
-        // reply.
+        // The answer is whether the operation of a set is read-only with this reply: it changes no
+        // list at which it has this reply.
         ensures { IsTrue result ↔ Leaves (λ list op. set_after list (set_operation op)) op reply }
     {
         match IntSetOperation::from_word(op) {
@@ -151,17 +151,17 @@ impl SeqObject for IntSet {
         requires wide { length cut.now ≡ length book.now }
         // Of all answered calls outside the cut the forced caller's first one has the least view.
         requires forced { IsForced book.now cut.now forced }
-        // The callers are marked whose next calls may come next after the cut, and no others.
+        // Exactly those callers are marked whose next calls after the cut may come next.
         requires marks { MarksAllNext book.now cut.now marks }
         // Each caller that the answer marks was marked.
         ensures fewer { IsMarkedWithin result marks }
-        // All that goes on from here goes on by the next call of a caller that the answer marks as
-        // well, with no more places.
+        // Where places continue an order from here, some that begin with the next call of a caller
+        // that the answer marks do, and they are no more.
         ensures suffice { MarksSuffice book.now
             (λ list op. set_after list (set_operation op)) cut.now
             words.now result }
-        // Where the forced call has a key, those of the marked callers keep their marks whose next
-        // calls have it too; else all do.
+        // Where the forced call has a key, exactly those marked callers keep their marks whose next
+        // calls have this key; else all marked callers do.
         ensures narrowed { IsNarrowedToKey set_key book.now cut.now forced marks result }
     {
         narrow_to_key(self, book, cut, forced, marks)

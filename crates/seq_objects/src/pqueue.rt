@@ -93,8 +93,8 @@ impl SeqObject for Pqueue {
     }
 
     fn leaves(&self, op: OpWord, reply: u64) -> bool
-        // The answer is whether the operation of a priority queue leaves every list at which it has
-        // this reply.
+        // The answer is whether the operation of a priority queue is read-only with this reply: it
+        // changes no list at which it has this reply.
         ensures { IsTrue result
             ↔ Leaves (λ list op. pqueue_after list (pqueue_operation op)) op reply }
     {

@@ -93,8 +93,8 @@ impl SeqObject for Queue {
     }
 
     fn leaves(&self, op: OpWord, reply: u64) -> bool
-        // The answer is whether the operation of a queue leaves every list at which it has this
-        // reply.
+        // The answer is whether the operation of a queue is read-only with this reply: it changes
+        // no list at which it has this reply.
         ensures { IsTrue result
             ↔ Leaves (λ list op. queue_after list (queue_operation op)) op reply }
     {

@@ -107,8 +107,8 @@ impl SeqObject for Register {
     }
 
     fn leaves(&self, op: OpWord, reply: u64) -> bool
-        // The answer is whether the operation of a register leaves every list at which it has this
-        // reply.
+        // The answer is whether the operation of a register is read-only with this reply: it
+        // changes no list at which it has this reply.
         ensures { IsTrue result
             ↔ Leaves (λ list op. register_after list (register_operation op)) op reply }
     {

@@ -98,8 +98,8 @@ impl SeqObject for Stack {
     }
 
     fn leaves(&self, op: OpWord, reply: u64) -> bool
-        // The answer is whether the operation of a stack leaves every list at which it has this
-        // reply.
+        // The answer is whether the operation of a stack is read-only with this reply: it changes
+        // no list at which it has this reply.
         ensures { IsTrue result
             ↔ Leaves (λ list op. stack_after list (stack_operation op)) op reply }
     {

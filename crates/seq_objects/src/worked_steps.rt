@@ -18,7 +18,7 @@ pub fn worked_cas_register_steps()
     // A compare-and-set of 0 to 5 at the empty list makes it 5, and replies yes.
     ensures sets_an_empty_list { Makes kinds.CasRegister 92233720381432659968 (codes "cas 0 5")
         [] (5 ∷ []) (codes "yes") }
-    // A compare-and-set of 0 to 5 at 4 leaves the list, and replies no.
+    // A compare-and-set of 0 to 5 at 4 doesn't change the list, and replies no.
     ensures keeps_another_value { Makes kinds.CasRegister 92233720381432659968 (codes "cas 0 5")
         (4 ∷ 0 ∷ []) (4 ∷ 0 ∷ []) (codes "no") }
     // A compare-and-set of 0 to 5 at a first word of 2^32 makes it 5, since the low 32 bits count.
@@ -27,10 +27,10 @@ pub fn worked_cas_register_steps()
     // A write of 7 makes the list 7 alone, and replies done.
     ensures writes { Makes kinds.CasRegister 4294967303 (codes "write 7")
         (4 ∷ 9 ∷ []) (7 ∷ []) (codes "done") }
-    // A read at 4 leaves the list, and replies 4.
+    // A read at 4 doesn't change the list, and replies 4.
     ensures reads { Makes kinds.CasRegister 8589934592 (codes "read")
         (4 ∷ 9 ∷ []) (4 ∷ 9 ∷ []) (codes "=4") }
-    // A word with a high number that no entry has leaves the list, and is replied `bad`.
+    // A word with a high number that no entry has doesn't change the list, and the reply is `bad`.
     ensures leaves_an_unknown_word { Makes kinds.CasRegister 79228162514264337606428852224
         (codes "#12884901888:4294967296")
         (4 ∷ []) (4 ∷ []) (codes "bad") }
@@ -41,7 +41,7 @@ pub fn worked_cas_register_steps()
 pub fn worked_map_steps()
     // The map begins with the empty list.
     ensures begins { kind_init kinds.Map ≡ [] }
-    // A low word of a code that no entry has leaves the list, and is replied `bad`.
+    // A low word of a code that no entry has doesn't change the list, and the reply is `bad`.
     ensures leaves_an_unknown_low_word { Makes kinds.Map 17179869184 (codes "#17179869184")
         (4 ∷ []) (4 ∷ []) (codes "bad") }
     // A put of a key that isn't there goes between the items of a lower and a greater key, and
@@ -62,10 +62,10 @@ pub fn worked_map_steps()
     // A delete of a key that two items have takes out the first of them, and replies its value.
     ensures takes_out_the_first_of_a_key { Makes kinds.Map 12884901891 (codes "del 3")
         (12884901889 ∷ 12884901890 ∷ []) (12884901890 ∷ []) (codes "=1") }
-    // A delete of a key that no item has leaves the list, and replies none.
+    // A delete of a key that no item has doesn't change the list, and replies none.
     ensures takes_out_none { Makes kinds.Map 12884901892 (codes "del 4")
         (12884901892 ∷ []) (12884901892 ∷ []) (codes "none") }
-    // A word with a high number that no entry has leaves the list, and is replied `bad`.
+    // A word with a high number that no entry has doesn't change the list, and the reply is `bad`.
     ensures leaves_an_unknown_word { Makes kinds.Map 79228162514264337597838917635
         (codes "#4294967299:4294967296")
         (4 ∷ []) (4 ∷ []) (codes "bad") }

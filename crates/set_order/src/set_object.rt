@@ -13,7 +13,7 @@ pub trait SetObject {
     /// may not be served together.
     ghost served: { Self → List ℕ → List ℕ → Option (List ℕ × List ℕ) };
 
-    /// Makes the list the one that the object begins with. The capacity stays.
+    /// Makes the list the one that the object begins with. The capacity doesn't change.
     fn reset(&self, state: &mut State)
         // The state has capacity for one word.
         requires { 1 ≤ state.old.room }
@@ -37,16 +37,16 @@ pub trait SetObject {
         ensures refused { IsFalse result ↔ (served self.now state.old.words ops.now ≡ None) }
         // The state doesn't change where the answer is `false`.
         ensures unchanged { IsFalse result → state.new ≡ state.old }
-        // The capacity of the state stays.
+        // The capacity of the state doesn't change.
         ensures room { state.new.room ≡ state.old.room }
-        // The capacity of the replies stays.
+        // The capacity of the replies doesn't change.
         ensures replies { replies.new.room ≡ replies.old.room };
 
     /// Whether an operation may still get this reply, alone or beside others, at this list or after
     /// more is served. An object that leaves this out rules out no reply.
     fn may_reply(&self, state: &State, op: OpWord, reply: u64) -> bool
-        // `false` is answered only where the operation never gets this reply, at this list or after
-        // more is served.
+        // The answer is `false` only where the operation never gets this reply, at this list or
+        // after more is served.
         ensures { IsFalse result → NeverRepliesFrom (served self.now) state.now.words op reply }
     {
         true

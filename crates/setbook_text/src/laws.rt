@@ -43,9 +43,9 @@ pub fn no_set_book_text_begins_another()
         → IsSetBookText bytes a → IsSetBookText (bytes ++ more) b → more ≡ [] }
 {}
 
-/// A first fault stands where the bytes leave the texts of set books: some text begins with the
-/// lines before the fault's line, and none goes on with that line; or it isn't whole, or bytes
-/// follow a whole text.
+/// A first fault is where the bytes stop being the beginning of a set book's text: some text begins
+/// with the lines before the fault's line, and none begins with these and that line; or that line
+/// isn't whole, or bytes follow a whole text.
 pub fn first_faults_leave_texts()
     ensures { (bytes : List ℕ) (fault : TextFault)
         → IsFirstSetBookFault bytes fault → LeavesAt IsSetBookText bytes fault }

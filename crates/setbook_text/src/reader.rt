@@ -19,10 +19,9 @@ use std::alloc::Global;
 use text_fields::{Lines, Version, Words, are_words, callers_of, calls_of};
 
 /// The set book that the bytes are the text of, in version 2.
-///
-/// A text fault names the first line that is wrong, and of its tests the first that it fails.
+/// A text fault names the first wrong line, and the first test that this line fails.
 pub fn read_setbook(alloc: Global, bytes: &[u8]) -> Result<Book, ReadFault>
-    // What is read is this book's text.
+    // A set book that was read is the one that the bytes are the text of.
     ensures found { IfOk result (λ book. IsSetBookText bytes.now book) }
     // A text of a set book is read as that book, unless memory runs out.
     ensures only { (book : List Page) → IsSetBookText bytes.now book
@@ -39,7 +38,7 @@ pub fn read_setbook(alloc: Global, bytes: &[u8]) -> Result<Book, ReadFault>
     read_text(alloc, bytes)
 }
 
-/// The set book that the bytes are the text of, or why they are read no further.
+/// The set book that the bytes are the text of, or the fault with which the reading stops.
 fn read_text(alloc: Global, bytes: &[u8]) -> Result<Book, ReadFault>
     ensures found { IfOk result (λ book. IsSetBookText bytes.now book) }
     ensures refused { IfErr result (λ e.
@@ -59,7 +58,7 @@ fn read_head(lines: &mut Lines) -> Result<(u32, Cut), TextFault>
     ensures says { IfOk result (λ (n, calls). AreCallers Second n × AreCalls Second n calls) }
     ensures refused { IfErr result (IsSetHeadFault lines.old) }
     ensures unchanged { IfErr result (λ _. lines.new ≡ lines.old) }
-    // A head is read as that head, and leaves what stands after it.
+    // A head is read as that head, and what follows it is left.
     ensures only { (calls : List ℕ) (left : Unread) → IsSetHead calls lines.old left
         → MatchResult result (λ read. (read.1 ≡ calls) × (lines.new ≡ left)) (λ _. ⊥) }
     // Where the head has a first fault, the answer is that fault.
@@ -72,7 +71,7 @@ fn read_head(lines: &mut Lines) -> Result<(u32, Cut), TextFault>
     Ok(head)
 }
 
-/// The four lines of the head.
+/// Reads the four lines of the head.
 fn read_lines(lines: &mut Lines) -> Result<(u32, Cut), TextFault>
     ensures found { IfOk result (λ (n, calls). IsSetHead calls lines.old lines.new) }
     ensures says { IfOk result (λ (n, calls). AreCallers Second n × AreCalls Second n calls) }
@@ -85,7 +84,7 @@ fn read_lines(lines: &mut Lines) -> Result<(u32, Cut), TextFault>
     Ok((n, calls))
 }
 
-/// The line of the title.
+/// Reads the line of the title.
 fn read_title(lines: &mut Lines) -> Result<(), TextFault>
     ensures found { IfOk result (λ _.
         GoesTo set_head_rules TitleDue lines.old ObjectDue lines.new) }
@@ -103,7 +102,7 @@ fn read_title(lines: &mut Lines) -> Result<(), TextFault>
     }
 }
 
-/// The line of the object.
+/// Reads the line of the object.
 fn read_object(lines: &mut Lines) -> Result<(), TextFault>
     ensures found { IfOk result (λ _.
         GoesTo set_head_rules ObjectDue lines.old CallersDue lines.new) }
@@ -121,7 +120,7 @@ fn read_object(lines: &mut Lines) -> Result<(), TextFault>
     }
 }
 
-/// The line of the number of callers.
+/// Reads the line of the number of callers.
 fn read_callers(lines: &mut Lines) -> Result<u32, TextFault>
     ensures found { IfOk result (λ n.
         GoesTo set_head_rules CallersDue lines.old (CountsDue n) lines.new) }
@@ -139,7 +138,7 @@ fn read_callers(lines: &mut Lines) -> Result<u32, TextFault>
     }
 }
 
-/// The line of the numbers of calls.
+/// Reads the line of the numbers of calls.
 fn read_counts(lines: &mut Lines, n: u32) -> Result<Cut, TextFault>
     requires some { 1 ≤ n }
     requires few { n ≤ MAX_CALLERS }

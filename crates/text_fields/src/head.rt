@@ -40,7 +40,7 @@ pub fn read_head(lines: &mut Lines, title: &[u8]) -> Result<Head, TextFault>
     ensures refused { IfErr result (IsHeadFault Second title.now TitleDue lines.old) }
     // A refusal leaves the lines as they were.
     ensures unchanged { IfErr result (λ _. lines.new ≡ lines.old) }
-    // A head with a title that is a word is read as that head, and leaves what stands after it.
+    // A head with a title that is a word is read as that head, and what follows it is left.
     ensures only { (kind : Kind) (calls : List ℕ) (left : Unread) → IsSolid title.now
         → IsHead Second title.now kind calls lines.old left
         → MatchResult result (λ head.
@@ -66,7 +66,7 @@ pub fn read_head1(lines: &mut Lines, title: &[u8]) -> Result<Head, TextFault>
     ensures refused { IfErr result (IsHeadFault First title.now TitleDue lines.old) }
     // A refusal leaves the lines as they were.
     ensures unchanged { IfErr result (λ _. lines.new ≡ lines.old) }
-    // A head with a title that is a word is read as that head, and leaves what stands after it.
+    // A head with a title that is a word is read as that head, and what follows it is left.
     ensures only { (kind : Kind) (calls : List ℕ) (left : Unread) → IsSolid title.now
         → IsHead First title.now kind calls lines.old left
         → MatchResult result (λ head.
@@ -91,7 +91,7 @@ pub fn read_head_of(version: Version, lines: &mut Lines, title: &[u8]) -> Result
     ensures refused { IfErr result (IsHeadFault version title.now TitleDue lines.old) }
     // A refusal leaves the lines as they were.
     ensures unchanged { IfErr result (λ _. lines.new ≡ lines.old) }
-    // A head with a title that is a word is read as that head, and leaves what stands after it.
+    // A head with a title that is a word is read as that head, and what follows it is left.
     ensures only { (kind : Kind) (calls : List ℕ) (left : Unread) → IsSolid title.now
         → IsHead version title.now kind calls lines.old left
         → MatchResult result (λ head.
