@@ -1,4 +1,4 @@
--- A book with one more call, or with one more answer, is valid still.
+-- A book with one more call, or with one more answer, stays valid.
 use Rattle.std.proofs.Common.{◌≡◌, ◌≢◌, ℕ, zero, suc, ◌+◌, ◌<◌, ◌≤◌, ◌∙◌, ◌⊎◌, List, [], ◌∷◌, ◌++◌, length, map, take, get_or, Some, refl, sym, ap, subst, inl, inr, arith, slice_get, set}
 use Rattle.std.proofs.lemmas.Bool.{cases_lt, cases_eq}
 use Rattle.std.proofs.lemmas.List.{get_or_past, get_or-map, length-map, length-set, length-append, length-replicate, get_or-set_same, get_or-set_other}
@@ -33,7 +33,8 @@ pub below_calls : (book : List Page) (view : List ℕ) → IsWithin view (announ
     → get_or view i 0 ≤ calls_of book i
 below_calls book view h i = omega (arith, h i, announced_at book i)
 
--- the page that was set, and the others
+-- the page of the caller whose page was set is the new one, and the other callers' pages are the
+-- old ones
 pub page_of-set_same : (book : List Page) (i : ℕ) (p : Page) → i < length book
     → page_of (set book i p) i ≡ p
 page_of-set_same book i p h = get_or-set_same book i p empty h
@@ -42,7 +43,7 @@ pub page_of-set_other : (book : List Page) (i j : ℕ) (p : Page) → j ≢ i
     → page_of (set book i p) j ≡ page_of book j
 page_of-set_other book i j p h = get_or-set_other book i j p empty h
 
--- a book with the same callers and records, and no fewer calls, is valid still
+-- a book with the same callers and records as a valid one, and with no fewer calls, is valid
 pub IsValid-more_calls : (book new : List Page) → length new ≡ length book
     → ((i : ℕ) → (page_of new i).records ≡ (page_of book i).records)
     → ((i : ℕ) → calls_of book i ≤ calls_of new i) → IsValid book → IsValid new
@@ -95,7 +96,7 @@ IsSmall-unanswered_book calls some few small = record {
   );
 }
 
--- one caller more
+-- the pages of unanswered calls of one caller more
 pub unanswered_book-more : (book : List Page) (calls : List ℕ) (i : ℕ) (p : Page) → i < length calls
     → book ≡ unanswered_book (take i calls) → p ≡ unanswered_page (get_or calls i 0)
     → book ++ p ∷ [] ≡ unanswered_book (take (i + 1) calls)
@@ -156,7 +157,7 @@ IsSmall-with_operation book call op h small =
 
 -- ---- one more call
 
--- who made how many calls after one more
+-- how many calls each caller has after one more call
 pub calls_of-with_call : (book : List Page) (i op j : ℕ) → i < length book
     → calls_of book j ≤ calls_of (with_call book i op) j
 calls_of-with_call book i op j h =
@@ -173,7 +174,7 @@ calls_of-with_call book i op j h =
           omega (arith, ap (λ (q : Page). length q.operations) (page_of-set_other book i j p other))
     ]
 
--- the records are those from before
+-- one more call changes no record
 pub records-with_call : (book : List Page) (i op j : ℕ) → i < length book
     → (page_of (with_call book i op) j).records ≡ (page_of book j).records
 records-with_call book i op j h =
@@ -217,7 +218,7 @@ IsSmall-with_call book i op h room small =
 
 -- ---- one more answer
 
--- the calls are those from before
+-- one more answer changes no call
 pub calls_of-with_answer : (book : List Page) (i : ℕ) (r : Record) (j : ℕ) → i < length book
     → calls_of (with_answer book i r) j ≡ calls_of book j
 calls_of-with_answer book i r j h =
@@ -233,7 +234,7 @@ pub announced-with_answer : (book : List Page) (i : ℕ) (r : Record)
 announced-with_answer book i r = map-set_same (λ (p : Page). length p.operations) book i
     (record (page_of book i) { records = (page_of book i).records ++ r ∷ [] }) empty refl
 
--- what was recorded before is recorded still
+-- a record that the book had before one more answer is there afterwards
 pub record_of-with_answer_old : (book : List Page) (i : ℕ) (r : Record) (call : Call) (s : Record)
     → i < length book → record_of book call ≡ Some s
     → record_of (with_answer book i r) call ≡ Some s
@@ -249,7 +250,7 @@ record_of-with_answer_old book i r call s h e =
           (page_of-set_other book i call.caller p other) ∙ e
     ]
 
--- what is recorded now was recorded before, or is the new answer
+-- a record of the book with one more answer was there before, or is the new answer
 pub record_of-with_answer_cases : (book : List Page) (i : ℕ) (r : Record) (call : Call) (s : Record)
     → i < length book → record_of (with_answer book i r) call ≡ Some s
     → (record_of book call ≡ Some s)
@@ -287,12 +288,12 @@ answers_of-with_answer book i r j h room le =
           (arith, le, ap (λ (q : Page). length q.records) (page_of-set_other book i j p other))
     ]
 
--- two cuts are comparable in either order
+-- comparable cuts are comparable in either order
 swapped : (a b : List ℕ) → AreComparable a b → AreComparable b a
 swapped a b (inl h) = inr h
 swapped a b (inr h) = inl h
 
--- the new view, and one of the book's, are comparable; so are two of the book's
+-- any two views of the book with the new answer are comparable
 both_comparable : (book : List Page) (i : ℕ) (r : Record) → IsValid book → MayAnswer book i r.view
     → (a b : Call) (s t : Record)
     → (record_of book a ≡ Some s) ⊎ ((a.caller ≡ i) × (a.number ≡ answers_of book i) × (s ≡ r))
@@ -353,7 +354,7 @@ record_of-with_answer_new book i r h =
     ap (λ (q : Page). slice_get q.records (answers_of book i)) (page_of-set_same book i p h)
     ∙ slice_get-push_last (page_of book i).records r
 
--- and nothing else changes
+-- one more answer is recorded, and changes nothing else
 pub answers_are_recorded : AnswersAreRecorded
 answers_are_recorded =
     record {
@@ -365,7 +366,7 @@ answers_are_recorded =
       ];
     }
 
--- an answer that leaves a valid book is one that may be given
+-- an answer that makes a book which is valid may be given
 pub MayAnswer-from_valid : (book : List Page) (i : ℕ) (r : Record) → i < length book
     → IsValid (with_answer book i r) → MayAnswer book i r.view
 MayAnswer-from_valid book i r h valid =

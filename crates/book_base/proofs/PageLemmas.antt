@@ -1,4 +1,4 @@
--- The pages of a book, and where they lie.
+-- The pages of a book, and where they lie in memory.
 use Rattle.std.proofs.Common.{◌≡◌, ℕ, ◌<◌, ◌≤◌, ◌∙◌, List, [], length, get_or, Some, refl, sym, ap, subst, arith, set, ◌++◌, ◌∷◌, inl, inr, slice_get}
 use Rattle.std.proofs.lemmas.Bool.{cases_lt}
 use Rattle.std.proofs.lemmas.List.{get_or_past, get_or-map, length-map, map-set}
@@ -13,11 +13,11 @@ use Rattle.book_base.specs.BookLayout.{page, pages}
 abbrev pub empty : Page
 empty = record { operations = []; records = [] }
 
--- the page of a caller that isn't there is empty
+-- the page of a caller that the book lacks is empty
 pub page_past : (book : List Page) (i : ℕ) → length book ≤ i → page_of book i ≡ empty
 page_past book i h = get_or_past book i empty h
 
--- who made a call is there
+-- a caller that made a call is in the book
 pub caller_from_call : (book : List Page) (i k : ℕ) → k < calls_of book i → i < length book
 caller_from_call book i k h =
     elim (cases_lt i (length book)) [
@@ -26,7 +26,7 @@ caller_from_call book i k h =
           absurd (omega (arith, ap (λ (p : Page). length p.operations) (page_past book i le)))
     ]
 
--- who recorded an answer is there
+-- a caller that recorded an answer is in the book
 pub caller_from_answer : (book : List Page) (i k : ℕ) → k < answers_of book i → i < length book
 caller_from_answer book i k h =
     elim (cases_lt i (length book)) [
@@ -34,7 +34,7 @@ caller_from_answer book i k h =
       | inr le ↦ absurd (omega (arith, ap (λ (p : Page). length p.records) (page_past book i le)))
     ]
 
--- the page of a caller is what its rows hold
+-- the page of a caller is the one that the caller's page in memory holds
 pub page_of-pages : (rows : List CallerPage) (book : List Page) (i : ℕ) (r : CallerPage)
     → pages rows ≡ book
     → i < length book → r ≡ get_or rows i r → page_of book i ≡ page r
@@ -43,7 +43,7 @@ page_of-pages rows book i r e h is =
     ap (λ (b : List Page). page_of b i) (sym e)
     ∙ (get_or-map page rows i r empty inside ∙ ap page (sym is))
 
--- the operation that the rows hold is the call's
+-- the operation word in a caller's page in memory is the one of the call
 pub operation_from_rows : (rows : List CallerPage) (book : List Page) (call : Call)
     (r : CallerPage) (op : ℕ)
     → pages rows ≡ book → call.number < calls_of book call.caller → r ≡ get_or rows call.caller r
@@ -56,7 +56,7 @@ operation_from_rows rows book call r op e h is there =
     ap (λ (p : Page). slice_get p.operations call.number) known
     ∙ slice_get_read r.operations.items (length r.operations.items) call.number op refl below there
 
--- the record that the rows hold is the call's
+-- the record in a caller's page in memory is the one of the call
 pub record_from_rows : (rows : List CallerPage) (book : List Page) (call : Call) (r : CallerPage)
     (found : Record) → pages rows ≡ book → call.number < answers_of book call.caller
     → r ≡ get_or rows call.caller r → found ≡ get_or r.records.items call.number found
@@ -69,13 +69,13 @@ record_from_rows rows book call r found e h is there =
     ap (λ (p : Page). slice_get p.records call.number) known
     ∙ slice_get_read r.records.items (length r.records.items) call.number found refl below there
 
--- rows that hold the same page leave the book as it was
+-- a page in memory that is replaced by one with the same lists doesn't change the book
 pub pages-set_same : (rows : List CallerPage) (book : List Page) (i : ℕ) (r s : CallerPage)
     → pages rows ≡ book
     → r ≡ get_or rows i r → page s ≡ page r → pages (set rows i s) ≡ book
 pages-set_same rows book i r s e is same = map-set_same page rows i s r (same ∙ ap page is) ∙ e
 
--- rows with one more operation hold the book with one more call
+-- pages in memory with one more operation hold the book with one more call
 pub pages-with_call : (rows : List CallerPage) (book : List Page) (i op : ℕ) (r s : CallerPage)
     → pages rows ≡ book → i < length book → r ≡ get_or rows i r
     → s.operations.items ≡ r.operations.items ++ op ∷ [] → s.records.items ≡ r.records.items
@@ -90,7 +90,7 @@ pages-with_call rows book i op r s e h is pushed same =
     ∙ ap (λ (p : Page). made (p.operations ++ op ∷ []) p.records) (sym known)) in
     map-set page rows i s ∙ (ap (λ (b : List Page). set b i (page s)) e ∙ ap (set book i) one)
 
--- rows with another operation hold the book with it
+-- pages in memory with another operation hold the book with this operation
 pub pages-with_operation : (rows : List CallerPage) (book : List Page) (call : Call) (op : ℕ)
     (r s : CallerPage)
     → pages rows ≡ book → call.caller < length book → r ≡ get_or rows call.caller r
@@ -107,7 +107,7 @@ pages-with_operation rows book call op r s e h is put same =
     map-set page rows call.caller s
     ∙ (ap (λ (b : List Page). set b call.caller (page s)) e ∙ ap (set book call.caller) one)
 
--- rows with one more record hold the book with one more answer
+-- pages in memory with one more record hold the book with one more answer
 pub pages-with_answer : (rows : List CallerPage) (book : List Page) (i : ℕ) (a : Record)
     (r s : CallerPage)
     → pages rows ≡ book → i < length book → r ≡ get_or rows i r

@@ -9,7 +9,7 @@ use Rattle.book_base.specs.Next.{next_call, MayComeNext}
 use Rattle.book_base.specs.Pruning.{IsForced, MarksAllNext, MarksSuffice}
 use Rattle.book_base.proofs.ViewLemmas.{same_call}
 
--- Where a caller is forced, the calls that may come next suffice, taken all together.
+-- Where a caller is forced, marks on all callers whose next calls may come next suffice.
 pub all_next_suffice : (book : List Page) (next : List ℕ → ℕ → List ℕ × ℕ) (cut list : List ℕ)
     (forced : ℕ) (marks : Marks) → IsForced book cut forced
     → MarksAllNext book cut marks → MarksSuffice book next cut list marks
@@ -23,7 +23,7 @@ all_next_suffice book next cut list forced marks is all (place ∷ other) goes =
     subst (λ (c : Call). MayComeNext book cut c) same goes.0.may_come in
     (place, other, (all place.caller).1 may, goes, omega arith)
 
--- a mark on one more caller, or on one less
+-- a caller has the mark that was set for it, and each other caller the mark that it had
 pub marked-set_same : (callers : List Bool) (caller : ℕ) (mark : Bool) → caller < length callers
     → get_or (set callers caller mark) caller false ≡ mark
 marked-set_same callers caller mark inside = get_or-set_same callers caller mark false inside

@@ -1,4 +1,4 @@
--- What is known of a book: bounds of calls, and what another bound or another rank changes.
+-- What is known of a book: the bounds of calls, and what another bound or another rank changes.
 use Rattle.std.proofs.Common.{◌≡◌, ◌≢◌, ℕ, zero, suc, ◌+◌, ◌<◌, ◌≤◌, ◌⊎◌, ◌∙◌, ◌==◌, max, cond, List, [], ◌∷◌, ◌++◌, Option, Some, None, IsSomeAnd, Contains, Vec, Global, replicate, length, map, set, get_or, slice_get, inl, inr, refl, sym, ap, subst, arith}
 use Rattle.std.proofs.lemmas.Bool.{cases_eq, cases_lt, cond-true, cond-false}
 use Rattle.std.proofs.lemmas.Bool.Decides.{eqb_tells}
@@ -30,7 +30,7 @@ cases_call a b =
       ]
     ]
 
--- the bounds of the caller, and those of each other one
+-- the bounds of the caller whose bound was changed, and those of each other caller
 call_bounds_of-with_call_bound_same : (known : Known) (call : Call) (call_bound : CallBound)
     → HasCallBound known call → call_bounds_of
     (with_call_bound known call call_bound) call.caller
@@ -74,7 +74,7 @@ call_bound_of-with_call_bound_other known call call_bound other has apart =
           (sym caller)))
     ]
 
--- each call keeps its bound
+-- each call that had a bound has one after another bound was changed
 pub has_call_bound-with_call_bound : (known : Known) (call : Call) (call_bound : CallBound)
     (other : Call) → HasCallBound known call
     → HasCallBound known other → HasCallBound (with_call_bound known call call_bound) other
@@ -105,8 +105,8 @@ has_call_bound-with_call_bound known call call_bound other has h =
     ] in
     (callers, calls)
 
--- Another bound of a call keeps what is known right where that bound forbids the call only where it
--- is infeasible.
+-- What is known stays right with another bound of a call, where that bound forbids the call only
+-- where the call is infeasible.
 pub with_call_bound_is_right : (init : List ℕ) (next : List ℕ → ℕ → List ℕ × ℕ) (book : List Page)
     (known : Known) (call : Call) (call_bound : CallBound) → HasCallBound known call
     → ArePruningRules init next book known
@@ -149,7 +149,7 @@ set_at_most [] i v = omega arith
 set_at_most (x ∷ xs) zero v = omega arith
 set_at_most (x ∷ xs) (suc i) v = set_at_most xs i v
 
--- where a call that must come first isn't in the cut, a call is infeasible
+-- where a cut lacks a call that must come first, the call after it is infeasible
 infeasible_from_first : (init : List ℕ) (next : List ℕ → ℕ → List ℕ × ℕ) (book : List Page)
     (cut list : List ℕ) (call other : Call) → MustComeFirst init next book other call
     → (Holds cut other → ⊥) → IsInfeasible init next book cut list call
@@ -165,7 +165,8 @@ infeasible_from_first init next book cut list call other first lacks before rest
     ) in
     lacks (reaches.holds found.0 other there)
 
--- what a raised predecessor bound holds and a cut lacks
+-- a call that a raised predecessor bound holds and a cut lacks is in the old bound, or is the added
+-- one
 below_raised : (cut predecessor_bound : List ℕ) (other : Call)
     → IsBelow cut (set predecessor_bound other.caller
     (max (get_or predecessor_bound other.caller 0) (other.number + 1)))
@@ -190,7 +191,7 @@ below_raised cut predecessor_bound other (i, lt) =
       ]
     ]
 
--- Holding back a call until one stands that must come first keeps what is known right.
+-- What is known stays right where a call is held back until after one that must come first.
 pub held_back_is_right : (init : List ℕ) (next : List ℕ → ℕ → List ℕ × ℕ) (book : List Page)
     (known : Known) (call other : Call) → HasCallBound known call
     → ArePruningRules init next book known → MustComeFirst init next book other call
@@ -229,7 +230,7 @@ early_either ranks list a b (word, inside, early) =
       | inr low ↦ inr (word, inside, low)
     ]
 
--- Limiting a call by ranks whose words make it infeasible keeps what is known right.
+-- What is known stays right where a call is limited by ranks whose words make it infeasible.
 pub limited_is_right : (init : List ℕ) (next : List ℕ → ℕ → List ℕ × ℕ) (book : List Page)
     (known : Known) (call : Call) (limit : ℕ) → HasCallBound known call
     → ArePruningRules init next book known → ((cut list : List ℕ) → HasEarly known.ranks list limit
@@ -250,8 +251,8 @@ limited_is_right init next book known call limit has right infeasible =
 
 -- ---- another rank
 
--- Another rank of a word keeps what is known right where each call that it forbids at a list with
--- the word is infeasible there.
+-- What is known stays right with another rank of a word, where each call that this rank forbids at
+-- a list with the word is infeasible there.
 pub ranked_is_right : (init : List ℕ) (next : List ℕ → ℕ → List ℕ × ℕ) (book : List Page)
     (known new : Known) (word rank : ℕ) → new.call_bounds ≡ known.call_bounds
     → ((other : ℕ)
@@ -342,7 +343,7 @@ has_call_bound-blank book call is =
 
 -- ---- where bounds lie
 
--- the bound that the rows hold is the call's
+-- the bound in the rows in memory is the one of the call
 pub call_bound_of-rows : (rows : List (Vec CallBound Global)) (known : Known) (call : Call)
     (row : Vec CallBound Global) (call_bound : CallBound) → map items_of rows ≡ known.call_bounds
     → HasCallBound known call
@@ -366,7 +367,7 @@ call_bound_of-rows rows known call row call_bound call_bounds has row_is call_bo
           ∙ ap (λ (b : List CallBound). get_or b call.number no_call_bound) its),
     )
 
--- rows with another bound hold what is known with it
+-- rows in memory with another bound hold what is known with this bound
 pub rows-with_call_bound : (rows : List (Vec CallBound Global)) (known : Known) (call : Call)
     (row new : Vec CallBound Global) (call_bound : CallBound)
     → map items_of rows ≡ known.call_bounds

@@ -1,4 +1,4 @@
--- What orders reach, one place after another, and what must come first.
+-- What orders reach, one place after another, and which calls must come first.
 use Rattle.std.proofs.Common.{◌≡◌, ℕ, ◌+◌, ◌-◌, ◌<◌, ◌≤◌, ◌⊎◌, ◌∙◌, List, [], ◌∷◌, ◌++◌, length, map, set, get_or, inl, inr, refl, sym, ap, subst, arith}
 use Rattle.std.proofs.lemmas.Bool.{cases_eq, cases_lt}
 use Rattle.std.proofs.lemmas.List.{get_or-set_same, get_or-set_other, ext_get_or}
@@ -16,7 +16,7 @@ use Rattle.book_base.specs.PruningRules.{list_after_run, Reaches}
 use Rattle.book_base.specs.PruningRuleLaws.{NoPlacesReachTheStart, OneMorePlaceReachesOn, OneCutIsReached, PrecedingComesFirst, ReadOnlyMayBeLeftOut, WhatStandsIsNotInfeasible}
 use Rattle.book_base.proofs.ViewLemmas.{same_call}
 
--- the list after one more step
+-- the object's list after one more place
 list_after_run-push : (next : List ℕ → ℕ → List ℕ × ℕ) (book : List Page) (list : List ℕ)
     (before : List Place) (place : Place)
     → list_after_run next list (map (step_at book) (before ++ place ∷ []))
@@ -25,7 +25,7 @@ list_after_run-push next book list [] place = refl
 list_after_run-push next book list (first ∷ before) place =
     list_after_run-push next book (next list (step_at book first).0).0 before place
 
--- a cut with one more call holds that call, and all that it held
+-- a cut raised by a call holds this call, and all that it held before
 raised_holds : (cut : List ℕ) (place : Place) (call : Call) → place.caller < length cut
     → place.number ≡ get_or cut place.caller 0
     → Holds cut call ⊎ (call_at place ≡ call) → Holds (set cut place.caller (place.number + 1)) call
@@ -44,7 +44,7 @@ raised_holds cut place call inside at (inr is) =
     subst (λ (c : Call). c.number < get_or (set cut place.caller (place.number + 1)) c.caller 0) is
     (omega (arith, get_or-set_same cut place.caller (place.number + 1) 0 inside))
 
--- and nothing else
+-- a cut raised by a call holds only this call and those that it held before
 raised_held : (cut : List ℕ) (place : Place) (call : Call) → place.caller < length cut
     → place.number ≡ get_or cut place.caller 0
     → Holds (set cut place.caller (place.number + 1)) call → Holds cut call ⊎ (call_at place ≡ call)
@@ -90,7 +90,8 @@ one_more_place_reaches_on init next book before cut list place reaches inside at
       ∙ ap (λ (l : List ℕ). (next l (step_at book place).0).0) reaches.reached;
 }
 
--- each call that one cut holds stands in the order, and so the other cut holds it
+-- where an order reaches two cuts, each call that one of them holds is in the order, so that the
+-- other holds it
 reached_within : (init : List ℕ) (next : List ℕ → ℕ → List ℕ × ℕ) (book : List Page)
     (order : List Place) (a b x y : List ℕ)
     → Reaches init next book order a x → Reaches init next book order b y → (i : ℕ)

@@ -15,7 +15,7 @@ use Rattle.book_base.specs.Rising.{AreViewsWithin}
 use Rattle.book_base.proofs.PageLemmas.{empty, page_past, caller_from_call, caller_from_answer}
 use Rattle.book_base.proofs.GrowthLemmas.{within_announced, below_calls}
 
--- calls with the same caller and number are one
+-- two calls with the same caller and number are equal
 pub same_call : (a b : Call) → a.caller ≡ b.caller → a.number ≡ b.number → a ≡ b
 same_call a b caller number = let made : ℕ → ℕ → Call = λ i n. record { caller = i; number = n } in
     ap (λ (i : ℕ). made i a.number) caller ∙ ap (made b.caller) number
@@ -29,7 +29,7 @@ answer_stands book call h =
       | inr past ↦ absurd (omega (arith, past.0))
     ]
 
--- a later call of a caller has no smaller view
+-- the view of a later call of a caller isn't smaller than that of an earlier one
 pub views_grow : (book : List Page) → IsValid book → (a b : Call) (r s : Record) → record_of book a
     ≡ Some r → record_of book b ≡ Some s → a.caller ≡ b.caller → a.number ≤ b.number
     → (i : ℕ) → get_or r.view i 0 ≤ get_or s.view i 0
@@ -49,7 +49,7 @@ views_grow book valid a b r s at bt caller le i =
           omega (arith, ap (λ (x : Record). get_or x.view i 0) same)
     ]
 
--- a record of the book at a cut is the book's, and the cut holds it
+-- a record of the book at a cut is one of the book, and the cut holds its call
 pub record_from_part : (book : List Page) (cut : List ℕ) (part : List Page) → IsBookAt book cut part
     → (call : Call) (r : Record) → record_of part call ≡ Some r
     → Holds cut call × (record_of book call ≡ Some r)
@@ -95,7 +95,7 @@ book_at_is_valid book cut part valid at =
       comparable = λ a b r s x y. valid.comparable a b r s (known a r x).1 (known b s y).1;
     }
 
--- and within the limits where the book is
+-- The book at a cut is within the limits of books where the book is.
 pub book_at_is_small : (book : List Page) (cut : List ℕ) (part : List Page) → IsValid book
     → IsSmall book → IsBookAt book cut part → IsSmall part
 book_at_is_small book cut part valid small at = record {
@@ -126,7 +126,7 @@ answered_at book i =
           ∙ sym (ap (λ (p : Page). length p.records) (page_past book i past))
     ]
 
--- This many calls of a caller are held by the views of the records of the first callers that a cut
+-- Of a caller's calls this many are held by the views of the first callers' records that a cut
 -- holds.
 pub record IsHeldTo (book : List Page) (cut : List ℕ) (caller other held : ℕ) : Type 0 where
   pub held_by : (number : ℕ) → number < held
@@ -164,7 +164,7 @@ held_to_more book cut caller other held last so_far by_last most_last = record {
   ];
 }
 
--- Held by the views of all callers' records that the cut holds.
+-- the number of a caller's calls that the views of all callers' records held by the cut hold
 pub held_from_all : (book : List Page) (cut : List ℕ) (caller other held : ℕ) → length book ≤ other
     → IsHeldTo book cut caller other held
     → (number : ℕ) → number < held
@@ -189,7 +189,7 @@ held_is_few book cut caller other held valid h =
       | inr fits ↦ fits
     ]
 
--- what a view that the cut holds has is a call of the book
+-- a call that some view of a record held by the cut holds is a call of the book
 pub held_is_call : (book : List Page) (cut : List ℕ) (call : Call) → IsValid book
     → IsHeldBySomeView book cut call → IsCall book call
 held_is_call book cut call valid h =
@@ -285,7 +285,7 @@ views_within_all book caller view = record {
       absurd (let there : k < answers_of book caller = slice_get_within _ k r e in omega arith);
 }
 
--- the view in the middle is within
+-- where the view in the middle is within the given one, the search goes on above it
 pub views_within_low : (book : List Page) (caller : ℕ) (view : List ℕ) (low high middle : ℕ)
     → IsValid book → AreViewsWithin book caller view low high → middle < high
     → (s : Record) → record_of book (record { caller = caller; number = middle }) ≡ Some s
@@ -300,7 +300,7 @@ views_within_low book caller view low high middle valid h below s at within = re
   above = h.above;
 }
 
--- it isn't
+-- where the view in the middle isn't within the given one, the search goes on below it
 pub views_within_high : (book : List Page) (caller : ℕ) (view : List ℕ) (low high middle : ℕ)
     → IsValid book → AreViewsWithin book caller view low high → low ≤ middle → middle < high
     → (s : Record) → record_of book (record { caller = caller; number = middle }) ≡ Some s
@@ -315,7 +315,8 @@ views_within_high book caller view low high middle valid h above below s at out 
       omega (arith, rise, within i));
 }
 
--- a view within the first one that isn't within it is within all later ones
+-- a view that is within a caller's first view that isn't within it is within all later ones of this
+-- caller
 pub comparable_with_all : (book : List Page) (caller number : ℕ) (view : List ℕ) → IsValid book
     → AreViewsWithin book caller view number number
     → (s : Record) → record_of book (record { caller = caller; number = number }) ≡ Some s

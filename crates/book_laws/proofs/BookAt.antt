@@ -16,14 +16,14 @@ use Rattle.book_base.proofs.GrowthLemmas.{within_announced, below_calls}
 use Rattle.book_laws.proofs.GreatestCounts.{greatest_count-append, greatest_count-at_least, greatest_count-reached}
 pub use Rattle.book_base.proofs.ViewLemmas.{record_from_part, book_at_is_valid, answered_at, held_is_call}
 
--- the view of what stands in a list of records stands among their views
+-- a record's view is in the list of the views of a list of records, at the record's place
 map_stands : (rs : List Record) (k : ℕ) (r : Record) → slice_get rs k ≡ Some r
     → slice_get (map (λ (s : Record). s.view) rs) k ≡ Some r.view
 map_stands [] k r e = absurd (none-some r e)
 map_stands (s ∷ rs) zero r e = cc
 map_stands (s ∷ rs) (suc k) r e = map_stands rs k r e
 
--- a record that the cut holds counts no more than the views' greatest count
+-- no record that the cut holds counts more than the greatest count of the views
 pub views_at-least : (cut : List ℕ) (book : List Page) (i k : ℕ) (r : Record) (j : ℕ)
     → k < get_or cut i 0 → slice_get (page_of book i).records k ≡ Some r
     → get_or r.view j 0 ≤ greatest_count (views_at cut book) j
@@ -46,7 +46,7 @@ views_at-least (count ∷ counts) (page ∷ pages) (suc i) k r j h e =
       views_at-least counts pages i k r j h e,
     )
 
--- and what stands among the views is the view of what stands there
+-- a view in the list of the views of records is the view of the record at its place
 slice_get-map_some : (rs : List Record) (k : ℕ) (v : List ℕ)
     → slice_get (map (λ (r : Record). r.view) rs) k ≡ Some v → (r : Record)
     × (slice_get rs k ≡ Some r) × (r.view ≡ v)
@@ -54,7 +54,8 @@ slice_get-map_some [] k v e = absurd (none-some v e)
 slice_get-map_some (r ∷ rs) zero v e = (r, refl, cc)
 slice_get-map_some (r ∷ rs) (suc k) v e = slice_get-map_some rs k v e
 
--- and some record that the cut holds counts as much
+-- where the greatest count is above a number, some record that the cut holds counts more than this
+-- number
 pub views_at-reached : (cut : List ℕ) (book : List Page) (n j : ℕ)
     → n < greatest_count (views_at cut book) j
     → (i k : ℕ) × (r : Record) × (k < get_or cut i 0)
@@ -105,8 +106,7 @@ page_of-book_at cut book i =
           ∙ (sym none ∙ ap made (sym (page_past book i past)))
     ]
 
--- the records of the book at a cut are first records of the book, and its calls are first calls of
--- it
+-- the records of a caller in the book at a cut are its first ones in the book, and so are its calls
 pub records-book_at : (cut : List ℕ) (book : List Page) (i : ℕ)
     → (page_of (book_at cut book) i).records ≡ take (get_or cut i 0) (page_of book i).records
 records-book_at cut book i = ap (λ (p : Page). p.records) (page_of-book_at cut book i)
@@ -119,7 +119,7 @@ operations-book_at cut book i = ap (λ (p : Page). p.operations) (page_of-book_a
 pub length-book_at : (cut : List ℕ) (book : List Page) → length (book_at cut book) ≡ length book
 length-book_at cut book = length-map-range_with_len (page_at cut book) 0 (length book)
 
--- what the views count is there, in a valid book
+-- in a valid book the calls that the views of records held by a cut count are calls of the book
 views_at-within : (book : List Page) → IsValid book → (cut : List ℕ) (i : ℕ)
     → greatest_count (views_at cut book) i ≤ calls_of book i
 views_at-within book valid cut i =
@@ -143,7 +143,8 @@ calls_of-book_at book valid cut i =
       views_at-within book valid cut i,
     )
 
--- A call stands below the views' greatest count exactly where some view of the cut holds it.
+-- A call's number is below the views' greatest count exactly where some view of a record that the
+-- cut holds holds the call.
 held-from_count : (cut : List ℕ) (book : List Page) (call : Call)
     → call.number < greatest_count (views_at cut book) call.caller ↔ IsHeldBySomeView book cut call
 held-from_count cut book call = (
@@ -174,7 +175,7 @@ book_at_is_the_book_at book cut valid = record {
       (omega (arith, calls_of-book_at book valid cut call.caller));
 }
 
--- what two lists have below one number of elements each
+-- two numbers with the same lesser numbers are equal
 same_length_from_tests : (m n : ℕ) → ((k : ℕ) → k < m ↔ k < n) → m ≡ n
 same_length_from_tests m n h =
     elim (cases_lt m n) [
@@ -185,7 +186,7 @@ same_length_from_tests m n h =
       ]
     ]
 
--- lists with the same elements below their common length are one
+-- lists of one length with the same elements at each place are equal
 same_from_places_within : {X : Type 0} (xs ys : List X) → length xs ≡ length ys
     → ((k : ℕ) → k < length xs → slice_get xs k ≡ slice_get ys k) → xs ≡ ys
 same_from_places_within xs ys long h = same_from_places xs ys (λ (k : ℕ).
@@ -194,7 +195,7 @@ same_from_places_within xs ys long h = same_from_places xs ys (λ (k : ℕ).
       | inr past ↦ slice_get_past xs k past ∙ sym (slice_get_past ys k (omega arith))
     ])
 
--- Two books at one cut of a book are one.
+-- Two books that are the book at one cut are equal.
 pub books_at_are_one : (book : List Page) (cut : List ℕ) (a b : List Page) → IsBookAt book cut a
     → IsBookAt book cut b → a ≡ b
 books_at_are_one book cut a b one other =
@@ -215,7 +216,7 @@ books_at_are_one book cut a b one other =
     ap (λ (ops : List ℕ). made ops (page_of a i).records) operations
     ∙ ap (made (page_of b i).operations) records)
 
--- and each record of the book that the cut holds is there
+-- the book at a cut has each record of the book that the cut holds
 pub record_of-part : (book : List Page) (cut : List ℕ) (part : List Page) → IsBookAt book cut part
     → (call : Call) → Holds cut call
     → record_of part call ≡ record_of book call
@@ -256,7 +257,8 @@ book_at_of_book_at book larger smaller part within at least under =
           ((at.calls call).1 (wider call (back call ((under.calls call).0 h))));
     }
 
--- The record counts of the book at a cut within the record counts are the cut.
+-- The record counts of the book at a cut are the cut, where the cut counts no more records than the
+-- book has.
 pub answered-book_at : (book : List Page) (cut : List ℕ) → length cut ≡ length book
     → IsWithin cut (answered book) → answered (book_at cut book) ≡ cut
 answered-book_at book cut wide within =

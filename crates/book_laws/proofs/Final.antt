@@ -1,5 +1,5 @@
--- An error is final: a legal order, ended after the last call that is answered at a cut, is one of
--- the book at that cut.
+-- An error is final: a legal order that is ended after the last call that is answered at a cut is a
+-- legal order of the book at that cut.
 use Rattle.std.proofs.Common.{◌≡◌, ℕ, zero, suc, ◌<◌, ◌≤◌, ◌∙◌, Bool, ltb, List, [], ◌∷◌, map, take, get_or, unwrap_or, refl, sym, ap, subst, inl, inr, arith}
 use Rattle.std.proofs.lemmas.Bool.{cases_lt, ltb-true, lt-ltb}
 use Rattle.std.proofs.lemmas.Option.{slice_get_within}
@@ -26,8 +26,8 @@ IsRunFrom-take next list (suc n) [] run = tt
 IsRunFrom-take next list (suc n) (step ∷ steps) run =
     (run.0, IsRunFrom-take next (next list step.0).0 n steps run.1)
 
--- what stands in a prefix of an order stands in the order, below the prefix's length, and the other
--- way round
+-- a call is in a prefix of an order exactly where it is in the order at a place below the prefix's
+-- length
 stands_in_whole : (order : List Place) (n k : ℕ) (call : Call) → StandsAt (take n order) k call
     → StandsAt order k call
 stands_in_whole order n k call s = (s.0, slice_get-take n order k s.0 s.1, s.2)
@@ -39,7 +39,7 @@ stands_in_prefix : (order : List Place) (n k : ℕ) (call : Call) → k < n → 
     → StandsAt (take n order) k call
 stands_in_prefix order n k call h s = (s.0, slice_get-take_within n order k h ∙ s.1, s.2)
 
--- the operations of calls of a part are the book's
+-- the operations of calls of the book at a cut are those of the book
 steps_in_part : (book part : List Page) (order : List Place)
     → ((k : ℕ) (call : Call) → StandsAt order k call
     → operation_of part call ≡ operation_of book call)
@@ -53,7 +53,7 @@ steps_in_part book part (place ∷ rest) same =
     ap (λ o. (unwrap_or o 0, place.reply)) first in
     cc
 
--- what precedes in a part precedes in the book
+-- where a call precedes another in the book at a cut, it does so in the book
 pub precedes_from_part : (book : List Page) (cut : List ℕ) (part : List Page)
     → IsBookAt book cut part → (a b : Call) → Precedes part a b → Precedes book a b
 precedes_from_part book cut part at a b p =
@@ -71,8 +71,9 @@ precedes_from_part book cut part at a b p =
 abbrev is_answered_in : List Page → Place → Bool
 is_answered_in part place = ltb place.number (answers_of part place.caller)
 
--- What stands in a legal order at or before a call that is answered at the cut is a call of the
--- book at the cut: one that no view of the cut holds is preceded by it.
+-- A call that a legal order has at or before a call that is answered at the cut is a call of the
+-- book at the cut, since a call that no view of a record held by the cut holds is preceded by the
+-- answered one.
 call_of_part : (init : List ℕ) (next : List ℕ → ℕ → List ℕ × ℕ) (book : List Page) (cut : List ℕ)
     (part : List Page) (order : List Place)
     → IsBookAt book cut part → IsLegalOrder init next book order → (j k : ℕ) (a b : Call) → k ≤ j

@@ -4,13 +4,13 @@ use Rattle.std.proofs.lemmas.Bool.{cases_lt}
 use Rattle.std.proofs.lemmas.Option.{same_Some, none-some}
 use Rattle.book_base.specs.BookAt.{greatest_count}
 
--- of two lists of cuts, it is the greater one
+-- the greatest count of two lists of cuts is the greater one of theirs
 pub greatest_count-append : (xs ys : List (List ℕ)) (i : ℕ)
     → greatest_count (xs ++ ys) i ≡ max (greatest_count xs i) (greatest_count ys i)
 greatest_count-append [] ys i = omega arith
 greatest_count-append (x ∷ xs) ys i = omega (arith, greatest_count-append xs ys i)
 
--- no cut has more
+-- no cut has more than the greatest count
 pub greatest_count-at_least : (cuts : List (List ℕ)) (k : ℕ) (cut : List ℕ) (i : ℕ)
     → slice_get cuts k ≡ Some cut → get_or cut i 0 ≤ greatest_count cuts i
 greatest_count-at_least [] k cut i e = absurd (none-some cut e)
@@ -19,7 +19,7 @@ greatest_count-at_least (c ∷ cuts) zero cut i e =
 greatest_count-at_least (c ∷ cuts) (suc k) cut i e =
     omega (arith, greatest_count-at_least cuts k cut i e)
 
--- and some cut has as much
+-- some cut has more than a number where the greatest count is above this number
 pub greatest_count-reached : (cuts : List (List ℕ)) (n i : ℕ) → n < greatest_count cuts i → (k : ℕ)
     × (cut : List ℕ) × (slice_get cuts k ≡ Some cut) × (n < get_or cut i 0)
 greatest_count-reached [] n i h = absurd (omega arith)

@@ -16,7 +16,7 @@ contains_more first cuts top here rest zero cut e i =
     omega (arith, here i, ap (λ (c : List ℕ). get_or c i 0) (same_Some first cut e))
 contains_more first cuts top here rest (suc k) cut e i = rest k cut e i
 
--- one of the cuts contains each
+-- one of pairwise comparable cuts contains each of them
 one_contains_each : (first : List ℕ) (others : List (List ℕ)) → ArePairwiseComparable (first ∷ others)
     → (k : ℕ) × (top : List ℕ) × (slice_get (first ∷ others) k ≡ Some top)
     × ((k : ℕ) (cut : List ℕ) → slice_get (first ∷ others) k ≡ Some cut → IsWithin cut top)
@@ -40,7 +40,7 @@ one_contains_each first (second ∷ others) chain =
       )
     ]
 
--- the greatest counts are those of a cut that contains each
+-- the greatest counts of cuts are those of one that contains each of them
 greatest_of_top : (cuts : List (List ℕ)) (k : ℕ) (top : List ℕ) → slice_get cuts k ≡ Some top
     → ((k : ℕ) (cut : List ℕ) → slice_get cuts k ≡ Some cut → IsWithin cut top)
     → (i : ℕ) → greatest_count cuts i ≡ get_or top i 0

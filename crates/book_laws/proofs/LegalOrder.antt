@@ -1,5 +1,5 @@
--- Legal orders, one call after another: what a legal order has after the calls of a cut is what may
--- stand one after another there.
+-- Legal orders, one call after another: the places of a legal order after the calls of a cut are
+-- those that continue an order from there.
 use Rattle.std.proofs.Common.{◌≡◌, ◌≢◌, ℕ, zero, suc, ◌+◌, ◌<◌, ◌≤◌, ◌⊎◌, ◌∙◌, List, [], ◌∷◌, length, map, get_or, set, Some, refl, sym, ap, subst, inl, inr, slice_get, slice_index, arith}
 use Rattle.std.proofs.lemmas.Bool.{cases_eq, cases_lt}
 use Rattle.std.proofs.lemmas.List.{get_or-set_same, get_or-set_other, length-set, set_comm}
@@ -16,8 +16,8 @@ use Rattle.book_base.proofs.PageLemmas.{caller_from_call}
 pub use Rattle.book_base.proofs.ViewLemmas.{same_call, answer_stands}
 use Rattle.book_base.specs.Next.{raised, MayComeNext, MayStandNext, list_after, Continues}
 
--- What follows the calls of a cut in a legal order, from a list of the object on: the parts of a
--- legal order, on the calls that the cut doesn't hold.
+-- The rest of a legal order after the calls of a cut, from a list of the object on: the fields of a
+-- legal order, said of the calls that the cut doesn't hold.
 pub record IsLegalRest (book : List Page) (next : List ℕ → ℕ → List ℕ × ℕ) (cut list : List ℕ)
     (rest : List Place) : Type 0 where
   pub calls : (k : ℕ) (call : Call) → StandsAt rest k call → IsCall book call
@@ -40,11 +40,11 @@ pub raised_same : (cut : List ℕ) (i : ℕ) → i < length cut
     → get_or (raised cut i) i 0 ≡ get_or cut i 0 + 1
 raised_same cut i h = get_or-set_same cut i (get_or cut i 0 + 1) 0 h
 
--- and as many as before for each other one
+-- a raised cut counts as many as before for each other caller
 pub raised_other : (cut : List ℕ) (i j : ℕ) → j ≢ i → get_or (raised cut i) j 0 ≡ get_or cut j 0
 raised_other cut i j h = get_or-set_other cut i j (get_or cut i 0 + 1) 0 h
 
--- a raised cut holds what the cut holds
+-- a raised cut holds all that the cut holds
 pub raised_more : (cut : List ℕ) (i j : ℕ) → i < length cut
     → get_or cut j 0 ≤ get_or (raised cut i) j 0
 raised_more cut i j h =
@@ -74,7 +74,7 @@ raised_cases cut i call h held =
           inl (subst (λ (n : ℕ). call.number < n) (raised_other cut i call.caller other) held)
     ]
 
--- two callers' counts may be raised in either order
+-- two callers' counts may be raised in either order, with the same cut
 pub raised_twice : (cut : List ℕ) (i j : ℕ) → i ≢ j
     → raised (raised cut i) j ≡ raised (raised cut j) i
 raised_twice cut i j apart =
@@ -82,7 +82,7 @@ raised_twice cut i j apart =
     ∙ (set_comm cut i j (get_or cut i 0 + 1) (get_or cut j 0 + 1) apart
     ∙ ap (λ (n : ℕ). set (raised cut j) i (n + 1)) (sym (raised_other cut j i apart)))
 
--- a call may still come next when another caller's call has come
+-- a call that may come next may still do so when another caller's call has come
 pub comes_later : (book : List Page) (cut : List ℕ) (i : ℕ) (call : Call) → i < length cut
     → call.caller ≢ i → MayComeNext book cut call → MayComeNext book (raised cut i) call
 comes_later book cut i call inside apart may = record {
@@ -93,7 +93,7 @@ comes_later book cut i call inside apart may = record {
       omega (arith, held, raised_more cut i a.caller inside);
 }
 
--- what stands at the first place
+-- a call at the first place of an order is the one of this place
 pub stands_first : (place : Place) (rest : List Place) (call : Call)
     → StandsAt (place ∷ rest) 0 call → call_at place ≡ call
 stands_first place rest call (found, at, is) = let e : place ≡ found = cc in ap call_at e ∙ is
@@ -112,13 +112,13 @@ raised_new cut i call h out held =
       | inr new ↦ new
     ]
 
--- a caller's count stands where the caller made a call
+-- a cut has a count for a caller that made a call
 pub within_cut : (book : List Page) (cut : List ℕ) (call : Call) → length book ≤ length cut
     → IsCall book call → call.caller < length cut
 within_cut book cut call wide h = let below : call.caller < length book =
     caller_from_call book call.caller call.number h in omega arith
 
--- places with the same call and reply are one
+-- two places with the same call and reply are equal
 pub same_place : (a b : Place) → a.caller ≡ b.caller → a.number ≡ b.number
     → a.reply ≡ b.reply → a ≡ b
 same_place a b caller number reply =
@@ -126,7 +126,8 @@ same_place a b caller number reply =
     ap (λ (i : ℕ). made i a.number a.reply) caller
     ∙ (ap (λ (n : ℕ). made b.caller n a.reply) number ∙ ap (made b.caller b.number) reply)
 
--- a call that stands where the raised cut doesn't hold it isn't the first one
+-- a call that is in an order, and that the cut raised by the first place doesn't hold, isn't at the
+-- first place
 not_first : (cut : List ℕ) (place : Place) (call : Call) → place.caller < length cut
     → place.number ≡ get_or cut place.caller 0
     → get_or (raised cut place.caller) call.caller 0 ≤ call.number → call_at place ≡ call → ⊥
@@ -135,11 +136,11 @@ not_first cut place call inside at out is =
     subst (λ (c : Call). get_or (raised cut place.caller) c.caller 0 ≤ c.number) (sym is) out in
     absurd (omega (arith, raised_same cut place.caller inside))
 
--- nothing stands in an order without places
+-- an order without places has no call
 nothing_stands : (k : ℕ) (call : Call) → StandsAt [] k call → ⊥
 nothing_stands k call (place, at, is) = none-some place at
 
--- What may stand first, and what a legal order has after it, is what a legal order has.
+-- The first place and the rest after it, each with the properties that a legal rest needs of it.
 record Parts (book : List Page) (next : List ℕ → ℕ → List ℕ × ℕ) (cut list : List ℕ) (place : Place)
     (rest : List Place) : Type 0 where
   first : MayStandNext book next cut list place
@@ -264,7 +265,7 @@ legal_rest-cons book next cut list place rest wide first later =
       precedence = cons-precedence book next cut list place rest h;
     }
 
--- The first call of what a legal order has may come next.
+-- The first call of the rest of a legal order may come next.
 pub first_may_come : (book : List Page) (next : List ℕ → ℕ → List ℕ × ℕ) (cut list : List ℕ)
     (place : Place) (rest : List Place) → IsLegalRest book next cut list (place ∷ rest)
     → MayComeNext book cut (call_at place)
@@ -333,7 +334,7 @@ uncons-answered cut place rest it inside at out zero s =
     absurd (not_first cut place (call_at it) inside at out (ap call_at (same_Some place it s)))
 uncons-answered cut place rest it inside at out (suc k) s = (k, s)
 
--- The first reply of what a legal order has is the recorded one.
+-- The first reply of the rest of a legal order is the recorded one, where the call is answered.
 first_recorded : (book : List Page) (next : List ℕ → ℕ → List ℕ × ℕ) (cut list : List ℕ)
     (place : Place) (rest : List Place) → IsLegalRest book next cut list (place ∷ rest)
     → (r : Record) → record_of book (call_at place) ≡ Some r → r.reply ≡ place.reply
@@ -346,7 +347,8 @@ first_recorded book next cut list place rest whole r known =
     subst (λ (k : ℕ). slice_get (place ∷ rest) k ≡ Some it) (sym zeroth) found.1 in
     sym (ap (λ (p : Place). p.reply) (same_Some place it here))
 
--- What a legal order has begins with what may stand first, and the rest is what it has after that.
+-- The rest of a legal order is a place that may come next, followed by the rest of a legal order
+-- after this place.
 pub legal_rest-uncons : (book : List Page) (next : List ℕ → ℕ → List ℕ × ℕ) (cut list : List ℕ)
     (place : Place) (rest : List Place) → length book ≤ length cut
     → IsLegalRest book next cut list (place ∷ rest)
@@ -384,8 +386,8 @@ legal_rest-uncons book next cut list place rest wide whole =
       },
     )
 
--- What may stand one after another is what a legal order has after the calls of a cut, and the
--- other way round.
+-- Places continue an order exactly where they are the rest of a legal order after the calls of a
+-- cut.
 pub legal_rest_from_continues : (book : List Page) (next : List ℕ → ℕ → List ℕ × ℕ)
     (cut list : List ℕ) (rest : List Place) → length book ≤ length cut
     → Continues book next cut list rest → IsLegalRest book next cut list rest
@@ -426,8 +428,8 @@ continues_from_legal_rest book next cut list (place ∷ rest) wide h =
           (list_after book next list place) rest wider parts.1,
     )
 
--- A legal order is what may stand one after another from the start: after the calls of a cut that
--- holds none, from the object's first list on.
+-- A legal order is a list of places that continue an order from the start: after the cut that holds
+-- no call, from the object's first list on.
 pub legal_order_from_continues : (book : List Page) (init : List ℕ) (next : List ℕ → ℕ → List ℕ × ℕ)
     (cut : List ℕ) (order : List Place) → length book ≤ length cut
     → ((i : ℕ) → get_or cut i 0 ≡ 0) → Continues book next cut init order

@@ -1,5 +1,5 @@
--- What may come next, by precedence: the views of a caller never shrink, so that its first answered
--- call outside a cut precedes a call where any of them does.
+-- Which calls may come next, by precedence: the views of a caller never shrink, so that its first
+-- answered call outside a cut precedes a call where any of its calls outside the cut does.
 use Rattle.std.proofs.Common.{◌≡◌, ℕ, ◌<◌, ◌≤◌, ◌∙◌, ◌↔◌, List, get_or, Some, refl, sym, ap, subst, inl, inr, arith}
 use Rattle.std.proofs.lemmas.Bool.{cases_lt}
 use Rattle.std.proofs.lemmas.Option.{same_Some, slice_get_within}
@@ -12,7 +12,7 @@ use Rattle.list_laws.proofs.Options.{some_from_is_some_and}
 pub use Rattle.book_base.proofs.ViewLemmas.{views_grow}
 use Rattle.book_base.proofs.ViewLemmas.{answer_stands}
 
--- who precedes a call of the book is one
+-- a call that precedes a call of the book is a call of the book
 pub call_from_precedes : (book : List Page) (a b : Call) → IsValid book → IsCall book b
     → Precedes book a b → IsCall book a
 call_from_precedes book a b valid is p =
@@ -25,8 +25,7 @@ call_from_precedes book a b valid is p =
       | inr own ↦ omega (arith, own.1, is, ap (calls_of book) own.0)
     ]
 
--- The next call of a caller may come next exactly where that keeps precedence: no call outside the
--- cut precedes it.
+-- The next call of a caller may come next exactly where no call outside the cut precedes it.
 pub may_come_next-precedence : (book : List Page) (cut : List ℕ) (call : Call) → IsValid book
     → IsCall book call → call.number ≡ get_or cut call.caller 0
     → MayComeNext book cut call

@@ -17,7 +17,7 @@ use Rattle.book_laws.proofs.Precedence.{may_come_next-from_first}
 use Rattle.book_laws.proofs.BookAtLaws.{is_the_book_at, stays_valid, larger_has_none}
 use Rattle.book_laws.proofs.Final.{ended_order_is_legal}
 
--- within, entry by entry, for cuts of two callers
+-- a cut of two callers is within another where both counts are no greater
 within_two : (a b c d : ℕ) → a ≤ c → b ≤ d → IsWithin (a ∷ b ∷ []) (c ∷ d ∷ [])
 within_two a b c d first second zero = first
 within_two a b c d first second (suc zero) = second
@@ -28,7 +28,7 @@ overtaken_answers zero = omega arith
 overtaken_answers (suc zero) = omega arith
 overtaken_answers (suc (suc i)) = omega arith
 
--- what holds of each record of the book
+-- a property of the three records of `overtaken` is one of each of its records
 overtaken_records : (P : ℕ → ℕ → List ℕ → Type 0) → P 0 0 (1 ∷ 1 ∷ []) → P 0 1 (2 ∷ 1 ∷ [])
     → P 1 0 (1 ∷ 1 ∷ [])
     → (i k : ℕ) (r : Record) → record_of overtaken (record { caller = i; number = k }) ≡ Some r
@@ -82,7 +82,7 @@ overtaken_at_early = refl
 seen_is_valid : IsValid overtaken_seen
 seen_is_valid = stays_valid overtaken (2 ∷ 1 ∷ []) overtaken_is_valid
 
--- the first call: caller 1 puts in 6
+-- the first call of the order is the put of 6 by caller 1
 first_is_free : (i : ℕ) → IsAnswered overtaken_seen (next_call (0 ∷ 0 ∷ []) i)
     → Precedes overtaken_seen (next_call (0 ∷ 0 ∷ []) i) (record { caller = 1; number = 0 }) → ⊥
 first_is_free zero h p = elim p [ inl answered ↦ omega arith | inr own ↦ omega (arith, own.0) ]
@@ -92,14 +92,14 @@ first_is_free (suc zero) h p = elim p [
 ]
 first_is_free (suc (suc i)) h p = omega (arith, h)
 
--- the second: caller 0 puts in 5
+-- the second call of the order is the put of 5 by caller 0
 second_is_free : (i : ℕ) → IsAnswered overtaken_seen (next_call (0 ∷ 1 ∷ []) i)
     → Precedes overtaken_seen (next_call (0 ∷ 1 ∷ []) i) (record { caller = 0; number = 0 }) → ⊥
 second_is_free zero h p = elim p [ inl answered ↦ omega arith | inr own ↦ omega (arith, own.1) ]
 second_is_free (suc zero) h p = omega (arith, h)
 second_is_free (suc (suc i)) h p = omega (arith, h)
 
--- the third: caller 0 takes
+-- the third call of the order is the take of caller 0
 third_is_free : (i : ℕ) → IsAnswered overtaken_seen (next_call (1 ∷ 1 ∷ []) i)
     → Precedes overtaken_seen (next_call (1 ∷ 1 ∷ []) i) (record { caller = 0; number = 1 }) → ⊥
 third_is_free zero h p = elim p [ inl answered ↦ omega arith | inr own ↦ omega (arith, own.1) ]
@@ -130,7 +130,7 @@ overtaking_third = record {
   reply = refl;
 }
 
--- then all answered calls stand
+-- after the three calls all answered calls are in the order
 overtaking_last : (i k : ℕ) → k < answers_of overtaken_seen i → k < get_or (2 ∷ 1 ∷ []) i 0
 overtaking_last zero k h = h
 overtaking_last (suc zero) k h = h
@@ -155,12 +155,13 @@ overtaking_is_legal = legal_order_from_continues overtaken_seen [] line_next (0 
       ),
     )
 
--- The third call is none of the book at the early cut.
+-- The third call of the order isn't in the book at the early cut.
 pub overtaking_is_too_long : IsLegalOrder [] line_next overtaken_early overtaking → ⊥
 overtaking_is_too_long h =
     omega (arith, h.calls 2 (record { caller = 0; number = 1 }) (stand 0 1 6, refl, refl))
 
--- And caller 0's first call is answered there.
+-- the order without its second place lacks caller 0's first call, which is answered at the early
+-- cut
 no_second : (k : ℕ) → slice_get (stand 1 0 0 ∷ []) k ≡ Some (stand 0 0 0) → ⊥
 no_second zero e =
     let same : stand 1 0 0 ≡ stand 0 0 0 = same_Some (stand 1 0 0) (stand 0 0 0) e in
@@ -173,7 +174,7 @@ one_is_too_short h =
     no_second ((h.answered (record { caller = 0; number = 0 }) (answer 0 (1 ∷ 1 ∷ [])) refl).0)
     (h.answered (record { caller = 0; number = 0 }) (answer 0 (1 ∷ 1 ∷ [])) refl).1
 
--- It ends after the last call that is answered at the early cut.
+-- The prefix of two places ends after the last call that is answered at the early cut.
 early_ends : (k : ℕ) (place : Place) → slice_get overtaking k ≡ Some place
     → ltb place.number (answers_of overtaken_early place.caller) ≡ true → k < 2
 early_ends zero place e p = omega arith
@@ -195,7 +196,7 @@ overtaking_ends_early =
     (is_the_book_at overtaken_seen (1 ∷ 0 ∷ []) seen_is_valid) overtaking_is_legal
     (record { all = early_ends; last = early_lasts })
 
--- what holds of each record of the mistaken book
+-- a property of the two records of `mistaken` is one of each of its records
 mistaken_records : (P : ℕ → ℕ → List ℕ → Type 0) → P 0 0 (1 ∷ 0 ∷ []) → P 1 0 (1 ∷ 1 ∷ [])
     → (i k : ℕ) (r : Record) → record_of mistaken (record { caller = i; number = k }) ≡ Some r
     → P i k r.view

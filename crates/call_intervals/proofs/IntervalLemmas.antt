@@ -45,7 +45,8 @@ returns_later book events valid h call j k at bt =
     stands_before book events h j k (Invoke call) (Return call) at bt
     (λ (r : Record) (e : record_of book call ≡ Some r). omega (arith, valid.own call r e))
 
--- a call of a book is invoked at this place or later, where all its places are no earlier
+-- the invocation of a call of a book is at a given place or later, where no place at which it can
+-- be is earlier
 pub invoked_from : (book : List Page) (events : List Event) → IsSketch book events
     → (call : Call) (from : ℕ) → IsCall book call
     → ((k : ℕ) → slice_get events k ≡ Some (Invoke call) → from ≤ k)
@@ -134,7 +135,7 @@ precedes_later book events h a b is bis answered less =
     inl ((returns_come_before_unseen_calls book events h a.call b.call bis.call).0
     (returned.0, b.begin, returned.2, bis.begins, omega (arith, returned.1)))
 
--- an interval has a place, and all its places are of events
+-- an interval has at least one place, and ends no later than the events
 pub lies_within : (book : List Page) (events : List Event) → IsValid book → IsSketch book events
     → (a : Interval) → IsIntervalOf book events a
     → (a.begin < a.end) × (a.end ≤ length events)

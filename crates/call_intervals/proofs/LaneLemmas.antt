@@ -66,7 +66,7 @@ pub record AreLanesOf (book : List Page) (events : List Event)
   pub own : (caller : ℕ) → caller < length lanes
       → IsLaneOf book events caller (get_or lanes caller [])
 
--- one more lane
+-- the lanes of one more caller are right
 pub lanes_more : (book : List Page) (events : List Event) (lanes : List (Vec Interval Global))
     (lane : Vec Interval Global) (n : ℕ) → length (rows_of lanes) ≡ n
     → ((i : ℕ) → i < n → IsLaneOf book events i (get_or (rows_of lanes) i []))
@@ -92,7 +92,7 @@ lanes_more book events lanes lane n count own last =
           (lane.items ∷ []) [] k (omega (arith, count, less)))) (own k less)) here i),
     )
 
--- what stands on a lane is the interval of the caller's call with this number
+-- an interval on a lane is that of the caller's call with this number
 pub standing : (book : List Page) (events : List Event) (lanes : List (List Interval))
     → AreLanesOf book events lanes → (caller place : ℕ) (interval : Interval)
     → StandsOn lanes caller place interval

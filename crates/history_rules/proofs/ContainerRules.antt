@@ -16,7 +16,7 @@ use Rattle.history_rules.proofs.Counting.{how_often, how_often-grows, how_often-
 use Rattle.history_rules.proofs.Runs.{step_of_run, holds_what_was_put}
 use Rattle.history_rules.proofs.Orders.{steps_of, answered_step, putting_step, put_alone, put_at_one_place}
 
--- what is held after a prefix of a run from empty
+-- what a container holds after a prefix of a run from empty
 pub held_after : (reading : Reading) (next : List ℕ → ℕ → List ℕ × ℕ) → IsContainer reading next
     → (v : ℕ) (list : List ℕ) (steps : List (ℕ × ℕ)) → IsRunFrom next list steps
     → reading.values list ≡ []
@@ -44,7 +44,7 @@ take_at reading next is list steps run k step shown at deed shows =
     (λ (o : Option ℕ). GivesOne (reading.values before) o (reading.values (next before step.0).0))
     (ap reading.shown reply ∙ shows) (is.take before step.0 deed)
 
--- what a step puts in or takes out, from its deed
+-- a step puts in a value, or takes one out, according to its operation's effect
 pub puts_by : (reading : Reading) (step : ℕ × ℕ) (v : ℕ) → reading.deed step.0 ≡ Puts v
     → put_by reading step ≡ Some v
 puts_by reading step v deed = ap value_put deed
@@ -63,8 +63,8 @@ deeds_apart reading steps j k a b v at_a at_b puts takes same =
     let deed : Puts v ≡ Takes = sym puts ∙ (ap (λ (s : ℕ × ℕ). reading.deed s.0) one ∙ takes) in
     none-some v (sym (ap value_put deed))
 
--- Nothing is held where a take found nothing, so a value that was put in before was taken out
--- before.
+-- A container holds nothing where a take found nothing, so that a value that was put in before was
+-- taken out before.
 taken_before_empty : (reading : Reading) (next : List ℕ → ℕ → List ℕ × ℕ) → IsContainer reading next
     → (list : List ℕ) (steps : List (ℕ × ℕ)) → IsRunFrom next list steps → reading.values list ≡ []
     → (v q e : ℕ) (step_q step_e : ℕ × ℕ) → slice_get steps q ≡ Some step_q
@@ -82,7 +82,7 @@ taken_before_empty reading next is list steps run empty v q e step_q step_e at_q
       how_often-more (put_by reading) v steps q e step_q at_q (puts_by reading step_q v puts) lt,
     )
 
--- what is put in by one call alone is put in at most once
+-- a value that one call alone puts in is put in at most once
 pub puts_at_most_one : (reading : Reading) (init : List ℕ) (next : List ℕ → ℕ → List ℕ × ℕ)
     (book : List Page) (order : List Place) → IsLegalOrder init next book order
     → (call : Call) (v : ℕ) → PutsInAlone reading book call v → (n : ℕ)

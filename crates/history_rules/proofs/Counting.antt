@@ -5,7 +5,7 @@ use Rattle.std.proofs.lemmas.Bool.{cases_eq, cases_lt, eq-eqb, ne_eqb}
 use Rattle.std.proofs.lemmas.Option.{same_Some, none-some}
 use Rattle.history_rules.specs.Container.{one_if, times}
 
--- whether an option is this value, as a number
+-- one where an option shows this value, and else zero
 abbrev pub is_once : ℕ → Option ℕ → ℕ
 is_once v None = 0
 is_once v (Some w) = one_if (w == v)
@@ -26,7 +26,7 @@ is_once-cases v (Some w) = elim (cases_eq w v) [
 pub is_once-same : (v : ℕ) (o : Option ℕ) → o ≡ Some v → is_once v o ≡ 1
 is_once-same v o e = elim (is_once-cases v o) [ inl here ↦ here.1 | inr other ↦ absurd (other.0 e) ]
 
--- a longer prefix shows it as often
+-- a longer prefix of a list shows a value at least as often
 pub how_often-grows : {X : Type 0} (f : X → Option ℕ) (v : ℕ) (xs : List X) (m n : ℕ) → m ≤ n
     → how_often f v (take m xs) ≤ how_often f v (take n xs)
 how_often-grows f v xs zero n le = omega arith
@@ -35,7 +35,7 @@ how_often-grows f v [] (suc m) (suc n) le = omega arith
 how_often-grows f v (x ∷ xs) (suc m) (suc n) le =
     omega (arith, how_often-grows f v xs m n (omega arith))
 
--- and once more where an item between shows it
+-- a prefix shows a value once more than a shorter one where an item between the two ends shows it
 pub how_often-more : {X : Type 0} (f : X → Option ℕ) (v : ℕ) (xs : List X) (k n : ℕ) (x : X)
     → slice_get xs k ≡ Some x → f x ≡ Some v → k < n
     → how_often f v (take k xs) + 1 ≤ how_often f v (take n xs)
@@ -47,7 +47,7 @@ how_often-more f v (y ∷ ys) zero (suc n) x e is lt =
 how_often-more f v (y ∷ ys) (suc k) (suc n) x e is lt =
     omega (arith, how_often-more f v ys k n x e is (omega arith))
 
--- what is shown is shown somewhere
+-- a value that a prefix shows is shown by an item at some place
 pub how_often-found : {X : Type 0} (f : X → Option ℕ) (v : ℕ) (xs : List X) (n : ℕ)
     → 1 ≤ how_often f v (take n xs)
     → (k : ℕ) × (x : X) × (k < n) × (slice_get xs k ≡ Some x) × (f x ≡ Some v)
@@ -60,7 +60,7 @@ how_often-found f v (x ∷ xs) (suc n) some = elim (is_once-cases v (f x)) [
       (suc found.0, found.1, omega (arith, found.2), found.3, found.4)
 ]
 
--- what is shown in one place alone is shown once
+-- a value that is shown at one place only is shown once
 pub how_often-once : {X : Type 0} (f : X → Option ℕ) (v q : ℕ) (xs : List X) (n : ℕ)
     → ((k : ℕ) (x : X) → slice_get xs k ≡ Some x → f x ≡ Some v → k ≡ q)
     → how_often f v (take n xs) ≤ 1
@@ -88,7 +88,7 @@ how_often-once f v (suc q) (x ∷ xs) (suc n) only =
       )
     ]
 
--- what is shown more than some number of times is shown after that number of times
+-- a value that a list shows more often than a prefix does is shown by an item after this prefix
 pub how_often-next : {X : Type 0} (f : X → Option ℕ) (v : ℕ) (xs : List X) (n t : ℕ)
     → t < how_often f v (take n xs)
     → (k : ℕ) × (x : X) × (k < n) × (slice_get xs k ≡ Some x) × (f x ≡ Some v)
@@ -128,7 +128,7 @@ how_often-next f v (x ∷ xs) (suc n) (suc t) more = elim (is_once-cases v (f x)
       )
 ]
 
--- how often a value is among all that is shown
+-- a value is once more in a list with an option before it, where the option has this value
 times-option : (v : ℕ) (o : Option ℕ) (vs : List ℕ)
     → times v (cons_option o vs) ≡ is_once v o + times v vs
 times-option v None vs = omega arith
@@ -139,7 +139,7 @@ pub times-shown : {X : Type 0} (f : X → Option ℕ) (v : ℕ) (xs : List X)
 times-shown f v [] = refl
 times-shown f v (x ∷ xs) = omega (arith, times-option v (f x) (filter_map f xs), times-shown f v xs)
 
--- what is shown nowhere isn't shown
+-- a value that no item shows is shown zero times
 pub how_often-none : {X : Type 0} (f : X → Option ℕ) (v : ℕ) (xs : List X) (n : ℕ)
     → ((k : ℕ) (x : X) → slice_get xs k ≡ Some x → f x ≡ Some v → ⊥) → how_often f v (take n xs) ≡ 0
 how_often-none f v xs n never =
@@ -149,18 +149,18 @@ how_often-none f v xs n never =
           absurd (never found.0 found.1 found.3 found.4)
     ]
 
--- how often a value is in two lists together
+-- a value is in two lists joined as often as in the one and the other together
 pub times-append : (v : ℕ) (xs ys : List ℕ) → times v (xs ++ ys) ≡ times v xs + times v ys
 times-append v [] ys = omega arith
 times-append v (x ∷ xs) ys = omega (arith, times-append v xs ys)
 
--- what stands in a list is in it
+-- a value at some place of a list is in it at least once
 pub times-stands : (v : ℕ) (xs : List ℕ) (k : ℕ) → slice_get xs k ≡ Some v → 1 ≤ times v xs
 times-stands v [] k e = absurd (none-some v e)
 times-stands v (x ∷ xs) zero e = omega (arith, ap one_if (eq-eqb x v (same_Some x v e)))
 times-stands v (x ∷ xs) (suc k) e = omega (arith, times-stands v xs k e)
 
--- and what is in a list stands there
+-- a value that is in a list at least once is at some place of it
 pub times-found : (v : ℕ) (xs : List ℕ) → 1 ≤ times v xs → (k : ℕ) × (slice_get xs k ≡ Some v)
 times-found v [] some = absurd (omega arith)
 times-found v (x ∷ xs) some = elim (cases_eq x v) [

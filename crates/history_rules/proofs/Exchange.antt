@@ -1,4 +1,4 @@
--- An answered read-only call may be moved to the head of what goes on.
+-- An answered read-only call may be moved before all other places that continue an order.
 use Rattle.std.proofs.Common.{◌≡◌, ◌≢◌, ℕ, ◌+◌, ◌<◌, ◌≤◌, ◌∙◌, List, [], ◌∷◌, length, get_or, set, Some, sym, ap, subst, inl, inr, length-set, arith}
 use Rattle.std.proofs.lemmas.Bool.{cases_eq}
 use Rattle.std.proofs.lemmas.Option.{same_Some, slice_get_within}
@@ -13,15 +13,14 @@ use Rattle.book_laws.proofs.LegalOrder.{raised_twice, comes_later, same_call, wi
 use Rattle.book_base.specs.PruningRules.{Leaves}
 use Rattle.history_rules.specs.Standing.{answered_place, word_of, GoesOnWithIt}
 
--- What may come next, is answered, and leaves every list with its recorded reply, wherever it
--- stands.
+-- A call may come next, is answered, and its operation is read-only with the recorded reply.
 record ReadOnly (book : List Page) (next : List ℕ → ℕ → List ℕ × ℕ) (cut : List ℕ) (call : Call)
     (r : Record) : Type 0 where
   may_come : MayComeNext book cut call
   known : record_of book call ≡ Some r
   leaves : Leaves next (word_of book call) r.reply
 
--- where it stands first in what goes on, the rest goes on from the same list
+-- where such a call is the first place, the rest continues from the same list
 its_own_turn : (book : List Page) (next : List ℕ → ℕ → List ℕ × ℕ) (cut list : List ℕ) (call : Call)
     (r : Record) (place : Place) (rest : List Place)
     → ReadOnly book next cut call r → call.caller ≡ place.caller
@@ -42,7 +41,8 @@ its_own_turn book next cut list call r place rest h caller first later =
     (subst (λ (i : ℕ). Continues book next (raised cut i) (list_after book next list place) rest)
     (sym caller) later)
 
--- Where it is taken out of what goes on, the rest goes on after it.
+-- Where such a call is taken out of places that continue an order, the others continue it after the
+-- call.
 goes_on_without : (book : List Page) (next : List ℕ → ℕ → List ℕ × ℕ) (cut list : List ℕ)
     (call : Call) (r : Record) (rest : List Place) → length book ≤ length cut
     → ReadOnly book next cut call r → Continues book next cut list rest → (other : List Place)

@@ -1,4 +1,4 @@
--- No more calls take a value out than put it in.
+-- No more calls take a value out of a container than put it in.
 use Rattle.std.proofs.Common.{◌≡◌, ℕ, suc, ◌<◌, ◌∙◌, List, [], ◌∷◌, ◌++◌, length, take, get_or, Some, refl, sym, ap, subst, inl, inr, slice_get, arith}
 use Rattle.std.proofs.lemmas.Bool.{cases_lt}
 use Rattle.std.proofs.lemmas.Option.{same_Some, slice_get-get_or, slice_get_within}
@@ -26,13 +26,13 @@ gives_what_was_put reading init next steps v is none run =
       times-shown (taken_by reading) v steps,
     )
 
--- calls that stand at one place are one
+-- two calls at one place of an order are the same call
 one_call : (order : List Place) (k : ℕ) (a b : Call) → StandsAt order k a
     → StandsAt order k b → a ≡ b
 one_call order k a b s t = sym s.2 ∙ (ap call_at (same_Some s.0 t.0 (sym s.1 ∙ t.1)) ∙ t.2)
 
--- A taker is matched with the putter whose value it takes, if equal values are taken in the order
--- in which they are put in.
+-- A taker is matched with the call that put in what it takes, where equal values are taken in the
+-- order in which they are put in.
 record AreMatched (reading : Reading) (book : List Page) (order : List Place) (v : ℕ)
     (takers putters : List Call) (i j : ℕ) : Type 0 where
   taker : Call
@@ -134,7 +134,7 @@ taken_no_more_than_put reading init next book is none v takers putters different
     (matched_apart reading init next book h.0 h.1 v takers putters different) in
     absurd (omega (arith, few, fewer))
 
--- what stands before a place of an order stands in the prefix before it
+-- a call at a place of an order is in the prefix that ends after it
 prefix_stands : (before after : List Place) (k : ℕ) (call : Call) → k < length before
     → StandsAt (before ++ after) k call → StandsAt before k call
 prefix_stands before after k call lt s =

@@ -1,5 +1,5 @@
--- Legal orders as runs: what stands at a place is a step of the run, and the calls that put in and
--- take out stand where the steps do.
+-- Legal orders as runs: each place is a step of the run, and the calls that put in and take out are
+-- at the places of the steps that do.
 use Rattle.std.proofs.Common.{◌≡◌, ℕ, zero, suc, ◌∙◌, List, [], ◌∷◌, map, get_or, unwrap_or, Option, Some, refl, sym, ap, subst, slice_get}
 use Rattle.std.proofs.lemmas.Option.{same_Some, none-some, slice_get-get_or}
 use Rattle.book_base.specs.declared.call.Call.{Call}
@@ -13,7 +13,7 @@ use Rattle.history_rules.specs.Calls.{PutsIn, PutsInAlone, TakesShowing}
 abbrev pub steps_of : List Page → List Place → List (ℕ × ℕ)
 steps_of book order = map (step_at book) order
 
--- a place of an order is a step, and a step is of a place
+-- the step at a place of the run is the one of the order's place
 pub step_stands : (book : List Page) (order : List Place) (k : ℕ) (place : Place)
     → slice_get order k ≡ Some place → slice_get (steps_of book order) k ≡ Some (step_at book place)
 step_stands book [] k place e = absurd (none-some place e)
@@ -28,7 +28,7 @@ place_of_step book [] k step e = absurd (none-some step e)
 place_of_step book (first ∷ rest) zero step e = (first, refl, same_Some (step_at book first) step e)
 place_of_step book (first ∷ rest) (suc k) step e = place_of_step book rest k step e
 
--- the deed of an operation that puts something in, or takes something out
+-- an effect that puts in a value, or takes one out, is the one of that name
 put_from_value : (deed : Effect) (v : ℕ) → value_put deed ≡ Some v → deed ≡ Puts v
 put_from_value (Puts w) v e = ap Puts (same_Some w v e)
 put_from_value Takes v e = absurd (none-some v e)
@@ -49,7 +49,7 @@ has_operation book call h =
     slice_get-get_or (page_of book call.caller).operations call.number 0 h in
     there ∙ ap (λ (o : Option ℕ). Some (unwrap_or o 0)) (sym there)
 
--- where a call stands with its recorded reply
+-- the place and the step of an answered call in a legal order, with its recorded reply
 pub answered_step : (reading : Reading) (init : List ℕ) (next : List ℕ → ℕ → List ℕ × ℕ)
     (book : List Page) (order : List Place) → IsLegalOrder init next book order
     → (call : Call) (shown : Option ℕ) → TakesShowing reading book call shown
@@ -68,7 +68,7 @@ answered_step reading init next book order legal call shown h =
       h.5,
     )
 
--- where a call stands that puts in a value
+-- the step of a call that puts in a value
 pub putting_step : (reading : Reading) (book : List Page) (order : List Place) (call : Call)
     (v k : ℕ) → PutsIn reading book call v → StandsAt order k call
     → (step : ℕ × ℕ) × (slice_get (steps_of book order) k ≡ Some step)
@@ -78,7 +78,7 @@ putting_step reading book order call v k h s =
     ∙ ap (λ (o : Option ℕ). unwrap_or o 0) h.1 in
     (step_at book s.0, step_stands book order k s.0 s.1, ap reading.deed op ∙ h.2)
 
--- a step that puts in a value is one of a call that does
+-- a step that puts in a value belongs to a call that puts it in
 pub call_of_put : (reading : Reading) (init : List ℕ) (next : List ℕ → ℕ → List ℕ × ℕ)
     (book : List Page) (order : List Place) → IsLegalOrder init next book order
     → (k v : ℕ) (step : ℕ × ℕ) → slice_get (steps_of book order) k ≡ Some step → put_by reading step
@@ -97,7 +97,7 @@ call_of_put reading init next book order legal k v step e is =
       ),
     )
 
--- so the only call that puts in a value stands where any step puts it in
+-- a step that puts in a value is at the place of the only call that does
 pub put_alone : (reading : Reading) (init : List ℕ) (next : List ℕ → ℕ → List ℕ × ℕ)
     (book : List Page) (order : List Place) → IsLegalOrder init next book order
     → (call : Call) (v : ℕ) → PutsInAlone reading book call v → (k : ℕ) (step : ℕ × ℕ)

@@ -10,7 +10,7 @@ use Rattle.history_rules.specs.Container.{Effect, Puts, Takes, Neither, Reading,
 use Rattle.history_rules.proofs.Counting.{times-append}
 use Rattle.history_rules.proofs.Ranks.{rank, shown_at_rank, found_at_rank, rank-grows, rank-more}
 
--- what gives the first gives one
+-- a take that gives the first value gives one of the values
 gives_one : (before : List ℕ) (shown : Option ℕ) (after : List ℕ) → GivesFirst before shown after
     → GivesOne before shown after
 gives_one before None after h = h
@@ -41,7 +41,7 @@ cons_option-append : (o : Option ℕ) (xs ys : List ℕ)
 cons_option-append None xs ys = refl
 cons_option-append (Some v) xs ys = refl
 
--- a step of a queue
+-- what a queue holds after one more take
 queue_take : (before : List ℕ) (shown : Option ℕ) (after puts : List ℕ)
     → GivesFirst before shown after → before ++ puts ≡ cons_option shown (after ++ puts)
 queue_take before None after puts h = ap (λ (xs : List ℕ). xs ++ puts) (h.0 ∙ sym h.1)
@@ -59,7 +59,8 @@ queue_step reading next is list op puts Takes e = queue_take (reading.values lis
 queue_step reading next is list op puts Neither e =
     ap (λ (xs : List ℕ). xs ++ puts) (sym (is.neither list op e))
 
--- What a queue held, followed by what was put in, is what was taken out, followed by what it holds.
+-- What a queue held, followed by what was put in, is what was taken out, followed by what it holds
+-- then.
 pub queue_gives_in_order : (reading : Reading) (next : List ℕ → ℕ → List ℕ × ℕ)
     → IsQueue reading next → (list : List ℕ) (steps : List (ℕ × ℕ)) → IsRunFrom next list steps
     → reading.values list ++ filter_map (put_by reading) steps
@@ -79,7 +80,7 @@ queue_gives_in_order reading next is list (step ∷ steps) run =
     (queue_gives_in_order reading next is (next list step.0).0 steps run.1)
     ∙ cons_option-append (taken_by reading step) taken end))
 
--- From an empty queue, what is taken out before something else was put in before it.
+-- From an empty queue, a value that is taken out before another one was put in before it.
 pub put_before : (reading : Reading) (next : List ℕ → ℕ → List ℕ × ℕ) → IsQueue reading next
     → (list : List ℕ) (steps : List (ℕ × ℕ)) → IsRunFrom next list steps → reading.values list ≡ []
     → (x v a b q : ℕ) (step_a step_b step_q : ℕ × ℕ) → slice_get steps a ≡ Some step_a
@@ -117,7 +118,7 @@ put_before reading next is list steps run empty x v a b q step_a step_b step_q a
     ] in
     (p.0, p.1, omega (arith, only r.0 r.1 r.2 r.3, before), p.2, p.3)
 
--- From an empty queue, what is taken out was put in before what is never taken out.
+-- From an empty queue, a value that is taken out was put in before any that is never taken out.
 pub put_before_kept : (reading : Reading) (next : List ℕ → ℕ → List ℕ × ℕ) → IsQueue reading next
     → (list : List ℕ) (steps : List (ℕ × ℕ)) → IsRunFrom next list steps → reading.values list ≡ []
     → (x v a q : ℕ) (step_a step_q : ℕ × ℕ) → slice_get steps a ≡ Some step_a

@@ -1,5 +1,5 @@
--- Ranks: how many items before a place show something, which is where the item's own value stands
--- among all that is shown.
+-- Ranks: how many items before a place show something, which is the place of the item's own value
+-- among all values that are shown.
 use Rattle.std.proofs.Common.{◌≡◌, ℕ, zero, suc, ◌+◌, ◌<◌, ◌≤◌, ◌∙◌, List, [], ◌∷◌, filter_map, Option, Some, None, refl, ap, slice_get, arith}
 use Rattle.std.specs.List.{cons_option}
 use Rattle.std.proofs.lemmas.Option.{same_Some, none-some}
@@ -13,14 +13,14 @@ rank f xs zero = 0
 rank f [] (suc k) = 0
 rank f (x ∷ xs) (suc k) = present (f x) + rank f xs k
 
--- after an option that is put before a list, the list follows
+-- an option that has a value moves the items of the list after it by one place
 cons_option-past : (o : Option ℕ) (vs : List ℕ) (i : ℕ)
     → slice_get (cons_option o vs) (present o + i) ≡ slice_get vs i
 cons_option-past None vs i = let same : 0 + i ≡ i = omega arith in ap (slice_get vs) same
 cons_option-past (Some v) vs i = let same : 1 + i ≡ suc i = omega arith in
     ap (slice_get (v ∷ vs)) same
 
--- what an item shows stands at its rank
+-- the value that an item shows is at the item's rank among all values that are shown
 pub shown_at_rank : {X : Type 0} (f : X → Option ℕ) (xs : List X) (k : ℕ) (x : X) (v : ℕ)
     → slice_get xs k ≡ Some x → f x ≡ Some v
     → slice_get (filter_map f xs) (rank f xs k) ≡ Some v
@@ -31,7 +31,7 @@ shown_at_rank f (y ∷ ys) zero x v e is =
 shown_at_rank f (y ∷ ys) (suc k) x v e is =
     cons_option-past (f y) (filter_map f ys) (rank f ys k) ∙ shown_at_rank f ys k x v e is
 
--- and what stands among all that is shown is shown by an item of that rank
+-- a value among all that are shown is shown by an item of its rank
 found_in_prefix : {X : Type 0} (f : X → Option ℕ) (y : X) (ys : List X) (i v : ℕ) (o : Option ℕ)
     → f y ≡ o → slice_get (cons_option o (filter_map f ys)) i ≡ Some v
     → ((i : ℕ) → slice_get (filter_map f ys) i ≡ Some v → (k : ℕ) × (x : X)
@@ -55,7 +55,7 @@ found_at_rank f [] i v e = absurd (none-some v e)
 found_at_rank f (y ∷ ys) i v e =
     found_in_prefix f y ys i v (f y) refl e (λ j there. found_at_rank f ys j v there)
 
--- ranks grow
+-- the rank of a later place is no lower
 pub rank-grows : {X : Type 0} (f : X → Option ℕ) (xs : List X) (j k : ℕ) → j ≤ k
     → rank f xs j ≤ rank f xs k
 rank-grows f xs zero k le = omega arith
@@ -63,7 +63,7 @@ rank-grows f xs (suc j) zero le = absurd (omega arith)
 rank-grows f [] (suc j) (suc k) le = omega arith
 rank-grows f (x ∷ xs) (suc j) (suc k) le = omega (arith, rank-grows f xs j k (omega arith))
 
--- by one at each item that shows something
+-- the rank rises by one at each item that shows something
 pub rank-more : {X : Type 0} (f : X → Option ℕ) (xs : List X) (j k : ℕ) (x : X) (v : ℕ)
     → slice_get xs j ≡ Some x → f x ≡ Some v → j < k → rank f xs j < rank f xs k
 rank-more f [] j k x v e is lt = absurd (none-some x e)

@@ -1,5 +1,5 @@
 -- Runs of objects that hold values: the list at each moment, and what was put in and taken out up
--- to it.
+-- to that moment.
 use Rattle.std.proofs.Common.{◌≡◌, ℕ, zero, suc, ◌+◌, List, [], ◌∷◌, take, Option, Some, None, refl, ap, subst, slice_get, arith}
 use Rattle.std.proofs.lemmas.Option.{same_Some, none-some}
 use Rattle.book_base.specs.Sequential.{IsRunFrom}
@@ -23,7 +23,7 @@ step_of_run next list (first ∷ rest) zero step run e =
 step_of_run next list (first ∷ rest) (suc k) step run e =
     step_of_run next (next list first.0).0 rest k step run.1 e
 
--- what a take takes out
+-- a value that a take of a container takes out was held before
 container_take : (reading : Reading) (next : List ℕ → ℕ → List ℕ × ℕ) (list : List ℕ) (op v : ℕ)
     (shown : Option ℕ) → GivesOne (reading.values list) shown (reading.values (next list op).0)
     → times v (reading.values list) + 0
@@ -32,7 +32,7 @@ container_take reading next list op v None gives =
     omega (arith, ap (times v) gives.0, ap (times v) gives.1)
 container_take reading next list op v (Some w) gives = omega (arith, gives v)
 
--- what one step puts in, takes out and leaves
+-- what one step puts in, takes out, and doesn't change
 container_step : (reading : Reading) (next : List ℕ → ℕ → List ℕ × ℕ) → IsContainer reading next
     → (list : List ℕ) (op v : ℕ) (deed : Effect) → reading.deed op ≡ deed
     → times v (reading.values list) + is_once v (value_put deed) ≡ is_once v
@@ -43,8 +43,8 @@ container_step reading next is list op v Takes e =
 container_step reading next is list op v Neither e =
     omega (arith, ap (times v) (is.neither list op e))
 
--- What a container holds: a value is in it as often as it was before and was put in, but for the
--- times that it was taken out.
+-- What a container holds: each value as often as it was there before and was put in, less the times
+-- that it was taken out.
 pub holds_what_was_put : (reading : Reading) (next : List ℕ → ℕ → List ℕ × ℕ)
     → IsContainer reading next → (v : ℕ) (list : List ℕ) (steps : List (ℕ × ℕ))
     → IsRunFrom next list steps

@@ -19,7 +19,8 @@ use Rattle.history_rules.proofs.QueueRuns.{stack_is_container}
 use Rattle.history_rules.proofs.Orders.{steps_of, answered_step, putting_step}
 use Rattle.history_rules.proofs.ContainerRules.{held_after, takes_by, deeds_apart, puts_at_most_one, taken_at_one_place}
 
--- What a stack has from a value on, it has still after a step that doesn't take out that value.
+-- The values of a stack from a given one on are still there after a step that doesn't take out that
+-- value.
 kept_by_take : (above : List ℕ) (v : ℕ) (below : List ℕ) (shown : Option ℕ) (after : List ℕ)
     → GivesFirst (above ++ v ∷ below) shown after → (shown ≡ Some v → ⊥)
     → (now : List ℕ) × (after ≡ now ++ v ∷ below)
@@ -45,7 +46,7 @@ kept_by_step reading next is list op above v below Takes e held apart =
 kept_by_step reading next is list op above v below Neither e held apart =
     (above, is.neither list op e ∙ held)
 
--- So a value that is on top at some moment of a run has below it what it had then, until it is
+-- A value that is on top at some moment of a run keeps below it what it had there then, until it is
 -- taken out.
 stays_below : (reading : Reading) (next : List ℕ → ℕ → List ℕ × ℕ) → IsStack reading next
     → (list : List ℕ) (steps : List (ℕ × ℕ)) → IsRunFrom next list steps
@@ -77,7 +78,7 @@ stays_below reading next is list steps run v below m (suc d) top long never =
           ∙ (ap reading.values ran.1 ∙ after.1),
     )
 
--- what is taken from the top of a stack is on top
+-- a value that is taken from a stack is the one on top
 first_of_stack : (x : ℕ) (above : List ℕ) (v : ℕ) (below after : List ℕ) → above ++ v ∷ below
     ≡ x ∷ after → 1 ≤ times x below → (v ≡ x) ⊎ (2 ≤ times x (above ++ v ∷ below))
 first_of_stack x [] v below after e some = let same : v ≡ x = cc in inl same
@@ -90,15 +91,15 @@ first_of_stack x (w ∷ above) v below after e some =
       ap (λ (n : ℕ). times x (n ∷ above ++ v ∷ below)) same,
     ))
 
--- the difference of two numbers
+-- the difference of two numbers exists where the first is no greater
 difference : (m n : ℕ) → m ≤ n → (d : ℕ) × (m + d ≡ n)
 difference zero n le = (n, omega arith)
 difference (suc m) zero le = absurd (omega arith)
 difference (suc m) (suc n) le = let rest = difference m n (omega arith) in
     (rest.0, omega (arith, rest.1))
 
--- A value isn't put on another one that is put in once and taken out, if it isn't itself taken out
--- up to then.
+-- A value isn't put on another one that is put in once and taken out, where it isn't itself taken
+-- out before.
 covers_none : (reading : Reading) (init : List ℕ) (next : List ℕ → ℕ → List ℕ × ℕ)
     (book : List Page) (order : List Place) → IsStack reading next → reading.values init ≡ []
     → IsLegalOrder init next book order → (x v : ℕ) (take_x put_x put_v : Call)
@@ -154,7 +155,7 @@ covers_none reading init next book order is none legal x v take_x put_x put_v ta
       ]
     ]
 
--- the place after a prefix of an order, and that prefix
+-- the place after a prefix of an order is the one that follows this prefix
 stands_after : (before : List Place) (place : Place) (rest : List Place)
     → slice_get (before ++ place ∷ rest) (length before) ≡ Some place
 stands_after [] place rest = refl

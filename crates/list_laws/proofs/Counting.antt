@@ -33,7 +33,7 @@ module _ (f : ℕ → Bool) where
         | inr fails ↦ omega (arith, count_no s L fails, rest)
       ]
 
-  -- where any two that pass are closer than m, there are at most m
+  -- where any two numbers that pass are closer than m, at most m pass
   pub count-close : (m s L : ℕ)
       → ((p q : ℕ) → p < s + L → q < s + L → f p ≡ true → f q ≡ true → q < p + m)
       → count_by f (range_with_len s L) ≤ m
@@ -49,7 +49,8 @@ module _ (f : ℕ → Bool) where
             omega (arith, count_no s L fails, rest)
       ]
 
--- a list that is nowhere more than one above another has at most as much more as it is long
+-- the sum of a list is greater than another's by at most its length, where each number is greater
+-- by at most one
 sum_within : (a b : List ℕ) → length a ≡ length b
     → ((t : ℕ) → t < length a → slice_index b t ≤ slice_index a t + 1) → sum b ≤ sum a + length a
 sum_within [] [] long near = omega arith
@@ -61,7 +62,8 @@ sum_within (x ∷ xs) (y ∷ ys) long near =
     let here : y ≤ x + 1 = near 0 (omega arith) in
     omega (arith, sum_by-cons (λ (n : ℕ). n) x xs, sum_by-cons (λ (n : ℕ). n) y ys, rest, here)
 
--- and one less where they have the same at one place
+-- the sum of a list is greater than another's by less than its length, where each number is greater
+-- by at most one and one is the same
 pub sum-within_but : (a b : List ℕ) (me : ℕ) → length a ≡ length b
     → ((t : ℕ) → t < length a → slice_index b t ≤ slice_index a t + 1)
     → me < length a → slice_index b me ≡ slice_index a me → sum b + 1 ≤ sum a + length a
@@ -77,7 +79,7 @@ sum-within_but (x ∷ xs) (y ∷ ys) (suc me) long near low same =
     let here : y ≤ x + 1 = near 0 (omega arith) in
     omega (arith, sum_by-cons (λ (n : ℕ). n) x xs, sum_by-cons (λ (n : ℕ). n) y ys, rest, here)
 
--- a list that is nowhere below another has at least its sum
+-- the sum of a list is at least another's where no number is less
 sum_rises : (a b : List ℕ) → length a ≡ length b
     → ((t : ℕ) → t < length a → slice_index a t ≤ slice_index b t) → sum a ≤ sum b
 sum_rises [] [] long rises = omega arith
@@ -89,7 +91,7 @@ sum_rises (x ∷ xs) (y ∷ ys) long rises =
     let here : x ≤ y = rises 0 (omega arith) in
     omega (arith, sum_by-cons (λ (n : ℕ). n) x xs, sum_by-cons (λ (n : ℕ). n) y ys, rest, here)
 
--- and more where they differ
+-- the sum of a list is greater than another's where no number is less and the lists differ
 pub sum-rises_apart : (a b : List ℕ) → length a ≡ length b
     → ((t : ℕ) → t < length a → slice_index a t ≤ slice_index b t) → bytes_eq a b ≡ false
     → sum a + 1 ≤ sum b

@@ -16,11 +16,11 @@ pub decimal_byte : (n i : ℕ) → n < 2 ^ 64 → i < length (decimal n)
     → IsInRange 48 57 (get_or (decimal n) i 0)
 decimal_byte n i small inside = digit_at (decimal n) i (digits_decimal numerals n small) inside
 
--- what a text begins with that may be a number's
+-- a word begins as the text of a number may: its first byte is a digit above 0, or it is 0 alone
 abbrev pub BeginsAsNumber : List ℕ → Type 0
 BeginsAsNumber word = (word ≡ 48 ∷ []) ⊎ IsInRange 49 57 (get_or word 0 0)
 
--- a number's text begins so
+-- a number's text begins as such a text may
 pub BeginsAsNumber-decimal : (n : ℕ) → n < 2 ^ 64 → BeginsAsNumber (decimal n)
 BeginsAsNumber-decimal zero small = inl (decimal_digit 0 (omega arith))
 BeginsAsNumber-decimal (suc n) small =
@@ -28,18 +28,18 @@ BeginsAsNumber-decimal (suc n) small =
     let digit = decimal_byte (suc n) 0 small (decimal_nonempty (suc n) small) in
     inr (omega arith, digit.1)
 
--- what begins so begins with no sign
+-- a word that begins as a number's text doesn't begin with a plus sign
 no_plus : (word : List ℕ) → BeginsAsNumber word → get_or word 0 0 ≢ 43
 no_plus word (inl zero_alone) =
     λ plus. let first : get_or word 0 0 ≡ 48 = rw zero_alone in omega arith
 no_plus word (inr digit) = λ plus. omega arith
 
--- and with 0 only where nothing follows
+-- a word that begins as a number's text begins with 0 only where nothing follows
 single_zero : (word : List ℕ) → BeginsAsNumber word → get_or word 0 0 ≡ 48 → length word ≡ 1
 single_zero word (inl zero_alone) _ = rw zero_alone
 single_zero word (inr digit) zero_first = absurd (omega arith)
 
--- what a text that begins so is read as is the number whose text it is
+-- a word that begins as a number's text is read as the number whose text it is
 pub IfSome-parsed : {E : Type 0} (word : List ℕ) (r : Result ℕ E) → BeginsAsNumber word
     → ParsesUnsigned 64 10 word r → IfSome (result_ok r) (λ n. decimal n ≡ word)
 IfSome-parsed {E} word (Ok n) begins parses =
@@ -51,7 +51,7 @@ IfSome-parsed {E} word (Ok n) begins parses =
     (decimal-digits_value numerals word plain.0.0 plain.0.1 (single_zero word begins) plain.0.2)
 IfSome-parsed word (Err e) begins parses = tt
 
--- what isn't read as a number is no number's text
+-- a word that isn't read as a number is no number's text
 pub IfNone-parsed : {E : Type 0} (word : List ℕ) (r : Result ℕ E) → ParsesUnsigned 64 10 word r
     → IfNone (result_ok r) ((n : ℕ) → n < 2 ^ 64 → decimal n ≢ word)
 IfNone-parsed word (Ok n) parses = tt

@@ -34,7 +34,7 @@ find_only p (y ∷ ys) x inside passes only = elim (cases_Bool (p y)) [
   ]
 ]
 
--- what holds of each element by a test holds of one
+-- where each element passes a test, an element in the list passes it
 pub list_all-inside : {X : Type 0} (p : X → Bool) (xs : List X) (x : X) → list_all p xs ≡ true
     → IsIn x xs → p x ≡ true
 list_all-inside p [] x all inside = absurd inside
@@ -43,12 +43,12 @@ list_all-inside p (y ∷ ys) x all inside = elim inside [
   | inr later ↦ list_all-inside p ys x (and_parts (p y) (list_all p ys) all).1 later
 ]
 
--- no two elements of a list are the same by a test
+-- no two elements of a list are the same, by a test for sameness
 abbrev pub are_distinct : {X : Type 0} → (X → X → Bool) → List X → Bool
 are_distinct same [] = true
 are_distinct same (x ∷ xs) = list_all (λ y. not (same x y)) xs && are_distinct same xs
 
--- in such a list two elements that the test takes for the same are one
+-- two elements of such a list that the test takes for the same are equal
 pub are_distinct-inside : {X : Type 0} (same : X → X → Bool)
     (symmetric : (x y : X) → same x y ≡ true → same y x ≡ true) (xs : List X) (x y : X)
     → are_distinct same xs ≡ true → IsIn x xs → IsIn y xs → same x y ≡ true → x ≡ y
@@ -70,7 +70,7 @@ are_distinct-inside same symmetric (z ∷ zs) x y distinct x_in y_in agree =
       ]
     ]
 
--- what is found among values seen by f is what is found among the values
+-- what is found among the values of a function is the function's value of what is found
 pub find-map : {X Y : Type 0} (f : X → Y) (p : Y → Bool) (xs : List X)
     → find p (map f xs) ≡ option_map f (find (λ x. p (f x)) xs)
 find-map f p [] = refl

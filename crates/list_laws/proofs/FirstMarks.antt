@@ -1,4 +1,4 @@
--- A byte that a word lacks ends the word: what stands before and after it is known.
+-- Words cut at the first byte of a value that the part before it lacks: both parts are known.
 use Rattle.std.proofs.Common.{◌≡◌, ◌≢◌, ℕ, ◌^◌, ◌<◌, false, eqb, List, [], ◌∷◌, ◌++◌, get_or, decimal, sym, refl, ne_eqb}
 use Rattle.std.specs.Int.{IsInRange}
 use Rattle.std.proofs.lemmas.Bool.{both_ways, eq-eqb}
@@ -13,7 +13,7 @@ not-first mark x word lacks same =
     both_ways (eqb x mark) (All-head (λ b. eqb b mark ≡ false) x word lacks)
     (eq-eqb x mark (sym same))
 
--- a word has one part before the first such byte, and one part after it
+-- two ways to cut a word at a byte, each with a first part that lacks it, are one
 pub first_mark-once : (mark : ℕ) (before other suffix rest : List ℕ) → Lacks mark before
     → Lacks mark other
     → before ++ mark ∷ suffix ≡ other ++ mark ∷ rest → (before ≡ other) × (suffix ≡ rest)
@@ -28,7 +28,7 @@ first_mark-once mark (x ∷ before) (y ∷ other) suffix rest lacks other_lacks 
     (All-tail (λ b. eqb b mark ≡ false) y other other_lacks) cc in
     (cc, tails.1)
 
--- a word with such a byte in it doesn't lack it
+-- a word with a byte in it doesn't lack this byte
 pub not-Lacks-marked : (mark : ℕ) (before suffix : List ℕ)
     → Lacks mark (before ++ mark ∷ suffix) → ⊥
 not-Lacks-marked mark [] suffix lacks = not-first mark mark suffix lacks refl
@@ -36,7 +36,7 @@ not-Lacks-marked mark (x ∷ before) suffix lacks =
     not-Lacks-marked mark before suffix
     (All-tail (λ b. eqb b mark ≡ false) x (before ++ mark ∷ suffix) lacks)
 
--- the text of a number lacks what is no digit
+-- the text of a number lacks each byte that is no digit
 pub decimal-Lacks : (mark n : ℕ) → n < 2 ^ 64 → (IsInRange 48 57 mark → ⊥) → Lacks mark (decimal n)
 decimal-Lacks mark n small no_digit k d inside =
     let digit = decimal_byte n k small inside in

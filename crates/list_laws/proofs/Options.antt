@@ -29,24 +29,25 @@ pub some_from_is_some_and : {X : Type 0} (o : Option X) (P : X → Type 0) → I
 some_from_is_some_and None P h = absurd h
 some_from_is_some_and (Some x) P h = (x, refl)
 
--- what follows where there is nothing
+-- what follows from a property of an empty option follows where the option is empty
 pub IfNone_then : {X P Q : Type 0} (o : Option X) → IfNone o P → (P → Q) → IfNone o Q
 IfNone_then None holds gives = gives holds
 IfNone_then (Some x) holds gives = tt
 
--- where a step after a value gave something, so did the value
+-- where two steps in a row give a value, the first one gave a value
 pub and_then_some : {X Y : Type 0} (o : Option X) (f : X → Option Y) (y : Y)
     → option_and_then f o ≡ Some y → (x : X) × (o ≡ Some x) × (f x ≡ Some y)
 and_then_some None f y e = absurd cc
 and_then_some (Some x) f y e = (x, refl, e)
 
--- a value seen by f is f of a value
+-- where an option has a value after a function is applied, it has one before
 pub map_some : {X Y : Type 0} (o : Option X) (f : X → Y) (y : Y) → option_map f o ≡ Some y → (x : X)
     × (o ≡ Some x) × (f x ≡ y)
 map_some None f y e = absurd cc
 map_some (Some x) f y e = (x, refl, cc)
 
--- what is something only if a test passes is so because it passed
+-- where an option that is emptied unless a test fails or passes has a value, the test let it
+-- through
 pub if_some : {X : Type 0} (b : Bool) (o : Option X) (y : X) → cond b o None ≡ Some y → (b ≡ true)
     × (o ≡ Some y)
 if_some true o y e = (refl, e)

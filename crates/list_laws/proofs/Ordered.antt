@@ -1,4 +1,4 @@
--- Lists in which each element stands after all that come before it.
+-- Ordered lists, in which each element comes before all that stand after it.
 use Rattle.std.proofs.Common.{◌≡◌, ℕ, zero, suc, ◌+◌, ◌<◌, ◌⊎◌, ◌∙◌, List, [], ◌∷◌, ◌++◌, length, Some, refl, sym, ap, subst, inl, inr, slice_get, arith}
 use Rattle.std.proofs.lemmas.Option.{same_Some, none-some, slice_get_within}
 use Rattle.list_laws.proofs.Places.{slice_get-push_old, slice_get-push_last, slice_get-push_cases}
@@ -12,7 +12,7 @@ abbrev pub IsOrderedBy : {X : Type 0} → (X → X → Type 0) → List X → Ty
 IsOrderedBy {X} before xs = (j k : ℕ) (x y : X) → slice_get xs j ≡ Some x → slice_get xs k ≡ Some y
     → j < k → before x y
 
--- what stands in a list with one more element stood there before, or is the new one
+-- an element of a list with one more element was in the list before, or is the new one
 pub IsMember-push_cases : {X : Type 0} (xs : List X) (y x : X) → IsMember (xs ++ y ∷ []) x
     → IsMember xs x ⊎ (x ≡ y)
 IsMember-push_cases xs y x (k, at) =
@@ -49,7 +49,7 @@ abbrev pub IsAsymmetricIn : {X : Type 0} → (X → X → Type 0) → List X →
 IsAsymmetricIn {X} before xs = (x y : X) → IsMember xs x → IsMember xs y → before x y
     → before y x → ⊥
 
--- the first elements of ordered lists with the same elements are one
+-- the first elements of two ordered lists with the same elements are equal
 same_first : {X : Type 0} (before : X → X → Type 0) (x y : X) (xs ys : List X) (j k : ℕ)
     → IsOrderedBy before (x ∷ xs) → IsOrderedBy before (y ∷ ys)
     → IsAsymmetricIn before (x ∷ xs) → slice_get (x ∷ xs) j ≡ Some y
@@ -60,7 +60,8 @@ same_first before x y xs ys (suc j) (suc k) a b apart at bt =
     absurd (apart x y (0, refl) (suc j, at) (a 0 (suc j) x y refl at (omega arith))
     (b 0 (suc k) y x refl bt (omega arith)))
 
--- what stands after the first element of an ordered list stands after the first of the other
+-- an element after the first one of an ordered list is after the first one of another ordered list
+-- with the same elements
 same_rest : {X : Type 0} (before : X → X → Type 0) (x y : X) (xs ys : List X) (z : X) (j k : ℕ)
     → IsOrderedBy before (x ∷ xs)
     → IsAsymmetricIn before (x ∷ xs) → x ≡ y → slice_get xs j ≡ Some z
@@ -71,7 +72,8 @@ same_rest before x y xs ys z j zero a apart same at bt =
     absurd (apart x x (0, refl) (0, refl) self self)
 same_rest before x y xs ys z j (suc k) a apart same at bt = (k, bt)
 
--- Two ordered lists with the same elements are one, where no two elements come before one another.
+-- Two ordered lists with the same elements are equal, where no two elements come before one
+-- another.
 pub IsOrderedBy-same : {X : Type 0} (before : X → X → Type 0) (xs ys : List X)
     → IsOrderedBy before xs → IsOrderedBy before ys
     → IsAsymmetricIn before xs → IsAsymmetricIn before ys

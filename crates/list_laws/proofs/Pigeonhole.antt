@@ -1,9 +1,10 @@
--- The pigeonhole principle: what can be matched, one each, with numbers below a bound is no more
--- than the bound.
+-- The pigeonhole principle: items that can be matched one each with numbers below a bound are no
+-- more than the bound.
 use Rattle.std.proofs.Common.{◌≡◌, ℕ, zero, suc, ◌<◌, ◌≤◌, ◌⊎◌, sym, subst, inl, inr, refl, arith}
 use Rattle.std.proofs.lemmas.Bool.{cases_lt, cases_eq}
 
--- with the last item and its match left out: who had the last match gets that one
+-- the matching without the last item and its match, where whoever had the last number gets that
+-- match
 abbrev Rematched : (ℕ → ℕ → Type 0) → ℕ → ℕ → ℕ → ℕ → ℕ → Type 0
 Rematched match n m last i j = (i < n) × ((match i j × (j < m)) ⊎ (match i m × (j ≡ last)))
 

@@ -1,20 +1,20 @@
--- What stands at a place of a list, and in a prefix of it.
+-- Items at places of lists and of their prefixes.
 use Rattle.std.proofs.Common.{◌≡◌, ℕ, zero, suc, ◌⊎◌, List, [], ◌∷◌, ◌++◌, length, take, get_or, replicate, Some, refl, ap, inl, inr, slice_get}
 
--- what stands in a list stands there still when it gets one more item at its end
+-- an item of a list is at the same place after one more item is added at the end
 pub slice_get-push_old : {X : Type 0} (xs : List X) (y : X) (k : ℕ) (z : X)
     → slice_get xs k ≡ Some z → slice_get (xs ++ y ∷ []) k ≡ Some z
 slice_get-push_old [] y k z e = absurd cc
 slice_get-push_old (x ∷ xs) y zero z e = e
 slice_get-push_old (x ∷ xs) y (suc k) z e = slice_get-push_old xs y k z e
 
--- the new item stands at the end
+-- the added item is at the last place
 pub slice_get-push_last : {X : Type 0} (xs : List X) (y : X)
     → slice_get (xs ++ y ∷ []) (length xs) ≡ Some y
 slice_get-push_last [] y = refl
 slice_get-push_last (x ∷ xs) y = slice_get-push_last xs y
 
--- what stands in a list with one more item stood there before, or is the new item
+-- an item of a list with one more at the end was there before, or is the new one
 pub slice_get-push_cases : {X : Type 0} (xs : List X) (y : X) (k : ℕ) (z : X)
     → slice_get (xs ++ y ∷ []) k ≡ Some z → (slice_get xs k ≡ Some z) ⊎ ((k ≡ length xs) × (z ≡ y))
 slice_get-push_cases [] y zero z e = inr (refl, cc)
@@ -26,7 +26,7 @@ slice_get-push_cases (x ∷ xs) y (suc k) z e =
       | inr new ↦ inr (ap suc new.0, new.1)
     ]
 
--- what stands in a prefix of a list stands in the list
+-- an item of a prefix is at the same place in the list
 pub slice_get-take : {X : Type 0} (n : ℕ) (xs : List X) (k : ℕ) (z : X)
     → slice_get (take n xs) k ≡ Some z → slice_get xs k ≡ Some z
 slice_get-take zero xs k z e = absurd cc
@@ -34,7 +34,7 @@ slice_get-take (suc n) [] k z e = absurd cc
 slice_get-take (suc n) (x ∷ xs) zero z e = e
 slice_get-take (suc n) (x ∷ xs) (suc k) z e = slice_get-take n xs k z e
 
--- a list of the default alone has it at each place
+-- a list of nothing but the default has the default at each place
 pub get_or-replicate_default : {X : Type 0} (n i : ℕ) (d : X) → get_or (replicate n d) i d ≡ d
 get_or-replicate_default zero i d = refl
 get_or-replicate_default (suc n) zero d = refl

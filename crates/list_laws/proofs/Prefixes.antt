@@ -1,9 +1,9 @@
--- Prefixes of a list: what they have, and where to end one.
+-- Prefixes of a list: their items, and where to end one.
 use Rattle.std.proofs.Common.{◌≡◌, ℕ, zero, suc, ◌<◌, ◌≤◌, ◌⊎◌, Bool, true, false, List, [], ◌∷◌, ◌++◌, length, take, Some, refl, sym, ap, ◌∙◌, inl, inr, slice_get, arith}
 use Rattle.std.proofs.lemmas.Bool.{cases_Bool, both_ways}
 use Rattle.std.proofs.lemmas.Option.{same_Some, none-some}
 
--- a prefix has what the list has, below its length
+-- a prefix has the same items as the list below its length
 pub slice_get-take_within : {X : Type 0} (n : ℕ) (xs : List X) (k : ℕ) → k < n
     → slice_get (take n xs) k ≡ slice_get xs k
 slice_get-take_within zero xs k h = absurd (omega arith)
@@ -11,7 +11,7 @@ slice_get-take_within (suc n) [] k h = refl
 slice_get-take_within (suc n) (x ∷ xs) zero h = refl
 slice_get-take_within (suc n) (x ∷ xs) (suc k) h = slice_get-take_within n xs k (omega arith)
 
--- what stands in a prefix stands below its length
+-- an item of a prefix is at a place below the prefix's length
 pub slice_get-take_below : {X : Type 0} (n : ℕ) (xs : List X) (k : ℕ) (z : X)
     → slice_get (take n xs) k ≡ Some z → k < n
 slice_get-take_below zero xs k z e = absurd (none-some z e)
@@ -20,14 +20,14 @@ slice_get-take_below (suc n) (x ∷ xs) zero z e = omega arith
 slice_get-take_below (suc n) (x ∷ xs) (suc k) z e = let h = slice_get-take_below n xs k z e in
     omega arith
 
--- what stands in a list stands there still when more follows
+-- an item of a list is at the same place when more items follow
 pub slice_get-append_within : {X : Type 0} (xs ys : List X) (k : ℕ) → k < length xs
     → slice_get (xs ++ ys) k ≡ slice_get xs k
 slice_get-append_within [] ys k h = absurd (omega arith)
 slice_get-append_within (x ∷ xs) ys zero h = refl
 slice_get-append_within (x ∷ xs) ys (suc k) h = slice_get-append_within xs ys k (omega arith)
 
--- lists that have the same at each place are one
+-- two lists with the same item at each place are equal
 pub same_from_places : {X : Type 0} (xs ys : List X)
     → ((k : ℕ) → slice_get xs k ≡ slice_get ys k) → xs ≡ ys
 same_from_places [] [] h = refl
@@ -38,14 +38,15 @@ same_from_places (x ∷ xs) (y ∷ ys) h =
     let rest = same_from_places xs ys (λ k. h (suc k)) in
     cc
 
--- A prefix ends after the last item that passes a test: each item that passes stands in it, and at
--- or after each of its places such an item stands in it.
+-- A prefix ends after the last item that passes a test: each item that passes is in the prefix, and
+-- from each of the prefix's places on such an item is in it.
 pub record EndsAfterLast {X : Type 0} (passes : X → Bool) (xs : List X) (n : ℕ) : Type 0 where
   pub all : (k : ℕ) (z : X) → slice_get xs k ≡ Some z → passes z ≡ true → k < n
   pub last : (k : ℕ) → k < n → (m : ℕ) × (z : X) × (k ≤ m) × (m < n) × (slice_get xs m ≡ Some z)
       × (passes z ≡ true)
 
--- with one more item in front
+-- a prefix that ends after the last item that passes is one longer, where an item is added before
+-- the list
 longer_all : {X : Type 0} (passes : X → Bool) (x : X) (xs : List X) (n : ℕ)
     → EndsAfterLast passes xs n
     → (k : ℕ) (z : X) → slice_get (x ∷ xs) k ≡ Some z → passes z ≡ true → k < suc n
@@ -71,7 +72,8 @@ ends_after-longer : {X : Type 0} (passes : X → Bool) (x : X) (xs : List X) (n 
 ends_after-longer passes x xs n h some =
     record { all = longer_all passes x xs n h; last = longer_last passes x xs n h some }
 
--- an item in front that doesn't pass, of a list where none does
+-- the empty prefix stays one that ends after the last item that passes, where an item that doesn't
+-- pass is added before a list in which none passes
 none_passes : {X : Type 0} (passes : X → Bool) (x : X) (xs : List X) → EndsAfterLast passes xs 0
     → passes x ≡ false
     → (k : ℕ) (z : X) → slice_get (x ∷ xs) k ≡ Some z → passes z ≡ true → k < 0
@@ -89,7 +91,7 @@ longer passes x xs zero h = elim (cases_Bool (passes x)) [
 longer passes x xs (suc n) h =
     (suc (suc n), ends_after-longer passes x xs (suc n) h (inl (omega arith)))
 
--- there is such a prefix
+-- each list has such a prefix
 pub ends_after_last : {X : Type 0} (passes : X → Bool) (xs : List X) → (n : ℕ)
     × EndsAfterLast passes xs n
 ends_after_last passes [] =

@@ -1,11 +1,12 @@
--- Lists that are cut at the elements which pass a test.
+-- Lists that are cut at each element that passes a test.
 use Rattle.std.proofs.Common.{◌≡◌, ℕ, ◌+◌, Bool, true, false, eqb, List, [], ◌∷◌, ◌++◌, length, All, refl, ap, ◌∙◌, arith}
 use Rattle.std.specs.List.{list_all, prefix_len, slice_split, join_with_byte}
 use Rattle.std.proofs.lemmas.Bool.{and_parts, cond-true, cond-false, eq-eqb}
 use Rattle.std.proofs.lemmas.List.Elements.{All-head, All-tail}
 use Rattle.std.proofs.lemmas.List.Splits.{slice_split_at, slice_split_none}
 
--- where the prefix passes and what follows it doesn't, the prefix is the longest that passes
+-- a prefix whose elements all pass, followed by an element that doesn't, is the longest prefix
+-- whose elements all pass
 pub prefix_len-prefix : {X : Type 0} (q : X → Bool) (xs : List X) (y : X) (ys : List X)
     → list_all q xs ≡ true → q y ≡ false → prefix_len q (xs ++ y ∷ ys) ≡ length xs
 prefix_len-prefix q [] y ys a stops = cond-false (q y) (1 + prefix_len q ys) 0 stops

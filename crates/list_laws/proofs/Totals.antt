@@ -2,7 +2,8 @@
 use Rattle.std.proofs.Common.{◌≡◌, ℕ, zero, suc, ◌+◌, ◌≤◌, List, [], ◌∷◌, length, sum, get_or, refl, arith}
 use Rattle.std.proofs.lemmas.List.Sums.{sum_by-cons}
 
--- where no number is greater than the other list's, neither is the sum
+-- where no number of a list is greater than the other list's at its place, the sum is no greater
+-- either
 pub sum-within : (xs ys : List ℕ) → length xs ≤ length ys
     → ((i : ℕ) → get_or xs i 0 ≤ get_or ys i 0) → sum xs ≤ sum ys
 sum-within [] ys wide within = omega arith

@@ -107,7 +107,7 @@ pub fn worked_pqueue_steps()
     // A take gives the low 32 bits of the first item.
     ensures takes_the_low_bits { Makes kinds.Pqueue 8589934592 (codes "min")
         (4294967298 ∷ 9 ∷ []) (9 ∷ []) (codes "=2") }
-    // A take at the empty list leaves it, and the reply is none.
+    // A take at the empty list doesn't change it, and the reply is none.
     ensures takes_none { Makes kinds.Pqueue 8589934592 (codes "min") [] [] (codes "none") }
     // A word that no entry has doesn't change the list, and the reply is `bad`.
     ensures leaves_an_unknown_word { Makes kinds.Pqueue 12884901888 (codes "#12884901888")
@@ -127,7 +127,7 @@ pub fn worked_queue_steps()
     // A take gives the low 32 bits of the first item.
     ensures takes_the_low_bits { Makes kinds.Queue 8589934592 (codes "deq")
         (4294967298 ∷ 9 ∷ []) (9 ∷ []) (codes "=2") }
-    // A take at the empty list leaves it, and the reply is none.
+    // A take at the empty list doesn't change it, and the reply is none.
     ensures takes_none { Makes kinds.Queue 8589934592 (codes "deq") [] [] (codes "none") }
     // A word that no entry has doesn't change the list, and the reply is `bad`.
     ensures leaves_an_unknown_word { Makes kinds.Queue 12884901888 (codes "#12884901888")
@@ -147,7 +147,7 @@ pub fn worked_stack_steps()
     // A take gives the low 32 bits of the last item.
     ensures takes_the_low_bits { Makes kinds.Stack 8589934592 (codes "pop")
         (9 ∷ 4294967298 ∷ []) (9 ∷ []) (codes "=2") }
-    // A take at the empty list leaves it, and the reply is none.
+    // A take at the empty list doesn't change it, and the reply is none.
     ensures takes_none { Makes kinds.Stack 8589934592 (codes "pop") [] [] (codes "none") }
     // A word that no entry has doesn't change the list, and the reply is `bad`.
     ensures leaves_an_unknown_word { Makes kinds.Stack 12884901888 (codes "#12884901888")

@@ -1,4 +1,4 @@
--- A call with the forced call's key is brought to the front.
+-- A call with the forced call's key is moved to the first place.
 use Rattle.std.proofs.Common.{◌≡◌, ◌≢◌, ℕ, ◌+◌, ◌<◌, ◌≤◌, ◌⊎◌, ◌∙◌, Bool, IsTrue, List, [], ◌∷◌, length, get_or, set, Option, Some, None, unwrap_or, refl, sym, ap, subst, inl, inr, length-set, arith}
 use Rattle.std.proofs.lemmas.Bool.{cases_eq}
 use Rattle.std.proofs.lemmas.Option.{same_Some, none-some}
@@ -32,7 +32,7 @@ some_or_none (Some k) = inl (k, refl)
 abbrev word_at : List Page → Place → ℕ
 word_at book place = (step_at book place).0
 
--- What is found: a place with the key goes first, and the forced call doesn't precede it.
+-- A place with the key comes first, and the forced call doesn't precede it.
 abbrev KeyGoesFirst : (ℕ → Option ℕ) → List Page → (List ℕ → ℕ → List ℕ × ℕ) → List ℕ
     → List ℕ → ℕ → ℕ
     → List Place → Type 0
@@ -41,7 +41,7 @@ KeyGoesFirst key book next cut list forced k rest =
     × (key (word_at book place) ≡ Some k)
     × (length (place ∷ other) ≤ length rest)
 
--- lists that are alike have the same part of each key
+-- lists are alike where each key has the same part of both
 abbrev Alike : (ℕ → List ℕ → List ℕ) → List ℕ → List ℕ → Type 0
 Alike part one other = (k : ℕ) → part k one ≡ part k other
 
@@ -64,7 +64,7 @@ alike-after key part next is one other op alike k =
       | inr lacks ↦ is.others one op k lacks ∙ (alike k ∙ sym (is.others other op k lacks))
     ]
 
--- What goes on from one list goes on from one that is alike.
+-- Places that continue an order from a list continue it from one that is alike.
 continues-alike : (key : ℕ → Option ℕ) (part : ℕ → List ℕ → List ℕ) (next : List ℕ → ℕ → List ℕ × ℕ)
     → IsKeyed key part next
     → (book : List Page) (cut one other : List ℕ) (rest : List Place) → Alike part one other
@@ -94,7 +94,7 @@ reply-after key part next is list a b apart =
       | inr none ↦ is.unkeyed (next list b).0 list a none
     ]
 
--- operations on two keys leave lists that are alike in either order
+-- two operations on different keys make lists that are alike in either order
 alike-swapped : (key : ℕ → Option ℕ) (part : ℕ → List ℕ → List ℕ) (next : List ℕ → ℕ → List ℕ × ℕ)
     → IsKeyed key part next → (list : List ℕ) (a b k : ℕ)
     → key a ≡ Some k → key b ≢ Some k
@@ -116,7 +116,7 @@ alike-swapped key part next is list a b k with without j =
           ]
     ]
 
--- Two neighbours change places, where the second may come next at once.
+-- Two neighbours may be exchanged, where the second may come next at once.
 swapped : (key : ℕ → Option ℕ) (part : ℕ → List ℕ → List ℕ) (next : List ℕ → ℕ → List ℕ × ℕ)
     → IsKeyed key part next
     → (book : List Page) (cut list : List ℕ) (k : ℕ) (p x : Place) (rest : List Place)

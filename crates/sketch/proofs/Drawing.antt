@@ -34,16 +34,16 @@ pub record IsDrawnSketch (book : List Page) (drawn : Drawn) (events : List Event
   -- each stands after all that come before it
   pub ordered : (j k : ℕ) (e f : Event) → slice_get events j ≡ Some e → slice_get events k ≡ Some f
       → j < k → ComesBefore book e f
-  -- and comes before all events of the book that aren't drawn
+  -- each comes before all events of the book that aren't drawn
   pub before : (e f : Event) → IsDrawn drawn e → IsEventOf book f → (IsDrawn drawn f → ⊥)
       → ComesBefore book e f
 
--- the event's caller is counted
+-- both cuts have a count for the event's caller
 abbrev IsInside : Drawn → Event → Type 0
 IsInside drawn (Invoke call) = call.caller < length drawn.invoked
 IsInside drawn (Return call) = call.caller < length drawn.returned
 
--- an event of the book is
+-- both cuts have a count for the caller of each event of the book
 inside : (book : List Page) (drawn : Drawn) → IsPartOf book drawn → (event : Event)
     → IsEventOf book event → IsInside drawn event
 inside book drawn part (Invoke call) is = let there =
@@ -51,7 +51,7 @@ inside book drawn part (Invoke call) is = let there =
 inside book drawn part (Return call) is = let there =
     caller_from_answer book call.caller call.number is in omega (arith, part.wide_returned)
 
--- with one more event, what is drawn was drawn, or is the new one
+-- an event drawn after one more was drawn before, or is the new one
 drawn_cases : (drawn : Drawn) (x e : Event) → IsInside drawn x → FollowsOn drawn x
     → IsDrawn (with_event drawn x) e → IsDrawn drawn e ⊎ (e ≡ x)
 drawn_cases drawn (Invoke a) (Invoke b) there next is =
@@ -88,7 +88,7 @@ next_is_new : (drawn : Drawn) (x : Event) → FollowsOn drawn x → IsDrawn draw
 next_is_new drawn (Invoke a) next is = absurd (omega (arith, next))
 next_is_new drawn (Return a) next is = absurd (omega (arith, next))
 
--- a raised cut stays within bounds that hold its next call
+-- a raised cut is within bounds that hold the call by which it was raised
 raised_bounded : (cut : List ℕ) (bound : ℕ → ℕ) (call : Call) → call.caller < length cut
     → IsNextOf cut call → call.number < bound call.caller
     → ((i : ℕ) → get_or cut i 0 ≤ bound i) → (i : ℕ) → get_or (raised cut call.caller) i 0 ≤ bound i
@@ -99,7 +99,7 @@ raised_bounded cut bound call there next below within i =
       | inr other ↦ omega (arith, raised_other cut call.caller i other, within i)
     ]
 
--- what the view of the next call to return holds is invoked
+-- the calls that the view of the next call to return holds are invoked
 seen_invoked : (book : List Page) (drawn : Drawn) → IsValid book → (call : Call)
     → IsNext book drawn (Return call) → (r : Record) → record_of book call ≡ Some r
     → IsWithin r.view drawn.invoked
@@ -117,7 +117,7 @@ seen_invoked book drawn valid call next r known i =
       | inr more ↦ more
     ]
 
--- with the next event, what is drawn still is part of a sketch
+-- what is drawn is part of a sketch also after the next event
 pub part_more : (book : List Page) (drawn : Drawn) → IsValid book → (x : Event)
     → IsPartOf book drawn → IsNext book drawn x → IsPartOf book (with_event drawn x)
 part_more book drawn valid (Invoke a) part next =
@@ -152,7 +152,7 @@ part_more book drawn valid (Return a) part next =
           ];
     }
 
--- with the next event, the sketch is drawn that much further
+-- the sketch is drawn one event further after the next event
 pub sketch_more : (book : List Page) (drawn : Drawn) (events : List Event) (x : Event)
     → IsPartOf book drawn → IsNext book drawn x → IsDrawnSketch book drawn events
     → IsDrawnSketch book (with_event drawn x) (events ++ x ∷ [])
@@ -189,7 +189,7 @@ sketch_more book drawn events x part next h =
           ];
     }
 
--- a cut that holds no call holds none
+-- a cut of zeros holds no call
 holds_none : (cut : List ℕ) (n : ℕ) (call : Call) → cut ≡ replicate n 0 → Holds cut call → ⊥
 holds_none cut n call none held = absurd (omega (
   arith,
@@ -206,7 +206,7 @@ draws_none book drawn n wide invoked returned (Invoke call) held =
 draws_none book drawn n wide invoked returned (Return call) held =
     holds_none drawn.returned n call returned held
 
--- what isn't drawn at all is part of a sketch
+-- what is drawn at first, which is nothing, is part of a sketch
 pub part_none : (book : List Page) (drawn : Drawn) (n : ℕ) → n ≡ length book
     → drawn.invoked ≡ replicate n 0 → drawn.returned ≡ replicate n 0 → IsPartOf book drawn
 part_none book drawn n wide invoked returned = record {
@@ -234,13 +234,13 @@ sketch_none book drawn n wide invoked returned = record {
       absurd (draws_none book drawn n wide invoked returned e held);
 }
 
--- what is drawn is of the book
+-- a drawn event is one of the book's
 drawn_of : (book : List Page) (drawn : Drawn) → IsPartOf book drawn → (event : Event)
     → IsDrawn drawn event → IsEventOf book event
 drawn_of book drawn part (Invoke call) held = omega (arith, held, part.made call.caller)
 drawn_of book drawn part (Return call) held = omega (arith, held, part.answered call.caller)
 
--- where all events of the book are drawn, the sketch is
+-- where all events of the book are drawn, the drawn events are its sketch
 pub sketch_done : (book : List Page) (drawn : Drawn) (events : List Event) → IsPartOf book drawn
     → IsDrawnSketch book drawn events
     → ((event : Event) → IsEventOf book event → IsDrawn drawn event) → IsSketch book events
@@ -252,17 +252,17 @@ sketch_done book drawn events part h all = record {
   ordered = h.ordered;
 }
 
--- the record counts, as a cut
+-- the count of a caller in the record counts is the number of its answers
 answered_at : (book : List Page) (i : ℕ) → get_or (answered book) i 0 ≡ answers_of book i
 answered_at [] i = refl
 answered_at (page ∷ book) zero = refl
 answered_at (page ∷ book) (suc i) = answered_at book i
 
--- the sum of a raised cut
+-- the sum of a raised cut is greater by one
 sum-raised : (cut : List ℕ) (i : ℕ) → i < length cut → sum (raised cut i) ≡ sum cut + 1
 sum-raised cut i there = omega (arith, sum_by-set (λ (n : ℕ). n) cut i (get_or cut i 0 + 1) 0 there)
 
--- no more is drawn than there is
+-- no more is drawn than the book has
 invoked_within : (book : List Page) (drawn : Drawn) → IsPartOf book drawn
     → sum drawn.invoked ≤ sum (announced book)
 invoked_within book drawn part =
@@ -298,7 +298,7 @@ fewer_left book drawn valid (Return a) part next =
 
 -- Which event comes next.
 
--- what isn't held is outside
+-- a call that a cut doesn't hold is outside it
 outside : (cut : List ℕ) (call : Call) → (Holds cut call → ⊥)
     → get_or cut call.caller 0 ≤ call.number
 outside cut call not =
@@ -307,8 +307,8 @@ outside cut call not =
       | inr out ↦ out
     ]
 
--- What the next events are drawn up to: a cut within the views of all calls that are still to
--- return, which holds each call of the book that some view which holds one of its calls holds.
+-- The cut up to which the next events are drawn: it is within the views of all calls that are still
+-- to return, and holds each call of the book that is in some view with one of its calls.
 pub record IsSeenNext (book : List Page) (drawn : Drawn) (seen : List ℕ) : Type 0 where
   pub made : (i : ℕ) → get_or seen i 0 ≤ calls_of book i
   pub least : (a : Call) (r : Record) → record_of book a ≡ Some r
@@ -403,7 +403,7 @@ all_seen_next book drawn seen counts none = record {
       omega (arith, counts c.caller, is);
 }
 
--- else up to the view of the first call to return
+-- where a call is to return, the next events are drawn up to the view of the first one
 pub view_seen_next : (book : List Page) (drawn : Drawn) → IsValid book → (w : Call) (r : Record)
     → record_of book w ≡ Some r
     → ((other : Call) → IsAnswered book other → get_or drawn.returned other.caller 0 ≤ other.number
@@ -424,7 +424,8 @@ view_seen_next book drawn valid w r known first = record {
       with_b w r known held;
 }
 
--- a return comes next: the first one, where what its view holds is invoked
+-- a return comes next: that of the first call to return, where the calls that its view holds are
+-- invoked
 pub return_next : (book : List Page) (drawn : Drawn) (w : Call) (r : Record)
     → record_of book w ≡ Some r → IsNextOf drawn.returned w
     → ((other : Call) → IsAnswered book other → get_or drawn.returned other.caller 0 ≤ other.number
@@ -436,7 +437,7 @@ return_next book drawn w r known next first seen = record {
   first = return_first book drawn w r known first seen;
 }
 
--- where all is invoked and nothing is to return, all is drawn
+-- where all calls are invoked and none is to return, all events are drawn
 pub all_drawn : (book : List Page) (drawn : Drawn) (seen : List ℕ)
     → ((i : ℕ) → get_or seen i 0 ≡ calls_of book i) → IsWithin seen drawn.invoked
     → ((a : Call) → IsAnswered book a → Holds drawn.returned a) → (event : Event)

@@ -43,7 +43,8 @@ cases_within (x ∷ xs) (y ∷ ys) = elim (cases_lt y x) [
   ]
 ]
 
--- the first call to return, of the callers below a number and of one more that has one
+-- of the callers below a number and one more that has a call to return, one has the first call to
+-- return
 with_next : (book : List Page) → IsValid book → (returned : List ℕ) (n : ℕ) (old : Option Call)
     → IsFirstUpTo book returned n old → IsAnswered book (next_call returned n)
     → (first : Option Call) × IsFirstUpTo book returned (n + 1) first
@@ -145,7 +146,7 @@ next_or_done book drawn valid part =
     let waiting = first_up_to book valid drawn.returned (length book) in
     next_by book drawn valid part waiting.0 waiting.1
 
--- what is left is drawn
+-- all events that are left are drawn
 draw_on : (left : ℕ) (book : List Page) (drawn : Drawn) (events : List Event) → IsValid book
     → left_to_draw book drawn ≤ left → IsPartOf book drawn → IsDrawnSketch book drawn events
     → (all : List Event) × IsSketch book all

@@ -1,4 +1,4 @@
--- Laws of sketches: events stand in one order.
+-- Laws of sketches: the events of a sketch are in one order.
 use Rattle.std.proofs.Common.{◌≡◌, ℕ, ◌<◌, ◌≤◌, ◌∙◌, List, get_or, Some, sym, ap, subst, inl, inr, slice_get, arith}
 use Rattle.std.proofs.lemmas.Bool.{cases_eq, cases_lt}
 use Rattle.std.proofs.lemmas.Option.{same_Some, slice_get_within}
@@ -44,7 +44,7 @@ event_of : (book : List Page) (events : List Event) → IsSketch book events →
     → slice_get events k ≡ Some event → IsEventOf book event
 event_of book events h k event at = (h.whole event).0 (k, at)
 
--- what comes before stands before
+-- an event that comes before another one is at an earlier place of a sketch
 pub stands_before : (book : List Page) (events : List Event) → IsSketch book events
     → (j k : ℕ) (e f : Event)
     → slice_get events j ≡ Some e → slice_get events k ≡ Some f → ComesBefore book e f → j < k

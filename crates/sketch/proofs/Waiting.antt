@@ -1,4 +1,4 @@
--- Which answered call returns next: the first of those that come next of their callers.
+-- Which answered call returns next: the first one of the callers' next calls to return.
 use Rattle.std.proofs.Common.{◌≡◌, ℕ, ◌+◌, ◌<◌, ◌≤◌, ◌⊎◌, ◌∙◌, List, length, get_or, Option, Some, None, MatchOption, IfSome, IfNone, refl, sym, ap, subst, inl, inr, arith}
 use Rattle.std.proofs.lemmas.Bool.{cases_eq, cases_lt}
 use Rattle.std.proofs.lemmas.Option.{same_Some}
@@ -28,13 +28,14 @@ pub record IsFirstBelow (book : List Page) (returned : List ℕ) (callers : ℕ)
   pub first : (i : ℕ) → i < callers → IsAnswered book (next_call returned i)
       → (next_call returned i ≡ call) ⊎ ReturnsBefore book call (next_call returned i)
 
--- the first call to return of the callers below a number, if one is to return
+-- the first call to return of the callers below a number, or none where none of them has one
 abbrev pub IsFirstUpTo : List Page → List ℕ → ℕ → Option Call → Type 0
 IsFirstUpTo book returned callers first =
     MatchOption first ((i : ℕ) → i < callers → IsAnswered book (next_call returned i) → ⊥)
     (IsFirstBelow book returned callers)
 
--- the order of returns leads on
+-- where a call returns before a second one, and this one before a third, the first returns before
+-- the third
 pub returns_before_trans : (book : List Page) (a b c : Call) → IsAnswered book b
     → ReturnsBefore book a b → ReturnsBefore book b c → ReturnsBefore book a c
 returns_before_trans book a b c is h k r t at ct =
@@ -65,7 +66,8 @@ returns_in_turn book valid a b caller less r s at bt = (
       )),
 )
 
--- of the callers' next calls the first returns before all answered calls that didn't return
+-- of the callers' next calls to return the first returns before all answered calls that haven't
+-- returned yet
 pub first_of_all : (book : List Page) → IsValid book → (returned : List ℕ) (call : Call)
     → IsFirstBelow book returned (length book) call
     → (other : Call) → IsAnswered book other → get_or returned other.caller 0 ≤ other.number
@@ -90,7 +92,7 @@ first_of_all book valid returned call h other is out =
           ]
     ]
 
--- where no caller has a call to return, none is left
+-- where no caller has a next call to return, no answered call is left to return
 pub none_of_all : (book : List Page) (returned : List ℕ)
     → ((i : ℕ) → i < length book → IsAnswered book (next_call returned i) → ⊥)
     → (other : Call) → IsAnswered book other → Holds returned other
@@ -114,7 +116,8 @@ earlier_first book a b r s at bt less within v w av bw =
       λ back. less,
     )
 
--- Else the second returns before the first.
+-- Of two answered calls, in the order of their callers, the second returns before the first where
+-- the first one's view isn't within the second one's.
 pub earlier_second : (book : List Page) → IsValid book → (a b : Call) (r s : Record)
     → record_of book a ≡ Some r → record_of book b ≡ Some s
     → (IsWithin r.view s.view → ⊥) → ReturnsBefore book b a
@@ -130,7 +133,7 @@ earlier_second book valid a b r s at bt not v w bv aw =
       λ back. absurd (apart back),
     )
 
--- with one more caller that has nothing to return the first stays
+-- one more caller without a call to return doesn't change the first call to return
 pub first-more_none : (book : List Page) (returned : List ℕ) (caller : ℕ) (first : Option Call)
     → (IsAnswered book (next_call returned caller) → ⊥)
     → IsFirstUpTo book returned caller first → IsFirstUpTo book returned (caller + 1) first
@@ -152,7 +155,7 @@ first-more_none book returned caller (Some call) none h = record {
       ];
 }
 
--- with one more caller, where none before had a call to return, its call is the first
+-- where only one more caller has a call to return, its call is the first
 pub first-more_only : (book : List Page) (returned : List ℕ) (caller : ℕ) (call : Call)
     → IsAnswered book call → call ≡ next_call returned caller
     → ((i : ℕ) → i < caller → IsAnswered book (next_call returned i) → ⊥)
@@ -168,7 +171,7 @@ first-more_only book returned caller call is next none = record {
       ];
 }
 
--- with one more caller the first is the old one, or the new one's call
+-- with one more caller, the first call to return is the old one or the one of the new caller
 pub first-more : (book : List Page) (returned : List ℕ) (caller : ℕ) (old call best : Call)
     → IsAnswered book call → call ≡ next_call returned caller
     → IsFirstBelow book returned caller old → ((best ≡ old) × ReturnsBefore book old call)
@@ -204,7 +207,8 @@ first-more book returned caller old call best is next h (inr (same, before)) =
           ];
     })
 
--- of all callers the first call to return is the first of all answered calls that didn't
+-- of all callers the first call to return is the first of all answered calls that haven't returned
+-- yet
 pub first_of_all_callers : (book : List Page) → IsValid book
     → (returned : List ℕ) (callers : ℕ) (first : Option Call) → callers ≡ length book
     → IsFirstUpTo book returned callers first
