@@ -88,7 +88,8 @@ how_often-once f v (suc q) (x ∷ xs) (suc n) only =
       )
     ]
 
--- a value that a list shows more often than a prefix does is shown by an item after this prefix
+-- where a prefix shows a value more than t times, one of its items shows the value after exactly t
+-- earlier times
 pub how_often-next : {X : Type 0} (f : X → Option ℕ) (v : ℕ) (xs : List X) (n t : ℕ)
     → t < how_often f v (take n xs)
     → (k : ℕ) × (x : X) × (k < n) × (slice_get xs k ≡ Some x) × (f x ≡ Some v)

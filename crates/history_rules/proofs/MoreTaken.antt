@@ -134,7 +134,7 @@ taken_no_more_than_put reading init next book is none v takers putters different
     (matched_apart reading init next book h.0 h.1 v takers putters different) in
     absurd (omega (arith, few, fewer))
 
--- a call at a place of an order is in the prefix that ends after it
+-- a call of an order at a place before the end of a prefix is in this prefix
 prefix_stands : (before after : List Place) (k : ℕ) (call : Call) → k < length before
     → StandsAt (before ++ after) k call → StandsAt before k call
 prefix_stands before after k call lt s =

@@ -46,8 +46,8 @@ pub map_some : {X Y : Type 0} (o : Option X) (f : X → Y) (y : Y) → option_ma
 map_some None f y e = absurd cc
 map_some (Some x) f y e = (x, refl, cc)
 
--- where an option that is emptied unless a test fails or passes has a value, the test let it
--- through
+-- an option that is kept only where a test passes has a value only where the test passes and the
+-- option has it
 pub if_some : {X : Type 0} (b : Bool) (o : Option X) (y : X) → cond b o None ≡ Some y → (b ≡ true)
     × (o ≡ Some y)
 if_some true o y e = (refl, e)
