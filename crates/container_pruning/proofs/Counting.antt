@@ -47,7 +47,7 @@ not_read : (i n : ℕ) → IsReadTo i n (call_of i n) → ⊥
 not_read i n (inl lt) = omega (arith, lt)
 not_read i n (inr h) = omega (arith, h.1)
 
--- What is counted stays where the calls that are read newly don't use the value.
+-- Counts of a value don't change where the calls that are newly read don't use the value.
 counted_same : (deal : Call → Deal) (read more : Call → Type 0) (v : ℕ) (used : Use)
     → ((c : Call) → read c → more c)
     → ((c : Call) → more c → deal c ≡ deals.Put v → read c)
@@ -65,7 +65,7 @@ counted_same deal read more v used grows puts takes is = record {
   different = is.different;
 }
 
--- one more call that does neither
+-- one more call that neither puts the value in nor takes it out
 counted_skip : (deal : Call → Deal) (i n v : ℕ) (used : Use)
     → (deal (call_of i n) ≡ deals.Put v → ⊥) → (deal (call_of i n) ≡ deals.Took v → ⊥)
     → IsCounted deal (IsReadTo i n) v used → IsCounted deal (IsReadTo i (n + 1)) v used
@@ -103,7 +103,7 @@ counted_put deal i n v used put is = record {
   different = is.different;
 }
 
--- a list with a call before it that it doesn't have
+-- the calls of a list differ also with one more call before them that the list lacks
 different_more : (c : Call) (calls : List Call) → AreDifferent calls
     → ((k : ℕ) → slice_get calls k ≡ Some c → ⊥) → AreDifferent (c ∷ calls)
 different_more c calls is none zero zero call a b = refl
@@ -122,7 +122,7 @@ taker_cases deal i n v calls took only zero c at =
 taker_cases deal i n v calls took only (suc k) c at = let o = only k c at in
     (read_more i n c o.0, o.1)
 
--- one more call that takes it out
+-- one more call that takes the value out
 counted_take : (deal : Call → Deal) (i n v : ℕ) (used : Use) → deal (call_of i n) ≡ deals.Took v
     → IsCounted deal (IsReadTo i n) v used
     → IsCounted deal (IsReadTo i (n + 1)) v (record used { takes = used.takes + 1 })
@@ -251,8 +251,8 @@ counted_by_take reading book i n w old new took is uses same =
       ];
     }
 
--- the same uses after a call that neither puts in nor takes out; an unanswered take lowers its
--- caller's number
+-- the uses don't change with a call that neither puts in nor takes out, but an unanswered take
+-- lowers its caller's number
 pub counted_by_none : (reading : Reading) (book : List Page) (i n : ℕ) (old new : Uses)
     → ((v : ℕ) → deal_of reading book (call_of i n) ≡ deals.Put v → ⊥)
     → ((v : ℕ) → deal_of reading book (call_of i n) ≡ deals.Took v → ⊥)
@@ -305,7 +305,7 @@ lowered xs i n =
       omega (arith, here),
     )
 
--- a call of the book that a caller's calls have, once the caller is read
+-- a call of the book that isn't read with a caller's calls is of a later caller
 read_to_next : (reading : Reading) (book : List Page) (i : ℕ) (c : Call)
     → (deal_of reading book c ≡ deals.Other → ⊥) → IsReadTo (i + 1) 0 c
     → IsReadTo i (calls_of book i) c
@@ -323,7 +323,7 @@ read_from_last : (book : List Page) (i : ℕ) (c : Call) → IsReadTo i (calls_o
 read_from_last book i c (inl lt) = inl (omega arith)
 read_from_last book i c (inr h) = inl (omega (arith, h.0))
 
--- all calls of a caller are read
+-- once all calls of a caller are read, the next caller's calls are read from the first
 pub counted_caller : (reading : Reading) (book : List Page) (i n : ℕ) (uses : Uses)
     → n ≡ calls_of book i → calls_of book i ≤ MAX_CALLS → AreUsesOf reading book i n uses
     → AreUsesOf reading book (i + 1) 0 uses
@@ -343,7 +343,7 @@ counted_caller reading book i n uses all few is =
           (λ other. let both : deals.OpenTake ≡ deals.Other = sym e ∙ other in cc) h) e;
     }
 
--- nothing is read
+-- before any call is read, none is
 read_none : (c : Call) → IsReadTo 0 0 c → ⊥
 read_none c (inl lt) = omega (arith, lt)
 read_none c (inr h) = omega (arith, h.1)
@@ -374,7 +374,7 @@ counted_none reading book uses none =
 
 -- ---- what the uses of a whole book say
 
--- all calls with a deal are read
+-- once all callers are read, each call with a deal is read
 read_all : (reading : Reading) (book : List Page) (c : Call)
     → (deal_of reading book c ≡ deals.Other → ⊥) → IsReadTo (length book) 0 c
 read_all reading book c some =
@@ -390,7 +390,7 @@ read_take : (reading : Reading) (book : List Page) (c : Call) (v : ℕ)
 read_take reading book c v e =
     read_all reading book c (λ other. let both : deals.Took v ≡ deals.Other = sym e ∙ other in cc)
 
--- two calls of a list of one are one
+-- two calls of a list of one call are equal
 one_of_one : (calls : List Call) (j k : ℕ) (a b : Call) → length calls ≡ 1
     → slice_get calls j ≡ Some a → slice_get calls k ≡ Some b → a ≡ b
 one_of_one calls j k a b one at_a at_b =
@@ -398,7 +398,7 @@ one_of_one calls j k a b one at_a at_b =
     omega (arith, one, slice_get_within calls j a at_a, slice_get_within calls k b at_b) in
     same_Some a b (sym at_a ∙ (ap (slice_get calls) same ∙ at_b))
 
--- a value that is put in once is put in by its put alone
+-- a value that is put in once is put in by the call that its use names alone
 pub alone_by_count : (reading : Reading) (book : List Page) (uses : Uses) (v : ℕ)
     → AreUsesOf reading book (length book) 0 uses → (use_of uses.by_value.entries v).puts ≡ 1
     → PutsInAlone reading book (use_of uses.by_value.entries v).put v

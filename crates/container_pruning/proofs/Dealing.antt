@@ -10,7 +10,7 @@ use Rattle.history_rules.specs.Calls.{PutsIn, TakesOut, FindsNothing}
 use Rattle.container_pruning.specs.declared.deal.Deal.TheVariants as deals
 use Rattle.container_pruning.specs.Deals.{shown_deal, recorded_deal, deal_by_deed, deal_by_operation, deal_of}
 
--- what a take's deal says of what its reply shows
+-- the deal of an answered take says what its reply shows
 shown_took : (shown : Option ℕ) (v : ℕ) → shown_deal shown ≡ deals.Took v → shown ≡ Some v
 shown_took None v e = absurd cc
 shown_took (Some w) v e = let same : w ≡ v = cc in ap Some same
@@ -38,7 +38,7 @@ recorded_nothing : (reading : Reading) (o : Option Record) → recorded_deal rea
 recorded_nothing reading None e = absurd cc
 recorded_nothing reading (Some r) e = (r, refl, shown_nothing (reading.shown r.reply) e)
 
--- what a deal says of the deed
+-- the deal of a call says what effect its operation has
 deed_put : (reading : Reading) (book : List Page) (call : Call) (deed : Effect) (v : ℕ)
     → deal_by_deed reading book call deed ≡ deals.Put v → deed ≡ Puts v
 deed_put reading book call (Puts w) v e = let same : w ≡ v = cc in ap Puts same
@@ -82,7 +82,7 @@ nothing_by_operation reading book call None is e = absurd cc
 nothing_by_operation reading book call (Some op) is e = let d =
     deed_nothing reading book call (reading.deed op) e in (op, d.1.0, is, d.1.1, d.0, d.1.2)
 
--- a call with the deal of a put puts in, and the other way round
+-- a call has the deal of a put exactly where it puts in
 pub puts_by_deal : (reading : Reading) (book : List Page) (call : Call) (v : ℕ)
     → deal_of reading book call ≡ deals.Put v → PutsIn reading book call v
 puts_by_deal reading book call v e =
@@ -110,7 +110,7 @@ deal_of_take reading book call v h =
     ap (deal_by_operation reading book call) h.2 ∙ (ap (deal_by_deed reading book call) h.4
     ∙ (ap (recorded_deal reading) h.3 ∙ ap shown_deal h.5))
 
--- a call without an operation has no deal
+-- a call with the deal of a put or a take is a call of the book
 pub call_by_deal : (reading : Reading) (book : List Page) (call : Call)
     → (deal_of reading book call ≡ deals.Other → ⊥) → IsCall book call
 call_by_deal reading book call some = elim (cases_Option (operation_of book call)) [

@@ -1,4 +1,4 @@
--- Where no caller's next call after a cut can stand, each legal order ends within the cut.
+-- Where each caller's next call after a cut is blocked, each legal order ends within the cut.
 use Rattle.std.proofs.Common.{◌≡◌, ℕ, zero, suc, ◌+◌, ◌<◌, ◌≤◌, ◌∙◌, List, [], ◌∷◌, ◌++◌, length, replicate, take, drop, get_or, set, slice_get, Some, refl, sym, ap, subst, inl, inr, arith, drop-cons}
 use Rattle.std.proofs.lemmas.Bool.{cases_lt}
 use Rattle.std.proofs.lemmas.Option.{same_Some, slice_get-get_or, slice_get_within}
@@ -20,7 +20,7 @@ use Rattle.book_base.specs.Next.{next_call}
 use Rattle.container_pruning.specs.Stuck.{IsBlocked}
 use Rattle.container_pruning.proofs.Counting.{call_of}
 
--- what a prefix of an order reaches
+-- the cut and the list that a prefix of an order reaches
 pub record IsReached (init : List ℕ) (next : List ℕ → ℕ → List ℕ × ℕ) (book : List Page)
     (prefix : List Place) : Type 0 where
   pub cut : List ℕ
@@ -28,7 +28,7 @@ pub record IsReached (init : List ℕ) (next : List ℕ → ℕ → List ℕ × 
   pub wide : length cut ≡ length book
   pub reaches : Reaches init next book prefix cut list
 
--- a call of a prefix stands in the order, at the same place
+-- a call of a prefix of an order is in the order, at the same place
 stands_in_prefix : (order : List Place) (n k : ℕ) (call : Call) → StandsAt (take n order) k call
     → (k < n) × StandsAt order k call
 stands_in_prefix order n k call s =
@@ -115,7 +115,7 @@ abbrev pub IsEnd : List Page → Known → List ℕ → Type 0
 IsEnd book known cut = (i : ℕ) → IsCall book (next_call cut i)
     → IsBlocked book known cut (next_call cut i)
 
--- the first place outside the cut can't be
+-- no legal order has a first place outside the cut
 none_outside : (init : List ℕ) (next : List ℕ → ℕ → List ℕ × ℕ) (book : List Page) (known : Known)
     (cut : List ℕ) (order : List Place) → ArePruningRules init next book known
     → IsEnd book known cut
@@ -170,7 +170,7 @@ none_outside init next book known cut order right ends legal p place at before o
       ]
     ]
 
--- all that stands is in the cut
+-- all calls of a legal order are in the cut
 all_inside : (init : List ℕ) (next : List ℕ → ℕ → List ℕ × ℕ) (book : List Page) (known : Known)
     (cut : List ℕ) (order : List Place) → ArePruningRules init next book known
     → IsEnd book known cut
@@ -198,7 +198,7 @@ all_inside init next book known cut order right ends legal (suc p) k call lt sta
       ]
     ]
 
--- so a book with an answered call outside the cut has no legal order
+-- a book with an answered call outside the cut has no legal order
 pub ends_too_early : (init : List ℕ) (next : List ℕ → ℕ → List ℕ × ℕ) (book : List Page)
     (known : Known) (cut : List ℕ) → ArePruningRules init next book known → IsEnd book known cut
     → ((call : Call) × IsAnswered book call × (¬ Holds cut call)) → ¬ HasLegalOrder init next book

@@ -38,7 +38,7 @@ use Rattle.container_pruning.specs.FoundRules.{HoldsItsWords}
 
 -- ---- a book without a legal order
 
--- anything is right to know of it
+-- whatever is known of a book without a legal order is right
 pub none_is_found : (init : List ℕ) (next : List ℕ → ℕ → List ℕ × ℕ) (book : List Page)
     (known : Known) → ¬ HasLegalOrder init next book → ArePruningRules init next book known
 none_is_found init next book known none cut list call forbids before rest reply reaches legal =
@@ -85,7 +85,7 @@ blank_is_found init next book known blank =
     ArePruningRules init next book (record { call_bounds = call_bounds; ranks = known.ranks }))
     (sym blank) (blank_forbids_none init next book known.ranks)
 
--- ---- what leads
+-- ---- the calls that links name
 
 pub leads_before_put : (reading : Reading) (init : List ℕ) (next : List ℕ → ℕ → List ℕ × ℕ)
     (book : List Page) (discipline : Discipline) (links : Links)
@@ -158,9 +158,9 @@ kept_without_ranks reading init next book discipline links uses ranks is counted
           absurd (none_early_without ranks list (link_at links a).reach empty early);
     }
 
--- ---- views are a chain
+-- ---- views are comparable
 
--- of two views the one that counts no more holds no more
+-- of two views the one that counts no more calls is within the other
 chain_within : (a b : List ℕ) → length a ≡ length b → IsWithin a b → sum b ≤ sum a → (i : ℕ)
     → get_or b i 0 ≤ get_or a i 0
 chain_within a b long within few i = elim (cases_Bool (bytes_eq a b)) [
@@ -168,7 +168,7 @@ chain_within a b long within few i = elim (cases_Bool (bytes_eq a b)) [
   | inr apart ↦ absurd (omega (arith, few, sum-rises_apart a b long (λ t _. within t) apart))
 ]
 
--- an answered call of a less view counts no more of any caller
+-- an answered call whose view counts fewer calls counts no more calls of any caller
 view_below : (book : List Page) → IsValid book → (a c : Call) (r s : Record)
     → record_of book a ≡ Some r → record_of book c ≡ Some s → sum s.view ≤ sum r.view → (i : ℕ)
     → get_or s.view i 0 ≤ get_or r.view i 0
@@ -178,7 +178,7 @@ view_below book valid a c r s at_a at_c few i = elim (valid.comparable c a s r a
       chain_within r.view s.view (valid.wide a r at_a ∙ sym (valid.wide c s at_c)) within few i
 ]
 
--- what a call of a less view precedes
+-- an answered call whose view counts no more calls precedes all that the other call precedes
 precedes_below : (book : List Page) → IsValid book → (a b c : Call) (r s : Record)
     → record_of book a ≡ Some r → record_of book c ≡ Some s → sum s.view ≤ sum r.view
     → Precedes book a b → Precedes book c b
@@ -193,7 +193,7 @@ precedes_below book valid a b c r s at_a at_c few precedes =
     inl (subst (λ (o : Option Record). IsSomeAnd o (λ s. get_or s.view b.caller 0 ≤ b.number))
     (sym at_c) (omega (arith, seen, less)))
 
--- a word of a rank below a reach is taken by a call that precedes what the call of this reach
+-- a word of a rank below a reach is taken by a call that precedes all that the call with this reach
 -- precedes
 early_is_taken : (reading : Reading) (book : List Page) (ranks : List (ℕ × ℕ)) (list : List ℕ)
     (limit : ℕ) → AreRanks reading book ranks → HasEarly ranks list limit
@@ -294,7 +294,7 @@ pub none_early_at : (ranks : List (ℕ × ℕ)) (list : List ℕ) (limit : ℕ) 
 none_early_at ranks list limit none early =
     none_early ranks list (subst (λ (n : ℕ). HasEarly ranks list n) none early)
 
--- what is early before a limit is early at ranks and a limit that are the same
+-- a limit at the same ranks has the same early words
 pub early_same : (ranks old : List (ℕ × ℕ)) (list : List ℕ) (limit reach : ℕ) → ranks ≡ old
     → limit ≡ reach → HasEarly ranks list limit → HasEarly old list reach
 early_same ranks old list limit reach same is early =

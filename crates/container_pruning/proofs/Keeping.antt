@@ -1,5 +1,5 @@
--- Values that no answered call takes, beside unanswered takes: only an unanswered take may take
--- them, and a call that precedes each of those stands before that.
+-- Values that no answered call takes: only an unanswered take may take them, and a call that
+-- precedes each unanswered take comes before that one.
 use Rattle.std.proofs.Common.{◌≡◌, ℕ, suc, ◌<◌, ◌≤◌, ◌⊎◌, ◌∙◌, List, [], take, unwrap_or, Option, Some, None, refl, sym, ap, inl, inr, slice_get, arith}
 use Rattle.std.proofs.lemmas.Bool.{cases_lt}
 use Rattle.std.proofs.lemmas.Option.{same_Some, none-some}
@@ -21,7 +21,7 @@ use Rattle.history_rules.proofs.ContainerRules.{held_after, take_at, puts_by, ta
 use Rattle.container_pruning.specs.declared.deal.Deal.TheVariants as deals
 use Rattle.container_pruning.specs.Deals.{recorded_deal, deal_by_deed, deal_by_operation, deal_of}
 
--- what a step takes out by its deed
+-- an effect with a value that it takes out is that of a take, which shows this value
 takes_from_value : (deed : Effect) (shown : Option ℕ) (v : ℕ) → value_taken deed shown ≡ Some v
     → (deed ≡ Takes) × (shown ≡ Some v)
 takes_from_value (Puts w) shown v e = absurd (none-some v e)
@@ -68,7 +68,8 @@ abbrev pub PrecedesOpenTakes : Reading → List Page → Call → Type 0
 PrecedesOpenTakes reading book a = (o : Call) → deal_of reading book o ≡ deals.OpenTake
     → Precedes book a o
 
--- So no step up to its own takes out a value that no answered call takes.
+-- No step up to that of a call that precedes each unanswered take takes out a value that no
+-- answered call takes.
 pub none_takes_kept : (reading : Reading) (init : List ℕ) (next : List ℕ → ℕ → List ℕ × ℕ)
     (book : List Page) (order : List Place) → IsLegalOrder init next book order
     → (a : Call) (v : ℕ) → PrecedesOpenTakes reading book a → IsNeverTaken reading book v → (p : ℕ)
@@ -83,8 +84,8 @@ none_takes_kept reading init next book order legal a v early never p stands k st
           legal.precedence p k a taker.0 stands taker.1 (early taker.0 unanswered) in omega arith
     ]
 
--- Any container: a take that found nothing, and precedes each unanswered take, stands before the
--- put of such a value.
+-- In any container, a take that found nothing and precedes each unanswered take comes before the
+-- put of a value that no answered call takes.
 pub empty_before_open : (reading : Reading) (init : List ℕ) (next : List ℕ → ℕ → List ℕ × ℕ)
     (book : List Page) → IsContainer reading next → reading.values init ≡ []
     → (v : ℕ) (empty put_v : Call) → PrecedesOpenTakes reading book empty
@@ -117,8 +118,8 @@ empty_before_open reading init next book is none v empty put_v early finds puts 
       ]
     ]
 
--- A queue: where the take of x precedes each unanswered take, the put of x stands before the put of
--- such a value.
+-- In a queue, where the take of x precedes each unanswered take, the put of x comes before the put
+-- of a value that no answered call takes.
 pub taken_before_open : (reading : Reading) (init : List ℕ) (next : List ℕ → ℕ → List ℕ × ℕ)
     (book : List Page) → IsQueue reading next → reading.values init ≡ []
     → (x v : ℕ) (take_x put_x put_v : Call) → PrecedesOpenTakes reading book take_x

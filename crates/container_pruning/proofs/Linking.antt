@@ -21,7 +21,7 @@ use Rattle.container_pruning.specs.Links.{no_link, only_put, refuses, reach_of, 
 use Rattle.container_pruning.proofs.Dealing.{puts_by_deal, takes_by_deal, nothing_by_deal}
 use Rattle.container_pruning.proofs.Counting.{call_of, alone_by_count, never_by_count, none_by_count}
 
--- the only put of a value puts it in alone
+-- the only put of a value, as the uses have it, is the only call that puts it in
 pub alone_by_put : (reading : Reading) (book : List Page) (uses : Uses) (v : ℕ) (put : Call)
     → AreUsesOf reading book (length book) 0 uses → only_put uses v ≡ Some put
     → PutsInAlone reading book put v
@@ -34,7 +34,7 @@ alone_by_put reading book uses v put is e =
     (same_Some (use_of uses.by_value.entries v).put put parts.1)
     (alone_by_count reading book uses v is once)
 
--- the reach is none or that of the call
+-- the reach of a link is 0 or that of the call
 reach_either : (discipline : Discipline) (reach : ℕ) → (reach_for discipline reach ≡ 0)
     ⊎ (reach_for discipline reach ≡ reach)
 reach_either Queue reach = inl refl
@@ -109,7 +109,7 @@ link_is_right reading book uses discipline call deal link is e same =
     subst (IsLink reading book discipline call) (sym same)
     (link_by_deal reading book uses discipline call deal is (sym e))
 
--- a deal that is refused leaves no legal order
+-- a book with a deal that the uses refuse has no legal order
 refused_by_deal : (reading : Reading) (book : List Page) (uses : Uses) (deal : Deal)
     → AreUsesOf reading book (length book) 0 uses → refuses uses deal ≡ true
     → HasNoneOfAny reading book
@@ -132,7 +132,8 @@ pub refused_is_right : (reading : Reading) (book : List Page) (uses : Uses) (dea
 refused_is_right reading book uses deal refused is e so =
     refused_by_deal reading book uses deal is (sym e ∙ so)
 
--- what holds at each place of a list and past its end holds with one more at the end
+-- a property of each item of a list, and of the default past its end, is one of each item of the
+-- list with one more item that has it
 pub each_pushed : {X : Type 0} (P : ℕ → X → Type 0) (xs : List X) (x d : X)
     → ((k : ℕ) → P k (get_or xs k d)) → P (length xs) x → (k : ℕ) → P k (get_or (xs ++ x ∷ []) k d)
 each_pushed P [] x d each here zero = here
@@ -152,7 +153,7 @@ no_rows reading book discipline links none open_ = record {
   refused = λ so. absurd (true≢false (sym so ∙ open_));
 }
 
--- links with a row more
+-- the links with one more row
 pub row_more : (reading : Reading) (book : List Page) (discipline : Discipline) (caller : ℕ)
     (links : Links) (row : List Link) (rows : List (List Link))
     → length links.rows.items ≡ caller → rows
@@ -189,7 +190,7 @@ links_more reading book discipline caller links new row is made same row_is =
       },
     )
 
--- links with another flag are right where it says so rightly
+-- links with another flag are right where the flag is
 pub links_flagged : (reading : Reading) (book : List Page) (discipline : Discipline) (caller : ℕ)
     (links new : Links) → AreLinksTo reading book discipline caller links
     → new.rows ≡ links.rows → (new.is_refused ≡ true → HasNoneOfAny reading book)

@@ -1,5 +1,5 @@
--- A stack: a put that precedes a take, and whose value is taken later or stays, stands before the
--- put of what is taken.
+-- Stacks: a put that precedes a take, and whose value outlasts the take, comes before the put of
+-- what is taken.
 use Rattle.std.proofs.Common.{◌≡◌, ℕ, suc, ◌+◌, ◌<◌, ◌≤◌, ◌⊎◌, ◌∙◌, true, List, [], ◌∷◌, ◌++◌, length, map, take, drop, get_or, Option, Some, None, refl, sym, ap, subst, inl, inr, slice_get, arith}
 use Rattle.std.specs.List.{Contains}
 use Rattle.std.proofs.lemmas.Bool.{cases_lt}
@@ -64,8 +64,7 @@ held_between reading init next book order is none legal w take_w put_w takes alo
     same_Some (get_or here at.0 w) w (sym (slice_get-get_or here at.0 w inside) ∙ at.1) in
     subst (λ (n : ℕ). Contains here n) value (Contains-get_or here at.0 w inside)
 
--- Where a put is infeasible while w is held, and precedes the take of w, it stands before the put
--- of w.
+-- A put that is infeasible while w is held, and precedes the take of w, comes before the put of w.
 before_what_it_covers : (reading : Reading) (init : List ℕ) (next : List ℕ → ℕ → List ℕ × ℕ)
     (book : List Page) → IsStack reading next → reading.values init ≡ []
     → (w : ℕ) (first take_w put_w : Call) → TakesOut reading book take_w w

@@ -1,4 +1,4 @@
--- What passed calls say of a put after them.
+-- Pasts: what the links of earlier calls say of a put after them.
 use Rattle.std.proofs.Common.{◌≡◌, ℕ, ◌+◌, ◌-◌, ◌<◌, ◌≤◌, ◌⊎◌, ◌∙◌, List, length, max, get_or, set, replicate, Option, Some, None, IfSome, IsSomeAnd, refl, sym, ap, subst, inl, inr, arith, get_or-set_same, get_or-set_other}
 use Rattle.std.proofs.lemmas.List.{length-set, length-replicate, length-map, get_or-map, get_or_past}
 use Rattle.std.proofs.lemmas.Bool.{cases_lt, cases_eq}
@@ -25,7 +25,7 @@ small_call book call small is = (
   omega (arith, small.calls call.caller, is),
 )
 
--- no call was passed
+-- a past that has passed no call
 pub none_is_past : (P : Call → Type 0) (book : List Page) (links : Links) (past : Past)
     → past.passed ≡ replicate (length book) 0 → past.predecessor_bound ≡ replicate (length book) 0
     → past.limit ≡ 0
@@ -42,7 +42,7 @@ none_is_past P book links past passed predecessor_bound limit =
       limit = inl limit;
     }
 
--- what a raised predecessor bound has at a caller
+-- the count of a raised predecessor bound at a caller
 raised_at : (predecessor_bound : List ℕ) (first : Call) (i : ℕ)
     → first.caller < length predecessor_bound
     → (get_or (raised_to predecessor_bound (Some first)) i 0 ≡ get_or predecessor_bound i 0)
@@ -63,7 +63,7 @@ raised_at predecessor_bound first i inside =
           ]
     ]
 
--- the last call that a predecessor bound holds, where its count is known
+-- the last call of a caller that a predecessor bound holds, where the bound's count is known
 last_is : (predecessor_bound : List ℕ) (i : ℕ) (first : Call) → first.caller ≡ i
     → get_or predecessor_bound i 0 ≡ first.number + 1 → first ≡ last_held predecessor_bound i
 last_is predecessor_bound i first caller count =
@@ -73,7 +73,7 @@ last_same : (predecessor_bound old : List ℕ) (i : ℕ) → get_or predecessor_
     → last_held old i ≡ last_held predecessor_bound i
 last_same predecessor_bound old i same = ap (λ (n : ℕ). call_of i (n - 1)) (sym same)
 
--- a passed call
+-- a call that was passed, with what its link says
 record IsPassed (P : Call → Type 0) (links : Links) (predecessor_bound : List ℕ) : Type 0 where
   few : (i : ℕ) → get_or predecessor_bound i 0 ≤ MAX_CALLS
   leads : (i : ℕ) → 0 < get_or predecessor_bound i 0 → (a : Call) × P a
@@ -113,7 +113,7 @@ length-raised : (predecessor_bound : List ℕ) (before : Option Call)
 length-raised predecessor_bound None = refl
 length-raised predecessor_bound (Some first) = length-set predecessor_bound first.caller _
 
--- the greatest of two limits is one of them
+-- the greater one of two limits is one of them
 limit_either : (a b c : ℕ) → c ≡ max a b → (c ≡ a) ⊎ (c ≡ b)
 limit_either a b c e = elim (cases_lt a b) [
   | inl lt ↦ inr (omega arith)
@@ -147,7 +147,7 @@ past_more P book links old new a link small calls is passed at predecessor_bound
       ];
     }
 
--- what a passed call's link needs of a predecessor bound
+-- what a call's link needs of a predecessor bound so that the call may be passed
 pub may_pass : (book : List Page) (links : Links) (a : Call) (link : Link)
     (predecessor_bound : List ℕ)
     → IsSmall book → AreLinksOf book links → link ≡ link_at links a
@@ -169,7 +169,7 @@ may_pass book links a link predecessor_bound small calls at wide = elim (cases_O
       )
 ]
 
--- a past of some calls is one of more
+-- a past of some calls is also a past of more calls
 pub past_wider : (P Q : Call → Type 0) (book : List Page) (links : Links) (past : Past)
     → ((a : Call) → P a → Q a) → IsPast P book links past → IsPast Q book links past
 past_wider P Q book links past grows is = record {
@@ -184,7 +184,7 @@ past_wider P Q book links past grows is = record {
   ];
 }
 
--- a past with other counts of what was passed
+-- a past with other numbers of calls that were passed
 pub past_counted : (P : Call → Type 0) (book : List Page) (links : Links) (old new : Past)
     → IsPast P book links old → new.predecessor_bound ≡ old.predecessor_bound
     → new.limit ≡ old.limit
@@ -206,7 +206,7 @@ past_counted P book links old new is predecessor_bound limit counts = record {
   ];
 }
 
--- what precedes a call precedes its caller's next one
+-- a call that precedes another one precedes the next call of that one's caller
 pub precedes_next : (book : List Page) (a : Call) (i n : ℕ) → Precedes book a (call_of i n)
     → Precedes book a (call_of i (n + 1))
 precedes_next book a i n (inl seen) =
@@ -218,7 +218,7 @@ precedes_next book a i n (inl seen) =
     (omega (arith, now)))
 precedes_next book a i n (inr own) = inr (own.0, omega (arith, own.1))
 
--- how many calls a caller made, as the announced counts have it
+-- the announced count of a caller is the number of its calls
 pub announced_at : (book : List Page) (i : ℕ) → get_or (announced book) i 0 ≡ calls_of book i
 announced_at book i = elim (cases_lt i (length book)) [
   | inl lt ↦ get_or-map (λ (page : Page). length page.operations) book i empty 0 lt

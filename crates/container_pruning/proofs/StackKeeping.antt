@@ -1,5 +1,5 @@
--- A stack beside unanswered takes: a value that no answered call takes isn't put on one that is
--- taken before each of them.
+-- Stacks with unanswered takes: a value that no answered call takes isn't put on one that is taken
+-- before each unanswered take.
 use Rattle.std.proofs.Common.{◌≡◌, ℕ, List, []}
 use Rattle.std.specs.List.{Contains}
 use Rattle.book_base.specs.declared.call.Call.{Call}

@@ -17,7 +17,7 @@ use Rattle.book_base.proofs.GrowthLemmas.{below_calls}
 use Rattle.book_laws.proofs.LegalOrder.{answer_stands}
 use Rattle.book_laws.proofs.Precedence.{may_come_next-from_first}
 
--- A call may come next where the least view holds it,
+-- A call may come next where the least view holds it, and it is the next one of its caller.
 pub may_come-from_least : (book : List Page) (cut : List ℕ) (first caller : ℕ) (view : List ℕ)
     → IsValid book → IsLeast book cut (length book) first
     → ((r : Record) → record_of book (next_call cut first) ≡ Some r → r.view ≡ view)
@@ -46,7 +46,8 @@ may_come-from_least book cut first caller view valid h is held =
       | inr own ↦ absurd (omega (arith, own.1, ap (λ (i : ℕ). get_or cut i 0) own.0))
     ])
 
--- and nowhere else.
+-- A call may not come next where the least view doesn't hold it, unless it is the call with this
+-- view.
 pub may_not_come-from_least : (book : List Page) (cut : List ℕ) (first : ℕ) (view : List ℕ)
     (below : ℕ) (call : Call) → IsLeast book cut below first
     → ((r : Record) → record_of book (next_call cut first) ≡ Some r → r.view ≡ view)
@@ -76,7 +77,7 @@ views_comparable book a b valid not s r st rt =
       | inr within ↦ within
     ]
 
--- the views of two answered calls say whether one call's is within the other's
+-- the views of two answered calls decide whether the one call's view is within the other's
 views-within : (book : List Page) (a b : Call) (v w : List ℕ) → IsAnswered book a
     → IsAnswered book b → ((r : Record) → record_of book a ≡ Some r → r.view ≡ v)
     → ((r : Record) → record_of book b ≡ Some r → r.view ≡ w) → IsWithin v w
@@ -118,7 +119,7 @@ within-some book cut caller other least v w answer is answered others av bw with
     subst (λ (l : Option ℕ). IsTrue answer
     ↔ IfSome l (λ o. ViewsAreWithin book (next_call cut caller) (next_call cut o))) (sym is) some
 
--- the new caller's view is the least
+-- the new caller's view is the least where it is within the old caller's
 pub least-new : (book : List Page) (cut : List ℕ) (caller old : ℕ) → IsLeast book cut caller old
     → IsAnswered book (next_call cut caller)
     → ViewsAreWithin book (next_call cut caller) (next_call cut old)
@@ -140,7 +141,7 @@ least-new book cut caller old h answered within = record {
       ];
 }
 
--- the first such caller's view is the least
+-- the view of the first caller that has an answered call outside the cut is the least so far
 pub least-first : (book : List Page) (cut : List ℕ) (caller : ℕ)
     → ((call : Call) → call.caller < caller → IsAnswered book call → Holds cut call)
     → IsAnswered book (next_call cut caller) → IsLeast book cut (caller + 1) caller
@@ -159,7 +160,7 @@ least-first book cut caller none answered = record {
       ];
 }
 
--- the old caller's view still is
+-- the old caller's view stays the least where the new caller's isn't within it
 pub least-old : (book : List Page) (cut : List ℕ) (caller old : ℕ) → IsLeast book cut caller old
     → ViewsAreWithin book (next_call cut old) (next_call cut caller)
     → IsLeast book cut (caller + 1) old
@@ -172,7 +173,7 @@ least-old book cut caller old h within = record {
   ];
 }
 
--- a caller without an answered call outside the cut
+-- a caller without an answered call outside the cut has no view to compare
 pub no_view : (book : List Page) (cut : List ℕ) (a : Call) (caller : ℕ)
     → (IsAnswered book (next_call cut caller) → ⊥) → ViewsAreWithin book a (next_call cut caller)
 no_view book cut a caller not r s rt st =

@@ -15,7 +15,7 @@ use Rattle.order_check.specs.declared.fault.OrderFault.TheVariants.{Unknown, Twi
 use Rattle.order_check.specs.Fault.{reply_at, FailsTest, place_of, turn_of, step_of}
 use Rattle.order_check.specs.Laws.{LegalOrdersFailNoTest, FirstFaultsAreOne}
 
--- in a run each reply is the one that the object gives after the operations before it
+-- in a run the reply of each step is the one that the object gives after the operations before it
 pub reply_in_run : (next : List ℕ → ℕ → List ℕ × ℕ) (book : List Page) (list : List ℕ)
     (order : List Place) → IsRunFrom next list (map (step_at book) order)
     → (k : ℕ) (place : Place) → slice_get order k ≡ Some place
@@ -26,7 +26,7 @@ reply_in_run next book list (x ∷ xs) run zero place at =
 reply_in_run next book list (x ∷ xs) run (suc k) place at =
     reply_in_run next book (list_after book next list x) xs run.1 k place at
 
--- and where each is, it is a run
+-- steps of which each has the reply that the object gives are a run
 pub run_from_replies : (next : List ℕ → ℕ → List ℕ × ℕ) (book : List Page) (list : List ℕ)
     (order : List Place)
     → ((k : ℕ) (place : Place) → slice_get order k ≡ Some place
@@ -39,16 +39,16 @@ run_from_replies next book list (x ∷ xs) given = (
       (λ (k : ℕ) (place : Place) (at : slice_get xs k ≡ Some place). given (suc k) place at),
 )
 
--- what reading past the end would give
+-- the place that reading past the end would give
 abbrev pub no_place : Place
 no_place = record { caller = 0; number = 0; reply = 0 }
 
--- the call at a place
+-- the call of the place at an index is in the order at this index
 pub stands_here : (order : List Place) (k : ℕ) (place : Place) → slice_get order k ≡ Some place
     → StandsAt order k (call_at place)
 stands_here order k place at = (place, at, refl)
 
--- at a place stands one call
+-- an order has one call at an index
 pub same_stands : (order : List Place) (k : ℕ) (a b : Call) → StandsAt order k a
     → StandsAt order k b → a ≡ b
 same_stands order k a b (p, at, is) (q, bt, js) = let same : p ≡ q = same_Some p q (sym at ∙ bt) in
@@ -81,7 +81,7 @@ legal_orders_fail_no_test init next book order h (Missing caller number) f =
     let there = h.answered call known.0 known.1 in
     f.1 there.0 (record { caller = caller; number = number; reply = known.0.reply }, there.1, refl)
 
--- the replies of a place are the object's and its own
+-- a reply fault of a place names the object's reply and the place's own
 same_run : (init : List ℕ) (next : List ℕ → ℕ → List ℕ × ℕ) (book : List Page) (order : List Place)
     (p q : ℕ) (a b : Place) → p ≡ q → a ≡ b
     → reply_at init next book order p a ≡ reply_at init next book order q b
@@ -89,12 +89,12 @@ same_run init next book order p q a b place same =
     ap (λ (k : ℕ). reply_at init next book order k a) place
     ∙ ap (λ (x : Place). reply_at init next book order q x) same
 
--- one place stands at one index
+-- an order has one place at an index
 same_place_at : (order : List Place) (p q : ℕ) (a b : Place) → p ≡ q → slice_get order p ≡ Some a
     → slice_get order q ≡ Some b → a ≡ b
 same_place_at order p q a b place at bt = same_Some a b (sym at ∙ (ap (slice_get order) place ∙ bt))
 
--- faults of one place and turn that the list has are one
+-- two faults that the list has of one place and turn are equal, where they have one step
 same_inside : (init : List ℕ) (next : List ℕ → ℕ → List ℕ × ℕ) (book : List Page)
     (order : List Place) (e f : OrderFault) → place_of order e < length order
     → FailsTest init next book order e → FailsTest init next book order f
@@ -124,7 +124,7 @@ same_inside init next book order (Run p w x) (Run q v y) inside a b place turn s
 same_inside init next book order e f inside a b place turn step =
     absurd (omega (arith, inside, place, turn))
 
--- a fault of a place is within the list
+-- the place of a fault is within the list
 pub placed : (init : List ℕ) (next : List ℕ → ℕ → List ℕ × ℕ) (book : List Page)
     (order : List Place) (e : OrderFault) → FailsTest init next book order e
     → (place_of order e < length order) ⊎ (e ≡ Missing (turn_of e) (step_of e))
@@ -136,7 +136,7 @@ placed init next book order (Record p wanted found) f = inl (slice_get_within or
 placed init next book order (Run p wanted found) f = inl (slice_get_within order p f.0 f.1)
 placed init next book order (Missing caller number) f = inr refl
 
--- faults with one place, turn and step are one
+-- two faults that the list has with one place, turn and step are equal
 same_fault : (init : List ℕ) (next : List ℕ → ℕ → List ℕ × ℕ) (book : List Page)
     (order : List Place) (e f : OrderFault)
     → FailsTest init next book order e → FailsTest init next book order f
@@ -152,7 +152,7 @@ same_fault init next book order e f a b place turn step =
       ]
     ]
 
--- of two tests one is tried first, unless their places, turns and steps are the same
+-- one of two tests is tried first, unless their places, turns and steps are the same
 pub first_faults_are_one : FirstFaultsAreOne
 first_faults_are_one init next book order e f h k =
     elim (cases_lt (place_of order e) (place_of order f)) [

@@ -14,13 +14,13 @@ use Rattle.order_check.specs.Standing.{IsStanding, IsFirstAt}
 use Rattle.order_check.proofs.Faults.{stands_here, same_stands}
 use Rattle.order_check.proofs.Placing.{PassesTest, first_at, late_ties}
 
--- the call at the place is known
+-- the call at the place is one of the book's
 known : (book : List Page) (order : List Place) (p : ℕ) (place : Place) → slice_get order p
     ≡ Some place → IsCall book (call_at place) → (c : Call) → StandsAt order p c → IsCall book c
 known book order p place at is c here = subst (IsCall book)
     (same_stands order p (call_at place) c (stands_here order p place at) here) is
 
--- it stands at no earlier place, where the cut doesn't hold it
+-- the call at the place stands at no earlier place, where the cut doesn't hold it
 once : (book : List Page) (order : List Place) (p : ℕ) (standing : List ℕ) (place : Place)
     → IsStanding book order p standing → slice_get order p ≡ Some place
     → get_or standing place.caller 0 ≤ place.number → (j : ℕ) (c : Call) → StandsAt order p c
@@ -31,7 +31,8 @@ once book order p standing place h at out j c here less bt =
     (h.stands j c less bt) in
     absurd (omega (arith, held, out))
 
--- the previous call of its caller stands earlier, where it is the next one after the cut
+-- the previous call of the caller stands earlier, where the call at the place is the next one after
+-- the cut
 in_turn : (book : List Page) (order : List Place) (p : ℕ) (standing : List ℕ) (place : Place)
     → IsStanding book order p standing → slice_get order p ≡ Some place
     → place.number ≡ get_or standing place.caller 0 → (c : Call) → StandsAt order p c → (n : ℕ)
@@ -49,7 +50,7 @@ in_turn book order p standing place h at number c here n e =
       ap (λ (x : Call). get_or standing x.caller 0) one,
     ))
 
--- nothing is tried before within a turn that has one test
+-- in a turn with one test no other test is tried before it
 alone : (init : List ℕ) (next : List ℕ → ℕ → List ℕ × ℕ) (book : List Page) (order : List Place)
     (p : ℕ) (fault : OrderFault) → step_of fault ≡ 0
     → (other : OrderFault) → place_of order other ≡ p → turn_of other ≡ turn_of fault

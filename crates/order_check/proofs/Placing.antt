@@ -1,4 +1,4 @@
--- Places, tried one after another: what it takes to pass the tests of a place, and what follows.
+-- Places, tried one after another: how a place passes its tests, and what follows from that.
 use Rattle.std.proofs.Common.{◌≡◌, ◌≢◌, ℕ, zero, suc, ◌+◌, ◌-◌, ◌*◌, ◌<◌, ◌≤◌, ◌⊎◌, ◌∙◌, List, length, sum, get_or, All, Option, Some, unwrap_or, refl, sym, ap, subst, inl, inr, slice_get, arith}
 use Rattle.std.proofs.lemmas.Bool.{cases_eq, cases_lt}
 use Rattle.std.proofs.lemmas.List.{length-set}
@@ -61,7 +61,7 @@ refuted init next book order (Run p wanted found) inside pass f =
     f.4 (f.2 ∙ (pass f.0 f.1 ∙ sym f.3))
 refuted init next book order (Missing caller number) inside pass f = absurd (omega arith)
 
--- what is in place passes the first five tests
+-- a place whose call is in place passes its first five tests
 pub passes_in_place : (init : List ℕ) (next : List ℕ → ℕ → List ℕ × ℕ) (book : List Page)
     (order : List Place) (p : ℕ) → IsInPlace book order p
     → (s : ℕ) → s < 5 → PassesTest init next book order p s
@@ -72,7 +72,7 @@ passes_in_place init next book order p h (suc (suc (suc zero))) less = h.in_time
 passes_in_place init next book order p h (suc (suc (suc (suc zero)))) less = h.recorded
 passes_in_place init next book order p h (suc (suc (suc (suc (suc s))))) less = absurd (omega arith)
 
--- and with the object's reply all tests of its place
+-- a place whose call is in place and whose reply is the object's passes all of its tests
 passes_all : (init : List ℕ) (next : List ℕ → ℕ → List ℕ × ℕ) (book : List Page)
     (order : List Place) (p : ℕ) → IsInPlace book order p → IsGiven init next book order p
     → (s : ℕ) → PassesTest init next book order p s
@@ -129,7 +129,8 @@ late_ties init next book order p q call inside at least (Run k wanted found) her
 late_ties init next book order p q call inside at least (Missing caller number) here turn less f =
     absurd (omega (arith, here, inside))
 
--- The first fault of a place is the list's, where all places before pass.
+-- The first fault of a place is the first one of the list, where all earlier places pass their
+-- tests.
 pub first_fault : (init : List ℕ) (next : List ℕ → ℕ → List ℕ × ℕ) (book : List Page)
     (order : List Place) (p : ℕ) (fault : OrderFault) → p < length order
     → ((k : ℕ) → k < p → IsInPlace book order k)
@@ -149,7 +150,7 @@ first_fault init next book order p fault inside in_place given h = record {
       ];
 }
 
--- a reply that isn't the object's is the first fault of its place, where its call is in place
+-- another reply than the object's is the first fault of a place whose call is in place
 pub run_first : (init : List ℕ) (next : List ℕ → ℕ → List ℕ × ℕ) (book : List Page)
     (order : List Place) (p : ℕ) (place : Place) (wanted : ℕ) → slice_get order p ≡ Some place
     → IsInPlace book order p → wanted ≡ reply_at init next book order p place → wanted ≢ place.reply
@@ -183,7 +184,8 @@ fails_inside init next book order caller number least (Missing i k) here before 
     let other : Call = record { caller = i; number = k } in
     let there = least other f.0 before in f.1 there.0 there.1
 
--- A missing call is the list's first fault, where all places pass and it is the least such call.
+-- A missing call is the list's first fault, where all places pass their tests and it is the least
+-- such call.
 pub missing_first : (init : List ℕ) (next : List ℕ → ℕ → List ℕ × ℕ) (book : List Page)
     (order : List Place) (standing : List ℕ) (call : Call)
     → ((k : ℕ) → k < length order → IsInPlace book order k)
@@ -216,10 +218,10 @@ missing_first init next book order standing call in_place given h is out least =
       ];
 }
 
--- The calls that stand, and the next place.
+-- The calls before a place, and the next place.
 
--- the call at a place is the next one of its caller, where it stands at no earlier place and the
--- one before it does
+-- the call at a place is the next one of its caller after the cut, where it stands at no earlier
+-- place and the previous one does
 pub number_in_line : (book : List Page) (order : List Place) (p : ℕ) (standing : List ℕ)
     (place : Place) → IsStanding book order p standing → IsInPlace book order p
     → slice_get order p ≡ Some place → place.number ≡ get_or standing place.caller 0
@@ -239,7 +241,7 @@ number_in_line book order p standing place h here at =
       ]
     ]
 
--- with the next place stand the calls of the raised cut
+-- the calls up to the next place are those of the raised cut
 pub standing_more : (book : List Page) (order : List Place) (p : ℕ) (standing : List ℕ)
     (place : Place) → IsStanding book order p standing → IsInPlace book order p
     → slice_get order p ≡ Some place → IsStanding book order (p + 1) (raised standing place.caller)
@@ -283,7 +285,7 @@ standing_more book order p standing place h here at =
           ];
     }
 
--- at first none stand
+-- before the first place there are no calls
 pub standing_none : (book : List Page) (order : List Place) (standing : List ℕ) → length standing
     ≡ length book → ((i : ℕ) → get_or standing i 0 ≡ 0) → IsStanding book order 0 standing
 standing_none book order standing wide none = record {
@@ -295,8 +297,8 @@ standing_none book order standing wide none = record {
       λ (j : ℕ) (call : Call) (less : j < 0) (at : StandsAt order j call). absurd (omega arith);
 }
 
--- The call at a place is its caller's next one, precedes none before and has its recorded reply: it
--- is in place.
+-- A call is in place where it is its caller's next one, precedes no call at an earlier place, and
+-- has its recorded reply.
 pub in_place : (book : List Page) (order : List Place) (p : ℕ) (standing : List ℕ) (place : Place)
     → IsStanding book order p standing → slice_get order p ≡ Some place
     → IsCall book (call_at place) → place.number ≡ get_or standing place.caller 0
@@ -333,7 +335,7 @@ in_place book order p standing place h at is number in_time recorded =
           (same_Some place q (sym at ∙ bt)) (recorded r);
     }
 
--- an unanswered next call of its caller precedes none that stand
+-- an unanswered next call of a caller precedes no call at an earlier place
 pub unanswered_in_time : (book : List Page) (order : List Place) (p : ℕ) (standing : List ℕ)
     (call : Call) → IsStanding book order p standing → call.number ≡ get_or standing call.caller 0
     → answers_of book call.caller ≤ call.number → (j : ℕ) (b : Call) → j < p → StandsAt order j b
@@ -346,7 +348,7 @@ unanswered_in_time book order p standing call h number unanswered j b less bt (i
     absurd
     (omega (arith, own.1, number, h.stands j b less bt, ap (λ (i : ℕ). get_or standing i 0) own.0))
 
--- an answered one whose view holds all calls that stand precedes none of them
+-- an answered call whose view holds all calls at earlier places precedes none of them
 pub seen_in_time : (book : List Page) (order : List Place) (p : ℕ) (standing : List ℕ) (call : Call)
     (r : Answer) → IsStanding book order p standing → call.number ≡ get_or standing call.caller 0
     → record_of book call ≡ Some r → IsWithin standing r.view → (j : ℕ) (b : Call) → j < p
@@ -359,9 +361,10 @@ seen_in_time book order p standing call r h number known within j b less bt (inr
     absurd
     (omega (arith, own.1, number, h.stands j b less bt, ap (λ (i : ℕ). get_or standing i 0) own.0))
 
--- Where all places pass and all answered calls stand, the list is a legal order.
+-- Where all places pass their tests and all answered calls are at some place, the list is a legal
+-- order.
 
--- earlier calls of a caller stand earlier
+-- the earlier calls of a caller are at earlier places
 earlier_stands : (book : List Page) (order : List Place)
     → ((k : ℕ) → k < length order → IsInPlace book order k) → (d k : ℕ) (call : Call) (number : ℕ)
     → StandsAt order k call
@@ -377,7 +380,7 @@ earlier_stands book order all (suc d) k call number at gap =
     let found = earlier_stands book order all d there.0 it number there.2 refl in
     (found.0, omega (arith, found.1, there.1), found.2)
 
--- places with the same call and reply are one
+-- two places with the same call and reply are equal
 same_place : (a b : Place) → a.caller ≡ b.caller → a.number ≡ b.number → a.reply ≡ b.reply → a ≡ b
 same_place a b caller number reply =
     let made : ℕ → ℕ → ℕ → Place = λ i n r. record { caller = i; number = n; reply = r } in
@@ -446,7 +449,7 @@ legal init next book order standing valid all given h answered = record {
 
 -- The object's list along the places.
 
--- with one more call in line the cut still counts no more calls than were made
+-- a cut raised by one more call counts no more calls than were made
 pub made_more : (book : List Page) (standing : List ℕ) (place : Place) → place.caller
     < length standing → place.number ≡ get_or standing place.caller 0 → IsCall book (call_at place)
     → ((i : ℕ) → get_or standing i 0 ≤ calls_of book i) → (i : ℕ)
@@ -458,11 +461,11 @@ made_more book standing place inside number is made i =
       | inr other ↦ omega (arith, raised_other standing place.caller i other, made i)
     ]
 
--- it holds one call more
+-- a raised cut holds one call more
 pub sum-raised : (cut : List ℕ) (i : ℕ) → i < length cut → sum (raised cut i) ≡ sum cut + 1
 sum-raised cut i there = omega (arith, sum_by-set (λ (n : ℕ). n) cut i (get_or cut i 0 + 1) 0 there)
 
--- and no more than a book may have
+-- a cut of calls of a book holds no more calls than a book may have
 pub few_stand : (book : List Page) (standing : List ℕ) → IsSmall book
     → length standing ≡ length book → ((i : ℕ) → get_or standing i 0 ≤ calls_of book i)
     → sum standing ≤ MAX_CALLERS * MAX_CALLS
@@ -473,12 +476,12 @@ few_stand book standing small wide made =
     sum_by-le (λ (n : ℕ). n) MAX_CALLS standing few in
     omega (arith, small.callers, wide, total)
 
--- the operation of a place is the call's
+-- the operation of a place is that of its call
 pub step_is : (book : List Page) (place : Place) (op : ℕ)
     → operation_of book (call_at place) ≡ Some op → (step_at book place).0 ≡ op
 step_is book place op at = ap (λ (o : Option ℕ). unwrap_or o 0) at
 
--- the list after a place
+-- the object's list after one more place
 pub list_more : (init : List ℕ) (next : List ℕ → ℕ → List ℕ × ℕ) (book : List Page)
     (order : List Place) (p op : ℕ) (words : List ℕ) → p < length order
     → operation_of book (call_at (get_or order p no_place)) ≡ Some op
@@ -490,7 +493,7 @@ list_more init next book order p op words inside at is =
     (λ (o : ℕ). (next (list_before init next book order p) o).0) (sym (step_is book here op at))
     ∙ sym (fold_more (list_after book next) init order p no_place inside))
 
--- the reply at a place
+-- the object's reply to the operation of a place
 pub reply_more : (init : List ℕ) (next : List ℕ → ℕ → List ℕ × ℕ) (book : List Page)
     (order : List Place) (p op : ℕ) (words : List ℕ) (place : Place)
     → operation_of book (call_at place) ≡ Some op → words ≡ list_before init next book order p
@@ -499,7 +502,7 @@ reply_more init next book order p op words place at is =
     ap (λ (w : List ℕ). (next w op).1) is ∙ ap
     (λ (o : ℕ). (next (list_before init next book order p) o).1) (sym (step_is book place op at))
 
--- a place with this reply has what the object gives
+-- a place with this reply has the one that the object gives
 pub given_here : (init : List ℕ) (next : List ℕ → ℕ → List ℕ × ℕ) (book : List Page)
     (order : List Place) (p : ℕ) (place : Place) → slice_get order p ≡ Some place
     → reply_at init next book order p place ≡ place.reply → IsGiven init next book order p

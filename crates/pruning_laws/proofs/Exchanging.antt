@@ -1,4 +1,4 @@
--- A call gives its turn to a twin that stands later.
+-- A call is exchanged for a twin that comes later.
 use Rattle.std.proofs.Common.{◌≡◌, ◌≢◌, ℕ, ◌+◌, ◌<◌, ◌≤◌, ◌⊎◌, ◌∙◌, List, [], ◌∷◌, length, get_or, set, Option, Some, unwrap_or, refl, sym, ap, subst, inl, inr, length-set, arith}
 use Rattle.std.proofs.lemmas.Bool.{cases_eq}
 use Rattle.std.proofs.lemmas.Option.{same_Some, slice_get_within}
@@ -16,9 +16,9 @@ use Rattle.book_laws.proofs.LegalOrder.{raised_same, raised_other, raised_more, 
 use Rattle.pruning_laws.specs.Twins.{DoesTheSame, IsTwin, TwinServes}
 use Rattle.pruning_laws.proofs.Opening.{unanswered-precedes, unanswered-last, held_without}
 
--- What is known of a call a that stands instead of a call b: both may come next, with one
--- operation; where a is answered, the reply is its own and b's. What b precedes, a precedes too, or
--- all answered calls do, and it is of b's caller.
+-- A call a may be tried instead of a call b: both may come next, with one operation, and where a is
+-- answered, the reply is its own and b's. Each call that b precedes is preceded by a too, or, where
+-- all answered calls precede it, is of b's caller.
 record Exchanged (book : List Page) (cut : List ℕ) (a b : Call) : Type 0 where
   apart : a.caller ≢ b.caller
   first : MayComeNext book cut a
@@ -31,13 +31,13 @@ record Exchanged (book : List Page) (cut : List ℕ) (a b : Call) : Type 0 where
   later : (p : Call) → Precedes book b p → Precedes book a p
       ⊎ ((b.caller ≡ p.caller) × ((x : Call) → IsAnswered book x → Precedes book x p))
 
--- the first call isn't in the cut that has the second
+-- call b isn't in a cut that has call a as its next one
 outside : (book : List Page) (cut : List ℕ) (a b : Call) → Exchanged book cut a b
     → Holds (raised cut b.caller) a → ⊥
 outside book cut a b h held =
     omega (arith, held, raised_other cut b.caller a.caller h.apart, h.first.next)
 
--- the same holds after a call of another caller
+-- the two calls may be exchanged also after a call of another caller
 exchanged-later : (book : List Page) (cut : List ℕ) (a b : Call) (i : ℕ) → i < length cut
     → a.caller ≢ i → b.caller ≢ i → Exchanged book cut a b → Exchanged book (raised cut i) a b
 exchanged-later book cut a b i inside first second h = record {
@@ -51,7 +51,7 @@ exchanged-later book cut a b i inside first second h = record {
   later = h.later;
 }
 
--- at the end all answered calls are in the cut with a too
+-- at the end a cut that holds all answered calls holds them with call a too
 exchanged-end : (book : List Page) (cut : List ℕ) (a b : Call) → a.caller < length cut
     → b.caller < length cut → Exchanged book cut a b
     → ((x : Call) → IsAnswered book x → Holds (raised cut b.caller) x)
@@ -65,11 +65,11 @@ exchanged-end book cut a b ina inb h all x answered =
           omega (arith, old, raised_more cut a.caller x.caller ina)
     ]
 
--- the place of b where a stood
+-- the place of call b where call a was
 abbrev moved : Call → ℕ → Place
 moved b reply = record { caller = b.caller; number = b.number; reply = reply }
 
--- a's turn: b stands there
+-- where call a has its turn, call b comes instead
 its_turn : (book : List Page) (next : List ℕ → ℕ → List ℕ × ℕ) (cut list : List ℕ) (a b : Call)
     (place : Place) → a.caller < length cut → Exchanged book cut a b
     → call_at place ≡ a → MayStandNext book next (raised cut b.caller) list place
@@ -183,7 +183,7 @@ exchange book next cut list a b (place ∷ rest) wide h goes =
       ]
     ]
 
--- what an answered call with a greater view precedes
+-- an answered call with a greater view precedes only what one with a lesser view precedes
 within_precedes : (book : List Page) (a b p : Call) (r s : Record) → record_of book a ≡ Some r
     → record_of book b ≡ Some s → IsWithin r.view s.view
     → get_or s.view p.caller 0 ≤ p.number → Precedes book a p
@@ -191,12 +191,12 @@ within_precedes book a b p r s at bt within early =
     let says : Record → Type 0 = λ x. get_or x.view p.caller 0 ≤ p.number in
     inl (subst (λ o. IsSomeAnd o says) (sym at) (omega (arith, within p.caller, early)))
 
--- the record of an answered call is one
+-- an answered call has one record
 one_record : (book : List Page) (call : Call) (r s : Record) → record_of book call ≡ Some r
     → record_of book call ≡ Some s → r ≡ s
 one_record book call r s known found = same_Some r s (sym known ∙ found)
 
--- An answered call a whose view is within that of b: what b precedes a precedes.
+-- An answered call a whose view is within that of b precedes each call that b precedes.
 answered-later : (book : List Page) (a b p : Call) (r s : Record) → IsValid book
     → record_of book a ≡ Some r → record_of book b ≡ Some s → IsWithin r.view s.view
     → Precedes book b p → Precedes book a p
@@ -287,7 +287,7 @@ exchanged-from_twin book next cut list a b valid one h =
       | inr free ↦ both-unanswered book next cut list a b one h free.1
     ]
 
--- the reply of the twin's place is its recorded one
+-- the reply of the twin's place is the recorded one, where the twin is answered
 twin-recorded : (book : List Page) (next : List ℕ → ℕ → List ℕ × ℕ) (cut list : List ℕ) (a : Call)
     (place : Place) → IsTwin book next cut list a (call_at place)
     → MayStandNext book next cut list place → (x : Record) → record_of book a ≡ Some x

@@ -1,4 +1,4 @@
--- The forced call: what stands before it may come next at once.
+-- The forced call: a call before it in an order may come next at once.
 use Rattle.std.proofs.Common.{◌≡◌, ◌≢◌, ℕ, ◌+◌, ◌<◌, ◌≤◌, ◌⊎◌, ◌∙◌, List, [], ◌∷◌, length, get_or, set, Some, refl, sym, ap, subst, inl, inr, arith}
 use Rattle.std.proofs.lemmas.Bool.{cases_eq, cases_lt}
 use Rattle.std.proofs.lemmas.Option.{same_Some, slice_get_within}
@@ -30,8 +30,8 @@ forced-least book cut forced x r s valid is known found out i =
     is.least x.caller caller r there.0 known there.1 i in
     omega (arith, within, views_grow book valid first x there.0 s there.1 found refl out i)
 
--- A call that another one than the forced one precedes, and that may come next once that one
--- stands, isn't preceded by it where the forced call stands after both, or is the call itself.
+-- Where a call x is preceded by another call p than the forced one, and may come next once p has
+-- come, p doesn't precede x if the forced call comes after both, or is x itself.
 pub forced-free : (book : List Page) (cut : List ℕ) (forced : ℕ) (p x : Call) → IsValid book
     → HasOneOpen book → IsForced book cut forced
     → get_or cut p.caller 0 ≤ p.number → (Precedes book (next_call cut forced) x → ⊥)

@@ -1,4 +1,4 @@
--- An unanswered call that leaves the present list is left out.
+-- An unanswered call that doesn't change the object's present list is left out.
 use Rattle.std.proofs.Common.{◌≡◌, ◌≢◌, ℕ, ◌+◌, ◌<◌, ◌≤◌, ◌⊎◌, ◌∙◌, List, [], ◌∷◌, length, get_or, set, sym, ap, subst, inl, inr, length-set, arith}
 use Rattle.std.proofs.lemmas.Bool.{cases_eq}
 use Rattle.book_base.specs.declared.call.Call.{Call}
@@ -12,8 +12,8 @@ use Rattle.book_laws.proofs.LegalOrder.{raised_same, raised_other, raised_cases,
 use Rattle.pruning_laws.specs.Idle.{IdleMayBeLeftOut}
 use Rattle.pruning_laws.proofs.Opening.{unanswered-precedes, unanswered-last, held_without}
 
--- What goes on after an unanswered call goes on without it, from the same list, up to where all
--- answered calls stand.
+-- Places that continue an order after an unanswered call continue it without that call, from the
+-- same list, up to where all answered calls are in the cut.
 pub goes_on_without : (book : List Page) (next : List ℕ → ℕ → List ℕ × ℕ) (cut list : List ℕ)
     (b : Call) (rest : List Place) → length book ≤ length cut → HasOneOpen book
     → MayComeNext book cut b → (IsAnswered book b → ⊥)

@@ -24,7 +24,7 @@ unanswered-precedes book b p free before =
       | inr own ↦ own
     ]
 
--- Each answered call precedes the calls that an unanswered call of their caller stands before.
+-- Each answered call precedes the calls that come after an unanswered call of its caller.
 pub unanswered-last : (book : List Page) (b p x : Call) → HasOneOpen book → (IsAnswered book b → ⊥)
     → b.caller ≡ p.caller → b.number < p.number → IsAnswered book x → Precedes book x p
 unanswered-last book b p x one free caller later answered =
@@ -40,8 +40,8 @@ unanswered-last book b p x one free caller later answered =
     let same : answers_of book b.caller ≡ answers_of book p.caller = ap (answers_of book) caller in
     inl (subst (λ o. IsSomeAnd o says) (sym there.1) (omega (arith, few, counts, same, later)))
 
--- Where all that is answered is held by a cut with one more call that is unanswered, the cut
--- without it holds it.
+-- Where a cut with one more call, which is unanswered, holds all answered calls, the cut without
+-- this call holds them.
 pub held_without : (book : List Page) (cut : List ℕ) (b : Call) → b.caller < length cut
     → b.number ≡ get_or cut b.caller 0 → (IsAnswered book b → ⊥)
     → (x : Call) → IsAnswered book x → Holds (raised cut b.caller) x → Holds cut x

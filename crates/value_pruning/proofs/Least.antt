@@ -11,7 +11,7 @@ use Rattle.book_base.specs.Pruning.{ViewsAreWithin}
 use Rattle.book_base.proofs.ViewLemmas.{answer_stands}
 use Rattle.value_pruning.specs.Sights.{IsListed, IsLeastListed}
 
--- of two calls the view of one is within that of the other
+-- of two answered calls of a book the view of one is within that of the other
 pub views_comparable : (book : List Page) (a b : Call) → IsValid book
     → (ViewsAreWithin book a b → ⊥) → ViewsAreWithin book b a
 views_comparable book a b valid not s r st rt =
@@ -24,7 +24,7 @@ views_comparable book a b valid not s r st rt =
       | inr within ↦ within
     ]
 
--- a view within one that is within a third
+-- a view within a second one is within a third one that contains the second
 views_on : (book : List Page) (a b c : Call) → IsAnswered book b → ViewsAreWithin book a b
     → ViewsAreWithin book b c → ViewsAreWithin book a c
 views_on book a b c answered first second r t rt tt_ =
@@ -42,7 +42,8 @@ views_same book a r s rt st =
 abbrev IsOut : List Page → List ℕ → Call → Type 0
 IsOut book cut call = IsAnswered book call × (get_or cut call.caller 0 ≤ call.number)
 
--- the least one's view is within a call's; where there is none it isn't
+-- the least call's view is within that of a call; where there is no least call, the call isn't
+-- answered and outside the cut
 abbrev LeastIsWithin : List Page → Option Call → Call → Type 0
 LeastIsWithin book None other = ⊥
 LeastIsWithin book (Some least) other = ViewsAreWithin book least other
@@ -61,7 +62,7 @@ least_of-start book cut calls = record {
   least = λ (k : ℕ) (other : Call) (below : k < 0) at out. absurd (omega (arith, below));
 }
 
--- one more call: the new one,
+-- with one more call, the new one has the least view where its view is within the old one's
 least-new : (book : List Page) (old : Option Call) (new other : Call) → IfSome old (IsAnswered book)
     → IfSome old (ViewsAreWithin book new) → LeastIsWithin book old other
     → ViewsAreWithin book new other
@@ -84,7 +85,7 @@ least_of-new book cut calls n old new at out within is = record {
   ];
 }
 
--- the old one,
+-- with one more call, the old one has the least view where the new one's isn't within it
 least-old : (book : List Page) (old : Option Call) (new : Call) → IsValid book
     → (IfSome old (ViewsAreWithin book new) → ⊥) → LeastIsWithin book old new
 least-old book None new valid not = absurd (not tt)
@@ -105,7 +106,7 @@ least_of-old book cut calls n old new valid at not is = record {
   ];
 }
 
--- and one that isn't outside
+-- a call that isn't answered and outside the cut changes nothing
 pub least_of-in : (book : List Page) (cut : List ℕ) (calls : List Call) (n : ℕ) (old : Option Call)
     (new : Call) → slice_get calls n ≡ Some new
     → (IsOut book cut new → ⊥) → LeastOf book cut calls n old → LeastOf book cut calls (n + 1) old
@@ -120,7 +121,7 @@ least_of-in book cut calls n old new at not is = record {
   ];
 }
 
--- all calls of the list
+-- the least call of all first calls is that of the whole list
 pub least_of-all : (book : List Page) (cut : List ℕ) (calls : List Call) (n : ℕ)
     (least : Option Call) → n ≡ length calls → LeastOf book cut calls n least
     → IfSome least (IsLeastListed book cut calls)

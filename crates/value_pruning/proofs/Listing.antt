@@ -1,4 +1,4 @@
--- A sight lists a book's calls, call by call.
+-- A sight that lists a book's calls, call by call.
 use Rattle.std.proofs.Common.{◌≡◌, ℕ, zero, suc, ◌+◌, ◌<◌, ◌⊎◌, ◌==◌, ◌∙◌, true, false, if◌then◌else◌, length-append, List, [], ◌∷◌, ◌++◌, length, map, get_or, set, slice_get, Option, None, Some, refl, sym, ap, subst, inl, inr, arith}
 use Rattle.std.specs.Option.{IfSome, is_some}
 use Rattle.std.proofs.lemmas.Bool.{cases_lt, cases_Bool, cond-true, cond-false, eqb-true, eq-eqb}
@@ -32,7 +32,7 @@ read_cases i n c (inr h) = elim (cases_lt c.number n) [
   | inr le ↦ inr (same_call c (call_of i n) h.0 (omega (arith, h.1)))
 ]
 
--- the calls of a caller are read
+-- all calls of a caller are read
 read_caller : (book : List Page) (i : ℕ) (c : Call) → IsCall book c → IsReadTo (i + 1) 0 c
     → IsReadTo i (calls_of book i) c
 read_caller book i c is (inl lt) = elim (cases_lt c.caller i) [
@@ -46,7 +46,7 @@ read_none : (c : Call) → IsReadTo 0 0 c → ⊥
 read_none c (inl lt) = omega (arith, lt)
 read_none c (inr h) = omega (arith, h.1)
 
--- who puts in or takes out is a call
+-- a call that puts in or takes out is a call of the book
 call_from_put : (reading : Reading) (book : List Page) (c : Call) (v : ℕ) → PutsIn reading book c v
     → IsCall book c
 call_from_put reading book c v puts =
@@ -57,7 +57,7 @@ call_from_take : (reading : Reading) (book : List Page) (c : Call) (v : ℕ)
 call_from_take reading book c v takes =
     slice_get_within (page_of book c.caller).operations c.number takes.0 takes.2
 
--- a call puts in one value,
+-- a call puts in one value
 puts_one : (reading : Reading) (book : List Page) (c : Call) (v w : ℕ) → PutsIn reading book c v
     → PutsIn reading book c w → v ≡ w
 puts_one reading book c v w one other =
@@ -65,14 +65,14 @@ puts_one reading book c v w one other =
     let both : Puts v ≡ Puts w = sym one.2 ∙ (ap reading.deed same ∙ other.2) in
     cc
 
--- takes out one,
+-- a call takes out one value
 takes_one : (reading : Reading) (book : List Page) (c : Call) (v w : ℕ) → TakesOut reading book c v
     → TakesOut reading book c w → v ≡ w
 takes_one reading book c v w one other =
     let same : one.1 ≡ other.1 = same_Some one.1 other.1 (sym one.3 ∙ other.3) in
     same_Some v w (sym one.5 ∙ (ap (λ (r : Record). reading.shown r.reply) same ∙ other.5))
 
--- and doesn't do both
+-- a call doesn't both put in and take out
 pub puts_or_takes : (reading : Reading) (book : List Page) (c : Call) (v w : ℕ)
     → PutsIn reading book c v → TakesOut reading book c w → ⊥
 puts_or_takes reading book c v w puts takes =
@@ -80,7 +80,7 @@ puts_or_takes reading book c v w puts takes =
     let both : Puts v ≡ Takes = sym puts.2 ∙ (ap reading.deed same ∙ takes.4) in
     cc
 
--- what one more call makes of what is listed: a put,
+-- what one more call, which is a put, adds to what is listed
 pub lists_put : (reading : Reading) (book : List Page) (call : Call) (v : ℕ) (old new : Sight)
     → PutsIn reading book call v
     → ListsRead reading book call.caller call.number old → HasPut old new v call
@@ -102,7 +102,7 @@ lists_put reading book call v old new does is has = record {
   ];
 }
 
--- a take,
+-- what one more call, which is a take, adds to what is listed
 pub lists_take : (reading : Reading) (book : List Page) (call : Call) (v : ℕ) (old new : Sight)
     → TakesOut reading book call v
     → ListsRead reading book call.caller call.number old → HasTake old new v call
@@ -124,7 +124,7 @@ lists_take reading book call v old new does is has = record {
   ];
 }
 
--- and neither
+-- a call that is neither a put nor a take adds nothing to what is listed
 pub lists_neither : (reading : Reading) (book : List Page) (call : Call) (sight : Sight)
     → ((v : ℕ) → PutsIn reading book call v → ⊥)
     → ((v : ℕ) → TakesOut reading book call v → ⊥)
@@ -142,7 +142,7 @@ lists_neither reading book call sight no_put no_take is = record {
   ];
 }
 
--- A caller's calls are read.
+-- The sight lists all calls of a caller.
 pub lists_caller : (reading : Reading) (book : List Page) (caller number : ℕ) (sight : Sight)
     → number ≡ calls_of book caller → ListsRead reading book caller number sight
     → ListsRead reading book (caller + 1) 0 sight
@@ -157,7 +157,7 @@ lists_caller reading book caller number sight all is =
           (read_caller book caller c (call_from_take reading book c w takes) read) takes;
     }
 
--- Nothing is read.
+-- The sight lists no call before any is read.
 pub lists_none : (reading : Reading) (book : List Page) (sight : Sight) → HasItsPlaces sight
     → ListsRead reading book 0 0 sight
 lists_none reading book sight places = record {
@@ -166,7 +166,7 @@ lists_none reading book sight places = record {
   shows = λ (c : Call) (w : ℕ) read takes. absurd (read_none c read);
 }
 
--- All is read.
+-- The sight lists all calls of the book once all are read.
 pub lists_all : (reading : Reading) (book : List Page) (callers : ℕ) (sight : Sight) → callers
     ≡ length book → ListsRead reading book callers 0 sight → ListsValues reading book sight
 lists_all reading book callers sight all is = record {
@@ -180,7 +180,7 @@ lists_all reading book callers sight all is = record {
       is.shows c v (inl (omega (arith, inside, all))) takes;
 }
 
--- two calls of a list of one are one
+-- two calls of a list of one call are equal
 pub one_listed : (calls : List Call) (a b : Call) → length calls ≡ 1 → IsListed calls a
     → IsListed calls b → a ≡ b
 one_listed calls a b one at_a at_b =
@@ -190,14 +190,14 @@ one_listed calls a b one at_a at_b =
 
 -- ---- places
 
--- the calls at a place, with one more place after
+-- the calls at a place, with one more place after it
 at_pushed : (f : Labelled → List Call) (xs : List Labelled) (new : Labelled) (k : ℕ) → k < length xs
     → get_or (map f xs) k [] ≡ get_or (map f (xs ++ new ∷ [])) k []
 at_pushed f [] new k inside = absurd (omega (arith, inside))
 at_pushed f (x ∷ xs) new zero inside = refl
 at_pushed f (x ∷ xs) new (suc k) inside = at_pushed f xs new k (omega (arith, inside))
 
--- and with another one at a place
+-- the calls at a place, with another one at some place
 listed_set : (f : Labelled → List Call) (xs : List Labelled) (i : ℕ) (new : Labelled) (k : ℕ)
     (c : Call) → (IsListed (get_or (map f xs) i []) c → IsListed (f new) c)
     → IsListed (get_or (map f xs) k []) c → IsListed (get_or (map f (set xs i new)) k []) c
@@ -228,7 +228,7 @@ length-set_ (x ∷ xs) (suc i) new = ap suc (length-set_ xs i new)
 none_listed : (c : Call) → IsListed [] c → ⊥
 none_listed c listed = omega (arith, slice_get_within {A = Call} [] listed.0 c listed.1)
 
--- what is listed at a place stays so where a new one is set after
+-- the calls that are listed at a place stay listed where a new place is added after it
 listed_on : (f : Labelled → List Call) (at : Option ℕ → List Call) (xs : List Labelled)
     (new : Labelled) (at_new : Option ℕ → List Call) (o : Option ℕ) (c : Call)
     → ((k : ℕ) → at (Some k) ≡ get_or (map f xs) k [])
@@ -249,7 +249,7 @@ shows_in l = l.shows.items
 same_number : (v : ℕ) → (v == v) ≡ false → ⊥
 same_number v fails = let holds : (v == v) ≡ true = eq-eqb v v refl in cc
 
--- A new place for a value that has none.
+-- The sight with a new place for a value that had none.
 pub has_place : (old new : Sight) (v place : ℕ) (l : Labelled) → HasItsPlaces old
     → place_of old v ≡ None → place ≡ length old.labelled.items
     → new.labelled.items ≡ old.labelled.items ++ l ∷ []
@@ -301,7 +301,8 @@ has_place old new v place l places none size items at =
       ];
     }
 
--- what is listed at the places of a sight is so at those of another one with the same places
+-- the calls listed at the places of a sight are listed at those of another sight with the same
+-- places
 listed_kept : (f : Labelled → List Call) (at at_new : Option ℕ → List Call) (xs : List Labelled)
     (place : ℕ) (new : Labelled) (o : Option ℕ) (c : Call)
     → ((k : ℕ) → at (Some k) ≡ get_or (map f xs) k [])
@@ -314,7 +315,7 @@ listed_kept f at at_new xs place new (Some k) c old some none more is =
     subst (λ (l : List Call). IsListed l c) (sym (some k))
     (listed_set f xs place new k c more (subst (λ (l : List Call). IsListed l c) (old k) is))
 
--- One more put at a value's place.
+-- The sight with one more put at a value's place.
 pub has_put : (old mid new : Sight) (v place : ℕ) (call : Call) (was now : Labelled)
     → HasPlace old mid v place → was ≡ get_or mid.labelled.items place was
     → ((w : ℕ) → place_of new w ≡ place_of mid w) → new.labelled.items
@@ -354,7 +355,7 @@ has_put old mid new v place call was now is there same items puts shows =
           (length was.puts.items, slice_get-push_last was.puts.items call);
     }
 
--- One more take at a value's place.
+-- The sight with one more take at a value's place.
 pub has_take : (old mid new : Sight) (v place : ℕ) (call : Call) (was now : Labelled)
     → HasPlace old mid v place → was ≡ get_or mid.labelled.items place was
     → ((w : ℕ) → place_of new w ≡ place_of mid w)
@@ -394,7 +395,7 @@ has_take old mid new v place call was now is there same items puts shows =
           (length was.shows.items, slice_get-push_last was.shows.items call);
     }
 
--- A put alone, less than all items, whose take may come next.
+-- A call that alone puts in a value less than all items, and whose value's take may come next.
 pub puts_least : (reading : Reading) (book : List Page) (cut list : List ℕ) (sight : Sight)
     (marks : Marks) (caller v : ℕ) (taker : Option ℕ) → ListsValues reading book sight
     → MarksAllNext book cut marks → PutsIn reading book (next_call cut caller) v

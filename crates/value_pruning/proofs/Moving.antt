@@ -1,4 +1,4 @@
--- Before a forced call stands what may come next at once, in any order.
+-- A place that comes before a forced call in some order may come next at once.
 use Rattle.std.proofs.Common.{◌≡◌, ◌≢◌, ℕ, ◌+◌, ◌<◌, ◌≤◌, ◌∙◌, List, [], ◌∷◌, map, length, get_or, Some, sym, ap, subst, inl, inr, length-set, arith}
 use Rattle.book_base.specs.declared.call.Call.{Call}
 use Rattle.book_base.specs.declared.call.Place.{Place}
@@ -11,7 +11,7 @@ use Rattle.book_base.specs.Pruning.{HasOneOpen, IsForced}
 use Rattle.book_laws.proofs.LegalOrder.{raised_same, raised_other, raised_cases, raised_twice, comes_later, same_call, within_cut}
 use Rattle.pruning_laws.proofs.Forcing.{forced-free, forced-stays}
 
--- a place's call may come next, and its reply is the recorded one
+-- a place's call may come next, and its reply is the recorded one, where the call is answered
 abbrev pub MayBeNext : List Page → List ℕ → Place → Type 0
 MayBeNext book cut place = MayComeNext book cut (call_at place)
     × ((r : Record) → record_of book (call_at place) ≡ Some r → r.reply ≡ place.reply)
@@ -22,7 +22,7 @@ abbrev pub Comes : List Page → List ℕ → List Place → Type 0
 Comes book cut [] = HoldsAnswered book cut
 Comes book cut (place ∷ rest) = MayBeNext book cut place × Comes book (raised cut place.caller) rest
 
--- They come so, and the object gives their replies.
+-- The places may come one after another, and the object gives their replies.
 abbrev pub Goes : List Page → (List ℕ → ℕ → List ℕ × ℕ) → List ℕ → List ℕ → List Place → Type 0
 Goes book next cut list places = Comes book cut places
     × IsRunFrom next list (map (step_at book) places)
@@ -59,8 +59,8 @@ waits_later book cut c i valid inside apart waits = record {
   at = waits.at ∙ sym (raised_other cut i c.caller (λ (e : c.caller ≡ i). apart (sym e)));
 }
 
--- A place comes before another one that stands before it, where the forced call stands no earlier
--- than it.
+-- A place may change places with one before it, where the forced call comes no earlier than the
+-- place.
 pub comes_up : (book : List Page) (cut : List ℕ) (c : Place) → IsValid book → HasOneOpen book
     → Waits book cut c → (a b : Place) (rest : List Place) → a.caller ≢ c.caller
     → Comes book cut (a ∷ b ∷ rest) → Comes book cut (b ∷ a ∷ rest)
@@ -112,7 +112,7 @@ comes_up book cut c valid one waits a b rest apart comes =
       ),
     )
 
--- So it comes before two that stand before it.
+-- A place may also change places with two before it.
 pub comes_up_two : (book : List Page) (cut : List ℕ) (c : Place) → IsValid book → HasOneOpen book
     → Waits book cut c → (x y b : Place) (rest : List Place) → x.caller ≢ c.caller
     → y.caller ≢ c.caller → Comes book cut (x ∷ y ∷ b ∷ rest) → Comes book cut (b ∷ x ∷ y ∷ rest)

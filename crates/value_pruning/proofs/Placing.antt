@@ -1,4 +1,4 @@
--- What a put makes of a list, and what stays of its order.
+-- What a put makes of a list, and which items of the list keep their order.
 use Rattle.std.proofs.Common.{◌≡◌, ℕ, ◌<◌, ◌≤◌, ◌⊎◌, ◌∙◌, ltb, List, [], ◌∷◌, ◌++◌, map, refl, sym, ap, subst, inl, inr, arith}
 use Rattle.std.specs.List.{AllByRecursion}
 use Rattle.std.proofs.lemmas.Bool.{cases_lt, cond-true, cond-false, lt-ltb, le-ltb}
@@ -9,7 +9,7 @@ use Rattle.book_base.specs.Pruning.{IsReached}
 use Rattle.history_rules.specs.Container.{Effect, Puts, Takes, Neither, Reading}
 use Rattle.value_pruning.specs.LeastFirst.{placed, IsRising, GivesLeastFirst, IsBelowFirst}
 
--- what a value that is less than the first item, or no less, makes of a list
+-- the list with a value before its first item, where the value is less, or after it, where it isn't
 pub placed-less : (v x : ℕ) (rest : List ℕ) → v < x → placed v (x ∷ rest) ≡ v ∷ x ∷ rest
 placed-less v x rest less = cond-true (ltb v x) (v ∷ x ∷ rest) (x ∷ placed v rest) (lt-ltb v x less)
 
@@ -17,13 +17,13 @@ pub placed-more : (v x : ℕ) (rest : List ℕ) → x ≤ v → placed v (x ∷ 
 placed-more v x rest more =
     cond-false (ltb v x) (v ∷ x ∷ rest) (x ∷ placed v rest) (le-ltb v x more)
 
--- what follows for each item of a list
+-- a property that follows from another one for each item follows for all items of a list
 pub all-weaker : (P Q : ℕ → Type 0) (list : List ℕ) → ((x : ℕ) → P x → Q x) → AllByRecursion P list
     → AllByRecursion Q list
 all-weaker P Q [] weaker all = tt
 all-weaker P Q (x ∷ rest) weaker all = (weaker x all.0, all-weaker P Q rest weaker all.1)
 
--- what holds of a value and of each item
+-- a property of a value and of each item of a list is one of each item of the list with the value
 pub all-placed : (P : ℕ → Type 0) (v : ℕ) (list : List ℕ) → P v → AllByRecursion P list
     → AllByRecursion P (placed v list)
 all-placed P v [] it all = (it, tt)
@@ -34,7 +34,8 @@ all-placed P v (x ∷ rest) it all = elim (cases_lt v x) [
       (all.0, all-placed P v rest it all.1)
 ]
 
--- A lesser value comes before an item, and so in its place where the item is missing.
+-- A value that is less than an item comes before it, both in the list with this item and in the
+-- list without it.
 pub placed-before : (v low : ℕ) (before after : List ℕ) → v < low
     → placed v (before ++ low ∷ after) ≡ placed v before ++ low ∷ after
 placed-before v low [] after less = placed-less v low after less
@@ -60,14 +61,14 @@ placed-before_all v (x ∷ before) after above = elim (cases_lt v x) [
       ∙ ap (λ (xs : List ℕ). xs ++ after) (sym (placed-more v x before later)))
 ]
 
--- A value that is no less than some items comes after them.
+-- A value that is no less than the first items comes after them.
 pub placed-after : (v : ℕ) (before after : List ℕ) → AllByRecursion (λ (x : ℕ). x ≤ v) before
     → placed v (before ++ after) ≡ before ++ placed v after
 placed-after v [] after below = refl
 placed-after v (x ∷ before) after below = placed-more v x (before ++ after) below.0
     ∙ ap (λ (xs : List ℕ). x ∷ xs) (placed-after v before after below.1)
 
--- A value between some items and others comes there.
+-- A value that is no less than the first items and less than the others comes between them.
 pub placed-first : (v : ℕ) (after : List ℕ) → AllByRecursion (λ (y : ℕ). v < y) after
     → placed v after ≡ v ∷ after
 placed-first v [] above = refl
@@ -128,7 +129,7 @@ rising-taken reading next bound is [] op takes rising =
 rising-taken reading next bound is (x ∷ rest) op takes rising =
     subst (λ (xs : List ℕ). IsRising bound xs) (sym (is.take x rest op takes)) rising.2
 
--- what a deed is
+-- an effect is a put of a value, a take, or neither
 pub cases_deed : (d : Effect) → ((v : ℕ) × (d ≡ Puts v)) ⊎ ((d ≡ Takes) ⊎ (d ≡ Neither))
 cases_deed (Puts v) = inl (v, refl)
 cases_deed Takes = inr (inl refl)
@@ -155,7 +156,7 @@ rising-run reading next bound is list (step ∷ steps) rising =
     rising-run reading next bound is (next list step.0).0 steps
     (rising-next reading next bound is list step.0 rising)
 
--- Each list that is reached is rising.
+-- Each list that an order reaches is rising.
 pub rising-reached : (reading : Reading) (init : List ℕ) (next : List ℕ → ℕ → List ℕ × ℕ)
     (bound : ℕ) (book : List Page) (cut list : List ℕ) → GivesLeastFirst reading next bound
     → IsRising bound init → IsReached init next book cut list → IsRising bound list

@@ -1,4 +1,4 @@
--- A value less than all items is put in at once, where its take may come next too.
+-- A value less than all items may be put in at once, where its take may come next too.
 use Rattle.std.proofs.Common.{◌≡◌, ◌≢◌, ℕ, ◌+◌, ◌<◌, ◌≤◌, ◌∙◌, List, [], ◌∷◌, ◌++◌, length, get_or, Option, Some, unwrap_or, refl, sym, ap, subst, inl, inr, length-set, arith}
 use Rattle.std.specs.List.{AllByRecursion}
 use Rattle.std.proofs.lemmas.Bool.{cases_eq, cases_lt}
@@ -25,7 +25,8 @@ record Around (bound v : ℕ) (before after : List ℕ) : Type 0 where
   above : AllByRecursion (λ (y : ℕ). v < y) after
   small : AllByRecursion (λ (y : ℕ). y < bound) after
 
--- What an operation that doesn't put in the value makes of such a list.
+-- An operation that doesn't put in the value makes of a list around the value another one around
+-- it, with the same reply as without the value.
 record StaysAround (next : List ℕ → ℕ → List ℕ × ℕ) (bound v op : ℕ)
     (before after : List ℕ) : Type 0 where
   new_before : List ℕ
@@ -107,7 +108,7 @@ stays_around reading next bound is v op before after not around =
       ]
     ]
 
--- A take doesn't show the value there.
+-- A take doesn't show the value at a list around it, unless the value is its first item.
 shows_other : (reading : Reading) (next : List ℕ → ℕ → List ℕ × ℕ) (bound : ℕ)
     → GivesLeastFirst reading next bound → (v op : ℕ) (before after : List ℕ) → v < bound
     → reading.deed op ≡ Takes → Around bound v before after
@@ -137,7 +138,8 @@ abbrev pub Gives : (List ℕ → ℕ → List ℕ × ℕ) → List Page → Call
 Gives next book call = (list : List ℕ) (r : Record) → record_of book call ≡ Some r
     → r.reply ≡ (next list (word_of_call book call)).1
 
--- What goes on from a list without the value goes on from it once the put and the take have come.
+-- Places that continue an order from a list without the value continue it once the value has been
+-- put in and taken.
 put_and_taken : (reading : Reading) (next : List ℕ → ℕ → List ℕ × ℕ) (bound : ℕ)
     → GivesLeastFirst reading next bound → (book : List Page) (v : ℕ) (put take : Call)
     → v < bound → IsValid book → HasOneOpen book → PutsInAlone reading book put v

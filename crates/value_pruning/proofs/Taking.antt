@@ -1,4 +1,4 @@
--- The first item is taken at once by the take of it that has the least view.
+-- The first item may be taken at once by the take of it that has the least view.
 use Rattle.std.proofs.Common.{◌≡◌, ◌≢◌, ℕ, ◌+◌, ◌<◌, ◌≤◌, ◌⊎◌, ◌∙◌, List, [], ◌∷◌, ◌++◌, length, get_or, Option, Some, unwrap_or, refl, sym, ap, subst, inl, inr, length-set, arith}
 use Rattle.std.specs.List.{AllByRecursion}
 use Rattle.std.proofs.lemmas.Bool.{cases_eq, cases_lt}
@@ -28,7 +28,7 @@ pub word_is : (book : List Page) (place : Place) (op : ℕ)
     → operation_of book (call_at place) ≡ Some op → word_at book place ≡ op
 word_is book place op known = ap (λ (o : Option ℕ). unwrap_or o 0) known
 
--- a call of the book has one
+-- a call of the book has an operation word
 pub word_stands : (book : List Page) (place : Place) → IsCall book (call_at place)
     → operation_of book (call_at place) ≡ Some (word_at book place)
 word_stands book place is =
@@ -37,15 +37,15 @@ word_stands book place is =
       | inr past ↦ absurd (omega (arith, is, past.0))
     ]
 
--- What goes on once another caller's call has come, from a list: with this many places less than
--- these.
+-- Some places continue an order once another caller's call has come, from a list, and they are
+-- fewer than some given places by a given number.
 abbrev pub GoesOnAfter : ℕ → List Page → (List ℕ → ℕ → List ℕ × ℕ) → List ℕ → ℕ → List ℕ
     → List Place → Type 0
 GoesOnAfter less book next cut i list rest = (other : List Place)
     × Continues book next (raised cut i) list other × (length other + less < length rest)
 
--- A place whose reply is the same at another list goes on there, before what goes on after another
--- caller's call.
+-- A place whose reply is the same at another list may come before the places that continue an order
+-- after another caller's call.
 pub goes_on_over : (less : ℕ) (book : List Page) (next : List ℕ → ℕ → List ℕ × ℕ)
     (cut one other : List ℕ) (i : ℕ) (place : Place) (rest : List Place) → i < length cut
     → place.caller ≢ i → MayStandNext book next cut one place
@@ -67,7 +67,7 @@ goes_on_over less book next cut one other i place rest inside apart may same on 
       omega (arith, on.2),
     )
 
--- A call that takes out a value least early does so after more calls.
+-- A call that takes out a value with the least view after a cut does so after more calls.
 pub least_later : (reading : Reading) (book : List Page) (cut : List ℕ) (v i : ℕ) (take : Call)
     → i < length cut → IsLeastTake reading book cut v take
     → IsLeastTake reading book (raised cut i) v take
@@ -78,7 +78,7 @@ least_later reading book cut v i take inside is = record {
       is.least other takes (omega (arith, out, raised_more cut i other.caller inside));
 }
 
--- Of a caller's next call the place is known.
+-- The place of a caller's next call has this call and the reply that the object gives.
 pub its_place : (book : List Page) (next : List ℕ → ℕ → List ℕ × ℕ) (cut list : List ℕ)
     (place : Place) (call : Call) → MayComeNext book cut call
     → MayStandNext book next cut list place
@@ -87,7 +87,7 @@ its_place book next cut list place call may stands same =
     same_call (call_at place) call same
     (stands.may_come.next ∙ (ap (λ (i : ℕ). get_or cut i 0) same ∙ sym may.next))
 
--- not all is done while an answered call is outside
+-- the cut doesn't hold all answered calls while an answered call is outside it
 pub not_done : (reading : Reading) (book : List Page) (cut : List ℕ) (v : ℕ) (take : Call)
     → MayComeNext book cut take → TakesOut reading book take v → HoldsAnswered book cut → ⊥
 not_done reading book cut v take may takes held =
@@ -100,12 +100,13 @@ cases_prefix : (list : List ℕ) → (list ≡ []) ⊎ ((x : ℕ) × (rest : Lis
 cases_prefix [] = inl refl
 cases_prefix (x ∷ rest) = inr (x, rest, refl)
 
--- A value in a list: all items before it are less, and none after it is.
+-- A list around a value: all items before it are less, and no item after it is.
 pub record Parted (low : ℕ) (before after : List ℕ) : Type 0 where
   pub below : AllByRecursion (λ (x : ℕ). x < low) before
   pub above : AllByRecursion (λ (y : ℕ). low ≤ y) after
 
--- What an operation makes of a list with the value and of one without it, where it doesn't take it.
+-- An operation makes of a list with the value and of one without it lists that differ in the value
+-- alone, with one reply.
 record StepsAlike (reading : Reading) (next : List ℕ → ℕ → List ℕ × ℕ) (low op : ℕ)
     (before after : List ℕ) : Type 0 where
   new_before : List ℕ
@@ -203,7 +204,7 @@ alike-neither reading next bound is low op before after neither parted =
       other = λ e shown. no e;
     }
 
--- An operation steps alike, or it takes the value.
+-- An operation does so, or it takes the value.
 steps_alike : (reading : Reading) (next : List ℕ → ℕ → List ℕ × ℕ) (bound : ℕ)
     → GivesLeastFirst reading next bound → (low op : ℕ) (before after : List ℕ)
     → low < bound → Parted low before after → StepsAlike reading next low op before after
@@ -223,7 +224,7 @@ steps_alike reading next bound is low op before after small parted =
       ]
     ]
 
--- The take with the least view does what the take of the value does that stands.
+-- The take with the least view is a twin of any take of the value in the order.
 pub least_is_twin : (reading : Reading) (next : List ℕ → ℕ → List ℕ × ℕ)
     → ((a b : ℕ) → reading.deed a ≡ Takes → reading.deed b ≡ Takes → a ≡ b)
     → ((a b v : ℕ) → reading.shown a ≡ Some v → reading.shown b ≡ Some v → a ≡ b)
@@ -270,8 +271,8 @@ least_is_twin reading next one_take one_reply book cut list low take place apart
       serves = inl (r, least.takes.3, does);
     }
 
--- What goes on from a list with the value goes on without it, once the take with the least view has
--- come.
+-- Places that continue an order from a list with the value continue it from the list without it,
+-- once the take with the least view has come.
 pub taken_first : (reading : Reading) (next : List ℕ → ℕ → List ℕ × ℕ) (bound : ℕ)
     → GivesLeastFirst reading next bound → (book : List Page) (low : ℕ) (take : Call)
     → low < bound → IsValid book → HasOneOpen book → (rest : List Place) (cut before after : List ℕ)
@@ -346,7 +347,7 @@ taken_first reading next bound is book low take small valid one
           ]
     ]
 
--- The take with the least view may stand next where the value is the first item, and takes it.
+-- The take with the least view may come next where the value is the first item, and takes it.
 pub take_stands : (reading : Reading) (next : List ℕ → ℕ → List ℕ × ℕ) (bound : ℕ)
     → GivesLeastFirst reading next bound → (book : List Page) (cut : List ℕ) (low : ℕ)
     (after : List ℕ) (take : Call) (least : IsLeastTake reading book cut low take) → low < bound
@@ -369,7 +370,7 @@ take_stands reading next bound is book cut low after take least small now may =
       ap (λ (w : ℕ). (next (low ∷ after) w).0) word ∙ is.take low after op least.takes.4,
     )
 
--- Where the next call of a caller takes the first item with the least view, it suffices.
+-- The mark on a caller whose next call takes the first item with the least view suffices.
 pub take_suffices : (reading : Reading) (next : List ℕ → ℕ → List ℕ × ℕ) (bound : ℕ)
     → GivesLeastFirst reading next bound → (book : List Page) (cut : List ℕ) (low : ℕ)
     (after : List ℕ) (caller : ℕ) (marks : Marks) → low < bound

@@ -1,5 +1,5 @@
--- What goes on goes on by a take, by the forced call, or by the put of what the first take takes:
--- all other puts may come later.
+-- Places that continue an order may begin with a take, with the forced call, or with the put of
+-- what the next take takes: all other puts may come later.
 use Rattle.std.proofs.Common.{◌≡◌, ◌≢◌, ℕ, ◌+◌, ◌<◌, ◌≤◌, ◌⊎◌, ◌∙◌, ◌↔◌, List, [], ◌∷◌, map, length, get_or, Some, refl, sym, ap, subst, inl, inr, arith}
 use Rattle.std.proofs.lemmas.Bool.{cases_eq, cases_lt}
 use Rattle.book_base.specs.declared.call.Call.{Call}
@@ -80,7 +80,8 @@ placed-below : (v : ℕ) (list : List ℕ) → IsBelowFirst v list → placed v 
 placed-below v [] below = refl
 placed-below v (x ∷ rest) below = placed-less v x rest below
 
--- a value that is less than all items, with one more, is less than this one and than the others
+-- a value that is less than all items of a list with one more value is less than this one and than
+-- all other items
 below-placed : (w v : ℕ) (list : List ℕ) → IsBelowFirst w (placed v list)
     → (w < v) × IsBelowFirst w list
 below-placed w v [] below = (below, tt)
@@ -104,9 +105,9 @@ cases_below v (x ∷ rest) = elim (cases_lt v x) [
   | inr more ↦ inr (x, rest, refl, more)
 ]
 
--- ---- a put and what comes after it
+-- ---- a put and the call after it
 
--- A put and another operation have the same replies in either order, and leave one list.
+-- A put and another operation have the same replies in either order, and make the same list.
 record Swaps (next : List ℕ → ℕ → List ℕ × ℕ) (list : List ℕ) (put op : ℕ) : Type 0 where
   one : (next list op).1 ≡ (next (next list put).0 op).1
   other : (next (next list op).0 put).1 ≡ (next list put).1
@@ -145,7 +146,7 @@ swaps_neither reading next bound is list put op v puts neither = record {
       ∙ sym (is.neither (next list put).0 op neither);
 }
 
--- A take takes the first item before a put of no less a value as it does after it.
+-- A take takes the first item before a put of no less a value, as it does after this put.
 swaps_take : (reading : Reading) (next : List ℕ → ℕ → List ℕ × ℕ) (bound : ℕ)
     → GivesLeastFirst reading next bound → (low : ℕ) (rest : List ℕ) (put op v : ℕ)
     → low < bound → low ≤ v → reading.deed put ≡ Puts v → reading.deed op ≡ Takes
@@ -165,7 +166,7 @@ swaps_take reading next bound is low rest put op v small le puts takes =
           ∙ is.take low (placed v rest) op takes));
     }
 
--- What comes after a put comes before it, where the two swap.
+-- A call after a put may come before it, where the two operations may be exchanged.
 swap : (book : List Page) (next : List ℕ → ℕ → List ℕ × ℕ) (cut list : List ℕ) (c x p : Place)
     (other : List Place) → IsValid book → HasOneOpen book → Waits book cut c → x.caller ≢ c.caller
     → Swaps next list (word_at book x) (word_at book p) → Goes book next cut list (x ∷ p ∷ other)
@@ -182,9 +183,9 @@ swap book next cut list c x p other valid one waits apart swaps goes = (
   ),
 )
 
--- ---- what goes on
+-- ---- which calls an order may continue with
 
--- What goes on goes on by the forced call, or by one that puts nothing in,
+-- An order continues with the forced call, or with one that puts nothing in.
 record ByFree (reading : Reading) (book : List Page) (next : List ℕ → ℕ → List ℕ × ℕ)
     (cut list : List ℕ) (c : Place) (most : ℕ) : Type 0 where
   place : Place
@@ -193,7 +194,7 @@ record ByFree (reading : Reading) (book : List Page) (next : List ℕ → ℕ �
   goes : Goes book next cut list (place ∷ other)
   short : length other + 1 ≤ most
 
--- or by the put of what the call after it takes.
+-- An order continues with the put of what the call after it takes.
 record ByTaken (reading : Reading) (book : List Page) (next : List ℕ → ℕ → List ℕ × ℕ)
     (cut list : List ℕ) (c : Place) (most : ℕ) : Type 0 where
   put : Place
@@ -207,7 +208,7 @@ record ByTaken (reading : Reading) (book : List Page) (next : List ℕ → ℕ �
   goes : Goes book next cut list (put ∷ take ∷ other)
   short : length other + 2 ≤ most
 
--- What a first place is that puts a value in, and isn't the forced call.
+-- The first place puts a value in, and isn't the forced call.
 record IsFirstPut (reading : Reading) (book : List Page) (cut : List ℕ) (c x : Place)
     : Type 0 where
   value : ℕ
@@ -218,8 +219,8 @@ record IsFirstPut (reading : Reading) (book : List Page) (cut : List ℕ) (c x :
 abbrev list_past : List Page → (List ℕ → ℕ → List ℕ × ℕ) → List ℕ → Place → List ℕ
 list_past book next list x = (next list (word_at book x)).0
 
--- A place that puts nothing in, or is the forced call, comes before the put that stands before it,
--- or takes what that puts in.
+-- A place that puts nothing in, or is the forced call, may come before the put before it, or takes
+-- what that put puts in.
 put_before_free : (reading : Reading) (next : List ℕ → ℕ → List ℕ × ℕ) (bound : ℕ)
     → GivesLeastFirst reading next bound → (book : List Page) → IsValid book → HasOneOpen book
     → (cut list : List ℕ) (c x : Place) (most : ℕ) → IsRising bound list → Waits book cut c
@@ -272,7 +273,7 @@ put_before_free reading next bound is book valid one cut list c x most rising wa
       ]
     ]
 
--- A put and the take of what it puts in come before the put that stands before them.
+-- A put and the take of what it puts in may come before the put before them.
 put_before_taken : (reading : Reading) (next : List ℕ → ℕ → List ℕ × ℕ) (bound : ℕ)
     → GivesLeastFirst reading next bound → (book : List Page) → IsValid book → HasOneOpen book
     → (cut list : List ℕ) (c x : Place) (most : ℕ) → IsRising bound list → Waits book cut c
@@ -318,7 +319,7 @@ put_before_taken reading next bound is book valid one cut list c x most rising w
       short = omega (arith, by.short, enough);
     }
 
--- All that goes on goes on so.
+-- Wherever places continue an order, some do in one of these two ways.
 outcomes : (reading : Reading) (next : List ℕ → ℕ → List ℕ × ℕ) (bound : ℕ)
     → GivesLeastFirst reading next bound → (book : List Page) → IsValid book → HasOneOpen book
     → (c : Place) (rest : List Place) (cut list : List ℕ) → IsRising bound list
@@ -370,7 +371,7 @@ outcomes reading next bound is book valid one c (x ∷ rest) cut list rising wai
 
 -- ---- what needn't be tried
 
--- What the call after a put takes it might take next, too.
+-- The call after a put that takes what it puts in might take the value as the next call, too.
 could_take : (reading : Reading) (next : List ℕ → ℕ → List ℕ × ℕ) (bound : ℕ)
     → GivesLeastFirst reading next bound → (book : List Page) → IsValid book → HasOneOpen book
     → (cut list : List ℕ) (c : Place) (most : ℕ) → Waits book cut c
@@ -400,7 +401,8 @@ could_take reading next bound is book valid one cut list c most waits by =
       subst (λ (k : Call). CouldTake reading book k by.value) call takes,
     )
 
--- What is left suffices where all that is left out is unwanted.
+-- The remaining marks suffice where the next calls of all callers that lost their marks are
+-- unwanted.
 pub wanted_suffice : (reading : Reading) (next : List ℕ → ℕ → List ℕ × ℕ) (bound : ℕ)
     → GivesLeastFirst reading next bound → (book : List Page) → IsValid book → HasOneOpen book
     → (cut list : List ℕ) (forced : ℕ) (all left : Marks) → IsRising bound list
@@ -467,7 +469,7 @@ wanted_suffice reading next bound is book valid one cut list forced all left ris
           )
     ]
 
--- No call that may come next takes a value, where none of this many callers has one that does.
+-- No call that may come next takes a value, where none of the first callers has one that does.
 pub taken_by_none : (reading : Reading) (book : List Page) (cut : List ℕ) (v callers : ℕ)
     → length book ≤ callers → ((i : ℕ) → i < callers → MayComeNext book cut (next_call cut i)
     → CouldTake reading book (next_call cut i) v → ⊥) → IsTakenByNone reading book cut v
@@ -484,7 +486,7 @@ answered_takes reading book cut v i answered none could =
     (could.op, there.0, could.operation, there.1, could.takes, could.shows there.0 there.1) in
     none (takes, omega arith)
 
--- One caller less is left, whose next call is unwanted.
+-- One more caller, whose next call is unwanted, has lost its mark.
 pub record AreWanted (reading : Reading) (book : List Page) (cut list : List ℕ) (forced : ℕ)
     (all left : Marks) : Type 0 where
   pub fewer : IsMarkedWithin left all

@@ -1,5 +1,5 @@
--- A register's writes: what no call reads may stand at once or be left out, and what is
--- irreplaceable isn't written over.
+-- A register's writes: one that writes what no call reads may be taken at once or left out, and an
+-- irreplaceable value isn't written over.
 use Rattle.std.proofs.Common.{◌≡◌, ◌≢◌, ℕ, zero, suc, ◌+◌, ◌<◌, ◌≤◌, ◌⊎◌, ◌∙◌, ◌↔◌, Bool, true, false, IsTrue, List, [], ◌∷◌, length, get_or, Some, unwrap_or, refl, sym, ap, subst, inl, inr, length-set, arith}
 use Rattle.std.proofs.lemmas.Bool.{cases_eq}
 use Rattle.std.proofs.lemmas.Option.{same_Some, slice_get_within}
@@ -23,7 +23,7 @@ use Rattle.value_pruning.specs.Sights.{IsListed, ListsValues, puts_of, shows_of}
 use Rattle.value_pruning.proofs.Placing.{cases_deed}
 use Rattle.value_pruning.proofs.Taking.{word_at, word_is, word_stands, GoesOnAfter, goes_on_over, its_place}
 
--- what is outside after more calls is outside before
+-- a call outside a cut with more calls is outside the cut
 pub outside_before : (cut : List ℕ) (i : ℕ) (call : Call) → i < length cut
     → get_or (raised cut i) call.caller 0 ≤ call.number → get_or cut call.caller 0 ≤ call.number
 outside_before cut i call inside out = omega (arith, out, raised_more cut i call.caller inside)
@@ -39,7 +39,7 @@ unwritten_later reading book cut v i inside unwritten written =
     unwritten (written.0, (written.1.0, outside_before cut i written.0 inside written.1.1))
 
 -- Two lists are alike after a cut where they hold one value, or the first one holds a value that no
--- call outside reads.
+-- answered call outside the cut reads.
 abbrev Alike : Reading → List Page → (List ℕ → ℕ) → List ℕ → List ℕ → List ℕ → Type 0
 Alike reading book held cut one other = (held one ≡ held other)
     ⊎ (IsRead reading book cut (held one) → ⊥)
@@ -57,7 +57,7 @@ cases_write reading op = elim (cases_deed (reading.deed op)) [
   ]
 ]
 
--- Lists that are alike stay so.
+-- Lists that are alike are still so after the same operation.
 alike_after : (reading : Reading) (held : List ℕ → ℕ) (next : List ℕ → ℕ → List ℕ × ℕ)
     → HoldsLast reading held next → (book : List Page) (cut one other : List ℕ) (i op : ℕ)
     → i < length cut → Alike reading book held cut one other
@@ -81,7 +81,7 @@ there_at next book list place = record {
   reply = (next list (word_at book place)).1;
 }
 
--- What may stand next at a list may stand next at one that is alike.
+-- A place that may come next at a list may come next at one that is alike.
 stands_there : (reading : Reading) (held : List ℕ → ℕ) (next : List ℕ → ℕ → List ℕ × ℕ)
     → HoldsLast reading held next → (book : List Page) (cut one other : List ℕ) (place : Place)
     → Alike reading book held cut one other → MayStandNext book next cut one place
@@ -103,7 +103,7 @@ stands_there reading held next is book cut one other place alike may = record {
   reply = refl;
 }
 
--- What goes on from a list goes on from one that is alike.
+-- Places that continue an order from a list continue it from one that is alike.
 goes_on_there : (reading : Reading) (held : List ℕ → ℕ) (next : List ℕ → ℕ → List ℕ × ℕ)
     → HoldsLast reading held next → (book : List Page) (rest : List Place) (cut one other : List ℕ)
     → length book ≤ length cut → Alike reading book held cut one other
@@ -129,7 +129,8 @@ abbrev GivesAlways : (List ℕ → ℕ → List ℕ × ℕ) → List Page → Ca
 GivesAlways next book call = (list : List ℕ) (r : Record) → record_of book call ≡ Some r
     → r.reply ≡ (next list (unwrap_or (operation_of book call) 0)).1
 
--- What goes on goes on once an answered write has come that no call outside reads.
+-- Places that continue an order continue it also after an answered write whose value no answered
+-- call outside the cut reads.
 written_first : (reading : Reading) (held : List ℕ → ℕ) (next : List ℕ → ℕ → List ℕ × ℕ)
     → HoldsLast reading held next → (book : List Page) (write : Call) (v : ℕ)
     → PutsIn reading book write v → IsAnswered book write
@@ -192,7 +193,8 @@ written_first reading held next is book write v writes answered
           )
     ]
 
--- Where no call outside reads what an answered write writes, nor what is held, the write suffices.
+-- Where no answered call outside the cut reads what an answered write writes, nor what is held, the
+-- mark on the write's caller suffices.
 pub unread_write_suffices : (reading : Reading) (held : List ℕ → ℕ) (next : List ℕ → ℕ → List ℕ × ℕ)
     → HoldsLast reading held next → (book : List Page) (cut list : List ℕ)
     (caller : ℕ) (marks : Marks) → length book ≤ length cut
@@ -211,7 +213,7 @@ unread_write_suffices reading held next is book cut list caller marks wide may w
     record { may_come = may; recorded = on.1 list; reply = refl } in
     (place, on.0.0, marked, (stands, on.0.1), omega (arith, on.0.2))
 
--- What is read may not be written over where no call outside writes it.
+-- A value that is read outside a cut and written by no call outside it must be held.
 irreplaceable_is_held : (reading : Reading) (held : List ℕ → ℕ) (next : List ℕ → ℕ → List ℕ × ℕ)
     → HoldsLast reading held next → (book : List Page) (v : ℕ) (read : Call)
     → TakesOut reading book read v → (rest : List Place) (cut list : List ℕ)
@@ -270,7 +272,8 @@ irreplaceable_is_held reading held next is book v read reads
     (next list op).0 wider later
     (unwritten_later reading book cut v place.caller there unwritten) still goes.1
 
--- An order that goes on by a call that needn't be tried goes on by fewer places.
+-- Where places that continue an order begin with a call that needn't be tried, fewer places do
+-- without it.
 needless_is_left_out : (reading : Reading) (held : List ℕ → ℕ) (next : List ℕ → ℕ → List ℕ × ℕ)
     → HoldsLast reading held next → (book : List Page) (cut list : List ℕ) (place : Place)
     (rest : List Place) → length book ≤ length cut → HasOneOpen book
@@ -340,7 +343,8 @@ needless_is_left_out reading held next is book cut list place rest wide one need
           (on.0, on.1, omega (arith, there.2, on.2))
     ]
 
--- What is left suffices where all that is left out is needless.
+-- The remaining marks suffice where the next calls of all callers that lost their marks are
+-- needless.
 left_suffice : (reading : Reading) (held : List ℕ → ℕ) (next : List ℕ → ℕ → List ℕ × ℕ)
     → HoldsLast reading held next → (book : List Page) (cut list : List ℕ) (all left : Marks)
     → length book ≤ length cut → HasOneOpen book → MarksSuffice book next cut list all
@@ -375,7 +379,7 @@ needed_suffice reading held next is book cut list forced all left wide one force
     (all_next_suffice book next cut list forced all force marks) needless (length rest) rest
     (omega arith) goes
 
--- One caller less is left, whose next call is needless.
+-- One more caller, whose next call is needless, has lost its mark.
 pub record AreNeeded (reading : Reading) (book : List Page) (cut : List ℕ) (held : ℕ)
     (all left : Marks) : Type 0 where
   pub fewer : IsMarkedWithin left all
@@ -402,7 +406,7 @@ one_less_needed reading book cut held caller all left new without needless are =
   ];
 }
 
--- ---- what is outside
+-- ---- calls outside a cut
 
 outside_put_false : (reading : Reading) (book : List Page) (cut : List ℕ) (v : ℕ) (call : Call)
     → (WritesOutside reading book cut v call → ⊥) → IsTrue false
@@ -439,7 +443,7 @@ no_value_reads reading book cut v call none = (
   λ (reads : ReadsOutside reading book cut v call). absurd (none v reads.0),
 )
 
--- where some of the listed calls are outside
+-- a value is written outside a cut where some of its listed puts is outside
 pub written_if : (reading : Reading) (book : List Page) (cut : List ℕ) (sight : Sight) (v : ℕ)
     (calls : List Call) (answer : Bool) → ListsValues reading book sight → calls ≡ puts_of sight v
     → (IsTrue answer → IsWritten reading book cut v) → (answer ≡ false → (call : Call)
