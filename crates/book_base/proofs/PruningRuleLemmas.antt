@@ -165,8 +165,8 @@ infeasible_from_first init next book cut list call other first lacks before rest
     ) in
     lacks (reaches.holds found.0 other there)
 
--- a call that a raised predecessor bound holds and a cut lacks is in the old bound, or is the added
--- one
+-- where a cut lacks a call that a raised predecessor bound holds, it lacks one that the bound held
+-- before, or the call by which the bound was raised
 below_raised : (cut predecessor_bound : List ℕ) (other : Call)
     → IsBelow cut (set predecessor_bound other.caller
     (max (get_or predecessor_bound other.caller 0) (other.number + 1)))

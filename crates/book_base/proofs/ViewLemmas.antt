@@ -315,8 +315,8 @@ views_within_high book caller view low high middle valid h above below s at out 
       omega (arith, rise, within i));
 }
 
--- a view that is within a caller's first view that isn't within it is within all later ones of this
--- caller
+-- a view is comparable with all views of a caller where it is within the first of them that isn't
+-- within it
 pub comparable_with_all : (book : List Page) (caller number : ℕ) (view : List ℕ) → IsValid book
     → AreViewsWithin book caller view number number
     → (s : Record) → record_of book (record { caller = caller; number = number }) ≡ Some s

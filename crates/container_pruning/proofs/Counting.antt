@@ -305,7 +305,7 @@ lowered xs i n =
       omega (arith, here),
     )
 
--- a call of the book that isn't read with a caller's calls is of a later caller
+-- a call that is read once all callers up to one are read is read once all calls of this one are
 read_to_next : (reading : Reading) (book : List Page) (i : ℕ) (c : Call)
     → (deal_of reading book c ≡ deals.Other → ⊥) → IsReadTo (i + 1) 0 c
     → IsReadTo i (calls_of book i) c
@@ -343,7 +343,7 @@ counted_caller reading book i n uses all few is =
           (λ other. let both : deals.OpenTake ≡ deals.Other = sym e ∙ other in cc) h) e;
     }
 
--- before any call is read, none is
+-- no call is read at the start
 read_none : (c : Call) → IsReadTo 0 0 c → ⊥
 read_none c (inl lt) = omega (arith, lt)
 read_none c (inr h) = omega (arith, h.1)

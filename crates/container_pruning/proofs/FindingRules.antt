@@ -160,7 +160,8 @@ kept_without_ranks reading init next book discipline links uses ranks is counted
 
 -- ---- views are comparable
 
--- of two views the one that counts no more calls is within the other
+-- a view that is within another one, and counts no fewer calls in all, counts as many of each
+-- caller
 chain_within : (a b : List ℕ) → length a ≡ length b → IsWithin a b → sum b ≤ sum a → (i : ℕ)
     → get_or b i 0 ≤ get_or a i 0
 chain_within a b long within few i = elim (cases_Bool (bytes_eq a b)) [
@@ -168,7 +169,7 @@ chain_within a b long within few i = elim (cases_Bool (bytes_eq a b)) [
   | inr apart ↦ absurd (omega (arith, few, sum-rises_apart a b long (λ t _. within t) apart))
 ]
 
--- an answered call whose view counts fewer calls counts no more calls of any caller
+-- a view that counts no more calls than another one in all counts no more of any caller
 view_below : (book : List Page) → IsValid book → (a c : Call) (r s : Record)
     → record_of book a ≡ Some r → record_of book c ≡ Some s → sum s.view ≤ sum r.view → (i : ℕ)
     → get_or s.view i 0 ≤ get_or r.view i 0
@@ -193,8 +194,7 @@ precedes_below book valid a b c r s at_a at_c few precedes =
     inl (subst (λ (o : Option Record). IsSomeAnd o (λ s. get_or s.view b.caller 0 ≤ b.number))
     (sym at_c) (omega (arith, seen, less)))
 
--- a word of a rank below a reach is taken by a call that precedes all that the call with this reach
--- precedes
+-- a list with an early word has a value with a right rank that is below the limit
 early_is_taken : (reading : Reading) (book : List Page) (ranks : List (ℕ × ℕ)) (list : List ℕ)
     (limit : ℕ) → AreRanks reading book ranks → HasEarly ranks list limit
     → (x rank : ℕ) × Contains list x × IsRanked reading book x rank × (rank < limit)
@@ -294,7 +294,7 @@ pub none_early_at : (ranks : List (ℕ × ℕ)) (list : List ℕ) (limit : ℕ) 
 none_early_at ranks list limit none early =
     none_early ranks list (subst (λ (n : ℕ). HasEarly ranks list n) none early)
 
--- a limit at the same ranks has the same early words
+-- a list that has an early word has one also by equal ranks and an equal limit
 pub early_same : (ranks old : List (ℕ × ℕ)) (list : List ℕ) (limit reach : ℕ) → ranks ≡ old
     → limit ≡ reach → HasEarly ranks list limit → HasEarly old list reach
 early_same ranks old list limit reach same is early =

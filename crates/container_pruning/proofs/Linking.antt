@@ -132,8 +132,8 @@ pub refused_is_right : (reading : Reading) (book : List Page) (uses : Uses) (dea
 refused_is_right reading book uses deal refused is e so =
     refused_by_deal reading book uses deal is (sym e ∙ so)
 
--- a property of each item of a list, and of the default past its end, is one of each item of the
--- list with one more item that has it
+-- a property of what is at each place of a list, the default included, holds also with one more
+-- item at the end that has it
 pub each_pushed : {X : Type 0} (P : ℕ → X → Type 0) (xs : List X) (x d : X)
     → ((k : ℕ) → P k (get_or xs k d)) → P (length xs) x → (k : ℕ) → P k (get_or (xs ++ x ∷ []) k d)
 each_pushed P [] x d each here zero = here

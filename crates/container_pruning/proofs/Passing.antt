@@ -73,7 +73,8 @@ last_same : (predecessor_bound old : List ℕ) (i : ℕ) → get_or predecessor_
     → last_held old i ≡ last_held predecessor_bound i
 last_same predecessor_bound old i same = ap (λ (n : ℕ). call_of i (n - 1)) (sym same)
 
--- a call that was passed, with what its link says
+-- A predecessor bound of passed calls: its counts are small, and its last call of each caller is
+-- the one that the link of some passed call names.
 record IsPassed (P : Call → Type 0) (links : Links) (predecessor_bound : List ℕ) : Type 0 where
   few : (i : ℕ) → get_or predecessor_bound i 0 ≤ MAX_CALLS
   leads : (i : ℕ) → 0 < get_or predecessor_bound i 0 → (a : Call) × P a

@@ -45,8 +45,7 @@ pub record EndsAfterLast {X : Type 0} (passes : X → Bool) (xs : List X) (n : �
   pub last : (k : ℕ) → k < n → (m : ℕ) × (z : X) × (k ≤ m) × (m < n) × (slice_get xs m ≡ Some z)
       × (passes z ≡ true)
 
--- a prefix that ends after the last item that passes is one longer, where an item is added before
--- the list
+-- with one more item before the list, the prefix that is one longer has each item that passes
 longer_all : {X : Type 0} (passes : X → Bool) (x : X) (xs : List X) (n : ℕ)
     → EndsAfterLast passes xs n
     → (k : ℕ) (z : X) → slice_get (x ∷ xs) k ≡ Some z → passes z ≡ true → k < suc n
@@ -72,8 +71,8 @@ ends_after-longer : {X : Type 0} (passes : X → Bool) (x : X) (xs : List X) (n 
 ends_after-longer passes x xs n h some =
     record { all = longer_all passes x xs n h; last = longer_last passes x xs n h some }
 
--- the empty prefix stays one that ends after the last item that passes, where an item that doesn't
--- pass is added before a list in which none passes
+-- with one more item that doesn't pass before a list in which none passes, the empty prefix has
+-- each item that passes
 none_passes : {X : Type 0} (passes : X → Bool) (x : X) (xs : List X) → EndsAfterLast passes xs 0
     → passes x ≡ false
     → (k : ℕ) (z : X) → slice_get (x ∷ xs) k ≡ Some z → passes z ≡ true → k < 0

@@ -46,8 +46,7 @@ may_come-from_least book cut first caller view valid h is held =
       | inr own ↦ absurd (omega (arith, own.1, ap (λ (i : ℕ). get_or cut i 0) own.0))
     ])
 
--- A call may not come next where the least view doesn't hold it, unless it is the call with this
--- view.
+-- A call may not come next where the least view holds no call of its caller outside the cut.
 pub may_not_come-from_least : (book : List Page) (cut : List ℕ) (first : ℕ) (view : List ℕ)
     (below : ℕ) (call : Call) → IsLeast book cut below first
     → ((r : Record) → record_of book (next_call cut first) ≡ Some r → r.view ≡ view)
@@ -160,7 +159,7 @@ least-first book cut caller none answered = record {
       ];
 }
 
--- the old caller's view stays the least where the new caller's isn't within it
+-- the old caller's view stays the least where it is within the new caller's
 pub least-old : (book : List Page) (cut : List ℕ) (caller old : ℕ) → IsLeast book cut caller old
     → ViewsAreWithin book (next_call cut old) (next_call cut caller)
     → IsLeast book cut (caller + 1) old
@@ -173,7 +172,7 @@ least-old book cut caller old h within = record {
   ];
 }
 
--- a caller without an answered call outside the cut has no view to compare
+-- each view is within that of a caller's next call where this call isn't answered
 pub no_view : (book : List Page) (cut : List ℕ) (a : Call) (caller : ℕ)
     → (IsAnswered book (next_call cut caller) → ⊥) → ViewsAreWithin book a (next_call cut caller)
 no_view book cut a caller not r s rt st =

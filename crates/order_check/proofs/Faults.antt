@@ -81,7 +81,7 @@ legal_orders_fail_no_test init next book order h (Missing caller number) f =
     let there = h.answered call known.0 known.1 in
     f.1 there.0 (record { caller = caller; number = number; reply = known.0.reply }, there.1, refl)
 
--- a reply fault of a place names the object's reply and the place's own
+-- the object's reply to the operation of one place is one
 same_run : (init : List ℕ) (next : List ℕ → ℕ → List ℕ × ℕ) (book : List Page) (order : List Place)
     (p q : ℕ) (a b : Place) → p ≡ q → a ≡ b
     → reply_at init next book order p a ≡ reply_at init next book order q b
@@ -124,7 +124,7 @@ same_inside init next book order (Run p w x) (Run q v y) inside a b place turn s
 same_inside init next book order e f inside a b place turn step =
     absurd (omega (arith, inside, place, turn))
 
--- the place of a fault is within the list
+-- the place of a fault is within the list, unless the fault is a missing call
 pub placed : (init : List ℕ) (next : List ℕ → ℕ → List ℕ × ℕ) (book : List Page)
     (order : List Place) (e : OrderFault) → FailsTest init next book order e
     → (place_of order e < length order) ⊎ (e ≡ Missing (turn_of e) (step_of e))

@@ -17,8 +17,8 @@ use Rattle.pruning_laws.specs.Twins.{DoesTheSame, IsTwin, TwinServes}
 use Rattle.pruning_laws.proofs.Opening.{unanswered-precedes, unanswered-last, held_without}
 
 -- A call a may be tried instead of a call b: both may come next, with one operation, and where a is
--- answered, the reply is its own and b's. Each call that b precedes is preceded by a too, or, where
--- all answered calls precede it, is of b's caller.
+-- answered, the reply is its own and b's. Each call that b precedes, a precedes too, or it is of
+-- b's caller and all answered calls precede it.
 record Exchanged (book : List Page) (cut : List ℕ) (a b : Call) : Type 0 where
   apart : a.caller ≢ b.caller
   first : MayComeNext book cut a
@@ -31,7 +31,7 @@ record Exchanged (book : List Page) (cut : List ℕ) (a b : Call) : Type 0 where
   later : (p : Call) → Precedes book b p → Precedes book a p
       ⊎ ((b.caller ≡ p.caller) × ((x : Call) → IsAnswered book x → Precedes book x p))
 
--- call b isn't in a cut that has call a as its next one
+-- a cut that is raised by call b doesn't hold call a
 outside : (book : List Page) (cut : List ℕ) (a b : Call) → Exchanged book cut a b
     → Holds (raised cut b.caller) a → ⊥
 outside book cut a b h held =
@@ -51,7 +51,7 @@ exchanged-later book cut a b i inside first second h = record {
   later = h.later;
 }
 
--- at the end a cut that holds all answered calls holds them with call a too
+-- where a cut with call b holds all answered calls, the cut with call a instead does too
 exchanged-end : (book : List Page) (cut : List ℕ) (a b : Call) → a.caller < length cut
     → b.caller < length cut → Exchanged book cut a b
     → ((x : Call) → IsAnswered book x → Holds (raised cut b.caller) x)
@@ -69,7 +69,7 @@ exchanged-end book cut a b ina inb h all x answered =
 abbrev moved : Call → ℕ → Place
 moved b reply = record { caller = b.caller; number = b.number; reply = reply }
 
--- where call a has its turn, call b comes instead
+-- where call a may come next once call b has come, call b may come next once call a has come
 its_turn : (book : List Page) (next : List ℕ → ℕ → List ℕ × ℕ) (cut list : List ℕ) (a b : Call)
     (place : Place) → a.caller < length cut → Exchanged book cut a b
     → call_at place ≡ a → MayStandNext book next (raised cut b.caller) list place
@@ -183,7 +183,8 @@ exchange book next cut list a b (place ∷ rest) wide h goes =
       ]
     ]
 
--- an answered call with a greater view precedes only what one with a lesser view precedes
+-- an answered call whose view is within another one precedes each call that the other view doesn't
+-- hold
 within_precedes : (book : List Page) (a b p : Call) (r s : Record) → record_of book a ≡ Some r
     → record_of book b ≡ Some s → IsWithin r.view s.view
     → get_or s.view p.caller 0 ≤ p.number → Precedes book a p

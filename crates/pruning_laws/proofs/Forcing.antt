@@ -30,8 +30,8 @@ forced-least book cut forced x r s valid is known found out i =
     is.least x.caller caller r there.0 known there.1 i in
     omega (arith, within, views_grow book valid first x there.0 s there.1 found refl out i)
 
--- Where a call x is preceded by another call p than the forced one, and may come next once p has
--- come, p doesn't precede x if the forced call comes after both, or is x itself.
+-- In a book with one open, where a call outside the cut precedes another call, the forced call
+-- precedes it too.
 pub forced-free : (book : List Page) (cut : List ℕ) (forced : ℕ) (p x : Call) → IsValid book
     → HasOneOpen book → IsForced book cut forced
     → get_or cut p.caller 0 ≤ p.number → (Precedes book (next_call cut forced) x → ⊥)

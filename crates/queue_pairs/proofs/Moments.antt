@@ -14,7 +14,7 @@ use Rattle.book_base.specs.Pruning.{HasOneOpen}
 use Rattle.book_base.proofs.ViewLemmas.{answer_stands}
 use Rattle.queue_pairs.specs.Moments.{moment_of, IsHeldBy, MayTakeEffect, HaveMoments, KeepPrecedence, AreHeld, PrecedesByMoments, MomentsKeepPrecedence}
 
--- a list that is within another one, and less at some place, has a lesser sum
+-- a list that is nowhere greater than another one, and less at some place, has a lesser sum
 sum-less : (xs ys : List ℕ) → length xs ≡ length ys → ((i : ℕ) → get_or xs i 0 ≤ get_or ys i 0)
     → (i : ℕ) → get_or xs i 0 < get_or ys i 0 → sum xs < sum ys
 sum-less [] [] wide within i less = absurd (omega arith)
@@ -28,7 +28,8 @@ sum-less (x ∷ xs) (y ∷ ys) wide within (suc i) less =
     let first : x ≤ y = within 0 in
     omega (arith, sum_by-cons (λ (n : ℕ). n) x xs, sum_by-cons (λ (n : ℕ). n) y ys)
 
--- Of two records the one whose view holds a call that the other's doesn't has the later moment.
+-- Of two records the one whose view holds a call that the other's view doesn't has the later
+-- moment.
 pub later_moment : (book : List Page) (a b : Call) (r s : Record) (call : Call) → IsValid book
     → record_of book a ≡ Some r → record_of book b ≡ Some s
     → get_or r.view call.caller 0 ≤ call.number → Holds s.view call → moment_of r < moment_of s
@@ -92,7 +93,8 @@ abbrev NoneAnswered : List Page → List Call → Type 0
 NoneAnswered book calls = (k : ℕ) (call : Call) (r : Record) → slice_get calls k ≡ Some call
     → record_of book call ≡ Some r → ⊥
 
--- what holds of the first call and of all others holds of all
+-- a moment that is no later than those of the first call and of all others is no later than those
+-- of all calls
 lasts-cons : (book : List Page) (m : ℕ) (call : Call) (calls : List Call)
     → ((r : Record) → record_of book call ≡ Some r → m ≤ moment_of r) → Lasts book m calls
     → Lasts book m (call ∷ calls)

@@ -1,5 +1,5 @@
--- What stands at earlier moments serves for what stands at later ones; and what is overdue never
--- stands.
+-- A standing at earlier moments serves for one at later moments; and an overdue call is never
+-- covered.
 use Rattle.std.proofs.Common.{◌≡◌, ℕ, ◌+◌, ◌<◌, ◌≤◌, ◌⊎◌, ◌∙◌, List, [], ◌∷◌, length, get_or, set, Some, refl, sym, ap, subst, inl, inr, arith}
 use Rattle.std.proofs.lemmas.Bool.{cases_lt, cases_eq}
 use Rattle.std.proofs.lemmas.List.{get_or-set_same, get_or-set_other, length-set, set_past}
@@ -14,7 +14,7 @@ use Rattle.container_pruning.specs.Deals.{deal_of}
 use Rattle.queue_pairs.specs.Moments.{moment_of, IsHeldBy}
 use Rattle.queue_pairs.specs.Pairs.{Paired, Pair, Step, Pairs, FindNothing, IsPut, IsTake, IsNext, MayPair, MayFind, MayStep, after, AreSteps}
 
--- the same numbers
+-- two lists of numbers with the same number for each caller
 pub record IsSame (one other : List ℕ) : Type 0 where
   pub wide : length one ≡ length other
   pub numbers : (i : ℕ) → get_or one i 0 ≡ get_or other i 0
@@ -45,7 +45,7 @@ same-set one other i n h = record {
   ];
 }
 
--- a call that is next of its kind is so wherever as many of its caller's calls stand
+-- a call that is the next of its kind at some numbers is so at others with its caller's number
 pub next-at : (kind : Call → Type 0) (one other : List ℕ) (call : Call) → get_or one call.caller 0
     ≡ get_or other call.caller 0 → IsNext kind other call → IsNext kind one call
 next-at kind one other call same next = record {
@@ -53,7 +53,8 @@ next-at kind one other call same next = record {
   first = λ n low high. next.first n (omega (arith, same, low)) high;
 }
 
--- The same puts and takes stand, no fewer takes that find nothing, at no later moments.
+-- A standing covers the same puts and takes as another one, and no fewer takes that find nothing,
+-- at no later moments.
 pub record IsEarlier (reading : Reading) (book : List Page) (t s : Paired) : Type 0 where
   pub puts : IsSame t.puts s.puts
   pub takes : IsSame t.takes s.takes
@@ -66,7 +67,7 @@ pub held_later : (book : List Page) (call : Call) (m n : ℕ) → m ≤ n → Is
     → IsHeldBy book call n
 held_later book call m n le h = (h.0, h.1, h.2, h.3, omega (arith, h.4, le))
 
--- A pair may stand where as many calls of its callers stand, at no later moments.
+-- A pair may come next where as many calls of its callers are covered, at no later moments.
 pub pair-at : (reading : Reading) (book : List Page) (t s : Paired) (pair : Pair)
     → get_or t.puts pair.put.caller 0 ≡ get_or s.puts pair.put.caller 0
     → get_or t.takes pair.take.caller 0 ≡ get_or s.takes pair.take.caller 0
@@ -85,7 +86,7 @@ pair-at reading book t s pair puts takes put_moment take_moment may = record {
   take_effect = may.take_effect;
 }
 
--- Takes that find nothing may stand where no fewer of them stand, after no later take.
+-- Takes that find nothing may come next where no fewer of them are covered, after no later take.
 pub find-at : (reading : Reading) (book : List Page) (t s : Paired) (m : ℕ)
     → ((e : Call) → deal_of reading book e ≡ deals.FoundNothing → IsHeldBy book e s.found
     → IsHeldBy book e t.found) → t.take_moment ≤ s.take_moment
@@ -96,7 +97,7 @@ find-at reading book t s m found moment may = record {
       may.in_time e r nothing known by (λ before. out (found e nothing before));
 }
 
--- a step that may stand may stand earlier
+-- a step that may come next at a standing may come next at an earlier one
 earlier-step : (reading : Reading) (book : List Page) (t s : Paired) (step : Step)
     → IsEarlier reading book t s → MayStep reading book s step
     → MayStep reading book t step × IsEarlier reading book (after t step) (after s step)
@@ -134,7 +135,7 @@ steps-earlier reading book t s (step ∷ steps) h are =
     let first = earlier-step reading book t s step h are.0 in
     (first.0, steps-earlier reading book (after t step) (after s step) steps first.1 are.1)
 
--- A step at whose moment no more takes find nothing may be left out.
+-- A step of takes that find nothing may be left out where it covers no more of them.
 pub find-idle : (reading : Reading) (book : List Page) (s : Paired) (m : ℕ) (steps : List Step)
     → s.put_moment ≤ s.take_moment
     → ((e : Call) → deal_of reading book e ≡ deals.FoundNothing → IsHeldBy book e m
@@ -150,7 +151,7 @@ find-idle reading book s m steps turn none are =
       take_moment = omega (arith, are.0.after_takes);
     }) are.1
 
--- Takes that find nothing may do so before the others of a later step.
+-- Some takes that find nothing may come before the others of a later step.
 pub find-earlier : (reading : Reading) (book : List Page) (s : Paired) (g m : ℕ) (steps : List Step)
     → s.found ≤ g → g ≤ m
     → AreSteps reading book s (FindNothing m ∷ steps)
@@ -164,7 +165,8 @@ find-earlier reading book s g m steps low le are = (
   are.1,
 )
 
--- a call that is next of its kind, and one of the kind that doesn't stand, of the same caller
+-- the next call of a kind is no later than another call of the kind and of the same caller that
+-- isn't covered
 pub next-least : (kind : Call → Type 0) (numbers : List ℕ) (call other : Call)
     → IsNext kind numbers call → kind other → other.caller ≡ call.caller
     → get_or numbers other.caller 0 ≤ other.number → call.number ≤ other.number
@@ -190,7 +192,8 @@ next-same kind numbers call other next there is has caller =
     next-least kind numbers other call there is (sym caller) next.outside in
     same_call other call caller (omega arith)
 
--- what doesn't stand after the next of a kind stands, doesn't before, and is another one
+-- a call that isn't covered after the next call of a kind is isn't covered before, and is another
+-- call
 pub still-outside : (kind : Call → Type 0) (numbers : List ℕ) (call other : Call)
     → IsNext kind numbers call → kind other → get_or numbers other.caller 0 ≤ other.number
     → (other ≡ call)
@@ -242,7 +245,7 @@ outside-before numbers call other was inside out =
           (arith, out, get_or-set_other numbers call.caller other.caller (call.number + 1) 0 apart)
     ]
 
--- An answered put that doesn't stand isn't overdue.
+-- An answered put that isn't covered isn't overdue, where steps lead to a whole standing.
 pub put-due : (reading : Reading) (book : List Page) (s : Paired) (steps : List Step) (p : Call)
     (r : Record) → s.put_moment ≤ s.take_moment → AreSteps reading book s steps
     → IsPut reading book p → record_of book p ≡ Some r → get_or s.puts p.caller 0 ≤ p.number
@@ -269,7 +272,8 @@ put-due reading book s (FindNothing m ∷ steps) p r turn are put known out =
       put-due reading book (after s (FindNothing m)) steps p r (omega arith) are.1 put known out,
     )
 
--- An answered take that shows a value and doesn't stand isn't overdue.
+-- An answered take that shows a value and isn't covered isn't overdue, where steps lead to a whole
+-- standing.
 pub take-due : (reading : Reading) (book : List Page) (s : Paired) (steps : List Step) (t : Call)
     (v : ℕ) (r : Record) → AreSteps reading book s steps
     → deal_of reading book t ≡ deals.Took v → record_of book t ≡ Some r
@@ -296,7 +300,7 @@ take-due reading book s (FindNothing m ∷ steps) t v r are took known out =
       take-due reading book (after s (FindNothing m)) steps t v r are.1 took known out,
     )
 
--- A take that finds nothing and doesn't stand isn't overdue.
+-- A take that finds nothing and isn't covered isn't overdue, where steps lead to a whole standing.
 pub find-due : (reading : Reading) (book : List Page) (s : Paired) (steps : List Step) (e : Call)
     (r : Record) → IsValid book → AreSteps reading book s steps
     → deal_of reading book e ≡ deals.FoundNothing → record_of book e ≡ Some r

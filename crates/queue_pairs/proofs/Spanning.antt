@@ -19,7 +19,7 @@ use Rattle.queue_pairs.specs.Spans.{IsSpanOf, AreHolding, IsFirstBelow}
 
 -- ---- moments
 
--- what a view counts of a caller is few
+-- a view counts few calls of a caller
 pub few-counts : (book : List Page) (call : Call) (r : Record) → IsValid book → IsSmall book
     → record_of book call ≡ Some r → (i : ℕ) → get_or r.view i 0 ≤ MAX_CALLS
 few-counts book call r valid small at i =
@@ -63,7 +63,7 @@ holding-all book caller call = record {
       (let there : k < answers_of book caller = slice_get_within _ k r at in omega arith);
 }
 
--- the view in the middle doesn't hold it
+-- where the view in the middle doesn't hold the call, the search goes on after it
 pub holding-low : (book : List Page) (caller : ℕ) (call : Call) (low high middle : ℕ)
     → IsValid book → AreHolding book caller call low high → middle < high → (s : Record)
     → record_of book (record { caller = caller; number = middle }) ≡ Some s
@@ -78,7 +78,7 @@ holding-low book caller call low high middle valid h below s at lacks = record {
   above = h.above;
 }
 
--- it does
+-- where the view in the middle holds the call, the search goes on before it
 pub holding-high : (book : List Page) (caller : ℕ) (call : Call) (low high middle : ℕ)
     → IsValid book → AreHolding book caller call low high → low ≤ middle → middle < high
     → (s : Record) → record_of book (record { caller = caller; number = middle }) ≡ Some s
@@ -93,7 +93,7 @@ holding-high book caller call low high middle valid h above below s at holds = r
       omega (arith, rise, holds);
 }
 
--- so the moment of the first one is the least, and there is none where all are passed
+-- the moment of a caller's first view that holds a call is the least of this caller's
 pub first-held : (book : List Page) (caller : ℕ) (call : Call) (first : ℕ) (r : Record)
     → AreHolding book caller call first first
     → record_of book (record { caller = caller; number = first }) ≡ Some r

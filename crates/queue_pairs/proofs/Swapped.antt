@@ -1,4 +1,4 @@
--- Two calls of one kind, each in the other's place in numbers of calls that are else the same.
+-- Two lists of numbers of covered calls that differ in one call each of one kind.
 use Rattle.std.proofs.Common.{◌≡◌, ◌≢◌, ℕ, ◌+◌, ◌<◌, ◌≤◌, ◌∙◌, List, length, get_or, set, Some, sym, ap, inl, inr, arith}
 use Rattle.std.proofs.lemmas.Bool.{cases_lt, cases_eq}
 use Rattle.std.proofs.lemmas.List.{get_or-set_same, get_or-set_other, length-set, set_past}
@@ -13,7 +13,8 @@ use Rattle.queue_pairs.specs.Serving.{IsDueNoLater}
 use Rattle.queue_pairs.proofs.Moments.{later_moment}
 use Rattle.queue_pairs.proofs.Serving.{IsSame, next-at}
 
--- numbers that are alike at a place are so when one caller's number is put into both
+-- two lists with the same number at a place have the same number there when one caller's number is
+-- set in both
 set-alike : (one other : List ℕ) (at n i : ℕ) → length other ≡ length one
     → get_or other i 0 ≡ get_or one i 0 → get_or (set other at n) i 0 ≡ get_or (set one at n) i 0
 set-alike one other at n i wide alike =
@@ -35,8 +36,8 @@ set-alike one other at n i wide alike =
           ∙ (alike ∙ sym (get_or-set_other one at i n 0 apart))
     ]
 
--- The call w stands in one list of numbers where p stands in the other: each is the next of its
--- kind where the other one stands, and all callers but theirs have the same numbers.
+-- One list of numbers covers call w and has p as its next call of the kind, the other list covers p
+-- and has w as the next one; all other callers have the same numbers in both.
 pub record AreSwapped (kind : Call → Type 0) (one other : List ℕ) (p w : Call) : Type 0 where
   pub apart : p.caller ≢ w.caller
   pub next_p : IsNext kind one p
@@ -48,7 +49,7 @@ pub record AreSwapped (kind : Call → Type 0) (one other : List ℕ) (p w : Cal
   pub inside_p : p.caller < length one
   pub inside_w : w.caller < length one
 
--- Once each call stands in both lists of numbers, the numbers are the same.
+-- Once both calls are covered by both lists of numbers, the numbers are the same.
 pub both-stand : (kind : Call → Type 0) (one other : List ℕ) (p w x : Call)
     → AreSwapped kind one other p w → x ≡ p
     → IsSame (set other w.caller (w.number + 1)) (set one x.caller (x.number + 1))
@@ -89,7 +90,8 @@ both-stand kind one other p w x h is =
       ];
     }
 
--- Where both calls are next, one list of numbers has the one and another list has the other.
+-- Where both calls are next at the same numbers, one list covers the one of them, and the other
+-- list the other.
 pub swapped-first : (kind : Call → Type 0) (numbers : List ℕ) (p w : Call) → p.caller ≢ w.caller
     → IsNext kind numbers p → IsNext kind numbers w → p.caller < length numbers
     → w.caller < length numbers → AreSwapped kind (set numbers w.caller (w.number + 1))
@@ -118,7 +120,7 @@ swapped-first kind numbers p w apart next_p next_w inside_p inside_w =
       inside_w = omega (arith, inside_w, long_w);
     }
 
--- Two calls stay in each other's place where a third caller's call comes to stand in both lists.
+-- The two lists still differ in the two calls when a third caller's call is covered by both.
 pub swapped-more : (kind : Call → Type 0) (one other : List ℕ) (p w x : Call)
     → AreSwapped kind one other p w → x.caller ≢ p.caller → x.caller ≢ w.caller
     → AreSwapped kind (set one x.caller (x.number + 1)) (set other x.caller (x.number + 1)) p w
@@ -148,7 +150,7 @@ swapped-more kind one other p w x h not_p not_w =
       inside_w = omega (arith, h.inside_w, long_one);
     }
 
--- A call takes effect where the one in its place does, if that is due no later.
+-- Call w may take effect when p does, where some view holds w by then and p is due no later than w.
 pub effect-moves : (book : List Page) (p w x : Call) (m : ℕ) → x ≡ p → IsHeldBy book w m
     → IsDueNoLater book p w → MayTakeEffect book x m → MayTakeEffect book w m
 effect-moves book p w x m is held due effect = record {
@@ -157,7 +159,7 @@ effect-moves book p w x m is held due effect = record {
       (arith, d.2, effect.last d.0 (ap (λ (c : Call). record_of book c) is ∙ d.1));
 }
 
--- No call after w of its caller takes effect while p, which is due no later than w, doesn't stand.
+-- No later call of w's caller takes effect while p, which is due no later than w, isn't covered.
 pub none-after : (kind : Call → Type 0) (one other : List ℕ) (book : List Page) (p w x : Call)
     (m : ℕ) → IsValid book → HasOneOpen book → AreSwapped kind one other p w → IsNext kind one x
     → x.caller ≡ w.caller → MayTakeEffect book x m → IsDueNoLater book p w

@@ -1,4 +1,4 @@
--- Of two puts of one value that may stand next, one serves for the other; and so of two takes.
+-- Of two next puts of one value one serves for the other; and so of two next takes of one deal.
 use Rattle.std.proofs.Common.{◌≡◌, ◌≢◌, ℕ, ◌+◌, ◌<◌, ◌≤◌, ◌∙◌, List, [], ◌∷◌, length, get_or, set, Some, refl, sym, ap, subst, inl, inr, arith}
 use Rattle.std.proofs.lemmas.Bool.{cases_lt, cases_eq}
 use Rattle.std.proofs.lemmas.Option.{slice_get_within}
@@ -19,15 +19,15 @@ use Rattle.container_pruning.proofs.Dealing.{call_by_deal}
 use Rattle.queue_pairs.proofs.Serving.{IsSame, same-refl, same-set, next-at, IsEarlier, held_later, pair-at, find-at, steps-earlier, next-least, next-same, put-due, take-due}
 use Rattle.queue_pairs.proofs.Swapped.{AreSwapped, both-stand, swapped-first, swapped-more, effect-moves, none-after}
 
--- what goes on from one goes on from the other, in as many steps
+-- steps lead from a standing to one that is whole, and there are this many of them
 abbrev pub GoesOnAsLong : Reading → List Page → Paired → ℕ → Type 0
 GoesOnAsLong reading book t n = (other : List Step) × AreSteps reading book t other
     × (length other ≡ n)
 
 -- ---- puts
 
--- A put w stands in s where in t another put p of its value does: both may take effect next, and p
--- is due no later than w.
+-- Standing s covers a put w where standing t covers another put p of its value: both may take
+-- effect next, and p is due no later than w.
 record PutsSwapped (reading : Reading) (book : List Page) (s t : Paired) (p w : Call) : Type 0 where
   value : ℕ
   p_puts : IsPutOf reading book value p
@@ -41,7 +41,7 @@ record PutsSwapped (reading : Reading) (book : List Page) (s t : Paired) (p w : 
   held : IsHeldBy book w s.put_moment
   due : IsDueNoLater book p w
 
--- At the end all that is answered may still take effect.
+-- Where standing s is whole, standing t is too.
 swapped-end : (reading : Reading) (book : List Page) (s t : Paired) (p w : Call)
     → PutsSwapped reading book s t p w → IsWhole reading book s → IsWhole reading book t
 swapped-end reading book s t p w h whole = let k = h.places in record {
@@ -90,7 +90,7 @@ swapped-end reading book s t p w h whole = let k = h.places in record {
   ];
 }
 
--- A pair with another put stands in both.
+-- A pair with another put may come next at both standings.
 swapped-later : (reading : Reading) (book : List Page) (s t : Paired) (p w : Call) (pair : Pair)
     → PutsSwapped reading book s t p w → MayPair reading book s pair
     → pair.put.caller ≢ p.caller → pair.put.caller ≢ w.caller → MayPair reading book t pair
@@ -114,7 +114,7 @@ swapped-later reading book s t p w pair h may not_p not_w = (
   },
 )
 
--- Where p stands in s, w stands in t, and then the same puts stand in both.
+-- Where standing s goes on with p, standing t may go on with w, and then both cover the same puts.
 swapped-here : (reading : Reading) (book : List Page) (s t : Paired) (p w : Call) (pair : Pair)
     → PutsSwapped reading book s t p w → MayPair reading book s pair → pair.put ≡ p
     → MayPair reading book t (record pair { put = w })
@@ -199,8 +199,8 @@ puts-swapped reading book s t p w (FindNothing m ∷ steps) valid one h are =
 
 -- ---- takes
 
--- A take w stands in s where in t another take p of its deal does: both may take effect next, and p
--- is due no later than w.
+-- Standing s covers a take w where standing t covers another take p of its deal: both may take
+-- effect next, and p is due no later than w.
 record TakesSwapped (reading : Reading) (book : List Page) (s t : Paired)
     (p w : Call) : Type 0 where
   same : deal_of reading book p ≡ deal_of reading book w
@@ -213,7 +213,7 @@ record TakesSwapped (reading : Reading) (book : List Page) (s t : Paired)
   held : IsHeldBy book w s.take_moment
   due : IsDueNoLater book p w
 
--- what may take out a value does so by its deal
+-- two takes of one deal may take out the same values
 by_deal : (reading : Reading) (book : List Page) (v : ℕ) (a b : Call) → deal_of reading book a
     ≡ deal_of reading book b → MayTakeOut reading book v a → MayTakeOut reading book v b
 by_deal reading book v a b same is = elim is [
@@ -257,7 +257,7 @@ takes-end reading book s t p w h whole = let k = h.places in record {
       (arith, h.put_moment, whole.kept c r put known (omega (arith, out, h.puts.numbers c.caller)));
 }
 
--- A take that a record answers takes effect no later than the record says.
+-- An answered take takes effect no later than its record says.
 take-in-time : (reading : Reading) (book : List Page) (s : Paired) (steps : List Step) (p : Call)
     (o : Record) → AreSteps reading book s steps → IsTake reading book p
     → record_of book p ≡ Some o → get_or s.takes p.caller 0 ≤ p.number
@@ -271,7 +271,7 @@ take-in-time reading book s steps p o are takes known out =
           absurd (omega (arith, past, slice_get_within _ p.number o known))
     ]
 
--- A pair with another take stands in both.
+-- A pair with another take may come next at both standings.
 takes-later : (reading : Reading) (book : List Page) (s t : Paired) (p w : Call) (pair : Pair)
     → TakesSwapped reading book s t p w → MayPair reading book s pair
     → pair.take.caller ≢ p.caller → pair.take.caller ≢ w.caller → MayPair reading book t pair
@@ -293,7 +293,7 @@ takes-later reading book s t p w pair h may not_p not_w = (
   },
 )
 
--- Where p stands in s, w stands in t, and then the same takes stand in both.
+-- Where standing s goes on with p, standing t may go on with w, and then both cover the same takes.
 takes-here : (reading : Reading) (book : List Page) (s t : Paired) (p w : Call) (pair : Pair)
     → TakesSwapped reading book s t p w → MayPair reading book s pair → pair.take ≡ p
     → MayPair reading book t (record pair { take = w })
@@ -378,7 +378,7 @@ takes-swapped reading book s t p w (FindNothing m ∷ steps) valid one h are =
 
 -- ---- one serves for the other
 
--- a call with the deal of a put or of a take is the book's, so that its caller has a number
+-- a standing has a number for the caller of a put or of a take
 put-inside : (reading : Reading) (book : List Page) (numbers : List ℕ) (p : Call)
     → length book ≤ length numbers → IsPut reading book p → p.caller < length numbers
 put-inside reading book numbers p wide put =

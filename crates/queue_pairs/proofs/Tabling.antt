@@ -111,7 +111,7 @@ finds-more reading book caller below finds t h new nothing = record {
   ];
 }
 
--- one more call, which does something else
+-- one more call, which doesn't find nothing
 pub finds-other : (reading : Reading) (book : List Page) (caller below : ℕ) (finds : List TimedCall)
     → AreFindsTo reading book caller below finds
     → (deal_of reading book (record { caller = caller; number = below }) ≡ deals.FoundNothing → ⊥)
@@ -167,7 +167,7 @@ pub finds-step : (reading : Reading) (book : List Page) (caller below : ℕ)
 finds-step reading book caller below finds new t =
     finds-by reading book caller below finds new t (is_find t.deal) refl
 
--- all calls of a caller
+-- all calls of a caller are looked at
 pub finds-caller : (reading : Reading) (book : List Page) (caller : ℕ) (finds : List TimedCall)
     → AreFindsTo reading book caller (calls_of book caller) finds
     → AreFindsTo reading book (caller + 1) 0 finds
@@ -191,7 +191,7 @@ finds-caller reading book caller finds h = record {
 
 -- ---- the first from a number on
 
--- what isn't in a list isn't found there
+-- nothing is found past the end of a row
 pub past-none : (row : List TimedCall) (from : ℕ) (find : Option TimedCall → Option TimedCall)
     → find None ≡ None
     → ((k : ℕ) → from ≤ k → k < length row → find (slice_get row k) ≡ None)

@@ -1,5 +1,5 @@
--- A legal order is walked through, and its pairs are read off: the puts that are pending are the
--- values that the queue holds.
+-- A legal order is walked through, and its pairs are read off: the pending puts are those whose
+-- values the queue holds.
 use Rattle.std.proofs.Common.{◌≡◌, ℕ, zero, suc, ◌+◌, ◌<◌, ◌≤◌, ◌⊎◌, ◌∙◌, List, [], ◌∷◌, ◌++◌, length, map, replicate, get_or, set, Option, Some, None, unwrap_or, refl, sym, ap, subst, inl, inr, slice_get, length-set, arith}
 use Rattle.std.proofs.lemmas.Bool.{cases_lt, cases_eq}
 use Rattle.std.proofs.lemmas.List.{get_or-set_same, get_or-set_other, map-append, length-replicate}
@@ -27,7 +27,7 @@ use Rattle.queue_pairs.specs.Pairs.{Paired, Pair, Step, Pairs, FindNothing, IsPu
 use Rattle.queue_pairs.specs.PairLaws.{LegalOrdersHavePairs}
 use Rattle.queue_pairs.proofs.Moments.{held_unless_preceded, moments_keep_precedence}
 
--- an unanswered take isn't answered
+-- a take with a record isn't unanswered
 shown_open : (shown : Option ℕ) → shown_deal shown ≡ deals.OpenTake → ⊥
 shown_open None e = cc
 shown_open (Some v) e = cc
@@ -68,7 +68,7 @@ has_operation book call is =
       | inr past ↦ absurd (omega (arith, past.0, is))
     ]
 
--- what stands of an order, from a moment on, isn't due earlier
+-- a call that an order has from a moment on isn't due earlier
 pub outside-last : (book : List Page) (next : List ℕ → ℕ → List ℕ × ℕ) (cut list : List ℕ) (m : ℕ)
     (rest : List Place) (call : Call) (r : Record) → length book ≤ length cut
     → Continues book next cut list rest → HaveMoments book m (map call_at rest)
@@ -98,7 +98,7 @@ outside-last book next cut list m (place ∷ rest) call r wide goes have known o
       )
     ]
 
--- A put that stands and whose value isn't taken yet.
+-- A put that has come and whose value isn't taken yet.
 record Pending : Type 0 where
   call : Call
   value : ℕ
@@ -109,7 +109,7 @@ abbrev IsPending : Call → List Pending → Type 0
 IsPending call [] = ⊥
 IsPending call (x ∷ q) = (x.call ≡ call) ⊎ IsPending call q
 
--- A pending put stands in the order, and in no pair yet.
+-- A pending put is in the cut, and in no pair yet.
 record IsWaiting (reading : Reading) (book : List Page) (cut numbers : List ℕ)
     (x : Pending) : Type 0 where
   is_call : IsCall book x.call
@@ -122,14 +122,14 @@ record IsWaiting (reading : Reading) (book : List Page) (cut numbers : List ℕ)
 abbrev IsInTurn : Pending → List Pending → Type 0
 IsInTurn x q = (y : Call) → IsPending y q → y.caller ≡ x.call.caller → x.call.number < y.number
 
--- The pending puts, from a moment on and up to another one, one after another.
+-- The pending puts take effect one after another, from one moment on and up to another one.
 abbrev AreWaiting : Reading → List Page → List ℕ → List ℕ → ℕ → ℕ → List Pending → Type 0
 AreWaiting reading book cut numbers low high [] = low ≤ high
 AreWaiting reading book cut numbers low high (x ∷ q) =
     IsWaiting reading book cut numbers x × (low ≤ x.moment) × IsInTurn x q
     × AreWaiting reading book cut numbers x.moment high q
 
--- pending puts are pending still when one more call stands, up to a later moment
+-- pending puts stay pending when one more call has come, up to a later moment
 waiting-later : (reading : Reading) (book : List Page) (cut numbers : List ℕ) (i low high later : ℕ)
     (q : List Pending) → i < length cut → high ≤ later
     → AreWaiting reading book cut numbers low high q
@@ -148,7 +148,7 @@ waiting-later reading book cut numbers i low high later (x ∷ q) inside le h = 
   waiting-later reading book cut numbers i x.moment high later q inside le h.3,
 )
 
--- what is pending with one more put
+-- a put that is pending with one more put was pending before, or is that one
 pending-push : (call : Call) (q : List Pending) (x : Pending) → IsPending call (q ++ x ∷ [])
     → IsPending call q ⊎ (x.call ≡ call)
 pending-push call [] x h = elim h [ inl e ↦ inr e | inr none ↦ absurd none ]
@@ -170,7 +170,7 @@ pending-last : (q : List Pending) (x : Pending) → IsPending x.call (q ++ x ∷
 pending-last [] x = inl refl
 pending-last (y ∷ q) x = inr (pending-last q x)
 
--- what is pending stands
+-- a pending put is in the cut
 pending-held : (reading : Reading) (book : List Page) (cut numbers : List ℕ) (low high : ℕ)
     (q : List Pending) (call : Call) → AreWaiting reading book cut numbers low high q
     → IsPending call q → Holds cut call
@@ -181,7 +181,7 @@ pending-held reading book cut numbers low high (x ∷ q) call h is =
       | inr later ↦ pending-held reading book cut numbers x.moment high q call h.3 later
     ]
 
--- pending puts are no earlier than the first moment, and answered ones are due no earlier than it
+-- an answered put that is pending is due no earlier than the first moment
 pending-last_moment : (reading : Reading) (book : List Page) (cut numbers : List ℕ) (low high : ℕ)
     (q : List Pending) (call : Call) (r : Record)
     → AreWaiting reading book cut numbers low high q → IsPending call q
@@ -197,7 +197,7 @@ pending-last_moment reading book cut numbers low high (x ∷ q) call r h is know
       )
     ]
 
--- the moments of pending puts lie between
+-- the first moment is no later than the last one where puts are pending in between
 waiting-low : (reading : Reading) (book : List Page) (cut numbers : List ℕ) (low high : ℕ)
     (q : List Pending) → AreWaiting reading book cut numbers low high q → low ≤ high
 waiting-low reading book cut numbers low high [] h = h
@@ -238,7 +238,7 @@ waiting-push reading book cut numbers low high (y ∷ q) x inside at le is h = (
   waiting-push reading book cut numbers y.moment high q x inside at le is h.3,
 )
 
--- the first pending put is in a pair: the others are still pending
+-- once the first pending put is in a pair, the others are still pending
 waiting-paired : (reading : Reading) (book : List Page) (cut numbers : List ℕ) (low high : ℕ)
     (p : Call) (q : List Pending) → p.caller < length numbers
     → ((y : Call) → IsPending y q → y.caller ≡ p.caller → p.number < y.number)
@@ -271,9 +271,9 @@ waiting-paired reading book cut numbers low high p (x ∷ q) inside turn h = (
   waiting-paired reading book cut numbers x.moment high p q inside (λ y is. turn y (inr is)) h.3,
 )
 
--- Where a walk through an order stands, after the calls of a cut and up to a moment: the pending
--- puts are what the queue holds, and all other puts and takes of the cut stand in pairs or found
--- nothing.
+-- How far a walk through an order has come, after the calls of a cut and up to a moment: the
+-- pending puts are those whose values the queue holds, and the standing covers all other puts and
+-- takes of the cut.
 record Walked (reading : Reading) (book : List Page) (cut list : List ℕ) (s : Paired)
     (q : List Pending) (m : ℕ) : Type 0 where
   values : reading.values list ≡ map (λ x. x.value) q
@@ -291,11 +291,12 @@ record Walked (reading : Reading) (book : List Page) (cut list : List ℕ) (s : 
   wide_puts : length book ≤ length s.puts
   wide_takes : length book ≤ length s.takes
 
--- steps go on from what stands
+-- some steps lead from a standing to one that is whole
 abbrev pub GoesOn : Reading → List Page → Paired → Type 0
 GoesOn reading book s = (steps : List Step) × AreSteps reading book s steps
 
--- All that is known at a place: it stands next, at this moment, and its call isn't in the cut.
+-- All that is known at a place: it may come next, its call takes effect at this moment, and isn't
+-- in the cut.
 record Here (reading : Reading) (book : List Page) (next : List ℕ → ℕ → List ℕ × ℕ)
     (cut list : List ℕ) (s : Paired) (q : List Pending) (m n : ℕ) (place : Place) : Type 0 where
   walked : Walked reading book cut list s q m
@@ -304,7 +305,7 @@ record Here (reading : Reading) (book : List Page) (next : List ℕ → ℕ → 
   effect : MayTakeEffect book (call_at place) n
   inside : place.caller < length cut
 
--- A call of another kind stands: nothing is put in or taken out.
+-- A call comes that neither puts in nor takes: the walk goes on with the same standing.
 walked-other : (reading : Reading) (book : List Page) (next : List ℕ → ℕ → List ℕ × ℕ)
     (cut list : List ℕ) (s : Paired) (q : List Pending) (m n : ℕ) (place : Place)
     → Here reading book next cut list s q m n place
@@ -340,7 +341,7 @@ walked-other reading book next cut list s q m n place h no_put no_take no_empty 
       wide_takes = w.wide_takes;
     }
 
--- A put stands: it is pending.
+-- A put comes: it is pending.
 walked-put : (reading : Reading) (book : List Page) (next : List ℕ → ℕ → List ℕ × ℕ)
     (cut list : List ℕ) (s : Paired) (q : List Pending) (m n : ℕ) (place : Place) (v : ℕ)
     → Here reading book next cut list s q m n place → IsPutOf reading book v (call_at place)
@@ -390,7 +391,7 @@ walked-put reading book next cut list s q m n place v h is more =
       wide_takes = w.wide_takes;
     }
 
--- A take that finds nothing stands: so do all that some view holds by then.
+-- A take that finds nothing comes: the standing covers all that some view holds by then.
 walked-empty : (reading : Reading) (book : List Page) (next : List ℕ → ℕ → List ℕ × ℕ)
     (cut list : List ℕ) (s : Paired) (q : List Pending) (m n : ℕ) (place : Place)
     → Here reading book next cut list s q m n place
@@ -434,7 +435,7 @@ walked-empty reading book next cut list s (x ∷ q) m n place h is empty end =
     let wrong : x.value ∷ map (λ (y : Pending). y.value) q ≡ [] = sym h.walked.values ∙ empty in
     absurd cc
 
--- A take of the first pending put stands: the two are a pair.
+-- A take of the first pending put comes: the two are a pair.
 abbrev the_pair : Pending → Place → ℕ → Pair
 the_pair x place n =
     record { put = x.call; take = call_at place; put_moment = x.moment; take_moment = n }
@@ -577,7 +578,7 @@ walked-pair reading book next cut list s x q m n place h is less =
       wide_takes = omega (arith, w.wide_takes, length-set s.takes place.caller (place.number + 1));
     }
 
--- The pair may stand next.
+-- The pair of the first pending put and the take may come next.
 may_pair : (reading : Reading) (book : List Page) (next : List ℕ → ℕ → List ℕ × ℕ)
     (cut list : List ℕ) (s : Paired) (x : Pending) (q : List Pending) (m n : ℕ) (place : Place)
     → HasOneOpen book → Here reading book next cut list s (x ∷ q) m n place
@@ -624,7 +625,7 @@ may_pair reading book next cut list s x q m n place one h is =
       take_effect = h.effect;
     }
 
--- At the end all answered takes stand.
+-- At the end the standing covers all answered takes.
 walked-end : (reading : Reading) (book : List Page) (cut list : List ℕ) (s : Paired)
     (q : List Pending) (m : ℕ) → Walked reading book cut list s q m → HoldsAnswered book cut
     → IsWhole reading book s
@@ -637,7 +638,7 @@ walked-end reading book cut list s q m w all = record {
       w.waiting (w.pending p put (all p (slice_get_within _ p.number r known)) out) known;
 }
 
--- The takes that find nothing may stand next.
+-- The takes that find nothing and that some view holds by a moment may come next.
 may_find : (reading : Reading) (book : List Page) (next : List ℕ → ℕ → List ℕ × ℕ)
     (cut list : List ℕ) (s : Paired) (q : List Pending) (m n : ℕ) (place : Place)
     (rest : List Place)
@@ -653,12 +654,12 @@ may_find reading book next cut list s q m n place rest h wide goes have = record
       ]);
 }
 
--- How a walk goes on after a place, whatever stands in pairs then.
+-- A walk goes on after a place to a whole standing, whatever standing it has then.
 abbrev Goes : Reading → List Page → List ℕ → List ℕ → ℕ → Type 0
 Goes reading book cut list n = (s : Paired) (q : List Pending) → Walked reading book cut list s q n
     → GoesOn reading book s
 
--- A take that shows nothing.
+-- The walk goes on after a take that shows nothing.
 walk-nothing : (reading : Reading) (book : List Page) (next : List ℕ → ℕ → List ℕ × ℕ)
     (cut list : List ℕ) (s : Paired) (q : List Pending) (m n : ℕ) (place : Place)
     (rest : List Place)
@@ -685,7 +686,7 @@ walk-nothing reading book next cut list s q m n place rest h wide goes have on d
           )
     ]
 
--- A take that shows a value.
+-- The walk goes on after a take that shows a value.
 walk-value : (reading : Reading) (book : List Page) (next : List ℕ → ℕ → List ℕ × ℕ)
     (cut list : List ℕ) (s : Paired) (q : List Pending) (m n : ℕ) (place : Place) (v : ℕ)
     → HasOneOpen book → Here reading book next cut list s q m n place
@@ -709,7 +710,7 @@ walk-value reading book next cut list s (x ∷ q) m n place v one h on is first 
       (may_pair reading book next cut list s x q m n place one h takes, found.1),
     )
 
--- A take, by what the object shows.
+-- The walk goes on after a take, by what the object shows.
 walk-take : (reading : Reading) (book : List Page) (next : List ℕ → ℕ → List ℕ × ℕ)
     (cut list : List ℕ) (s : Paired) (q : List Pending) (m n : ℕ) (place : Place)
     (rest : List Place)
@@ -731,7 +732,7 @@ walk-take reading book next cut list s q m n place rest
       | inr took ↦ inl took
     ]) gives
 
--- what an answered take's record shows is what the object shows there
+-- the deal of an answered take is by what the object shows there
 deal_at : (reading : Reading) (book : List Page) (next : List ℕ → ℕ → List ℕ × ℕ)
     (cut list : List ℕ) (place : Place) → MayStandNext book next cut list place
     → deal_of reading book (call_at place) ≡ recorded_deal reading (record_of book (call_at place))
@@ -747,7 +748,7 @@ deal_at reading book next cut list place may is =
           ∙ ap (λ (w : ℕ). shown_deal (reading.shown w)) reply))
     ]
 
--- A place, by what its operation does.
+-- The walk goes on after a place, by what its operation does.
 walk-deed : (reading : Reading) (book : List Page) (next : List ℕ → ℕ → List ℕ × ℕ)
     (cut list : List ℕ) (s : Paired) (q : List Pending) (m n : ℕ) (place : Place)
     (rest : List Place)
@@ -772,7 +773,7 @@ walk-deed reading book next cut list s q m n place rest Neither is one h wide go
     (λ nothing. let wrong : deals.Other ≡ deals.FoundNothing = sym deal ∙ nothing in cc)
     (is.neither list (step_at book place).0 e))
 
--- From where a walk stands pairs go on, as the order does.
+-- From where a walk through an order is, steps lead to a whole standing.
 walk : (reading : Reading) (book : List Page) (next : List ℕ → ℕ → List ℕ × ℕ) (cut list : List ℕ)
     (s : Paired) (q : List Pending) (m : ℕ) (rest : List Place)
     → IsQueue reading next → HasOneOpen book → length book ≤ length cut
@@ -800,8 +801,8 @@ walk reading book next cut list s q m (place ∷ rest) is one wide w goes have =
     (λ t p walked. walk reading book next (raised cut place.caller) (list_after book next list
     place) t p have.0 rest is one wider walked goes.1 have.3) refl deal
 
--- What goes on after a cut up to the last answered call: some view holds each call, and where there
--- is a call an answered one is outside.
+-- The part of an order after a cut up to the last answered call: some view holds each of its calls,
+-- and while it has a call an answered one is outside the cut.
 record HeldPart (book : List Page) (next : List ℕ → ℕ → List ℕ × ℕ)
     (cut list : List ℕ) : Type 0 where
   rest : List Place
@@ -889,14 +890,14 @@ held_part book next cut list (place ∷ rest) valid wide goes =
           }
     ]
 
--- the call of a place stands there
+-- a call at an index of an order's calls is in the order at this index
 stands_from_calls : (order : List Place) (k : ℕ) (call : Call)
     → slice_get (map call_at order) k ≡ Some call → StandsAt order k call
 stands_from_calls [] k call at = absurd (none-some call at)
 stands_from_calls (place ∷ rest) zero call at = (place, refl, same_Some (call_at place) call at)
 stands_from_calls (place ∷ rest) (suc k) call at = stands_from_calls rest k call at
 
--- At the start nothing stands.
+-- At the start of a walk the standing covers no call.
 walked-start : (reading : Reading) (init : List ℕ) (book : List Page) (callers : ℕ)
     → length book ≤ callers → reading.values init ≡ []
     → Walked reading book (replicate (length book) 0) init (none_paired callers) [] 0
@@ -917,7 +918,8 @@ walked-start reading init book callers wide empty =
       wide_takes = omega (arith, wide, length-replicate {A = ℕ} callers 0);
     }
 
--- Where a legal order stands, steps go on from the start.
+-- Where a book has a legal order, steps lead from the standing that covers no call to one that is
+-- whole.
 pub steps_from_order : (reading : Reading) (init : List ℕ) (next : List ℕ → ℕ → List ℕ × ℕ)
     (book : List Page) (callers : ℕ) → IsQueue reading next → reading.values init ≡ []
     → IsValid book → HasOneOpen book → length book ≤ callers → HasLegalOrder init next book

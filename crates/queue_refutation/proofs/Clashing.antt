@@ -1,5 +1,5 @@
--- Where the values put in by a moment and those taken out by another one don't both begin one list,
--- there are no pairs.
+-- A book has no pairs where the values put in by a moment and those taken out by another one aren't
+-- both prefixes of one list.
 use Rattle.std.proofs.Common.{◌≡◌, ℕ, ◌+◌, ◌<◌, ◌≤◌, ◌⊎◌, ◌∙◌, Bool, true, false, nat_le, cond, List, [], ◌∷◌, length, Some, refl, sym, ap, subst, inl, inr, slice_get, arith}
 use Rattle.std.proofs.lemmas.Bool.{cases_lt, cond-true, eq-eqb, eqb-true, leb-true, le-leb}
 use Rattle.std.proofs.lemmas.List.{length-set, length-replicate}
@@ -97,7 +97,7 @@ due-take reading book v n t timed told few =
     = sym timed.deal ∙ ap known_deal (take-value v t.deal parts.0) in
     (there.0, took, there.1, omega (arith, there.2, low))
 
--- a put of the value may take effect by a moment, or does so later
+-- a put of a value may take effect by a moment, or only later
 early-put : (v m : ℕ) (t : TimedCall) → t.deal ≡ did.Put v
     → (is_counted counted.EarlyPuts v m t ≡ true) ⊎ (m < t.span.first)
 early-put v m t is =
@@ -167,7 +167,7 @@ entered reading book table s pair is may =
       take_inside = caller_from_call book pair.take.caller pair.take.number take_call;
     }
 
--- The pair's calls are counted no more after it.
+-- The calls of a pair aren't counted among the remaining ones after it.
 record IsCountedOff (reading : Reading) (book : List Page) (table : Table) (s : Paired)
     (pair : Pair)
     (v u m n : ℕ) (put take : TimedCall) : Type 0 where
@@ -205,7 +205,7 @@ counted-off reading book table s pair v u m n is wide_puts wide_takes may e = re
 }
 
 -- where a put of a pair is counted as due, its take may take effect by the other moment, unless it
--- does so later
+-- takes effect later
 put-needs : (reading : Reading) (book : List Page) (table : Table) (s : Paired) (pair : Pair)
     (u m n : ℕ) → MayPair reading book s pair → (e : Entered reading book table pair)
     → (n < pair.take_moment → ⊥) → is_counted counted.DuePuts u m e.put ≡ true
@@ -225,7 +225,7 @@ put-needs reading book table s pair u m n may e late told =
     ]
 
 -- where a take of a pair is counted as due, its put may take effect by the other moment, unless it
--- does so later
+-- takes effect later
 take-needs : (reading : Reading) (book : List Page) (table : Table) (s : Paired) (pair : Pair)
     (v m n : ℕ) → MayPair reading book s pair → (e : Entered reading book table pair)
     → (m < pair.put_moment → e.take.span.last ≤ n → ⊥)
@@ -247,7 +247,7 @@ take-needs reading book table s pair v m n may e late told =
 
 -- ---- puts and takes
 
--- no take of a pair is later than one that is due and doesn't stand
+-- no take of a pair is later than a remaining take that is due
 take-in-time : (reading : Reading) (book : List Page) (table : Table) (v n : ℕ) (s : Paired)
     (pair : Pair) (steps : List Step) → IsTable reading book table → n < NEVER
     → AreSteps reading book s (Pairs pair ∷ steps)
@@ -262,7 +262,7 @@ take-in-time reading book table v n s pair steps is few are more later =
       pair-takes-due reading book s pair steps there.0.call v due.0 are due.1 due.2 there.2,
     )
 
--- no put of a pair is later than one that is due and doesn't stand
+-- no put of a pair is later than a remaining put that is due
 put-in-time : (reading : Reading) (book : List Page) (table : Table) (u m : ℕ) (s : Paired)
     (pair : Pair) (steps : List Step) → IsTable reading book table → m < NEVER
     → AreSteps reading book s (Pairs pair ∷ steps)
@@ -277,8 +277,8 @@ put-in-time reading book table u m s pair steps is few are more later =
       pair-puts-due reading book s pair steps there.0.call due.0 are due.1 due.2 there.2,
     )
 
--- Of what doesn't stand, not both the takes of a value and the puts of one are ahead, nor the takes
--- up to a moment that is no later.
+-- Of the remaining calls, takes of a value aren't ahead while puts of some value are, nor while
+-- they are counted up to a moment that is no later.
 takes-clash : (reading : Reading) (book : List Page) (table : Table) (v u m n : ℕ)
     → IsTable reading book table → m < NEVER → n < NEVER → (s : Paired) (steps : List Step)
     → length book ≤ length s.puts → length book ≤ length s.takes → AreSteps reading book s steps
@@ -330,7 +330,7 @@ takes-clash reading book table v u m n is few_m few_n s (FindNothing g ∷ steps
 
 -- ---- takes that find nothing
 
--- Where a take that finds nothing doesn't stand, no puts up to an earlier moment are ahead.
+-- While a take that finds nothing isn't covered, no puts up to an earlier moment are ahead.
 finds-clash : (reading : Reading) (book : List Page) (table : Table) (e : Call) (r : Record)
     (u m n : ℕ) → IsTable reading book table → deal_of reading book e ≡ deals.FoundNothing
     → record_of book e ≡ Some r → (IsHeldBy book e m → ⊥) → moment_of r ≤ n → m < NEVER
@@ -426,14 +426,14 @@ finds_leave_nothing reading book table e r u m n is has nothing known before las
 
 -- ---- tables
 
--- takes that are ahead leave no pairs
+-- where takes are ahead, a table's book has no pairs
 pub takes-refute : (table : Table) (v u m n : ℕ) → m < NEVER → n < NEVER → TakesAhead table v m n
     → (n ≤ m) ⊎ PutsAhead table u m n → HasNoPairs table
 takes-refute table v u m n few_m few_n takes puts reading book is has =
     let law = takes_follow_puts reading book table v u m n is has few_m few_n takes in
     elim puts [ inl late ↦ omega (arith, law.0, late) | inr ahead ↦ law.1 ahead ]
 
--- puts before a take that finds nothing leave none
+-- where puts are ahead before a take that finds nothing, a table's book has no pairs
 pub find-refutes : (table : Table) (place u m : ℕ) (t : TimedCall)
     → slice_get table.finds.items place ≡ Some t → m < t.span.first → t.span.last < NEVER
     → m < NEVER → PutsAhead table u m t.span.last → HasNoPairs table
@@ -444,7 +444,7 @@ find-refutes table place u m t at before few_t few ahead reading book is has =
     (λ held. omega (arith, before, (right.0.span.least m held).0))
     (omega (arith, there.2)) few ahead
 
--- without pairs there is no order
+-- a book with one open whose table has no pairs has no legal order for a queue
 pub unpaired : (table : Table) (book : List Page)
     → ((reading : Reading) → IsTable reading book table → HasOneOpen book) → HasNoPairs table
     → QueueHasNoOrder table book

@@ -1,4 +1,4 @@
--- Calls of a table that pass a test, counted, and those of them that don't stand.
+-- The calls of a table that pass a test, counted, and those of them that a standing doesn't cover.
 use Rattle.std.proofs.Common.{◌≡◌, ℕ, zero, suc, ◌+◌, ◌-◌, ◌<◌, ◌≤◌, ◌∙◌, Bool, true, false, cond, List, [], ◌∷◌, length, drop, replicate, get_or, set, count_by, sum_by, Option, Some, IfSome, refl, sym, ap, subst, inl, inr, slice_get, arith}
 use Rattle.std.proofs.lemmas.Bool.{cases_Bool, cases_eq}
 use Rattle.std.proofs.lemmas.List.{get_or-set_same, get_or-set_other, get_or_past, length-drop}
@@ -27,11 +27,12 @@ less-counts one other low high less first second =
 
 -- ---- the calls of a caller
 
--- how many calls a test adds
+-- how many calls a test adds: one where it passes, and else none
 abbrev pub bit : Bool → ℕ
 bit b = cond b 1 0
 
--- Of the calls from a number on, up to a call before which none passes.
+-- The count of a row's calls from a number on is that of the calls after a later one, before which
+-- none passes, and one more where that one passes.
 row-past : (test : TimedCall → Bool) (row : List TimedCall) (gap from n : ℕ) (t : TimedCall)
     → n ≡ from + gap → slice_get row n ≡ Some t
     → ((k : ℕ) (u : TimedCall) → from ≤ k → k < n → slice_get row k ≡ Some u → test u ≡ false)
@@ -58,7 +59,7 @@ row-past test row (suc gap) from n t is at none =
     (λ k v low high there. none k v (omega (arith, low)) high there) in
     omega (arith, nothing, first, rest)
 
--- where some pass from a number on, one does
+-- where some calls of a row pass from a number on, there is one that does
 row-some : (test : TimedCall → Bool) (row : List TimedCall) (gap from : ℕ)
     → length row ≤ from + gap → 0 < count_by test (drop from row)
     → (n : ℕ) × (t : TimedCall) × (from ≤ n) × (slice_get row n ≡ Some t) × (test t ≡ true)
@@ -118,7 +119,8 @@ outside-same test one other i (row ∷ rows) same =
     = outside-same test one other (i + 1) rows (λ j low. same j (omega (arith, low))) in
     omega (arith, first, rest)
 
--- Where a caller's call stands too, before which none passes, that call is counted no more.
+-- Once a caller's call is covered before which none passes, the count is less by one where that
+-- call passes.
 outside-past : (test : TimedCall → Bool) (numbers : List ℕ) (p : Call) (t : TimedCall) (gap i : ℕ)
     (rows : List (List TimedCall)) → p.caller ≡ i + gap → p.caller < length numbers
     → get_or numbers p.caller 0 ≤ p.number → slice_get (get_or rows gap []) p.number ≡ Some t
@@ -162,7 +164,7 @@ outside-past test numbers p t (suc gap) i (row ∷ rows) is inside low at none =
     = outside-past test numbers p t gap (i + 1) rows (omega (arith, is)) inside low at none in
     omega (arith, first, rest)
 
--- where some that don't stand pass, one does
+-- where some calls that aren't covered pass, there is one that does
 outside-some : (test : TimedCall → Bool) (numbers : List ℕ) (i : ℕ) (rows : List (List TimedCall))
     → 0 < outside test numbers i rows
     → (gap : ℕ) × (n : ℕ) × (t : TimedCall) × (get_or numbers (i + gap) 0 ≤ n)
@@ -183,7 +185,7 @@ outside-some test numbers i (row ∷ rows) more =
           (0, here.0, here.1, omega (arith, here.2, same), here.3, here.4)
     ]
 
--- where none stands, all are counted
+-- where no call is covered, all calls that pass are counted
 outside-none : (test : TimedCall → Bool) (numbers : List ℕ) (i : ℕ) (rows : List (List TimedCall))
     → ((j : ℕ) → get_or numbers j 0 ≡ 0) → outside test numbers i rows ≡ sum_by (count_by test) rows
 outside-none test numbers i [] zeros = refl
@@ -198,7 +200,7 @@ outside-none test numbers i (row ∷ rows) zeros =
 
 -- ---- the calls of a table
 
--- how many calls of a table pass and don't stand
+-- how many calls of a table pass a test and aren't covered
 abbrev pub left_in : (TimedCall → Bool) → Table → List ℕ → ℕ
 left_in test table numbers = outside test numbers 0 (rows_of table)
 
@@ -208,7 +210,7 @@ left-start test table callers =
     outside-none test (replicate callers 0) 0 (rows_of table)
     (λ j. get_or-replicate_default callers j 0)
 
--- Where the next call of a kind stands too, it is counted no more.
+-- Once the next call of a kind is covered, the count is less by one where that call passes.
 pub left-next : (reading : Reading) (book : List Page) (table : Table) (only : QueueDeal → Bool)
     (kind : Call → Type 0) (test : TimedCall → Bool) (numbers : List ℕ) (call : Call)
     (t : TimedCall) → IsTable reading book table → IsRead reading book only kind
@@ -229,7 +231,7 @@ left-next reading book table only kind test numbers call t is read passes next a
       | inr failed ↦ failed
     ])
 
--- where some that don't stand pass, there is one
+-- where some calls of a table that aren't covered pass, there is one that does
 pub left-some : (reading : Reading) (book : List Page) (table : Table) (test : TimedCall → Bool)
     (numbers : List ℕ) → IsTable reading book table → 0 < left_in test table numbers
     → (t : TimedCall) × IsTimed reading book t.call t

@@ -1,4 +1,4 @@
--- A pair of an unanswered put and an unanswered take may be left out: where it stands no view
+-- A pair of an unanswered put and an unanswered take may be left out: where it takes effect no view
 -- holds a later call of either caller.
 use Rattle.std.proofs.Common.{◌≡◌, ◌≢◌, ℕ, ◌+◌, ◌<◌, ◌≤◌, ◌∙◌, List, [], ◌∷◌, length, get_or, set, Some, refl, sym, ap, subst, inl, inr, arith}
 use Rattle.std.proofs.lemmas.Bool.{cases_lt, cases_eq}
@@ -19,8 +19,8 @@ use Rattle.queue_pairs.specs.Pairs.{Paired, Step, Pairs, FindNothing, IsPut, IsT
 use Rattle.queue_pairs.proofs.Serving.{next-at}
 use Rattle.queue_refutation.specs.RefutationLaws.{UnansweredPairsAreIdle}
 
--- These numbers are the others', but for one unanswered call, the next of its kind, that stands
--- in the others.
+-- The numbers `few` are those of `many`, but for one unanswered call, the next of its kind, that
+-- only `many` covers.
 record Lacks (book : List Page) (kind : Call → Type 0) (few many : List ℕ) (call : Call)
     : Type 0 where
   next : IsNext kind few call
@@ -28,7 +28,7 @@ record Lacks (book : List Page) (kind : Call → Type 0) (few many : List ℕ) (
   has : get_or many call.caller 0 ≡ call.number + 1
   others : (i : ℕ) → i ≢ call.caller → get_or few i 0 ≡ get_or many i 0
 
--- an answered call of the kind that is outside the few is outside the many
+-- an answered call of the kind that `few` doesn't cover isn't covered by `many`
 lacks-outside : (book : List Page) (kind : Call → Type 0) (few many : List ℕ) (call other : Call)
     (r : Record) → Lacks book kind few many call → kind other → record_of book other ≡ Some r
     → get_or few other.caller 0 ≤ other.number → get_or many other.caller 0 ≤ other.number
@@ -48,7 +48,8 @@ lacks-outside book kind few many call other r h is known out =
       | inr apart ↦ omega (arith, out, h.others other.caller apart)
     ]
 
--- no later call of its caller stands next at any moment: a view would hold both
+-- no later call of the unanswered call's caller comes next at any moment, since a view would hold
+-- both
 lacks-apart : (book : List Page) (kind : Call → Type 0) (few many : List ℕ) (call other : Call)
     (m : ℕ) → HasOneOpen book → Lacks book kind few many call
     → get_or many other.caller 0 ≤ other.number → MayTakeEffect book other m
@@ -69,7 +70,7 @@ lacks-apart book kind few many call other m one h out effect same =
           (answers_of book) same,
     ))
 
--- another caller's call stands in both
+-- another caller's call is covered by both
 lacks-later : (book : List Page) (kind : Call → Type 0) (few many : List ℕ) (call other : Call)
     → Lacks book kind few many call → other.caller ≢ call.caller
     → other.caller < length few → other.caller < length many
@@ -95,8 +96,8 @@ lacks-later book kind few many call other h apart inside_few inside_many =
       ];
     }
 
--- Here stands what stands there, but for a pair of an unanswered put and an unanswered take, at
--- no later moments.
+-- The standing t covers what s covers but for a pair of an unanswered put and an unanswered take,
+-- at no later moments.
 record Dropped (reading : Reading) (book : List Page) (t s : Paired) (p q : Call) : Type 0 where
   puts : Lacks book (IsPut reading book) t.puts s.puts p
   takes : Lacks book (IsTake reading book) t.takes s.takes q

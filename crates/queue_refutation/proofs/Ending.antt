@@ -42,7 +42,7 @@ due-no-later reading book other mine call it own same low r known =
     let there = answered-last reading book other it (omega (arith, low, last.1)) in
     (there.0, there.1, omega (arith, there.2, low, last.0))
 
--- what a call that did the same did
+-- a call that did the same as another one has the same deal
 same-deal : (reading : Reading) (book : List Page) (other mine : TimedCall) (call : Call)
     → IsTimed reading book other.call other → IsTimed reading book mine.call mine
     → call ≡ mine.call → other.deal ≡ mine.deal
@@ -50,7 +50,8 @@ same-deal : (reading : Reading) (book : List Page) (other mine : TimedCall) (cal
 same-deal reading book other mine call it own same deal =
     sym it.deal ∙ (ap known_deal deal ∙ (own.deal ∙ ap (deal_of reading book) (sym same)))
 
--- A next pair that serves for another one serves for what that one stands for.
+-- A next pair that serves for another one serves for the pair of that one's calls, whatever their
+-- moments.
 pub serves-for : (reading : Reading) (book : List Page) (table : Table) (s : PairState)
     (mine other : TimedPair) (pair : Pair) → IsTable reading book table
     → IsNextPair table s mine → IsNextPair table s other → Serves other mine
@@ -123,7 +124,7 @@ next-pair table s put take pair put_is take_is put_held take_held same_put same_
 
 -- ---- pairs that lead on
 
--- a pair for which one serves that leads to these standings
+-- a pair leads to one of these standings where one that serves for it does
 pub lead-served : (table : Table) (standings : List Paired) (s : PairState) (mine : TimedPair)
     → IsNextPair table s mine → IsServed table standings s mine
     → Lead (IsOf mine.put.call mine.take.call) table standings s
@@ -134,7 +135,7 @@ lead-served table standings s mine own served reading book pair is of may =
       inl served.3,
     )
 
--- a pair with which some call is overdue
+-- a pair needn't be tried where some call is overdue with it
 pub lead-past : (table : Table) (standings : List Paired) (s : PairState)
     (next_entries : NextEntries)
     (mine : TimedPair) → AreNextEntries table s next_entries → IsNextPair table s mine
@@ -150,7 +151,7 @@ lead-past table standings s next_entries mine h own few_put few_take past readin
           few_put few_take past),
     )
 
--- a pair of which neither call is answered
+-- a pair of which neither call is answered needn't be tried
 pub lead-idle : (table : Table) (standings : List Paired) (s : PairState) (put take : TimedCall)
     → IsNextEntry (λ i n. put_at table i n) s.puts put
     → IsNextEntry (λ i n. take_at table i n) s.takes take
@@ -166,7 +167,7 @@ lead-idle table standings s put take put_is take_is put_late take_late reading b
       take = subst (λ (c : Call). answers_of book c.caller ≤ c.number) (sym of.1) take_past;
     })
 
--- a pair of a call that no view holds may not stand
+-- a pair with a call that no view holds may not come next
 pub lead-unheld_put : (table : Table) (standings : List Paired) (s : PairState)
     (put take : TimedCall)
     → IsNextEntry (λ i n. put_at table i n) s.puts put → (put.span.first < NEVER → ⊥)
@@ -185,7 +186,7 @@ lead-unheld_take table standings s put take take_is not reading book pair is of 
     absurd (not (held-first reading book take pair.take pair.take_moment the_take.timed of.1
     may.take_effect.first).1)
 
--- a pair whose take doesn't take out what is put in may not stand
+-- a pair whose take doesn't take out what its put puts in may not come next
 pub lead-apart : (table : Table) (standings : List Paired) (s : PairState) (put take : TimedCall)
     → IsNextEntry (λ i n. put_at table i n) s.puts put
     → IsNextEntry (λ i n. take_at table i n) s.takes take
@@ -239,7 +240,7 @@ pub listed-there : (keys : List PairState) (place : ℕ) (s : PairState)
 listed-there keys place s at =
     (place, slice_get-map paired keys place ∙ ap (option_map paired) at)
 
--- a list is closed where each standing leads to it alone
+-- a list of standings is closed where each of them leads to the list alone
 pub all-closed : (table : Table) (keys : List PairState)
     → ((place : ℕ) → place < length keys → (s : PairState) → slice_get keys place ≡ Some s
     → ClosedAt table (listed keys) s)
@@ -252,7 +253,7 @@ all-closed table keys each reading book is s one =
     subst (IsClosedAt reading book (listed keys)) found.2
     (each one.0 inside found.0 found.1 reading book is)
 
--- a closed list with the start refutes
+-- a closed list with the standing that covers no call refutes the book
 pub refuted : (table : Table) (book : List Page) (standings : List Paired)
     → ((reading : Reading) → IsTable reading book table → HasOneOpen book)
     → IsOnePaired standings (none_paired MAX_CALLERS)
@@ -265,7 +266,8 @@ refuted table book standings one start closed reading init next is queue empty h
 
 -- ---- one open
 
--- each view holds at most one unanswered call of a caller whose second one no view holds
+-- each view holds at most one unanswered call of a caller whose second unanswered call no view
+-- holds
 pub one-open_of : (reading : Reading) (book : List Page) (table : Table) (caller : ℕ) (call : Call)
     (r : Record) → IsTable reading book table → record_of book call ≡ Some r
     → ((t : TimedCall) → timed_at table caller (answers_of book caller + 1) ≡ Some t

@@ -292,14 +292,14 @@ few-callers reading book table call is there =
 
 -- ---- spans
 
--- a call that a view holds has its first moment no later
+-- the first moment of a call is no later than a moment at which a view holds the call
 pub held-first : (reading : Reading) (book : List Page) (t : TimedCall) (call : Call) (m : ℕ)
     → IsTimed reading book t.call t → call ≡ t.call → IsHeldBy book call m
     → (t.span.first ≤ m) × (t.span.first < NEVER)
 held-first reading book t call m timed same held =
     timed.span.least m (subst (λ (c : Call). IsHeldBy book c m) same held)
 
--- a call with a last moment is answered at it
+-- a call whose last moment is before NEVER is answered, and its view has this moment
 pub answered-last : (reading : Reading) (book : List Page) (t : TimedCall)
     → IsTimed reading book t.call t → t.span.last < NEVER
     → (r : Record) × (record_of book t.call ≡ Some r) × (t.span.last ≡ moment_of r)
@@ -311,7 +311,7 @@ answered-last reading book t timed few =
       | inr past ↦ absurd (omega (arith, few, timed.span.unanswered past))
     ]
 
--- a call without one isn't answered
+-- a call whose last moment is NEVER isn't answered
 pub unanswered-last : (reading : Reading) (book : List Page) (t : TimedCall)
     → IsTimed reading book t.call t → NEVER ≤ t.span.last
     → answers_of book t.call.caller ≤ t.call.number

@@ -1,4 +1,4 @@
--- What goes on from a standing goes on from those to which it leads.
+-- Where steps lead from a standing to a whole one, they do from one of those to which it leads.
 use Rattle.std.proofs.Common.{◌≡◌, ℕ, ◌+◌, ◌<◌, ◌≤◌, ◌⊎◌, ◌∙◌, List, [], ◌∷◌, length, get_or, Some, max, refl, sym, ap, subst, inl, inr, arith}
 use Rattle.std.proofs.lemmas.Bool.{cases_lt, cases_eq}
 use Rattle.std.proofs.lemmas.List.{length-set}
@@ -24,7 +24,7 @@ use Rattle.queue_refutation.proofs.Dropping.{unanswered_pairs_are_idle}
 
 -- ---- the moments of a pair that stands next
 
--- no put outside is due before the pair's put
+-- no remaining put is due before the pair's put
 pub pair-puts-due : (reading : Reading) (book : List Page) (s : Paired) (pair : Pair)
     (steps : List Step) (p : Call) (r : Record) → AreSteps reading book s (Pairs pair ∷ steps)
     → IsPut reading book p → record_of book p ≡ Some r → get_or s.puts p.caller 0 ≤ p.number
@@ -36,7 +36,7 @@ pair-puts-due reading book s pair steps p r are put known out =
           known later
     ]
 
--- no take that shows a value and is outside is due before the pair's take
+-- no remaining take that shows a value is due before the pair's take
 pub pair-takes-due : (reading : Reading) (book : List Page) (s : Paired) (pair : Pair)
     (steps : List Step) (t : Call) (v : ℕ) (r : Record)
     → AreSteps reading book s (Pairs pair ∷ steps)
@@ -48,7 +48,7 @@ pair-takes-due reading book s pair steps t v r are took known out =
       | inr later ↦ take-due reading book (after s (Pairs pair)) steps t v r are.1 took known later
     ]
 
--- so no call is overdue with it
+-- no call is overdue with a pair that steps begin with
 pair-not-overdue : (reading : Reading) (book : List Page) (s : Paired) (pair : Pair)
     (steps : List Step) → IsValid book → AreSteps reading book s (Pairs pair ∷ steps)
     → IsOverdue reading book s pair.put_moment pair.take_moment → ⊥
@@ -67,7 +67,7 @@ pair-not-overdue reading book s pair steps valid are overdue =
       ]
     ]
 
--- a pair may stand earlier
+-- a pair may come next with earlier moments
 pair-earlier : (reading : Reading) (book : List Page) (s : Paired) (pair : Pair) (m n : ℕ)
     (steps : List Step) → AreSteps reading book s (Pairs pair ∷ steps)
     → s.put_moment ≤ m → m ≤ pair.put_moment → s.take_moment ≤ n → n ≤ pair.take_moment → m ≤ n
@@ -109,7 +109,8 @@ pair-earlier reading book s pair m n steps are low_m high_m low_n high_n turn he
 
 -- ---- pairs that serve
 
--- Where steps go on with a pair, as many go on with a put that serves for its own.
+-- Where steps begin with a pair, as many begin with one that has a put which serves for the pair's
+-- own.
 serve-put : (reading : Reading) (book : List Page) (s : Paired) (pair : Pair) (p : Call) (m : ℕ)
     (steps : List Step) → IsValid book → HasOneOpen book
     → length book ≤ length s.puts → AreSteps reading book s (Pairs pair ∷ steps)
@@ -147,7 +148,8 @@ serve-put reading book s pair p m steps valid one wide are puts next low early h
           early due
     ]
 
--- And so with a take that serves for its own.
+-- Where steps begin with a pair, as many begin with one that has a take which serves for the pair's
+-- own.
 serve-take : (reading : Reading) (book : List Page) (s : Paired) (pair : Pair) (p : Call) (m : ℕ)
     (steps : List Step) → IsValid book → HasOneOpen book
     → length book ≤ length s.takes → AreSteps reading book s (Pairs pair ∷ steps)
@@ -197,7 +199,7 @@ serve-take reading book s pair p m steps valid one wide are deal next low turn e
           }) early due
     ]
 
--- Where steps go on with a pair, as many go on with one that serves for it.
+-- Where steps begin with a pair, as many begin with one that serves for it.
 served : (reading : Reading) (book : List Page) (s : Paired) (pair other : Pair) (steps : List Step)
     → IsValid book → HasOneOpen book
     → length book ≤ length s.puts → length book ≤ length s.takes
@@ -215,8 +217,8 @@ served reading book s pair other steps valid one wide_puts wide_takes serves are
 
 -- ---- takes that find nothing
 
--- The same puts and takes stand, no fewer takes that find nothing, and puts up to a moment that
--- no put outside is due before.
+-- A standing covers the same puts and takes, and no fewer takes that find nothing; the moment of
+-- its last put is later by at most a moment before which no remaining put is due.
 record IsRaised (reading : Reading) (book : List Page) (t s : Paired) (m : ℕ) : Type 0 where
   puts : IsSame t.puts s.puts
   takes : IsSame t.takes s.takes
@@ -229,7 +231,7 @@ record IsRaised (reading : Reading) (book : List Page) (t s : Paired) (m : ℕ) 
       → get_or s.puts p.caller 0 ≤ p.number → m ≤ moment_of r
   wide : length book ≤ length s.puts
 
--- as many steps go on from there
+-- as many steps lead from this standing to a whole one
 raised-steps : (reading : Reading) (book : List Page) (t s : Paired) (m : ℕ) (steps : List Step)
     → IsRaised reading book t s m → AreSteps reading book s steps
     → (other : List Step) × AreSteps reading book t other × (length other ≡ length steps)
@@ -321,7 +323,7 @@ raised-steps reading book t s m (FindNothing n ∷ steps) h are =
       omega (arith, on.2),
     )
 
--- where takes that find nothing may stand at once, as many steps go on after them
+-- where takes that find nothing may be covered at once, as many steps lead on after them
 at-once : (reading : Reading) (book : List Page) (s : Paired) (steps : List Step)
     → length book ≤ length s.puts → s.found < s.take_moment
     → (HasPutBefore reading book s s.take_moment → ⊥) → AreSteps reading book s steps
@@ -343,7 +345,7 @@ at-once reading book s steps wide more in_time are =
       wide = wide;
     }) are
 
--- no take that finds nothing is due before a step's moment
+-- no take that finds nothing is due before the moment of a step
 find-step-due : (reading : Reading) (book : List Page) (s : Paired) (m : ℕ) (steps : List Step)
     (e : Call) (r : Record) → IsValid book → AreSteps reading book s (FindNothing m ∷ steps)
     → deal_of reading book e ≡ deals.FoundNothing → record_of book e ≡ Some r
@@ -356,7 +358,7 @@ find-step-due reading book s m steps e r valid are nothing known out =
       | inr late ↦ late
     ]
 
--- so no call is overdue at its moment, or before
+-- no call is overdue at the moment of a step of takes that find nothing, or before
 find-not-overdue : (reading : Reading) (book : List Page) (s : Paired) (m g : ℕ) (steps : List Step)
     → IsValid book → g ≤ m → AreSteps reading book s (FindNothing m ∷ steps)
     → IsOverdue reading book s g g → ⊥
@@ -384,8 +386,8 @@ find-not-overdue reading book s m g steps valid low are overdue =
 
 -- ---- standings
 
--- From one of these standings steps go on that are fewer; or they are as many, and more takes
--- found nothing.
+-- From one of these standings fewer steps lead to a whole one; or as many do, and more takes that
+-- find nothing are covered.
 abbrev pub LeadsOn : Reading → List Page → List Paired → Paired → List Step → Type 0
 LeadsOn reading book standings s steps =
     (next : Paired) × (other : List Step) × IsOnePaired standings next
@@ -451,7 +453,8 @@ all-lead reading book standings s (Pairs pair ∷ steps) valid one is wide_puts 
 all-lead reading book standings s (FindNothing m ∷ steps) valid one is wide_puts wide_takes h are =
     finds-lead reading book standings s m steps valid is h.in_turn (h.finds m are.0) are
 
--- What goes on from one of a closed list of standings goes on from one of them.
+-- Where steps lead from a standing of a closed list to a whole one, they do from another one of the
+-- list, with less left to do.
 pub leads-on : (reading : Reading) (book : List Page) (standings : List Paired) (s : Paired)
     (steps : List Step) → IsValid book → HasOneOpen book → IsOnePaired standings s
     → IsClosedAt reading book standings s → AreSteps reading book s steps

@@ -1,4 +1,4 @@
--- What the latest moments of the next entries say of the calls that don't stand.
+-- What the latest moments of the next entries say of the remaining calls.
 use Rattle.std.proofs.Common.{◌≡◌, ℕ, ◌<◌, ◌≤◌, ◌⊎◌, ◌∙◌, cond, List, length, get_or, max, Option, Some, None, refl, sym, ap, subst, inl, inr, slice_get, arith}
 use Rattle.std.specs.Prelude.{nat_lt}
 use Rattle.std.proofs.lemmas.Bool.{cases_lt}
@@ -32,7 +32,7 @@ use Rattle.queue_refutation.proofs.Entries.{puts-read, next-put, next-take, none
 
 -- ---- values that are least
 
--- a least value before NEVER is that of some entry
+-- a least value before NEVER is that of some argument
 least-there : (values : ℕ → ℕ) (below least : ℕ) → IsLeastOf values below least → least < NEVER
     → (k : ℕ) × (k < below) × (least ≡ values k)
 least-there values below least h few = elim h.some [
@@ -40,13 +40,14 @@ least-there values below least h few = elim h.some [
   | inr there ↦ there
 ]
 
--- the value of a next call before NEVER is that of an entry
+-- the last moment of a next call, where it is before NEVER, is that of an entry
 last-there : (o : Option TimedCall) (m : ℕ) → m ≡ last_of o → m < NEVER
     → (t : TimedCall) × (o ≡ Some t) × (m ≡ t.span.last)
 last-there None m is few = absurd (omega (arith, is, few))
 last-there (Some t) m is few = (t, refl, is)
 
--- so is that of a take that finds nothing, which doesn't stand
+-- the moment of a take that finds nothing, as the next entries count it, is its own where its first
+-- moment is later than the covered ones, and else NEVER
 first-cases : (found first last : ℕ)
     → ((found < first) × (cond (nat_lt found first) last NEVER ≡ last))
     ⊎ ((first ≤ found) × (cond (nat_lt found first) last NEVER ≡ NEVER))
@@ -73,7 +74,7 @@ due-there found (Some t) m is few = elim (first-cases found t.span.first t.span.
 
 -- ---- what is due
 
--- some put is due before a moment that is past the latest one of puts
+-- some remaining put is due before a moment that is past the latest one of puts
 pub put-past : (reading : Reading) (book : List Page) (table : Table) (s : PairState)
     (next_entries : NextEntries) (m : ℕ) → IsTable reading book table
     → AreNextEntries table s next_entries
@@ -94,7 +95,7 @@ put-past reading book table s next_entries m is h past few =
       omega (arith, answered.2, entry.2),
     )
 
--- some take is
+-- some remaining take is due before a moment that is past the latest one of takes
 pub take-past : (reading : Reading) (book : List Page) (table : Table) (s : PairState)
     (next_entries : NextEntries) (m : ℕ) → IsTable reading book table
     → AreNextEntries table s next_entries
@@ -124,13 +125,14 @@ take-past reading book table s next_entries m is h past few =
           (omega (arith, past_it, slice_get_within _ entry.0.call.number answered.0 answered.1))
     ]
 
--- a take that finds nothing doesn't stand where its first moment is later
+-- a take that finds nothing isn't covered where its first moment is later
 out-later : (reading : Reading) (book : List Page) (t : TimedCall) (found : ℕ)
     → IsTimed reading book t.call t → found < t.span.first → IsHeldBy book t.call found → ⊥
 out-later reading book t found timed later held =
     omega (arith, later, (timed.span.least found held).0)
 
--- some take that finds nothing is
+-- some remaining take that finds nothing is due before a moment that is past the latest one of
+-- these takes
 pub find-past : (reading : Reading) (book : List Page) (table : Table) (s : PairState)
     (next_entries : NextEntries) (m : ℕ) → IsTable reading book table
     → AreNextEntries table s next_entries
@@ -162,7 +164,7 @@ is-overdue reading book table s next_entries m n is h few_m few_n past = elim pa
   ])
 ]
 
--- no put is due before the latest moment of puts
+-- no remaining put is due before the latest moment of puts
 pub puts-in-time : (reading : Reading) (book : List Page) (table : Table) (s : PairState)
     (next_entries : NextEntries) (m : ℕ) → IsTable reading book table
     → AreNextEntries table s next_entries
@@ -209,7 +211,7 @@ puts-in-time reading book table s next_entries m is h low due =
           ]
     ]
 
--- ---- standings that aren't finished
+-- ---- standings that aren't whole
 
 pub not-whole : (reading : Reading) (book : List Page) (table : Table) (s : PairState)
     (next_entries : NextEntries) → IsTable reading book table → AreNextEntries table s next_entries
@@ -245,7 +247,8 @@ not-whole reading book table s next_entries is h few not whole =
 
 -- ---- takes that find nothing
 
--- all that find nothing at a moment stand, or the first moment of those that don't is no later
+-- all takes that find nothing at a moment are covered, or the first moment of those that aren't is
+-- no later
 finds-cases : (reading : Reading) (book : List Page) (table : Table) (s : PairState)
     (next_entries : NextEntries)
     (e : Call) (m : ℕ) → IsTable reading book table → AreNextEntries table s next_entries
@@ -271,7 +274,7 @@ finds-cases reading book table s next_entries e m is h nothing held =
           (subst (λ (c : Call). IsHeldBy book c t.span.first) entry.3 (right.0.span.held first.1)))
     ]
 
--- where none is left, none finds nothing anew
+-- where no takes that find nothing remain, none can be covered anew
 pub finds-none : (reading : Reading) (book : List Page) (table : Table) (s : PairState)
     (next_entries : NextEntries) (standings : List Paired) (m : ℕ) → IsTable reading book table
     → AreNextEntries table s next_entries → NEVER ≤ next_entries.find_first
@@ -283,7 +286,7 @@ finds-none reading book table s next_entries standings m is h none =
       | inr first ↦ absurd (omega (arith, first.1, none))
     ])
 
--- the first moment of those that are left is later than that of those that stand
+-- the first moment of the remaining takes that find nothing is later than that of the covered ones
 first-later : (table : Table) (s : PairState) (next_entries : NextEntries)
     → AreNextEntries table s next_entries
     → next_entries.find_first < NEVER → s.found < next_entries.find_first
@@ -293,7 +296,7 @@ first-later table s next_entries h few =
     let entry = first-there s.found (slice_get finds there.0) next_entries.find_first there.2 few in
     omega (arith, entry.2, entry.3)
 
--- those that find nothing lead on where the earliest moment of them does
+-- takes that find nothing lead to a standing where those of the earliest moment do
 pub finds-some : (reading : Reading) (book : List Page) (table : Table) (s : PairState)
     (next_entries : NextEntries) (standings : List Paired) (g m : ℕ) → IsTable reading book table
     → AreNextEntries table s next_entries → next_entries.find_first < NEVER
@@ -315,7 +318,7 @@ finds-some reading book table s next_entries standings g m is h few g_is may lea
           inr (g, omega (arith, later, g_is), omega (arith, late, g_is, may.after_takes), leads)
     ]
 
--- they stand at once
+-- takes that find nothing may be covered at once
 pub finds-at-once : (reading : Reading) (book : List Page) (table : Table) (s : PairState)
     (next_entries : NextEntries) (standings : List Paired) → IsTable reading book table
     → AreNextEntries table s next_entries

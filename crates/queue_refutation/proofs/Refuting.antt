@@ -1,5 +1,6 @@
--- No steps go on to the end from standings that lead to one another alone: each would lead to one
--- of them with fewer steps left, or with as many left and one more take that has found nothing.
+-- No steps lead to a whole standing from standings that lead to one another alone: each would lead
+-- to one of them with fewer steps left, or with as many left and more takes that find nothing
+-- covered.
 use Rattle.std.proofs.Common.{◌≡◌, ℕ, zero, suc, ◌+◌, ◌<◌, ◌≤◌, List, [], ◌∷◌, length, Some, max, ap, inl, inr, slice_get, arith}
 use Rattle.std.proofs.lemmas.List.{length-replicate}
 use Rattle.std.proofs.lemmas.Option.{same_Some, none-some}
@@ -12,7 +13,7 @@ use Rattle.queue_refutation.specs.Closed.{IsOnePaired, AreClosed}
 use Rattle.queue_refutation.specs.RefutationLaws.{ClosedStandingsAreDead, ClosedStartsHaveNoOrder}
 use Rattle.queue_refutation.proofs.Leading.{leads-on}
 
--- the latest moment up to which takes that find nothing stand
+-- the latest moment up to which one of the standings covers takes that find nothing
 abbrev latest : List Paired → ℕ
 latest [] = 0
 latest (s ∷ standings) = max s.found (latest standings)
@@ -25,8 +26,8 @@ latest-bounds (t ∷ standings) zero s at =
     omega (arith, same)
 latest-bounds (t ∷ standings) (suc k) s at = omega (arith, latest-bounds standings k s at)
 
--- none of as many steps, where there are none of fewer, by how many moments takes may still find
--- nothing at
+-- no steps of a given number lead to a whole standing where none of fewer do, by how many moments
+-- are left at which takes may find nothing
 dead-within : (reading : Reading) (book : List Page) (standings : List Paired) (few more : ℕ)
     → IsValid book → HasOneOpen book → AreClosed reading book standings
     → ((s : Paired) (steps : List Step) → IsOnePaired standings s → AreSteps reading book s steps

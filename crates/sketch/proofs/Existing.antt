@@ -146,7 +146,7 @@ next_or_done book drawn valid part =
     let waiting = first_up_to book valid drawn.returned (length book) in
     next_by book drawn valid part waiting.0 waiting.1
 
--- all events that are left are drawn
+-- what is drawn so far is drawn on to a sketch of the book
 draw_on : (left : ℕ) (book : List Page) (drawn : Drawn) (events : List Event) → IsValid book
     → left_to_draw book drawn ≤ left → IsPartOf book drawn → IsDrawnSketch book drawn events
     → (all : List Event) × IsSketch book all

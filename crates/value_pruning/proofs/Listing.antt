@@ -32,7 +32,7 @@ read_cases i n c (inr h) = elim (cases_lt c.number n) [
   | inr le ↦ inr (same_call c (call_of i n) h.0 (omega (arith, h.1)))
 ]
 
--- all calls of a caller are read
+-- a call that is read once all callers up to one are read is read once all calls of this one are
 read_caller : (book : List Page) (i : ℕ) (c : Call) → IsCall book c → IsReadTo (i + 1) 0 c
     → IsReadTo i (calls_of book i) c
 read_caller book i c is (inl lt) = elim (cases_lt c.caller i) [
@@ -157,7 +157,7 @@ lists_caller reading book caller number sight all is =
           (read_caller book caller c (call_from_take reading book c w takes) read) takes;
     }
 
--- The sight lists no call before any is read.
+-- At the start, when no call is read, a sight lists all that was read.
 pub lists_none : (reading : Reading) (book : List Page) (sight : Sight) → HasItsPlaces sight
     → ListsRead reading book 0 0 sight
 lists_none reading book sight places = record {

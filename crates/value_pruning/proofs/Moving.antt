@@ -59,8 +59,8 @@ waits_later book cut c i valid inside apart waits = record {
   at = waits.at ∙ sym (raised_other cut i c.caller (λ (e : c.caller ≡ i). apart (sym e)));
 }
 
--- A place may change places with one before it, where the forced call comes no earlier than the
--- place.
+-- While a forced call is still to come, two neighbours may change places where the first isn't of
+-- the forced caller.
 pub comes_up : (book : List Page) (cut : List ℕ) (c : Place) → IsValid book → HasOneOpen book
     → Waits book cut c → (a b : Place) (rest : List Place) → a.caller ≢ c.caller
     → Comes book cut (a ∷ b ∷ rest) → Comes book cut (b ∷ a ∷ rest)
@@ -112,7 +112,8 @@ comes_up book cut c valid one waits a b rest apart comes =
       ),
     )
 
--- A place may also change places with two before it.
+-- While a forced call is still to come, a place may be moved before two others that aren't of the
+-- forced caller.
 pub comes_up_two : (book : List Page) (cut : List ℕ) (c : Place) → IsValid book → HasOneOpen book
     → Waits book cut c → (x y b : Place) (rest : List Place) → x.caller ≢ c.caller
     → y.caller ≢ c.caller → Comes book cut (x ∷ y ∷ b ∷ rest) → Comes book cut (b ∷ x ∷ y ∷ rest)

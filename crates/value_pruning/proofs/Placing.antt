@@ -34,8 +34,7 @@ all-placed P v (x ∷ rest) it all = elim (cases_lt v x) [
       (all.0, all-placed P v rest it all.1)
 ]
 
--- A value that is less than an item comes before it, both in the list with this item and in the
--- list without it.
+-- A value that is less than an item is placed among the items before it, or right before it.
 pub placed-before : (v low : ℕ) (before after : List ℕ) → v < low
     → placed v (before ++ low ∷ after) ≡ placed v before ++ low ∷ after
 placed-before v low [] after less = placed-less v low after less

@@ -25,8 +25,7 @@ record Around (bound v : ℕ) (before after : List ℕ) : Type 0 where
   above : AllByRecursion (λ (y : ℕ). v < y) after
   small : AllByRecursion (λ (y : ℕ). y < bound) after
 
--- An operation that doesn't put in the value makes of a list around the value another one around
--- it, with the same reply as without the value.
+-- An operation that doesn't put in the value makes of a list around it another list around it.
 record StaysAround (next : List ℕ → ℕ → List ℕ × ℕ) (bound v op : ℕ)
     (before after : List ℕ) : Type 0 where
   new_before : List ℕ
@@ -108,7 +107,7 @@ stays_around reading next bound is v op before after not around =
       ]
     ]
 
--- A take doesn't show the value at a list around it, unless the value is its first item.
+-- A take at a list around a value doesn't show this value, which the list lacks.
 shows_other : (reading : Reading) (next : List ℕ → ℕ → List ℕ × ℕ) (bound : ℕ)
     → GivesLeastFirst reading next bound → (v op : ℕ) (before after : List ℕ) → v < bound
     → reading.deed op ≡ Takes → Around bound v before after

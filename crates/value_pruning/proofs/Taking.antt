@@ -38,7 +38,7 @@ word_stands book place is =
     ]
 
 -- Some places continue an order once another caller's call has come, from a list, and they are
--- fewer than some given places by a given number.
+-- fewer than some given places by more than a given number.
 abbrev pub GoesOnAfter : ℕ → List Page → (List ℕ → ℕ → List ℕ × ℕ) → List ℕ → ℕ → List ℕ
     → List Place → Type 0
 GoesOnAfter less book next cut i list rest = (other : List Place)
@@ -78,7 +78,7 @@ least_later reading book cut v i take inside is = record {
       is.least other takes (omega (arith, out, raised_more cut i other.caller inside));
 }
 
--- The place of a caller's next call has this call and the reply that the object gives.
+-- where a call may come next, a place of its caller that may come next has this call
 pub its_place : (book : List Page) (next : List ℕ → ℕ → List ℕ × ℕ) (cut list : List ℕ)
     (place : Place) (call : Call) → MayComeNext book cut call
     → MayStandNext book next cut list place
@@ -100,7 +100,7 @@ cases_prefix : (list : List ℕ) → (list ≡ []) ⊎ ((x : ℕ) × (rest : Lis
 cases_prefix [] = inl refl
 cases_prefix (x ∷ rest) = inr (x, rest, refl)
 
--- A list around a value: all items before it are less, and no item after it is.
+-- A list around a value: all items before it are less, and no item after it is less.
 pub record Parted (low : ℕ) (before after : List ℕ) : Type 0 where
   pub below : AllByRecursion (λ (x : ℕ). x < low) before
   pub above : AllByRecursion (λ (y : ℕ). low ≤ y) after
@@ -204,7 +204,7 @@ alike-neither reading next bound is low op before after neither parted =
       other = λ e shown. no e;
     }
 
--- An operation does so, or it takes the value.
+-- An operation steps alike at the two lists, or it takes the value as the first item.
 steps_alike : (reading : Reading) (next : List ℕ → ℕ → List ℕ × ℕ) (bound : ℕ)
     → GivesLeastFirst reading next bound → (low op : ℕ) (before after : List ℕ)
     → low < bound → Parted low before after → StepsAlike reading next low op before after

@@ -213,7 +213,8 @@ unread_write_suffices reading held next is book cut list caller marks wide may w
     record { may_come = may; recorded = on.1 list; reply = refl } in
     (place, on.0.0, marked, (stands, on.0.1), omega (arith, on.0.2))
 
--- A value that is read outside a cut and written by no call outside it must be held.
+-- Where a call outside a cut reads a value that no call outside it writes, and the list doesn't
+-- hold the value, no places continue an order.
 irreplaceable_is_held : (reading : Reading) (held : List ℕ → ℕ) (next : List ℕ → ℕ → List ℕ × ℕ)
     → HoldsLast reading held next → (book : List Page) (v : ℕ) (read : Call)
     → TakesOut reading book read v → (rest : List Place) (cut list : List ℕ)
@@ -443,7 +444,8 @@ no_value_reads reading book cut v call none = (
   λ (reads : ReadsOutside reading book cut v call). absurd (none v reads.0),
 )
 
--- a value is written outside a cut where some of its listed puts is outside
+-- whether some listed put of a value is outside a cut decides whether the value is written outside
+-- it
 pub written_if : (reading : Reading) (book : List Page) (cut : List ℕ) (sight : Sight) (v : ℕ)
     (calls : List Call) (answer : Bool) → ListsValues reading book sight → calls ≡ puts_of sight v
     → (IsTrue answer → IsWritten reading book cut v) → (answer ≡ false → (call : Call)
