@@ -19,7 +19,7 @@ next list word = counter_after list (counter_operation word)
 abbrev one_for : Bool → ℕ
 one_for test = cond test 1 0
 
--- a step counts where it increments
+-- a step of a counter adds one to the count where it increments
 counted : (list : List ℕ) (step : ℕ × ℕ) → first_or_zero (next list step.0).0 % 2 ^ 32
     ≡ (first_or_zero list + one_for (does inc step)) % 2 ^ 32
 counted list step = elim (cases_Bool (does inc step)) [

@@ -1,4 +1,4 @@
--- A stack gives the value that was put in last and isn't out.
+-- A stack gives the last value put in that wasn't given out yet.
 use Rattle.std.proofs.Common.{◌≡◌, ℕ, ◌+◌, ◌≤◌, ◌⊎◌, true, List, [], ◌∷◌, ◌++◌, length, map, reverse, slice_index, Option, Some, None, refl, sym, ap, subst, ◌∙◌, inl, inr, arith}
 use Rattle.std.specs.List.{cons_option}
 use Rattle.std.proofs.lemmas.Bool.{cond-true, cond-false}
@@ -41,8 +41,7 @@ length-cons_option : (o : Option ℕ) (xs : List ℕ)
 length-cons_option None xs = omega arith
 length-cons_option (Some v) xs = omega arith
 
--- Above a value there are this many values before the steps, and this many after them; it isn't
--- given out.
+-- Steps lead from k values above a value to n values above it, and never give out the value itself.
 record Covers (k n : ℕ) (steps : List (ℕ × ℕ)) : Type 0 where
   pub all : k + puts steps ≡ takes steps + n
   pub first : (prefix rest : List (ℕ × ℕ)) → steps ≡ prefix ++ rest → takes prefix ≤ k + puts prefix
@@ -112,8 +111,8 @@ what_is_done list step replied = by_deed (stack_reading.deed step.0) refl where
       DoesNothing (ap value_put is) (ap (λ (d : Effect). value_taken d (shown_value step.1)) is)
       (stack_is_read.neither list step.0 is)
 
--- steps put in and give out what the values of the list differ by, and never give out more than
--- there is
+-- the steps of a run lead from as many values as the list has before them to as many as it has
+-- after them
 covers_all : (list : List ℕ) (steps : List (ℕ × ℕ)) → IsRunFrom next list steps
     → Covers (length (values list)) (length (values (list_after_run next list steps))) steps
 covers_all list [] run = covers_none (length (values list))
@@ -130,7 +129,7 @@ covers_all list (step ∷ steps) run =
           steps (omega (arith, ap present put, ap present taken, ap length is)) rest
     ]
 
--- a value is put in among the steps, and this many values come to be above it
+-- a value is put in by one of the steps, and n values are above it after them
 record IsPut (steps : List (ℕ × ℕ)) (v n : ℕ) : Type 0 where
   pub before : List (ℕ × ℕ)
   pub push : ℕ × ℕ
@@ -153,7 +152,7 @@ put_later step steps v n h = record {
 same_value : (a b : ℕ) (xs ys : List ℕ) → a ∷ xs ≡ b ∷ ys → (a ≡ b) × (xs ≡ ys)
 same_value a b xs ys e = (cc, cc)
 
--- a value of the list after some steps was put in by them, or was in the list before
+-- a value of the list after some steps was put in by them, or was in the list before and stayed
 abbrev IsPutOrThere : List ℕ → List (ℕ × ℕ) → ℕ → List ℕ → ℕ → Type 0
 IsPutOrThere list steps v below n = IsPut steps v n
     ⊎ ((top : List ℕ) × (values list ≡ top ++ v ∷ below) × Covers (length top) n steps)

@@ -36,7 +36,7 @@ slice_get-seam : (xs : List ℕ) (y : ℕ) (ys : List ℕ) → slice_get (xs ++ 
 slice_get-seam [] y ys = refl
 slice_get-seam (x ∷ xs) y ys = slice_get-seam xs y ys
 
--- the first item of a list is the first of the values put in that isn't out
+-- the first item of a list is the first of the values put in that wasn't given out yet
 first_of : (list puts taken : List ℕ) → puts ≡ taken ++ map value_of list
     → (first_taken list).1 ≡ reply_with (slice_get puts (length taken))
 first_of [] puts taken e =

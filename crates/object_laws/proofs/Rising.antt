@@ -256,7 +256,7 @@ least_value x (y ∷ ys) above small w some =
           (omega (arith, times-apart w (value_of y) (map value_of ys) other))
     ]
 
--- what was put in more often than given out is in the list
+-- each value was put in as often as it was given out and is still in the list together
 often : (steps : List (ℕ × ℕ)) → IsRunFrom next [] steps → (w : ℕ)
     → times w (put_in pqueue_reading steps) ≡ times w (given_out pqueue_reading steps)
     + times w (map value_of (list_after_run next [] steps))

@@ -46,7 +46,7 @@ times-nowhere v (x ∷ xs) none =
       times-nowhere v xs (λ k inside. none (suc k) (omega arith)),
     )
 
--- a value without a place is in no place
+-- a value without a place isn't in the list
 times-unplaced : (v : ℕ) (xs : List ℕ) → place_of xs v ≡ None → times v xs ≡ 0
 times-unplaced v xs none =
     let p : ℕ → Bool = λ x. x == v in
@@ -65,7 +65,7 @@ times-placed v xs i at =
     let first = position-Some (λ x. x == v) xs i 0 at in
     (first.0, eqb-true (get_or xs i 0) v first.1)
 
--- whether a value has a place is whether it is in the list
+-- a value has a place exactly where it is in the list
 pub is_there : (v : ℕ) (xs : List ℕ) → ((is_some (place_of xs v) ≡ true) × (1 ≤ times v xs))
     ⊎ ((is_some (place_of xs v) ≡ false) × (times v xs ≡ 0))
 is_there v xs = elim (cases_Option (place_of xs v)) [
@@ -199,7 +199,7 @@ without_value entry v step other = elim (cases_Bool (does_with entry v step)) [
   | inr not ↦ not
 ]
 
--- whether an add stands after a step
+-- whether an add of a value stands after a step, by whether one stood before
 abbrev told : ℕ → Bool → ℕ × ℕ → Bool
 told v stood step = if does_with words.add v step then true else if does_with words.remove v step
     then false else stood
@@ -226,7 +226,7 @@ few : (stood : Bool) → one_if stood ≤ 1
 few true = omega arith
 few false = omega arith
 
--- a step of the set keeps the value in the list just where an add of it stands
+-- after a step of the set a value is in the list just where an add of it stands
 told_by : (v : ℕ) (list : List ℕ) (stood : Bool) (step : ℕ × ℕ) → times v list ≡ one_if stood
     → times v (next list step.0).0 ≡ one_if (told v stood step)
 told_by v list stood step e =
@@ -299,7 +299,8 @@ add_stands v steps h =
     ∙ ap (λ (b : Bool). stands v b h.later) (told_add v (stands v false h.before) h.add h.adds)
     ∙ stays v h.later h.stays
 
--- where one stands, it is among the steps, or stood before them
+-- where an add stands after some steps, it is one of them, or it stood before them and none of them
+-- removes the value
 stands_by : (v : ℕ) (stood : Bool) (steps : List (ℕ × ℕ)) → stands v stood steps ≡ true
     → AddStands v steps ⊎ ((stood ≡ true) × NonePass (does_with words.remove v) steps)
 stands_by v stood [] e = inr (e, tt)

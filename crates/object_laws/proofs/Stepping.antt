@@ -7,7 +7,7 @@ use Rattle.seq_objects.specs.Words.{OperationEntry, is_operation_of, has_argumen
 use Rattle.seq_objects.specs.Replies.{reply_value, is_value}
 use Rattle.seq_objects.specs.Readings.{value_of, shown_value}
 
--- a step is replied what the object gives after the steps before it
+-- the reply of a step is what the object gives after the steps before it
 pub replied : (next : List ℕ → ℕ → List ℕ × ℕ) (list : List ℕ) (before rest : List (ℕ × ℕ))
     (step : ℕ × ℕ) → IsRunFrom next list (before ++ step ∷ rest)
     → (next (list_after_run next list before) step.0).1 ≡ step.1
@@ -22,13 +22,13 @@ runs_before next list [] rest run = tt
 runs_before next list (first ∷ before) rest run =
     (run.0, runs_before next (next list first.0).0 before rest run.1)
 
--- the list after the steps of two
+-- the list after two runs of steps in a row
 pub list_after-append : (next : List ℕ → ℕ → List ℕ × ℕ) (list : List ℕ) (a b : List (ℕ × ℕ))
     → list_after_run next list (a ++ b) ≡ list_after_run next (list_after_run next list a) b
 list_after-append next list [] b = refl
 list_after-append next list (step ∷ a) b = list_after-append next (next list step.0).0 a b
 
--- a word of one entry is of no entry with another code
+-- a word that is an operation of one entry is none of an entry with another code
 pub apart : (word : ℕ) (a b : OperationEntry) → a.code ≢ b.code → is_operation_of word a ≡ true
     → is_operation_of word b ≡ false
 apart word a b other is =

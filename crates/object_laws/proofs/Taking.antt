@@ -1,4 +1,4 @@
--- What a take of a container gives out was put in, and isn't out.
+-- A take of a container gives out a value that was put in more often than it was given out.
 use Rattle.std.proofs.Common.{◌≡◌, ℕ, ◌+◌, ◌<◌, ◌≤◌, List, [], ◌∷◌, ◌++◌, Option, Some, refl, ap, ◌∙◌, subst, arith, eq-eqb}
 use Rattle.book_base.specs.Sequential.{IsRunFrom}
 use Rattle.book_base.specs.PruningRules.{list_after_run}
@@ -17,7 +17,7 @@ use Rattle.object_laws.proofs.Stepping.{replied, runs_before}
 
 module _ (reading : Reading) (next : List ℕ → ℕ → List ℕ × ℕ) (is : IsContainer reading next)
     (init : List ℕ) (none : reading.values init ≡ []) where
-  -- what was put in more often than given out is in the list
+  -- each value was put in as often as it was given out and is still in the list together
   pub held : (steps : List (ℕ × ℕ)) → IsRunFrom next init steps → (w : ℕ)
       → times w (put_in reading steps) ≡ times w (given_out reading steps)
       + times w (reading.values (list_after_run next init steps))

@@ -17,7 +17,7 @@ use Rattle.object_laws.proofs.Stepping.{replied, apart, list_after-append}
 abbrev next : List ℕ → ℕ → List ℕ × ℕ
 next list word = register_after list (register_operation word)
 
--- a step that doesn't write leaves the list
+-- a step that doesn't write doesn't change the list
 leaves : (list : List ℕ) (word : ℕ) → is_operation_of word words.write ≡ false
     → (next list word).0 ≡ list
 leaves list word other = elim (cases_Bool (is_operation_of word words.read)) [
@@ -25,7 +25,7 @@ leaves list word other = elim (cases_Bool (is_operation_of word words.read)) [
   | inr none ↦ ap (λ (r : List ℕ × ℕ). r.0) (register_after-other list word other none)
 ]
 
--- so do steps that don't write
+-- steps that don't write don't change the list
 stays : (list : List ℕ) (steps : List (ℕ × ℕ)) → NonePass (does words.write) steps
     → list_after_run next list steps ≡ list
 stays list [] none = refl

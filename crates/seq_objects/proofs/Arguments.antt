@@ -7,7 +7,7 @@ use Rattle.seq_objects.specs.declared.entry.Arity.TheVariants.{Nullary, Unary, B
 use Rattle.seq_objects.specs.Words.{OperationEntry, is_operation_of, code_of, argument_of, extra_of, word_of, has_arguments, argument_words, further}
 use Rattle.seq_objects.specs.EntryView.{text_of, spaced_arguments, IsWrittenWith}
 
--- The parts of a word are those that it is made of.
+-- The code, the argument and the extra of a word that is made of them are these.
 pub word_of-parts : (code argument extra : ℕ) → code < 2 ^ 32 → argument < 2 ^ 32
     → (code_of (word_of code argument extra) ≡ code)
     × (argument_of (word_of code argument extra) ≡ argument)
@@ -25,7 +25,7 @@ is_operation e argument extra code_small argument_small has =
     (has_arguments e.arity (word_of e.code argument extra))
     (eq-eqb (code_of (word_of e.code argument extra)) e.code parts.0) has
 
--- What is read where an entry has no argument.
+-- The word that is read where an entry has no argument.
 pub IsWrittenWith-none : (e : OperationEntry) (words : List (List ℕ)) → e.code < 2 ^ 32
     → e.arity ≡ Nullary
     → IsWrittenWith e words (word_of e.code 0 0) 0
@@ -53,7 +53,7 @@ spaced name Nullary word = sym (append-nil name)
 spaced name Unary word = refl
 spaced name Binary word = refl
 
--- What is read where an entry has one argument.
+-- The word that is read where an entry has one argument.
 pub IsWrittenWith-one : (e : OperationEntry) (second : List ℕ) (third : Option (List ℕ))
     (argument : ℕ)
     → e.code < 2 ^ 32 → e.arity ≡ Unary → argument < 2 ^ 32 → decimal argument ≡ second

@@ -1,4 +1,4 @@
--- Of a list the items that pass a test, before and after an item is put in, taken out or replaced.
+-- The items of a list that pass a test, before and after an item is put in, taken out or replaced.
 use Rattle.std.proofs.Common.{◌≡◌, ℕ, zero, suc, ◌<◌, Bool, true, false, List, [], ◌∷◌, ◌++◌, length, get_or, take, drop, insert, remove, set, position, Option, Some, None, is_some, ltb, inl, inr, refl, sym, ap, ◌∙◌, arith}
 use Rattle.std.specs.List.{filter, position_or_len}
 use Rattle.std.proofs.lemmas.Bool.{cond-true, cond-false, cases_lt, lt-ltb}
@@ -9,7 +9,7 @@ use Rattle.std.proofs.lemmas.List.Sums.{fails_before_first}
 use Rattle.std.proofs.lemmas.List.Quantifiers.{position-Some}
 use Rattle.list_laws.proofs.Options.{cases_Option}
 
--- what stands before the first item that passes doesn't pass
+-- no item before the first one that passes does
 filter_before : (p : ℕ → Bool) (xs : List ℕ) (i : ℕ) → ((k : ℕ) → k < i → p (get_or xs k 0) ≡ false)
     → filter p (take i xs) ≡ []
 filter_before p xs zero fails = refl
@@ -24,7 +24,7 @@ drop_first [] i inside = absurd (omega (arith, inside))
 drop_first (x ∷ xs) zero inside = refl
 drop_first (x ∷ xs) (suc i) inside = drop_first xs i (omega (arith, inside))
 
--- what passes of the two parts of a list
+-- the items that pass are those of a list's first part and those of its second part
 filter-parts : (p : ℕ → Bool) (xs : List ℕ) (i : ℕ)
     → filter p (take i xs) ++ filter p (drop i xs) ≡ filter p xs
 filter-parts p xs i =
@@ -34,7 +34,7 @@ no_items : (xs ys : List ℕ) → xs ++ ys ≡ [] → (xs ≡ []) × (ys ≡ [])
 no_items [] ys none = (refl, none)
 no_items (x ∷ xs) ys none = absurd (omega (arith, ap length none))
 
--- An item is put in.
+-- An item that is put in is among those that pass exactly where it passes.
 pub filter-insert_other : (p : ℕ → Bool) (xs : List ℕ) (i y : ℕ) → p y ≡ false
     → filter p (insert xs i y) ≡ filter p xs
 filter-insert_other p xs i y fails =
@@ -52,7 +52,8 @@ filter-insert_first p xs i y passes none =
     ∙ (cond-true (p y) (y ∷ filter p (drop i xs)) (filter p (drop i xs)) passes
     ∙ ap (λ (ys : List ℕ). y ∷ ys) parts.1))
 
--- An item that doesn't pass is taken out, or another one that doesn't pass takes its place.
+-- The items that pass stay the same where one that doesn't is taken out, or replaced by another one
+-- that doesn't.
 pub filter-remove_other : (p : ℕ → Bool) (xs : List ℕ) (i : ℕ) → i < length xs
     → p (get_or xs i 0) ≡ false → filter p (remove xs i) ≡ filter p xs
 filter-remove_other p xs i inside fails =
@@ -72,7 +73,7 @@ filter-set_other p xs i y inside old new =
     ∙ (sym (filter-append p (take i xs) (drop (suc i) xs))
     ∙ filter-remove_other p xs i inside old)))
 
--- The first item that passes: nothing before it does.
+-- The first item that passes comes after no other one that does.
 filter-first : (p : ℕ → Bool) (xs : List ℕ) (i : ℕ) → position p xs ≡ Some i
     → filter p (take i xs) ≡ []
 filter-first p xs i at = filter_before p xs i (position-Some p xs i 0 at).2
@@ -101,7 +102,7 @@ filter-set_first p xs i y at passes =
     ∙ (ap (λ (ys : List ℕ). ys ++ filter p (y ∷ drop (suc i) xs)) (filter-first p xs i at)
     ∙ cond-true (p y) (y ∷ filter p (drop (suc i) xs)) (filter p (drop (suc i) xs)) passes))
 
--- No item passes.
+-- Where no item passes, none is left.
 pub filter-none : (p : ℕ → Bool) (xs : List ℕ) → position p xs ≡ None → filter p xs ≡ []
 filter-none p xs none =
     let n : ℕ = position_or_len p xs in
@@ -140,7 +141,7 @@ is_some_at : (xs : List ℕ) (o : Option ℕ) → is_some o ≡ is_some (item_at
 is_some_at xs None = refl
 is_some_at xs (Some i) = refl
 
--- An item passes exactly where there is a first one of those that do.
+-- Some item passes exactly where there is a first one that does.
 pub some_passes : (p : ℕ → Bool) (xs : List ℕ)
     → is_some (position p xs) ≡ is_some (first_of (filter p xs))
 some_passes p xs = is_some_at xs (position p xs) ∙ ap is_some (first_passes p xs)

@@ -23,7 +23,7 @@ deed_small (Some (Push value)) v small e = let same : value ≡ v = cc in omega 
 deed_small (Some Pop) v small e = absurd cc
 deed_small None v small e = absurd cc
 
--- the word of a pop is one
+-- the word of a pop is always the same
 abbrev takes_by_one : ℕ → Option StackOperation → Type 0
 takes_by_one word (Some (Push value)) = Unit {0}
 takes_by_one word (Some Pop) = word ≡ 2 * 2 ^ 32
@@ -53,7 +53,8 @@ takes_one word None one e = absurd cc
 
 -- ---- the steps
 
--- what is left of a list without its last item, and the item
+-- a list with an item at its end, without its last item, is the list before, and the reply gives
+-- the item
 last_taken-end : (list : List ℕ) (x : ℕ) → last_taken (list ++ x ∷ []) ≡ (list, reply_value x)
 last_taken-end [] x = refl
 last_taken-end (y ∷ ys) x =

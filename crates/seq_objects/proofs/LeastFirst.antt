@@ -79,7 +79,7 @@ deed_small (Some (Insert value)) v small e = let same : value ≡ v = cc in omeg
 deed_small (Some Min) v small e = absurd cc
 deed_small None v small e = absurd cc
 
--- the word of a min is one
+-- the word of a min is always the same
 abbrev takes_by_one : ℕ → Option PqueueOperation → Type 0
 takes_by_one word (Some (Insert value)) = Unit {0}
 takes_by_one word (Some Min) = word ≡ 2 * 2 ^ 32

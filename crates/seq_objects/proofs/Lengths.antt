@@ -10,7 +10,7 @@ use Rattle.book_base.specs.Order.{call_at, StandsAt, IsLegalOrder}
 use Rattle.book_base.proofs.ViewLemmas.{same_call}
 use Rattle.book_base.proofs.PageLemmas.{caller_from_call}
 
--- A call with this code stands in an order, at this index.
+-- An order has, at this index, the call with this code.
 abbrev StandsWithCode : List Place → ℕ → ℕ → Type 0
 StandsWithCode order k code = (call : Call) × StandsAt order k call × (call.number < MAX_CALLS)
     × (call.caller * MAX_CALLS + call.number ≡ code)

@@ -1,4 +1,4 @@
--- A map is an object of keys: what an operation does is done with the items that have its key.
+-- A map is an object of keys: an operation sees and changes only the items that have its key.
 use Rattle.std.proofs.Common.{◌≡◌, ◌≢◌, ℕ, ◌<◌, ◌^◌, ◌==◌, Bool, true, false, List, ◌∷◌, get_or, Option, Some, None, inl, inr, refl, sym, ap, subst, ◌∙◌, arith}
 use Rattle.std.specs.List.{filter}
 use Rattle.std.proofs.lemmas.Bool.{eqb-true, eq-eqb, ne_eqb}
@@ -20,7 +20,7 @@ abbrev value_of_item : Option ℕ → ℕ
 value_of_item None = reply_none
 value_of_item (Some item) = reply_value item
 
--- the reply to an operation, and the items of its key after it, from those before
+-- the reply to an operation, and the items of its key after it, from the items of its key before it
 abbrev replied : Option MapOperation → List ℕ → ℕ
 replied (Some (Put key value)) items = value_of_item (first_of items)
 replied (Some (Get key)) items = value_of_item (first_of items)
@@ -33,7 +33,7 @@ left (Some (Get key)) items = items
 left (Some (Delete key)) items = rest_of items
 left None items = items
 
--- what is put is below 2 ^ 32
+-- the value that an operation puts is below 2 ^ 32
 abbrev PutsSmall : Option MapOperation → Type 0
 PutsSmall asked = (key value : ℕ) → asked ≡ Some (Put key value) → value < 2 ^ 32
 
@@ -74,7 +74,7 @@ map_replied list None k is = absurd (none-some k is)
 key_of_item : (key value : ℕ) → value < 2 ^ 32 → key_of (item_of key value) ≡ key
 key_of_item key value small = omega (arith, small)
 
--- the items of the key that is put
+-- the items of a key after a put of this key
 put_left : (list : List ℕ) (key value : ℕ) → value < 2 ^ 32
     → map_part key (put_in list key value).0 ≡ item_of key value ∷ rest_of (map_part key list)
 put_left list key value small =
@@ -93,7 +93,7 @@ put_left list key value small =
           ∙ sym (ap (λ (ys : List ℕ). item ∷ rest_of ys) (filter-found p list found.0 found.1)))
     ]
 
--- the items of the key that is deleted
+-- the items of a key after a delete of this key
 deleted_left : (list : List ℕ) (key : ℕ)
     → map_part key (without list (place_of_key list key)) ≡ rest_of (map_part key list)
 deleted_left list key =
@@ -121,7 +121,7 @@ map_left list (Some (Delete key)) k small is =
     (same_Some key k is) (deleted_left list key)
 map_left list None k small is = refl
 
--- an item found for a key has no other key
+-- the item that is found for a key has no other key
 found_apart : (list : List ℕ) (key k i : ℕ) → place_of_key list key ≡ Some i → (key ≡ k → ⊥)
     → (key_of (get_or list i 0) == k) ≡ false
 found_apart list key k i at apart =
@@ -161,7 +161,7 @@ deleted_others list key k apart =
           (found_apart list key k found.0 found.1 apart)
     ]
 
--- an operation leaves the items of each other key
+-- an operation doesn't change the items of any other key
 map_others : (list : List ℕ) (asked : Option MapOperation) (k : ℕ) → PutsSmall asked
     → key_in_map asked ≢ Some k → map_part k (map_after list asked).0 ≡ map_part k list
 map_others list (Some (Put key value)) k small other =

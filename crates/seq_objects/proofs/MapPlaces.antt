@@ -1,4 +1,4 @@
--- What a put makes of a list in which its key has an item.
+-- The list after a put of a key that has an item.
 use Rattle.std.proofs.Common.{◌≡◌, ℕ, ◌==◌, List, insert, remove, slice_get, Some, sym, ap, ◌∙◌}
 use Rattle.std.proofs.lemmas.List.Quantifiers.{position-Some}
 use Rattle.std.proofs.lemmas.Option.{get_or_from_slice_get}
@@ -7,7 +7,7 @@ use Rattle.seq_objects.specs.MapSteps.{item_of, key_of, place_of_key, put_at, pu
 use Rattle.list_laws.proofs.Options.{pair_is}
 use Rattle.list_laws.proofs.Replacing.{insert-remove}
 
--- The first item with the key is taken out, and the new one put there.
+-- A put takes out the first item with the key, and puts the new one there.
 pub put_in-there : (list : List ℕ) (key value place old : ℕ) → place_of_key list key ≡ Some place
     → slice_get list place ≡ Some old
     → put_in list key value

@@ -26,7 +26,7 @@ unplaced : (p : ℕ → Bool) (xs : List ℕ) (n : ℕ) → position_or_len p xs
 unplaced p xs n e past = ap (λ (k : ℕ). if nat_lt k (length xs) then Some k else None) e
     ∙ cond-false (nat_lt n (length xs)) (Some n) None (le-ltb n (length xs) past)
 
--- what the place of a key gives is the value of the first item of the key
+-- the value that a get gives is that of the first item with the key
 read_is : (list : List ℕ) (key : ℕ) → value_at list (place_of_key list key) ≡ found key list
 read_is [] key = refl
 read_is (x ∷ xs) key =
@@ -78,7 +78,7 @@ lacks_at key [] i inside lacks = absurd (omega (arith, inside))
 lacks_at key (x ∷ xs) zero inside lacks = lacks.0
 lacks_at key (x ∷ xs) (suc i) inside lacks = lacks_at key xs i (omega (arith, inside)) lacks.1
 
--- an item instead of another
+-- the value of a key after an item is replaced
 found_set_same : (key item : ℕ) (xs : List ℕ) (i : ℕ) → i < length xs → key_of item ≡ key
     → ((k : ℕ) → k < i → (key_of (get_or xs k 0) == key) ≡ false)
     → found key (set xs i item) ≡ reply_value item
@@ -117,7 +117,7 @@ once_set item (x ∷ xs) (suc i) inside same once = (
   once_set item xs i (omega (arith, inside)) same once.1,
 )
 
--- an item between others
+-- the value of a key after an item is put in
 found_insert_same : (key item : ℕ) (xs : List ℕ) (i : ℕ) → key_of item ≡ key → LacksKey key xs
     → found key (insert xs i item) ≡ reply_value item
 found_insert_same key item [] zero same lacks =
@@ -161,7 +161,7 @@ once_inserted item (x ∷ xs) (suc i) lacks once = (
   once_inserted item xs i lacks.1 once.1,
 )
 
--- an item taken out
+-- the value of a key after an item is taken out
 found_remove_other : (key : ℕ) (xs : List ℕ) (i : ℕ) → i < length xs → key_of (get_or xs i 0) ≢ key
     → found key (remove xs i) ≡ found key xs
 found_remove_other key [] i inside other = absurd (omega (arith, inside))

@@ -1,5 +1,5 @@
--- Which marks a narrowing keeps, caller by caller, and that those with the forced call's key
--- suffice.
+-- Which marks a narrowing keeps, caller by caller; and that the marks of the callers whose next
+-- calls have the forced call's key suffice.
 use Rattle.std.proofs.Common.{◌≡◌, ◌⊎◌, ◌↔◌, ℕ, ◌+◌, ◌<◌, ◌≤◌, ◌∙◌, List, length, Option, Some, unwrap_or, inl, inr, refl, sym, ap, subst, arith}
 use Rattle.std.proofs.lemmas.Bool.{cases_eq}
 use Rattle.book_base.specs.declared.call.Call.{Call}
@@ -15,7 +15,7 @@ use Rattle.pruning_laws.specs.Keys.{IsKeyed}
 use Rattle.pruning_laws.proofs.Bringing.{forced_key_goes_first}
 use Rattle.seq_objects.specs.Keys.{next_word}
 
--- Of the marked callers below a number those keep their marks of which something holds.
+-- Of the marked callers below a number exactly those keep their marks that have a property.
 abbrev pub KeptBelow : (ℕ → Type 0) → Marks → ℕ → Marks → Type 0
 KeptBelow holds old below new = (i : ℕ) → IsMarked new i ↔ ((i < below) × IsMarked old i × holds i)
 
@@ -75,7 +75,7 @@ pub forced_is_call : (book : List Page) (cut : List ℕ) (forced : ℕ) → IsVa
     → IsForced book cut forced → IsCall book (next_call cut forced)
 forced_is_call book cut forced valid is = omega (arith, is.answered, valid.answers forced)
 
--- the caller of what may stand next is marked, and the call is its next one
+-- a place that may come next is of a marked caller, and has its next call
 pub next_is_marked : (book : List Page) (cut : List ℕ) (marks : Marks) (place : Place)
     → MarksAllNext book cut marks → MayComeNext book cut (call_at place)
     → (call_at place ≡ next_call cut place.caller) × IsMarked marks place.caller
@@ -84,7 +84,7 @@ next_is_marked book cut marks place all may =
     same_call (call_at place) (next_call cut place.caller) refl may.next in
     (same, (all place.caller).1 (subst (λ (c : Call). MayComeNext book cut c) same may))
 
--- Those of the marked callers suffice whose next calls have the forced call's key.
+-- The marks of those marked callers suffice whose next calls have the forced call's key.
 pub keyed_suffice : (key : ℕ → Option ℕ) (part : ℕ → List ℕ → List ℕ)
     (next : List ℕ → ℕ → List ℕ × ℕ) → IsKeyed key part next
     → (book : List Page) (cut list : List ℕ) (forced k : ℕ) (old new : Marks)

@@ -1,8 +1,9 @@
--- A vector that holds what it held, and a prefix of a text after it.
+-- A vector that has what it had before, and a prefix of a text after it.
 use Rattle.std.proofs.Common.{◌≡◌, ℕ, List, ◌++◌, sym, ap, ◌∙◌, append_assoc}
 use Rattle.seq_objects.specs.Words.{AppendsPrefix}
 
--- A prefix after the whole of another text is a prefix of both.
+-- A prefix of a text that is appended after the whole of another text makes a prefix of both texts
+-- together.
 pub AppendsPrefix-after : (old mid new before text : List ℕ) → mid ≡ old ++ before
     → AppendsPrefix mid new text → AppendsPrefix old new (before ++ text)
 AppendsPrefix-after old mid new before text whole prefix = record {

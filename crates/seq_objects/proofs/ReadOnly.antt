@@ -1,4 +1,4 @@
--- Which steps leave every list, by their replies.
+-- Which steps are read-only, by their replies.
 use Rattle.std.proofs.Common.{◌≡◌, ℕ, ◌/◌, ◌%◌, ◌^◌, ◌<◌, ◌↔◌, ◌⊎◌, ◌==◌, Bool, true, false, not, List, [], ◌∷◌, length, get_or, position, set, slice_index, Option, Some, None, is_some, IsTrue, if◌then◌else◌, nat_lt, inl, inr, refl, sym, ap, subst, ◌∙◌, arith}
 use Rattle.std.proofs.lemmas.Bool.{cond-true, cond_both, cases_Bool, true≢false, eqb-true, eq-eqb, ltb-true, and_parts, true_from_ne_false}
 use Rattle.std.proofs.lemmas.List.{set-get_or}
@@ -17,7 +17,7 @@ use Rattle.seq_objects.specs.IntSetSteps.{added, taken_out, removed}
 use Rattle.seq_objects.specs.CasRegisterSteps.{cas_register_operation, compared_and_set}
 use Rattle.seq_objects.specs.MapSteps.{map_operation, item_of, key_of, place_of_key, put_at, put_in, value_at, without}
 
--- with this reply the step leaves every list
+-- the step is read-only with this reply: it changes no list at which it has it
 abbrev pub LeavesBy : (List ℕ → List ℕ × ℕ) → ℕ → Type 0
 LeavesBy step reply = (list : List ℕ) → (step list).1 ≡ reply → (step list).0 ≡ list
 
@@ -25,7 +25,8 @@ LeavesBy step reply = (list : List ℕ) → (step list).1 ≡ reply → (step li
 abbrev pub Changes : (List ℕ → List ℕ × ℕ) → ℕ → Type 0
 Changes step reply = (list : List ℕ) × ((step list).1 ≡ reply) × ((step list).0 ≡ list → ⊥)
 
--- a test says which replies leave every list where it does so for yes, and some list changes for no
+-- a test tells with which replies a step is read-only, where it is so with each for which the
+-- answer is yes, and changes a list with each for which it is no
 pub tells_read_only : (test : Bool) (step : List ℕ → List ℕ × ℕ) (reply : ℕ)
     → (test ≡ true → LeavesBy step reply) → (test ≡ false → Changes step reply) → IsTrue test
     ↔ LeavesBy step reply
@@ -44,7 +45,7 @@ yes_test a b test = elim (cases_Bool (a == b)) [
   | inr other ↦ absurd (true≢false (sym (ap not other) ∙ test))
 ]
 
--- each other reply than one leaves every list
+-- a step is read-only with each reply but one
 pub leaves_but_with : (step : List ℕ → List ℕ × ℕ) (changing reply : ℕ)
     → ((list : List ℕ) → ((step list).1 ≡ changing) ⊎ ((step list).0 ≡ list))
     → Changes step changing
@@ -57,7 +58,7 @@ leaves_but_with step changing reply either change =
     ])
     (λ same. subst (λ r. Changes step r) (sym (yes_test reply changing same)) change)
 
--- each reply that gives no value leaves every list
+-- a step is read-only with each reply that gives no value
 pub leaves_without_value : (step : List ℕ → List ℕ × ℕ) (reply : ℕ) (valued : Bool)
     → valued ≡ is_value reply
     → ((list : List ℕ) → ((step list).1 / 2 ^ 32 ≡ 2) ⊎ ((step list).0 ≡ list))
@@ -83,7 +84,7 @@ taken_first : (list : List ℕ) → ((first_taken list).1 / 2 ^ 32 ≡ 2) ⊎ ((
 taken_first [] = inr refl
 taken_first (x ∷ rest) = inl (value_tag x)
 
--- taking the first item leaves every list where the reply gives none
+-- taking the first item is read-only with a reply that gives no value
 pub first_taken_leaves : (reply : ℕ) (valued : Bool) → valued ≡ is_value reply → IsTrue (not valued)
     ↔ LeavesBy first_taken reply
 first_taken_leaves reply valued e =
@@ -94,14 +95,14 @@ taken_last : (list : List ℕ) → ((last_taken list).1 / 2 ^ 32 ≡ 2) ⊎ ((la
 taken_last [] = inr refl
 taken_last (x ∷ rest) = inl (value_tag (slice_index (x ∷ rest) (length rest)))
 
--- and so does taking the last one
+-- taking the last item is read-only with a reply that gives no value
 pub last_taken_leaves : (reply : ℕ) (valued : Bool) → valued ≡ is_value reply → IsTrue (not valued)
     ↔ LeavesBy last_taken reply
 last_taken_leaves reply valued e =
     leaves_without_value last_taken reply valued e taken_last
     (λ v small. (v ∷ [], refl, λ same. omega (arith, ap length same)))
 
--- counting leaves every list where the reply gives no count: there is no such reply
+-- counting is read-only with a reply that gives no count, since it never has such a reply
 pub counted_leaves : (reply : ℕ) (valued : Bool) → valued ≡ is_value reply → IsTrue (not valued)
     ↔ LeavesBy (λ list. counter_after list (Some Increment)) reply
 counted_leaves reply valued e =
@@ -114,7 +115,7 @@ taken_out_either : (list : List ℕ) (place : Option ℕ) → (value_at list pla
 taken_out_either list (Some place) = inl (value_tag (slice_index list place))
 taken_out_either list None = inr refl
 
--- the only item stands first where it passes
+-- in a list of one item that passes, the first item that passes is at place 0
 position-one : {X : Type 0} (p : X → Bool) (x : X) → p x ≡ true → position p (x ∷ []) ≡ Some 0
 position-one p x passes = ap (λ (b : Bool). if nat_lt (if not b then 1 else 0) 1
     then Some (if not b then 1 else 0) else None) passes
@@ -123,7 +124,7 @@ key_place : (key v : ℕ) → v < 2 ^ 32 → place_of_key (item_of key v ∷ [])
 key_place key v small = position-one (λ item. key_of item == key) (item_of key v)
     (eq-eqb (key_of (item_of key v)) key (omega (arith, small)))
 
--- deleting leaves every list where the reply gives no value
+-- deleting is read-only with a reply that gives no value
 pub deleted_leaves : (key reply : ℕ) (valued : Bool) → valued ≡ is_value reply
     → IsTrue (not valued) ↔ LeavesBy
     (λ list. (without list (place_of_key list key), value_at list (place_of_key list key))) reply
@@ -141,7 +142,7 @@ deleted_leaves key reply valued e =
       λ same. omega (arith, ap length (sym (ap (without list) there) ∙ same)),
     ))
 
--- adding leaves every list but where it replies yes
+-- adding is read-only with each reply but yes
 pub added_leaves : (value reply : ℕ) → IsTrue (not (reply == reply_yes))
     ↔ LeavesBy (λ list. added list value) reply
 added_leaves value reply =
@@ -156,7 +157,7 @@ removed_either : (list : List ℕ) (place : Option ℕ) → ((taken_out list pla
 removed_either list (Some place) = inl refl
 removed_either list None = inr refl
 
--- and so does removing
+-- removing is read-only with each reply but yes
 pub removed_leaves : (value reply : ℕ) → IsTrue (not (reply == reply_yes))
     ↔ LeavesBy (λ list. removed list value) reply
 removed_leaves value reply =
@@ -170,7 +171,7 @@ removed_leaves value reply =
       λ same. omega (arith, ap length (sym (ap (λ place. (taken_out list place).0) there) ∙ same)),
     )
 
--- and so does comparing and setting
+-- comparing and setting is read-only with each reply but yes
 pub compared_and_set_leaves : (expected new reply : ℕ) → expected < 2 ^ 32
     → IsTrue (not (reply == reply_yes))
     ↔ LeavesBy (λ list. compared_and_set list expected new) reply
@@ -228,7 +229,7 @@ value_is_small word key value asked =
     (λ _. cond_both {A = Option MapOperation} (is_operation_of word words.del) _ _ IsSmall
     (λ del. omega arith) (λ other. omega arith))))
 
--- a put with the value that the key had leaves the list
+-- a put with the value that the key had doesn't change the list
 put_at_same : (list : List ℕ) (key value : ℕ) (place : Option ℕ) → value < 2 ^ 32
     → place_of_key list key ≡ place → (put_at list (item_of key value) place).1 ≡ reply_value value
     → (put_at list (item_of key value) place).0 ≡ list
@@ -245,7 +246,7 @@ put_at_tag : (list : List ℕ) (item : ℕ) (place : Option ℕ)
 put_at_tag list item (Some place) = inr (value_tag (slice_index list place))
 put_at_tag list item None = inl refl
 
--- a put leaves every list where the reply gives the value that is put
+-- a put is read-only with the reply that gives the value that it puts
 pub put_with_its_value_leaves : (key value reply : ℕ) → value < 2 ^ 32 → reply ≡ reply_value value
     → LeavesBy (λ list. put_in list key value) reply
 put_with_its_value_leaves key value reply small e list replied =

@@ -1,4 +1,4 @@
--- Queues and stacks are what the rules of histories ask for.
+-- Queues and stacks meet the definitions that the rules of histories use.
 use Rattle.std.proofs.Common.{◌≡◌, ℕ, ◌+◌, ◌/◌, ◌^◌, ◌<◌, ◌∙◌, List, [], ◌∷◌, ◌++◌, length, map, reverse, take, get_or, Option, Some, None, refl, sym, ap, subst, arith}
 use Rattle.std.specs.List.{Contains}
 use Rattle.std.proofs.lemmas.Bool.{cond_both, cond-true, eq-eqb}
@@ -100,7 +100,7 @@ pushed_is_small word =
     (λ _. cond_both {A = Option StackOperation}
     (is_operation_of word words.pop) _ _ stack_puts_small (λ pop. tt) (λ other. tt))
 
--- a list with one more word shows that word's value first
+-- the values of a list with one more word begin with that word's value
 shown_pushed : (list : List ℕ) (word : ℕ)
     → shown_first (list ++ word ∷ []) ≡ value_of word ∷ shown_first list
 shown_pushed list word = ap reverse (map-append value_of list (word ∷ []))
@@ -148,7 +148,7 @@ stack_is_read = record {
   neither = λ list op e. stack_neither list (stack_operation op) e;
 }
 
--- a word that is a value is one of the values
+-- a word of a list that is a value is one of the values that the list holds
 Contains-value : (list : List ℕ) (v : ℕ) → v < 2 ^ 32 → Contains list v
     → Contains (map value_of list) v
 Contains-value list v small inside =

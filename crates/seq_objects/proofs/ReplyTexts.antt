@@ -29,7 +29,7 @@ no_values : list_all (λ r. not (is_value r.word)) named_replies ≡ true
 unfolding named_replies
 no_values = refl
 
--- The word of an entry is found again.
+-- The entry that is found for the word of an entry is this entry.
 named_reply-word : (r : NamedReply) → IsIn r named_replies → named_reply r.word ≡ Some r
 unfolding named_reply
 named_reply-word r inside =
@@ -64,7 +64,7 @@ reply_named-name name r inside same =
     named_replies q r distinct_names q_in inside
     ((bytes_eq-Decides q.name r.name).1 ((bytes_eq-Decides q.name name).0 q_same ∙ sym same)))
 
--- A reply that gives a value is no name.
+-- A reply that gives a value has no name.
 named_reply-value : (reply : ℕ) → is_value reply ≡ true → named_reply reply ≡ None
 named_reply-value reply value = elim (cases_Option (named_reply reply)) [
   | inl none ↦ none
@@ -74,13 +74,13 @@ named_reply-value reply value = elim (cases_Option (named_reply reply)) [
       (list_all-inside (λ r. not (is_value r.word)) named_replies named.0 no_values at.0)) value)
 ]
 
--- A reply with a name is that name.
+-- The text of a reply with a name is that name.
 pub reply_word-named : (reply : ℕ) (r : NamedReply) → named_reply reply ≡ Some r
     → reply_word reply ≡ r.name
 unfolding reply_word
 reply_word-named reply r named = ap (λ o. reply_word_by_entry o reply) named
 
--- A reply that gives a value is '=' and the value.
+-- The text of a reply that gives a value is '=' and the value.
 pub reply_word-value : (reply : ℕ) → is_value reply ≡ true
     → reply_word reply ≡ 61 ∷ decimal (reply % 2 ^ 32)
 unfolding reply_word
@@ -88,7 +88,7 @@ reply_word-value reply value =
     ap (λ o. reply_word_by_entry o reply) (named_reply-value reply value)
     ∙ cond-true (is_value reply) (61 ∷ decimal (reply % 2 ^ 32)) (35 ∷ decimal reply) value
 
--- Any other reply is '#' and the whole number.
+-- The text of any other reply is '#' and the whole number.
 pub reply_word-other : (reply : ℕ) → named_reply reply ≡ None → is_value reply ≡ false
     → reply_word reply ≡ 35 ∷ decimal reply
 unfolding reply_word
@@ -96,7 +96,7 @@ reply_word-other reply none other =
     ap (λ o. reply_word_by_entry o reply) none
     ∙ cond-false (is_value reply) (61 ∷ decimal (reply % 2 ^ 32)) (35 ∷ decimal reply) other
 
--- What stands for a reply: its name, '=' and its value, or '#' and the whole number.
+-- The text of a reply is its name, '=' and its value, or '#' and the whole number.
 pub reply_word-cases : (reply : ℕ) →
     ((r : NamedReply) × IsIn r named_replies × (reply ≡ r.word) × (reply_word reply ≡ r.name))
     ⊎ (((is_value reply ≡ true) × (reply_word reply ≡ 61 ∷ decimal (reply % 2 ^ 32)))
@@ -115,14 +115,14 @@ reply_word-cases reply = elim (cases_Option (named_reply reply)) [
   ]
 ]
 
--- A name stands for its reply.
+-- A name is the text of the reply with this name.
 pub reply_word-name : (word : List ℕ) (r : NamedReply) → reply_named word ≡ Some r
     → reply_word r.word ≡ word
 reply_word-name word r named =
     let at = reply_named-inside word r named in
     reply_word-named r.word r (named_reply-word r at.0) ∙ at.1
 
--- '=' and the digits of a value stand for the reply that gives it.
+-- '=' and the digits of a value are the text of the reply that gives it.
 pub reply_word-digits : (word digits : List ℕ) (value : ℕ) → value < 2 ^ 32 → word ≡ 61 ∷ digits
     → decimal value ≡ digits → reply_word (reply_value value) ≡ word
 reply_word-digits word digits value small begins spelled =
@@ -131,7 +131,7 @@ reply_word-digits word digits value small begins spelled =
     reply_word-value (reply_value value) (eq-eqb (reply_value value / 2 ^ 32) 2 tag)
     ∙ ap (λ n. 61 ∷ decimal n) low ∙ ap (λ ds. 61 ∷ ds) spelled ∙ sym begins
 
--- '#' and the digits of a reply without a text of its own stand for that reply.
+-- '#' and the digits of a reply without a text of its own are the text of that reply.
 pub reply_word-unknown : (word digits : List ℕ) (reply : ℕ) → word ≡ 35 ∷ digits
     → decimal reply ≡ digits → is_known_reply reply ≡ false → reply_word reply ≡ word
 unfolding is_known_reply
@@ -140,7 +140,7 @@ reply_word-unknown word digits reply begins spelled unknown =
     reply_word-other reply (none_from_is_some (named_reply reply) parts.0) parts.1
     ∙ ap (λ ds. 35 ∷ ds) spelled ∙ sym begins
 
--- After '=' stands no reply's text where the digits are no value's.
+-- '=' and digits that are no value's are no reply's text.
 pub not-reply-value : (word digits : List ℕ) → reply_named word ≡ None → word ≡ 61 ∷ digits
     → ((n : ℕ) → n < 2 ^ 32 → decimal n ≢ digits) → (reply : ℕ) → reply_word reply ≢ word
 not-reply-value word digits none begins lacking reply same = elim (reply_word-cases reply) [
@@ -153,7 +153,7 @@ not-reply-value word digits none begins lacking reply same = elim (reply_word-ca
       omega (arith, ap (λ (ds : List ℕ). get_or ds 0 0) (sym other.1 ∙ same ∙ begins))
 ]
 
--- A word that is no name and begins with neither mark stands for no reply.
+-- A word that is no name and begins with neither mark is no reply's text.
 pub not-reply-unmarked : (word : List ℕ) → reply_named word ≡ None
     → ((rest : List ℕ) → word ≢ 61 ∷ rest) → ((rest : List ℕ) → word ≢ 35 ∷ rest) → (reply : ℕ)
     → reply_word reply ≢ word
@@ -164,7 +164,7 @@ not-reply-unmarked word none no_value no_number reply same = elim (reply_word-ca
   | inr (inr other) ↦ no_number (decimal reply) (sym same ∙ other.1)
 ]
 
--- After '#' stands no reply's text where each reply with these digits has another.
+-- '#' and digits are no reply's text where the reply with these digits has another text.
 pub not-reply-marked : (word digits : List ℕ) → reply_named word ≡ None → word ≡ 35 ∷ digits
     → ((reply : ℕ) → reply < 2 ^ 64 → decimal reply ≡ digits → is_known_reply reply ≡ true)
     → (reply : ℕ) → reply < 2 ^ 64 → reply_word reply ≢ word
@@ -192,7 +192,7 @@ named-plain r inside =
     plain_names inside) in
     (parts.0, eqb-false (get_or r.name 0 0) 61 (not-true (get_or r.name 0 0 == 61) parts.1))
 
--- A name of a reply is no text with a mark.
+-- A name of a reply doesn't begin with a mark.
 not-marked-name : (r : NamedReply) (rest : List ℕ) → IsIn r named_replies
     → ((r.name ≡ 61 ∷ rest) → ⊥) × ((r.name ≡ 35 ∷ rest) → ⊥)
 not-marked-name r rest inside =
@@ -201,7 +201,7 @@ not-marked-name r rest inside =
       λ number. marked-name rest (subst (λ n. is_plain_name n ≡ true) number plain.0),
     )
 
--- Replies that give one value are one.
+-- Replies that give one value are equal.
 one_value : (a b : ℕ) → is_value a ≡ true → is_value b ≡ true
     → decimal (a % 2 ^ 32) ≡ decimal (b % 2 ^ 32) → a ≡ b
 one_value a b a_value b_value digits =
@@ -211,7 +211,7 @@ one_value a b a_value b_value digits =
     eqb-true (a / 2 ^ 32) 2 a_value ∙ sym (eqb-true (b / 2 ^ 32) 2 b_value) in
     omega arith
 
--- Replies with one text are one.
+-- Replies with one text are equal.
 pub reply_word-once : (a b : ℕ) → a < 2 ^ 64 → b < 2 ^ 64 → reply_word a ≡ reply_word b → a ≡ b
 reply_word-once a b a_small b_small same = elim (reply_word-cases a) [
   | inl a_named ↦ elim (reply_word-cases b) [

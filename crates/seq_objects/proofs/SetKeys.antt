@@ -1,4 +1,4 @@
--- A set is an object of keys: what an operation does is done with the items that are its key.
+-- A set is an object of keys: an operation sees and changes only the items that are its key.
 use Rattle.std.proofs.Common.{◌≡◌, ◌≢◌, ℕ, ◌==◌, Bool, true, false, List, [], ◌∷◌, get_or, Option, Some, None, is_some, if◌then◌else◌, inl, inr, refl, sym, ap, subst, ◌∙◌}
 use Rattle.std.specs.List.{filter}
 use Rattle.std.proofs.lemmas.Bool.{cond_both, eqb-true, eq-eqb, ne_eqb}
@@ -14,7 +14,7 @@ use Rattle.seq_objects.specs.IntSetSteps.{added, taken_out, removed, set_operati
 use Rattle.seq_objects.specs.Keys.{key_in_set, set_key, set_part}
 use Rattle.seq_objects.proofs.KeyedItems.{filter-insert_other, filter-insert_first, filter-remove_other, filter-remove_first, filter-found, filter-none, first_of, rest_of, some_passes}
 
--- the reply to an operation, and the items of its key after it, from those before
+-- the reply to an operation, and the items of its key after it, from the items of its key before it
 abbrev replied : Option IntSetOperation → List ℕ → ℕ
 replied (Some (Add value)) items = if is_some (first_of items) then reply_no else reply_yes
 replied (Some (Remove value)) items = if is_some (first_of items) then reply_yes else reply_no
@@ -27,7 +27,7 @@ left (Some (Remove value)) items = rest_of items
 left (Some (Has value)) items = items
 left None items = items
 
--- what adding a value makes of a list, by whether the value is there
+-- the list after adding a value, and the reply, by whether the value is there
 abbrev added_when : Bool → List ℕ → List ℕ → List ℕ × ℕ
 added_when there list new = if there then (list, reply_no) else (new, reply_yes)
 
@@ -59,7 +59,7 @@ set_replied list (Some (Has value)) k key =
     (ap (λ (b : Bool). if b then reply_yes else reply_no) (some_passes (λ x. x == value) list))
 set_replied list None k key = absurd (none-some k key)
 
--- the items of the value that is added
+-- the items that are a value after adding this value
 added_left : (list : List ℕ) (value : ℕ)
     → set_part value (added list value).0 ≡ left (Some (Add value)) (set_part value list)
 added_left list value =
@@ -78,7 +78,7 @@ added_left list value =
           ∙ sym (ap (left (Some (Add value))) (filter-found p list found.0 found.1)))
     ]
 
--- the items of the value that is removed
+-- the items that are a value after removing this value
 removed_left : (list : List ℕ) (value : ℕ)
     → set_part value (removed list value).0 ≡ rest_of (set_part value list)
 removed_left list value =
@@ -106,7 +106,7 @@ set_left list (Some (Remove value)) k key =
 set_left list (Some (Has value)) k key = refl
 set_left list None k key = refl
 
--- an operation leaves the items of each other key
+-- an operation doesn't change the items of any other key
 set_others : (list : List ℕ) (asked : Option IntSetOperation) (k : ℕ) → key_in_set asked ≢ Some k
     → set_part k (set_after list asked).0 ≡ set_part k list
 set_others list (Some (Add value)) k other =

@@ -63,7 +63,8 @@ Spells-known kind first others e word used named written =
       count = omega (arith, ap length words, written.count);
     }
 
--- What the words say where the kind knows the operation.
+-- The words name an operation that the kind knows: the first one is an entry's name, and its
+-- arguments follow.
 pub record IsNamed (first : List ℕ) (others : List (List ℕ)) (word used : ℕ)
     (e : OperationEntry) : Type 0 where
   pub name : e.name ≡ first
@@ -87,7 +88,8 @@ Spells-entry kind first others word used e known spells =
       };
     }
 
--- What the words say where the kind doesn't know the operation.
+-- The words mark an operation that the kind doesn't know: the first one is '#' and the whole word
+-- in digits.
 Spells-marked : (kind : Kind) (first : List ℕ) (others : List (List ℕ)) (word used : ℕ)
     → entry_of kind word ≡ None → Spells kind (first ∷ others) word used
     → (first ≡ 35 ∷ whole_digits word) × (used ≡ 0)
@@ -120,7 +122,7 @@ named-marked kind first e rest inside name begins =
     marked-name rest
     (subst (λ n. is_plain_name n ≡ true) (name ∙ begins) (is_plain_name-entry kind e inside))
 
--- After '#' stands no text of an operation where the kind knows each word with these digits.
+-- '#' and digits are no text of an operation where the kind knows the word with these digits.
 pub not-Spells-marked : (kind : Kind) (first digits : List ℕ) (others : List (List ℕ))
     → first ≡ 35 ∷ digits
     → ((word : ℕ) → IsOperationWord word → whole_digits word ≡ digits
@@ -179,7 +181,8 @@ unfolding operation_text
 operation_text-unknown kind word unknown =
     ap (join_with_byte 32) (operation_words-unknown kind word unknown)
 
--- Words that have the arguments of one arity, and begin with one text of them, have the same.
+-- Two words with the arguments of one arity, of which one text begins the same words, have the same
+-- arguments.
 same_arguments : (arity : Arity) (a b : ℕ) (x y : List (List ℕ)) → has_arguments arity a ≡ true
     → has_arguments arity b ≡ true → argument_words arity a ++ x ≡ argument_words arity b ++ y
     → (argument_of a ≡ argument_of b) × (extra_of a ≡ extra_of b)
@@ -200,7 +203,7 @@ same_arguments Binary a b x y a_has b_has same =
       decimal_injective (extra_of a) (extra_of b) (omega arith) (omega arith) (cc),
     )
 
--- Two words that are operations of one entry, and begin one list of words, are one.
+-- Two words that are operations of one entry, and whose texts begin the same words, are equal.
 one_operation : (a b a_used b_used : ℕ) (e : OperationEntry) (words : List (List ℕ))
     → IsWrittenWith e words a a_used → IsWrittenWith e words b b_used → a ≡ b
 one_operation a b a_used b_used e words a_is b_is =

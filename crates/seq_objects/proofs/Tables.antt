@@ -20,7 +20,7 @@ abbrev pub is_plain_name : List ℕ → Bool
 is_plain_name [] = false
 is_plain_name (first ∷ rest) = not (first == 35) && list_all is_printed (first ∷ rest)
 
--- A name that begins with '#' is no such name.
+-- A name that begins with '#' is no plain name.
 pub marked-name : (rest : List ℕ) → is_plain_name (35 ∷ rest) ≡ true → ⊥
 marked-name rest plain = cc
 
@@ -30,13 +30,14 @@ same_code a b = a.code == b.code
 abbrev same_name : OperationEntry → OperationEntry → Bool
 same_name a b = bytes_eq a.name b.name
 
--- What each kind's table keeps.
+-- What holds of each kind's table: its entries have different codes and names, and plain names.
 abbrev is_table : List OperationEntry → Bool
 is_table es =
     list_all (λ e. is_plain_name e.name) es
     && (are_distinct same_code es && are_distinct same_name es)
 
--- What is seen of each kind by computing: its table, and its name, by which it is found.
+-- What is found for each kind by computing: that its table is right, and that it is found by its
+-- name.
 abbrev pub IsSound : Kind → Type 0
 IsSound kind =
     (is_table (entries kind) ≡ true) × (is_plain_name (kind_name kind) ≡ true)
@@ -53,7 +54,7 @@ kinds-sound Pqueue = (refl, refl, refl)
 kinds-sound CasRegister = (refl, refl, refl)
 kinds-sound Map = (refl, refl, refl)
 
--- A kind that is found by a name has it.
+-- A kind that is found by a name has this name.
 pub kind_found : (name : List ℕ) (o : Option Kind)
     → o ≡ find (λ k. bytes_eq (kind_name k) name) all_kinds
     → IfSome o (λ kind. kind_name kind ≡ name)
@@ -62,7 +63,7 @@ kind_found name (Some kind) found =
     (bytes_eq-Decides (kind_name kind) name).0
     (find_inside (λ k. bytes_eq (kind_name k) name) all_kinds kind (sym found)).1
 
--- No kind has a name by which none is found.
+-- No kind has a name by which no kind is found.
 pub no_kind_found : (name : List ℕ) (o : Option Kind)
     → o ≡ find (λ k. bytes_eq (kind_name k) name) all_kinds
     → IfNone o ((kind : Kind) → kind_name kind ≢ name)
@@ -95,7 +96,7 @@ code-operation word e operation =
     eqb-true (code_of word) e.code
     (and_parts (code_of word == e.code) (has_arguments e.arity word) operation).0
 
--- The entry of a word is the one that the word is an operation of.
+-- The entry that is found for a word is the one of which the word is an operation.
 pub entry_of-operation : (kind : Kind) (word : ℕ) (e : OperationEntry) → IsIn e (entries kind)
     → is_operation_of word e ≡ true → entry_of kind word ≡ Some e
 unfolding entry_of
@@ -111,7 +112,7 @@ pub entry_of-inside : (kind : Kind) (word : ℕ) (e : OperationEntry) → entry_
 unfolding entry_of
 entry_of-inside kind word e found = find_inside (is_operation_of word) (entries kind) e found
 
--- The entry with a name is the one of this name.
+-- The entry that is found by a name is the one with this name.
 pub entry_named-name : (kind : Kind) (name : List ℕ) (e : OperationEntry) → IsIn e (entries kind)
     → e.name ≡ name → entry_named kind name ≡ Some e
 unfolding entry_named

@@ -74,7 +74,7 @@ whole_digits-printed word small =
           (All-cons IsPrinted 58 (decimal (high_of word)) (omega arith, omega arith) high))
     ]
 
--- An operation is written in words.
+-- The text of an operation is made of words.
 pub operation_words-IsWord : (kind : Kind) (word : ℕ) → IsOperationWord word
     → All IsWord (operation_words kind word)
 operation_words-IsWord kind word small = elim (cases_Option (entry_of kind word)) [
@@ -134,7 +134,7 @@ Spells-own kind word other same =
       },
     )
 
--- Operations with one text are one.
+-- Operations with one text are equal.
 pub operation_text-once : (kind : Kind) (a b : ℕ) → IsOperationWord a → IsOperationWord b
     → operation_text kind a ≡ operation_text kind b → a ≡ b
 operation_text-once kind a b a_small b_small same =
@@ -146,7 +146,7 @@ operation_text-once kind a b a_small b_small same =
     (Spells-once kind
     (operation_words kind b) a b a_own.0 b_own.0 a_small b_small a_own.1 b_own.1).0
 
--- A reply is written as a word.
+-- The text of a reply is a word.
 pub reply_word-IsWord : (reply : ℕ) → reply < 2 ^ 64 → IsWord (reply_word reply)
 reply_word-IsWord reply small = elim (reply_word-cases reply) [
   | inl named ↦
@@ -157,7 +157,7 @@ reply_word-IsWord reply small = elim (reply_word-cases reply) [
       subst IsWord (sym other.1) (IsWord-marked 35 reply (omega arith, omega arith) small)
 ]
 
--- Kinds with one name are one.
+-- Kinds with one name are equal.
 pub kind_name-once : (a b : Kind) → kind_name a ≡ kind_name b → a ≡ b
 kind_name-once a b same =
     let found : Some b ≡ Some a = sym (kinds-sound b).2

@@ -1,4 +1,4 @@
--- A whole operation word in digits: no two words share them, and each is printed.
+-- A whole operation word in digits: no two words have the same digits, and each byte is printed.
 use Rattle.std.proofs.Common.{◌≡◌, ◌≢◌, ℕ, ◌<◌, ◌^◌, ◌==◌, ◌++◌, List, [], ◌∷◌, append-nil, decimal, inl, inr, sym, subst, ◌∙◌, arith}
 use Rattle.std.proofs.lemmas.Bool.{cases_Bool, cond-true, cond-false, eqb-true, eqb-false, eq-eqb, ne_eqb}
 use Rattle.std.proofs.lemmas.Fmt.{decimal_injective}
@@ -11,20 +11,20 @@ use Rattle.list_laws.proofs.FirstMarks.{first_mark-once, not-Lacks-marked, decim
 pub decimal-no_colon : (n : ℕ) → n < 2 ^ 64 → Lacks 58 (decimal n)
 decimal-no_colon n small = decimal-Lacks 58 n small (λ digit. omega arith)
 
--- A word without a high word is its low word in digits.
+-- An operation word without a high word is written as its low word in digits.
 pub whole_digits-low : (word : ℕ) → high_of word ≡ 0 → whole_digits word ≡ decimal (low_of word)
 whole_digits-low word none =
     cond-true (high_of word == 0) (decimal (low_of word))
     (decimal (low_of word) ++ 58 ∷ decimal (high_of word)) (eq-eqb (high_of word) 0 none)
 
--- A word with a high word is its low word, a colon, and its high word.
+-- An operation word with a high word is written as its low word, a colon, and its high word.
 pub whole_digits-both : (word : ℕ) → high_of word ≢ 0
     → whole_digits word ≡ decimal (low_of word) ++ 58 ∷ decimal (high_of word)
 whole_digits-both word some =
     cond-false (high_of word == 0) (decimal (low_of word))
     (decimal (low_of word) ++ 58 ∷ decimal (high_of word)) (ne_eqb (high_of word) 0 some)
 
--- Digits without a colon are those of a word without a high word.
+-- Digits without a colon are those of an operation word without a high word.
 pub whole_digits-no_colon : (word : ℕ) (digits : List ℕ) → IsOperationWord word → Lacks 58 digits
     → whole_digits word ≡ digits → (high_of word ≡ 0) × (decimal (low_of word) ≡ digits)
 whole_digits-no_colon word digits small lacks same = elim (cases_Bool (high_of word == 0)) [
@@ -37,7 +37,8 @@ whole_digits-no_colon word digits small lacks same = elim (cases_Bool (high_of w
       (subst (Lacks 58) (sym same ∙ whole) lacks))
 ]
 
--- Digits with a colon are those of a word with a high word, which stands after the first colon.
+-- Digits with a colon are those of an operation word with a high word, which follows the first
+-- colon.
 pub whole_digits-colon : (word : ℕ) (before suffix : List ℕ) → IsOperationWord word
     → Lacks 58 before → whole_digits word ≡ before ++ 58 ∷ suffix
     → (high_of word ≢ 0) × (decimal (low_of word) ≡ before) × (decimal (high_of word) ≡ suffix)
@@ -54,7 +55,7 @@ whole_digits-colon word before suffix small lacks same = elim (cases_Bool (high_
       (high, parts.0, parts.1)
 ]
 
--- Words with the same digits are one.
+-- Operation words with the same digits are equal.
 pub whole_digits-once : (a b : ℕ) → IsOperationWord a → IsOperationWord b
     → whole_digits a ≡ whole_digits b → a ≡ b
 whole_digits-once a b a_small b_small same = elim (cases_Bool (high_of b == 0)) [
@@ -76,7 +77,7 @@ whole_digits-once a b a_small b_small same = elim (cases_Bool (high_of b == 0)) 
       omega arith
 ]
 
--- A whole word in digits begins with the digits of its low word.
+-- An operation word in digits begins with the digits of its low word.
 pub whole_digits-begins : (word : ℕ)
     → (rest : List ℕ) × (whole_digits word ≡ decimal (low_of word) ++ rest)
 whole_digits-begins word = elim (cases_Bool (high_of word == 0)) [

@@ -1,4 +1,4 @@
--- A reply of joins has the numbers that are joined before, and the operation's own one.
+-- A reply of joins has the numbers that were joined before, and the one that its operation joins.
 use Rattle.std.proofs.Common.{◌≡◌, ℕ, zero, suc, ◌+◌, ◌-◌, ◌/◌, ◌%◌, ◌^◌, ◌<◌, ◌≤◌, ◌∙◌, Bool, true, false, List, [], ◌∷◌, map, Some, sym, ap, subst, inl, inr, slice_get, arith}
 use Rattle.std.specs.Prelude.{bit_and, bit_or}
 use Rattle.std.proofs.lemmas.Bool.{cond-true, cond-false, cases_Bool}
@@ -24,7 +24,8 @@ or_assoc a b c =
       bit_at_or b c i,
     ))
 
--- the mask with one more number has what another mask has, with that number
+-- a mask joined with another one, and then with a number, is joined with the other one's numbers
+-- and that number
 join-more : (a mask op : ℕ) → with_join (bit_or a mask) op ≡ bit_or a (with_join mask op)
 join-more a mask op = elim (cases_Bool (is_join op)) [
   | inl joins ↦
@@ -36,7 +37,7 @@ join-more a mask op = elim (cases_Bool (is_join op)) [
       ∙ ap (bit_or a) (sym (cond-false (is_join op) (bit_or mask (2 ^ (op - 2 ^ 32))) mask stays))
 ]
 
--- One mask has what another has.
+-- One mask has all numbers of another one.
 abbrev Has : ℕ → ℕ → Type 0
 Has mask part = (a : ℕ) × (mask ≡ bit_or a part)
 
@@ -109,7 +110,7 @@ reply_is list ops after replies p op reply gives at replied =
     ∙ got_map (join_reply mask) ops p op at in
     same_Some reply (join_reply mask op) (sym replied ∙ there)
 
--- an operation that joins nothing gets no other
+-- an operation that joins nothing gets no other reply than `bad`
 pub never_other : (list : List ℕ) (op reply : ℕ) → is_join op ≡ false → (reply ≡ reply_bad → ⊥)
     → NeverRepliesFrom served_joins list op reply
 never_other list op reply stays other sets later serves ops after replies p gives at replied =
@@ -141,7 +142,8 @@ has-later list (ops ∷ sets) later h =
     (with_joins-small (mask_of list) ops (mask_of-small list)) now) in
     has-has (mask_of later) (mask_of h.0) (mask_of list) (has-later h.0 sets later h.3) step
 
--- and one that joins a number no mask without it, or without those that are joined
+-- an operation that joins a number gets no mask without this number, or without those that are
+-- joined already
 pub never_less : (list : List ℕ) (op reply : ℕ) → is_join op ≡ true
     → (HasMask reply (with_join (mask_of list) op) → ⊥)
     → NeverRepliesFrom served_joins list op reply

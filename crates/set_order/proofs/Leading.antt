@@ -1,4 +1,5 @@
--- The levels of a walk: one more, one fewer, the order that they make, and how far they lead.
+-- The levels of a walk: one more, one fewer, the order that they make, and the cut and list that
+-- they lead to.
 use Rattle.std.proofs.Common.{◌≡◌, ℕ, ◌+◌, ◌*◌, ◌<◌, ◌≤◌, ◌∙◌, List, [], ◌∷◌, ◌++◌, length, get_or, sum, replicate, Option, Some, refl, sym, ap, subst, arith}
 use Rattle.std.specs.List.{All}
 use Rattle.std.proofs.lemmas.List.{length-map, length-replicate}
@@ -23,11 +24,11 @@ sum-zeros n = let all : All (λ (m : ℕ). m ≤ 0) (replicate n 0) = All-from_g
     omega (arith, get_or-replicate_default {X = ℕ} n i 0)) in
     omega (arith, sum_by-le (λ (m : ℕ). m) 0 (replicate n 0) all)
 
--- the cut without calls
+-- the cut without calls has the count 0 for each caller
 pub zeros : (book : List Page) (i : ℕ) → get_or (no_calls book) i 0 ≡ 0
 zeros book i = get_or-replicate_default (length book) i 0
 
--- what stands at a level stands there in other words for the same cut and list
+-- a level belongs to a cut and a list also by other names for these
 moved_level : (served : List ℕ → List ℕ → Option (List ℕ × List ℕ)) (book : List Page)
     (cut new_cut list new_list : List ℕ) (level : SetLevel) (after : List ℕ)
     → cut ≡ new_cut → list ≡ new_list → IsLevel served book new_cut new_list level after
@@ -36,7 +37,7 @@ moved_level served book cut new_cut list new_list level after e f h =
     subst (λ (c : List ℕ). IsLevel served book c list level after) (sym e)
     (subst (λ (l : List ℕ). IsLevel served book new_cut l level after) (sym f) h)
 
--- one level more
+-- the levels of a walk with one more
 pub leads-push : (served : List ℕ → List ℕ → Option (List ℕ × List ℕ)) (book : List Page)
     (cut list : List ℕ) (levels : List SetLevel) (to_cut to_list : List ℕ) (level : SetLevel)
     (after : List ℕ)
@@ -56,7 +57,7 @@ leads-push served book cut list (first ∷ levels) to_cut to_list level after
           (raised_by cut first.set) between levels to_cut to_list level after later here,
     )
 
--- where a walk stood before its last level
+-- the cut and list that a walk had before its last level
 pub record Back (served : List ℕ → List ℕ → Option (List ℕ × List ℕ)) (book : List Page)
     (cut list : List ℕ) (levels : List SetLevel) (level : SetLevel)
     (to_cut to_list : List ℕ) : Type 0 where
@@ -64,7 +65,7 @@ pub record Back (served : List ℕ → List ℕ → Option (List ℕ × List ℕ
   pub here : IsLevel served book level.counts.items level.words.items level to_list
   pub to_cut_is : to_cut ≡ raised_by level.counts.items level.set
 
--- one level fewer
+-- the levels of a walk without the last one
 pub leads-pop : (served : List ℕ → List ℕ → Option (List ℕ × List ℕ)) (book : List Page)
     (cut list : List ℕ) (levels : List SetLevel) (level : SetLevel) (to_cut to_list : List ℕ)
     → Leads served book cut list (levels ++ level ∷ []) to_cut to_list
@@ -81,7 +82,8 @@ leads-pop served book cut list (first ∷ levels) level to_cut to_list (between,
     leads-pop served book (raised_by cut first.set) between levels level to_cut to_list later in
     record { leads = (between, at, back.leads); here = back.here; to_cut_is = back.to_cut_is }
 
--- what the levels lead to goes on from where they begin
+-- the sets of levels continue an order from where the levels begin, where the cut to which they
+-- lead holds all answered calls
 leads-continue : (served : List ℕ → List ℕ → Option (List ℕ × List ℕ)) (book : List Page)
     (cut list : List ℕ) (levels : List SetLevel) (to_cut to_list : List ℕ)
     → Leads served book cut list levels to_cut to_list → HoldsAnswered book to_cut
@@ -113,12 +115,13 @@ none-from_dead init served book dead legal =
     dead legal.0 (continue_from_legal_order init served book (no_calls book) legal.0 (omega arith)
     (zeros book) legal.1)
 
--- operations make the list at most as many words longer
+-- operations make the list longer by at most as many words as there are operations
 abbrev pub Grows : (List ℕ → List ℕ → Option (List ℕ × List ℕ)) → Type 0
 Grows served = (list ops after replies : List ℕ) → served list ops ≡ Some (after, replies)
     → length after ≤ length list + length ops
 
--- how far levels lead
+-- how far levels lead: to a cut with at least one more call for each level, and to a list that is
+-- longer by at most as many words
 pub record Reach (book : List Page) (cut list : List ℕ) (levels : List SetLevel)
     (to_cut to_list : List ℕ) : Type 0 where
   pub wide : length to_cut ≡ length cut
@@ -126,7 +129,8 @@ pub record Reach (book : List Page) (cut list : List ℕ) (levels : List SetLeve
   pub words : length to_list + sum cut ≤ length list + sum to_cut
   pub within : (i : ℕ) → get_or to_cut i 0 ≤ calls_of book i
 
--- how far one set leads
+-- how far one set leads: to a cut with the set's calls, and to a list that is longer by at most as
+-- many words
 pub record Step (book : List Page) (cut list : List ℕ) (places : List Place)
     (after : List ℕ) : Type 0 where
   pub wide : length (raised_by cut places) ≡ length cut
@@ -179,7 +183,7 @@ leads-reach served book cut list (first ∷ levels) to_cut to_list grows wide wi
       within = rest.within;
     }
 
--- What is known of where a walk from the start stands.
+-- What is known of the cut and list to which a walk from the start leads.
 pub record WalkFacts (book : List Page) (levels : List SetLevel) (cut list : List ℕ) : Type 0 where
   pub wide : length cut ≡ length book
   pub depth : length levels ≤ MAX_CALLERS * MAX_CALLS

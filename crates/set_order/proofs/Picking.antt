@@ -51,7 +51,7 @@ one_of-above low (i ∷ callers) j rise h = elim h [
   | inr later ↦ omega (arith, rise.0, one_of-above (i + 1) callers j rise.1 later)
 ]
 
--- callers above the first one stand among the others
+-- a part of callers that are above the first one is a part of the others
 without_first : (i : ℕ) (callers : List ℕ) (low : ℕ) (part : List ℕ) → i < low → RiseFrom low part
     → AllByRecursion (IsOneCaller (i ∷ callers)) part → AllByRecursion (IsOneCaller callers) part
 without_first i callers low [] above rise all = tt
@@ -63,7 +63,7 @@ without_first i callers low (j ∷ part) above rise all = (
   without_first i callers (j + 1) part (omega (arith, rise.0)) rise.1 all.1,
 )
 
--- a number that picks a part of callers
+-- a number picks this part of callers
 pub record IsPicked (callers part : List ℕ) : Type 0 where
   pub number : ℕ
   pub below : number < 2 ^ length callers
@@ -109,7 +109,7 @@ picked-each low (i ∷ callers) from (j ∷ part) rise rises all = elim all.0 [
       (without_first i callers j (j ∷ part) (omega (arith, above)) within all))
 ]
 
--- what holds of each caller holds of each that is picked
+-- a property of each caller is one of each that is picked
 pub picked-all : (P : ℕ → Type 0) (number : ℕ) (callers : List ℕ) → AllByRecursion P callers
     → AllByRecursion P (picked number callers)
 picked-all P number [] all = tt
@@ -120,7 +120,7 @@ picked-all P number (i ∷ callers) all = elim (cases_Bool (number % 2 == 1)) [
       (picked-all P (number / 2) callers all.1)
 ]
 
--- no more are picked than there are
+-- no more callers are picked than there are
 pub picked-few : (number : ℕ) (callers : List ℕ) → length (picked number callers) ≤ length callers
 picked-few number [] = omega arith
 picked-few number (i ∷ callers) = elim (cases_Bool (number % 2 == 1)) [
@@ -156,7 +156,7 @@ picked-some number (i ∷ callers) some below = elim (cases_Bool (number % 2 == 
       )
 ]
 
--- one caller more is looked at
+-- the part of the callers that are looked at, with one more
 pub picked-step_in : (part : List ℕ) (digits : ℕ) (callers : List ℕ) (at caller : ℕ)
     → at < length callers → caller ≡ get_or callers at 0 → digits % 2 ≡ 1
     → (part ++ caller ∷ []) ++ picked (digits / 2) (drop (at + 1) callers)
@@ -184,7 +184,7 @@ rise-from_above : (low high : ℕ) (callers : List ℕ) → low ≤ high → Ris
 rise-from_above low high [] above rise = tt
 rise-from_above low high (i ∷ callers) above rise = (omega (arith, rise.0), rise.1)
 
--- what is picked of rising callers rises
+-- the picked ones of rising callers rise
 pub picked-rise : (low number : ℕ) (callers : List ℕ) → RiseFrom low callers
     → RiseFrom low (picked number callers)
 picked-rise low number [] rise = tt

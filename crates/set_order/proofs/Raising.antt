@@ -14,14 +14,14 @@ use Rattle.book_base.proofs.ViewLemmas.{same_call}
 use Rattle.set_order.specs.SetOrder.{callers_of, RiseFrom}
 use Rattle.set_order.specs.Search.{raised_by}
 
--- what holds of each element holds of the one at a place
+-- a property of each element of a list is one of the element at a place
 pub all_at : {X : Type 0} (P : X → Type 0) (xs : List X) (k : ℕ) (x : X) → AllByRecursion P xs
     → slice_get xs k ≡ Some x → P x
 all_at P [] k x all e = absurd (none-some x e)
 all_at P (y ∷ xs) zero x all e = subst P (same_Some y x e) all.0
 all_at P (y ∷ xs) (suc k) x all e = all_at P xs k x all.1 e
 
--- what holds of each element, where it follows from what does
+-- a property of each element holds where it follows from another one of each element
 pub all_so : {X : Type 0} (P Q : X → Type 0) (xs : List X) → ((x : X) → P x → Q x)
     → AllByRecursion P xs → AllByRecursion Q xs
 all_so P Q [] so all = tt
@@ -56,7 +56,7 @@ one_more cut place j h = elim (cases_eq j place.caller) [
   | inr other ↦ omega (arith, get_or-set_other cut place.caller j (place.number + 1) 0 other)
 ]
 
--- the call outside a cut that the cut with one more call holds is that call
+-- a call outside a cut that the cut with one more call holds is the added call
 one_new : (cut : List ℕ) (place : Place) (call : Call) → IsNext cut place
     → get_or cut call.caller 0 ≤ call.number
     → Holds (set cut place.caller (place.number + 1)) call → call_at place ≡ call
@@ -82,7 +82,7 @@ raised-more cut (place ∷ places) j h =
       raised-more (set cut place.caller (place.number + 1)) places j h.2,
     )
 
--- a call outside the cut that the raised cut holds stands in the set
+-- a call outside the cut that the raised cut holds is in the set
 pub raised-new : (cut : List ℕ) (places : List Place) (call : Call) → AreNext cut places
     → get_or cut call.caller 0 ≤ call.number
     → Holds (raised_by cut places) call → (p : ℕ) × StandsAt places p call
@@ -96,7 +96,7 @@ raised-new cut (place ∷ places) call h out held =
           (suc found.0, found.1)
     ]
 
--- the raised cut holds what stands in the set
+-- the raised cut holds each call of the set
 pub raised-holds : (cut : List ℕ) (places : List Place) (p : ℕ) (call : Call) → AreNext cut places
     → StandsAt places p call → Holds (raised_by cut places) call
 raised-holds cut [] p call h (place, at, is) = absurd (none-some place at)
@@ -114,7 +114,7 @@ raised-holds cut (first ∷ places) zero call h (place, at, is) =
 raised-holds cut (first ∷ places) (suc p) call h s =
     raised-holds (set cut first.caller (first.number + 1)) places p call h.2 s
 
--- what stands in the set is outside the cut
+-- each call of the set is outside the cut
 pub stands-outside : (cut : List ℕ) (places : List Place) (p : ℕ) (call : Call) → AreNext cut places
     → StandsAt places p call → get_or cut call.caller 0 ≤ call.number
 stands-outside cut [] p call h (place, at, is) = absurd (none-some place at)
@@ -156,7 +156,7 @@ raised-length cut (place ∷ places) =
     raised-length (set cut place.caller (place.number + 1)) places
     ∙ length-set cut place.caller (place.number + 1)
 
--- the raised cut holds as many calls more as stand in the set
+-- the raised cut holds as many calls more as the set has
 pub raised-sum : (cut : List ℕ) (places : List Place) → AreNext cut places
     → sum (raised_by cut places) ≡ sum cut + length places
 raised-sum cut [] h = omega arith
@@ -168,7 +168,7 @@ raised-sum cut (place ∷ places) h =
       h.1,
     )
 
--- the raised cut lies within the calls of the book
+-- the raised cut counts no more calls than the book has
 pub raised-within : (book : List Page) (cut : List ℕ) (places : List Place) → AreNext cut places
     → AllByRecursion (λ place. IsCall book (call_at place)) places
     → ((i : ℕ) → get_or cut i 0 ≤ calls_of book i) → (i : ℕ)
@@ -205,7 +205,8 @@ still_next cut first low (place ∷ places) above rise all =
       still_next cut first (place.caller + 1) places (omega (arith, rise.0)) rise.1 all.1,
     )
 
--- Where callers rise, each call is the next one of its caller in turn.
+-- Where callers rise, each place's call is the next one of its caller once those before it are in
+-- the cut.
 pub next-from_rise : (cut : List ℕ) (low : ℕ) (places : List Place)
     → RiseFrom low (callers_of places) → AllByRecursion (IsNext cut) places → AreNext cut places
 next-from_rise cut low [] rise all = tt

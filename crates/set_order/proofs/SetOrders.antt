@@ -1,5 +1,5 @@
--- Legal set orders, one set after another: what a legal set order has after the calls of a cut is
--- what may stand one after another there.
+-- Legal set orders, one set after another: the sets of a legal set order after the calls of a cut
+-- are those that continue an order from there.
 use Rattle.std.proofs.Common.{◌≡◌, ℕ, zero, suc, ◌<◌, ◌≤◌, ◌∙◌, List, [], ◌∷◌, length, get_or, Option, Some, refl, sym, ap, subst, inl, inr, slice_get, arith}
 use Rattle.std.specs.List.{AllByRecursion}
 use Rattle.std.proofs.lemmas.Bool.{cases_lt}
@@ -18,8 +18,8 @@ use Rattle.set_order.specs.SetOrder.{callers_of, RiseFrom, StandsIn, IsServedFro
 use Rattle.set_order.specs.Search.{raised_by, MayStandIn, MayStandTogether, SetsContinue}
 use Rattle.set_order.proofs.Raising.{all_at, all_so, IsNext, AreNext, next-from_rise, raised-more, raised-new, raised-holds, raised-length, stands-outside, stands-once}
 
--- What follows the calls of a cut in a legal set order, from a list of the object on: the parts of
--- a legal set order, on the calls that the cut doesn't hold.
+-- The rest of a legal set order after the calls of a cut, from a list of the object on: the fields
+-- of a legal set order, said of the calls that the cut doesn't hold.
 pub record IsLegalSetRest (served : List ℕ → List ℕ → Option (List ℕ × List ℕ)) (book : List Page)
     (cut list : List ℕ) (sets : List (List Place)) : Type 0 where
   pub some : (k : ℕ) (places : List Place) → slice_get sets k ≡ Some places → 1 ≤ length places
@@ -43,7 +43,7 @@ pub record IsLegalSetRest (served : List ℕ → List ℕ → Option (List ℕ �
   pub precedence : (j p k q : ℕ) (a b : Call) → StandsIn sets j p a → StandsIn sets k q b
       → Precedes book a b → j < k
 
--- what stands in the first set
+-- a call of the order's set with index 0 is one of the first set
 in_first : (places : List Place) (sets : List (List Place)) (p : ℕ) (call : Call)
     → StandsIn (places ∷ sets) 0 p call → StandsAt places p call
 in_first places sets p call (found, at, s) =
@@ -73,8 +73,7 @@ may_stand book cut places p call each (place, at, is) =
     subst (λ (c : Call). MayComeNext book cut c) is
     (all_at (MayStandIn book cut) places p place each at).may_come
 
--- A set that may stand first, and what a legal set order has after it, is what a legal set order
--- has.
+-- The first set and the rest after it, each with the properties that a legal rest needs of it.
 record Parts (served : List ℕ → List ℕ → Option (List ℕ × List ℕ)) (book : List Page)
     (cut list : List ℕ) (places : List Place) (after : List ℕ)
     (sets : List (List Place)) : Type 0 where
@@ -116,7 +115,7 @@ cons-outside served book cut list places after sets h zero p call s =
 cons-outside served book cut list places after sets h (suc k) p call s =
     omega (arith, raised-more cut places call.caller h.next, h.later.outside k p call s)
 
--- what stands in the first set stands in no later one
+-- a call of the first set is in no later one
 not_both : (served : List ℕ → List ℕ → Option (List ℕ × List ℕ)) (book : List Page)
     (cut list : List ℕ) (places : List Place) (after : List ℕ) (sets : List (List Place))
     → Parts served book cut list places after sets → (p k q : ℕ) (call : Call)
@@ -225,7 +224,7 @@ legal_rest-cons served book cut list places after sets wide first later =
       precedence = cons-precedence served book cut list places after sets h;
     }
 
--- A call of the first set of what a legal set order has may come next.
+-- A call of the first set of the rest of a legal set order may come next.
 first_may_come : (served : List ℕ → List ℕ → Option (List ℕ × List ℕ)) (book : List Page)
     (cut list : List ℕ) (places : List Place) (sets : List (List Place))
     → IsLegalSetRest served book cut list (places ∷ sets) → (p : ℕ) (call : Call)
@@ -261,7 +260,8 @@ first_may_come served book cut list places sets whole p call s =
           ];
     }
 
--- A reply of the first set of what a legal set order has is the recorded one.
+-- A reply of the first set of the rest of a legal set order is the recorded one, where the call is
+-- answered.
 first_recorded : (served : List ℕ → List ℕ → Option (List ℕ × List ℕ)) (book : List Page)
     (cut list : List ℕ) (places : List Place) (sets : List (List Place))
     → IsLegalSetRest served book cut list (places ∷ sets) → (p : ℕ) (place : Place)
@@ -282,7 +282,7 @@ first_recorded served book cut list places sets whole p place at r known =
     (sym (same_Some places found.1 first)) here in
     ap (λ (x : Place). x.reply) (same_Some it place (sym there ∙ at))
 
--- what holds at each place of a list holds of each element
+-- a property at each place of a list is one of each element
 all_from : {X : Type 0} (P : X → Type 0) (xs : List X)
     → ((k : ℕ) (x : X) → slice_get xs k ≡ Some x → P x) → AllByRecursion P xs
 all_from P [] h = tt
@@ -329,8 +329,8 @@ uncons-answered cut places sets it next out zero found at p s =
     absurd (not_in_first cut places sets p (call_at it) next out (found, at, (it, s, refl)))
 uncons-answered cut places sets it next out (suc k) found at p s = (k, found, at, p, s)
 
--- What a legal set order has begins with a set that may stand first, and the rest is what it has
--- after that.
+-- The rest of a legal set order is a set that may come next, followed by the rest of a legal set
+-- order after this set.
 pub legal_rest-uncons : (served : List ℕ → List ℕ → Option (List ℕ × List ℕ)) (book : List Page)
     (cut list : List ℕ) (places : List Place) (sets : List (List Place))
     → length book ≤ length cut → IsLegalSetRest served book cut list (places ∷ sets)
@@ -420,8 +420,8 @@ continue_from_legal_rest served book cut list (places ∷ sets) wide h =
       continue_from_legal_rest served book (raised_by cut places) parts.0 sets wider parts.2,
     )
 
--- A legal set order is what may stand set after set from the start: after the calls of a cut that
--- holds none, from the object's first list on.
+-- A legal set order is a list of sets that continue an order from the start: after the cut that
+-- holds no call, from the object's first list on.
 pub legal_order_from_continue : (init : List ℕ)
     (served : List ℕ → List ℕ → Option (List ℕ × List ℕ)) (book : List Page) (cut : List ℕ)
     (order : List (List Place))

@@ -60,7 +60,7 @@ calls_from_sets next book cut list (places ∷ sets) h =
     one.after_is rest.1) in
     (one.place ∷ rest.0, (one.may, later))
 
--- a call that may stand next is a set that may
+-- a call that may come next is a set of one call that may come next
 call_alone : (next : List ℕ → ℕ → List ℕ × ℕ) (book : List Page) (cut list : List ℕ) (place : Place)
     → MayStandNext book next cut list place
     → MayStandTogether (served_alone next) book cut list (place ∷ [])

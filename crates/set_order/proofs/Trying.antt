@@ -1,4 +1,5 @@
--- What is still to be tried after the calls of a cut, and what leads nowhere from there.
+-- The sets that are still to be tried after the calls of a cut, and those that lead nowhere from
+-- there.
 use Rattle.std.proofs.Common.{◌≡◌, ℕ, zero, suc, ◌+◌, ◌^◌, ◌<◌, ◌≤◌, ◌∙◌, List, [], ◌∷◌, ◌++◌, length, map, get_or, take, Option, Some, None, Result, Ok, Err, IfOk, unwrap_or, refl, sym, ap, subst, inl, inr, slice_get, arith}
 use Rattle.std.specs.List.{AllByRecursion}
 use Rattle.std.specs.Option.{IfSome, IfNone}
@@ -22,7 +23,7 @@ use Rattle.set_order.proofs.Raising.{all_at, all_so, raised-new, raised-length}
 use Rattle.set_order.proofs.SetOrders.{next-from_each}
 use Rattle.set_order.proofs.Picking.{picked-each, picked-none, picked-some, picked-few, picked-rise, picked-all}
 
--- each place has the number that the cut gives its caller
+-- each place has the number of its caller's next call after a cut
 abbrev pub HasNumber : List ℕ → Place → Type 0
 HasNumber cut place = place.number ≡ get_or cut place.caller 0
 
@@ -48,7 +49,7 @@ operations-next book cut (place ∷ places) numbers =
     let rest = operations-next book cut places numbers.1 in
     cc
 
--- places with the same callers, numbers and replies are the same
+-- places with the same callers, numbers and replies are equal
 pub same_places : (cut : List ℕ) (a b : List Place) → callers_of a ≡ callers_of b → replies_of a
     ≡ replies_of b → AllByRecursion (HasNumber cut) a → AllByRecursion (HasNumber cut) b → a ≡ b
 same_places cut [] [] callers replies numbers others = refl
@@ -64,7 +65,7 @@ same_places cut (x ∷ a) (y ∷ b) callers replies numbers others =
     let rest : a ≡ b = same_places cut a b more further numbers.1 others.1 in
     cc
 
--- Of the same callers one set may stand next, with one list after it.
+-- Of the same callers at most one set may come next, with one list after it.
 pub same_set : (served : List ℕ → List ℕ → Option (List ℕ × List ℕ)) (book : List Page)
     (cut list : List ℕ) (a b : List Place) (after other : List ℕ)
     → callers_of a ≡ callers_of b → MayStandTogether served book cut list a after
@@ -100,7 +101,7 @@ pub nowhere-from_cannot : (served : List ℕ → List ℕ → Option (List ℕ �
 nowhere-from_cannot served book cut list callers cannot places after same may =
     absurd (cannot places after same may)
 
--- one number fewer is to be tried
+-- one number fewer is left to be tried
 pub open-less : (served : List ℕ → List ℕ → Option (List ℕ × List ℕ)) (book : List Page) (cut list callers : List ℕ) (left less : ℕ) → less + 1 ≡ left
     → LeadsNowhere served book cut list (picked left callers)
     → IsOpen served book cut list callers left → IsOpen served book cut list callers less
@@ -135,7 +136,7 @@ none_picked callers part some e =
 long_enough : (places : List Place) → 1 ≤ length places → 1 ≤ length (callers_of places)
 long_enough places some = omega (arith, length-map places (λ (p : Place). p.caller))
 
--- the callers of a set that may stand next are candidates
+-- the callers of a set that may come next are candidates
 all_among : (book : List Page) (cut callers : List ℕ) (places : List Place)
     → AreCandidates book cut callers → AllByRecursion (MayStandIn book cut) places
     → AllByRecursion (IsOneCaller callers) (callers_of places)
@@ -146,7 +147,7 @@ all_among book cut callers (place ∷ places) h each = (
   all_among book cut callers places h each.1,
 )
 
--- Where no number is left, there is a dead end.
+-- A cut and a list with no number left to be tried are a dead end.
 pub dead_end : (served : List ℕ → List ℕ → Option (List ℕ × List ℕ)) (book : List Page)
     (cut list callers : List ℕ) → IsOpen served book cut list callers 0
     → IsDeadEnd served book cut list
@@ -187,7 +188,7 @@ each-from_placed book cut (place ∷ places) numbers recorded may = (
 )
 
 -- Where the object gives a call another reply than the recorded one, no set of these callers may
--- stand next.
+-- come next.
 pub wrong_reply : (served : List ℕ → List ℕ → Option (List ℕ × List ℕ)) (book : List Page)
     (cut list callers after replies : List ℕ)
     → served list (next_operations book cut callers) ≡ Some (after, replies)
@@ -216,7 +217,7 @@ wrong_reply served book cut list callers after replies gives wrong places other 
     call_is cut place stands.may_come.next ∙ ap (next_call cut) caller in
     wrong.other (stands.recorded wrong.answer (ap (record_of book) call ∙ wrong.known) ∙ reply)
 
--- What the object serves of callers' next calls may stand next.
+-- A set of callers' next calls that the object serves with the recorded replies may come next.
 pub together-from_placed : (served : List ℕ → List ℕ → Option (List ℕ × List ℕ)) (book : List Page)
     (cut list callers after replies : List ℕ) (places : List Place)
     → served list (next_operations book cut callers) ≡ Some (after, replies)
@@ -304,7 +305,7 @@ candidates-skip book cut caller callers h not_it = record {
   few = omega (arith, h.few);
 }
 
--- Once all callers are looked at, the candidates are found.
+-- Once all callers are looked at, all candidates are found.
 pub candidates-all : (book : List Page) (cut : List ℕ) (below : ℕ) (callers : List ℕ)
     → below ≡ length book
     → AreCandidatesBelow book cut below callers → AreCandidates book cut callers
@@ -317,13 +318,13 @@ candidates-all book cut below callers e h = record {
       h.all i early comes;
 }
 
--- one of these callers is one of the cut's
+-- each of the candidates is a caller of the cut
 pub caller-within : (cut callers : List ℕ) (at : ℕ) → at < length callers
     → AllByRecursion (λ i. i < length cut) callers → get_or callers at 0 < length cut
 caller-within cut callers at inside all = All-get_or (λ i. i < length cut) callers at 0 inside
     (All-from_recursion (λ i. i < length cut) callers all)
 
--- the number of its next call is below that of its calls
+-- the number of a candidate's next call is below that of its calls
 pub number-within : (book : List Page) (cut callers : List ℕ) (at number : ℕ) → at < length callers
     → number ≡ get_or cut (get_or callers at 0) 0
     → AllByRecursion (λ i. IsCall book (next_call cut i)) callers
@@ -333,7 +334,7 @@ number-within book cut callers at number inside is all =
     subst (λ (n : ℕ). n < calls_of book (get_or callers at 0)) (sym is)
     (All-get_or Made callers at 0 inside (All-from_recursion Made callers all))
 
--- one operation more is read
+-- the operations of callers' next calls, with one more
 pub operations-more : (book : List Page) (cut callers : List ℕ) (at number op : ℕ) (ops : List ℕ)
     → ops ≡ next_operations book cut (take at callers)
     → at < length callers → number ≡ get_or cut (get_or callers at 0) 0
@@ -350,7 +351,7 @@ operations-more book cut callers at number op ops so inside is known =
     ∙ (sym (map_push (λ i. unwrap_or (operation_of book (next_call cut i)) 0) (take at callers)
     caller) ∙ ap (next_operations book cut) (sym (take_more callers at 0 inside))))
 
--- one place more is made
+-- the places of callers' next calls, with one more
 pub placed-more : (book : List Page) (cut callers replies : List ℕ) (at number reply : ℕ)
     (places : List Place) → ArePlaced book cut (take at callers) (take at replies) places
     → at < length callers → at < length replies → number ≡ get_or cut (get_or callers at 0) 0
@@ -374,7 +375,7 @@ placed-more book cut callers replies at number reply places h inside within is g
           (place ∷ []) h.recorded (recorded, tt);
     }
 
--- all places are made
+-- the places of all callers' next calls
 pub placed-all : (book : List Page) (cut callers replies : List ℕ) (at : ℕ) (places : List Place)
     → ArePlaced book cut (take at callers) (take at replies) places
     → length callers ≤ at → length replies ≡ length callers
@@ -420,8 +421,8 @@ got_map f [] k x e = absurd (none-some x e)
 got_map f (y ∷ xs) zero x e = ap (λ z. Some (f z)) (same_Some y x e)
 got_map f (y ∷ xs) (suc k) x e = got_map f xs k x e
 
--- Where an answered call outside the cut never gets its recorded reply any more, there is a dead
--- end.
+-- A cut and a list at which an answered call outside the cut never gets its recorded reply any more
+-- are a dead end.
 pub lost_dead : (served : List ℕ → List ℕ → Option (List ℕ × List ℕ)) (book : List Page)
     (call : Call) (op : ℕ) (answer : Record)
     → operation_of book call ≡ Some op → record_of book call ≡ Some answer → (cut list : List ℕ)
@@ -461,7 +462,7 @@ lost_dead served book call op answer known answered cut list wide out never (pla
           sets goes.2
     ]
 
--- what is known of a found set, where the set is found
+-- a property of a set that is found follows from another one
 
 pub found_so : {X E : Type 0} (P Q : X → Type 0) (r : Result (Option X) E) → ((x : X) → P x → Q x)
     → IfOk r (λ found. IfSome found P) → IfOk r (λ found. IfSome found Q)
@@ -475,7 +476,8 @@ none_so P Q (Ok (Some x)) so h = tt
 none_so P Q (Ok None) so h = so h
 none_so P Q (Err e) so h = tt
 
--- what is known of the part of the candidates that a number picks
+-- a part of the candidates that a number picks: its callers rise, and their next calls may come
+-- next
 pub record IsPart (book : List Page) (cut part : List ℕ) : Type 0 where
   pub some : 1 ≤ length part
   pub few : length part ≤ length book
@@ -513,7 +515,7 @@ candidates-few book cut callers h =
           caller_from_call book i (get_or cut i 0) may.is_call) h.may_come),
     )
 
--- where the object refuses the operations of callers' next calls, no set of these callers may stand
+-- where the object refuses the operations of callers' next calls, no set of these callers may come
 -- next
 pub cannot-from_none : (served : List ℕ → List ℕ → Option (List ℕ × List ℕ)) (book : List Page)
     (cut list callers : List ℕ)

@@ -23,7 +23,7 @@ use Rattle.set_order.proofs.Picking.{picked-few}
 use Rattle.set_order.proofs.Leading.{leads-push, leads-pop, Grows, standing, legal-from_leads, none-from_dead}
 use Rattle.set_order.proofs.Weighing.{weigh-push, weigh-skip, weigh-pop}
 
--- what a walk leads to, in the words of another with the same levels, counts and list
+-- the levels of a walk lead also to the cut and list of another walk with the same ones
 same_leads : (served : List ℕ → List ℕ → Option (List ℕ × List ℕ)) (book : List Page)
     (cut list : List ℕ) (levels new_levels : List SetLevel)
     (to_cut new_cut to_list new_list : List ℕ)
@@ -53,7 +53,7 @@ pub record IsSameWalk (old new : SetWalk) : Type 0 where
   pub here : new.here ≡ old.here
   pub callers : new.callers ≡ old.callers
 
--- a number leads nowhere
+-- the walk without one number, whose set leads nowhere
 pub walk-skip : (init : List ℕ) (served : List ℕ → List ℕ → Option (List ℕ × List ℕ))
     (book : List Page) (old new : SetWalk) → IsWalk init served book old
     → LeadsNowhere served book old.counts.items old.here.words (picked old.left old.callers.items)
@@ -83,7 +83,7 @@ walk-skip init served book old new h nowhere same memo left =
       omega (arith, weights, before, weigh-skip CAPACITY old.levels.items new.left),
     )
 
--- one more dead end is remembered
+-- the walk with one more remembered dead end
 pub walk-remember : (init : List ℕ) (served : List ℕ → List ℕ → Option (List ℕ × List ℕ))
     (book : List Page) (old new : SetWalk) → IsWalk init served book old → old.left ≡ 0
     → IsSameWalk old new → new.left ≡ old.left → IsMemo new.memo
@@ -119,7 +119,7 @@ walk-remember init served book old new h none same left memo callers only = (
       ∙ ap (λ (n : ℕ). weigh CAPACITY old.levels.items n) left,
 )
 
--- a set leads to a remembered dead end
+-- a set that leads to a remembered dead end leads nowhere
 pub nowhere-from_memo : (init : List ℕ) (served : List ℕ → List ℕ → Option (List ℕ × List ℕ))
     (book : List Page) (old : SetWalk) (places : List Place) (after cut list : List ℕ)
     → IsWalk init served book old → callers_of places ≡ picked old.left old.callers.items
@@ -133,7 +133,7 @@ nowhere-from_memo init served book old places after cut list h is stands cut_is 
     nowhere-from_dead served book old.counts.items old.here.words places after
     (picked old.left old.callers.items) is stands dead
 
--- a set leads to a cut and a list that are a dead end
+-- a set that leads to a cut and a list that are a dead end leads nowhere
 pub nowhere-from_lost : (init : List ℕ) (served : List ℕ → List ℕ → Option (List ℕ × List ℕ))
     (book : List Page) (old : SetWalk) (places : List Place) (after cut list : List ℕ)
     → callers_of places ≡ picked old.left old.callers.items
@@ -147,7 +147,7 @@ nowhere-from_lost init served book old places after cut list is stands cut_is li
     nowhere-from_dead served book old.counts.items old.here.words places after
     (picked old.left old.callers.items) is stands dead
 
--- What a set that is put next adds to a walk.
+-- A walk is deeper than another one by a set that is taken next.
 pub record IsDeeper (served : List ℕ → List ℕ → Option (List ℕ × List ℕ)) (book : List Page)
     (old new : SetWalk) (level : SetLevel) : Type 0 where
   pub levels : new.levels.items ≡ old.levels.items ++ level ∷ []
@@ -215,7 +215,7 @@ walk-found init served book old new level h d all =
     legal-from_leads init served book new.levels.items new.counts.items new.here.words
     (deeper-leads init served book old new level h d) all
 
--- one level back from a dead end
+-- the walk after going back one level from a dead end
 pub walk-back : (init : List ℕ) (served : List ℕ → List ℕ → Option (List ℕ × List ℕ))
     (book : List Page) (old new : SetWalk) (level : SetLevel) → IsWalk init served book old
     → old.left ≡ 0
@@ -278,7 +278,7 @@ last_level init served book old levels level small begins grows h is =
     back.leads in
     omega (arith, s.words)
 
--- a dead end at the start
+-- a dead end at the start shows that the book has no legal set order
 pub walk-none : (init : List ℕ) (served : List ℕ → List ℕ → Option (List ℕ × List ℕ))
     (book : List Page) (walk : SetWalk) → IsWalk init served book walk → walk.left ≡ 0
     → walk.levels.items ≡ [] → HasLegalSetOrder init served book → ⊥
@@ -293,7 +293,7 @@ walk-none init served book walk h none levels =
     (subst (λ (n : ℕ). IsOpen served book walk.counts.items walk.here.words walk.callers.items n)
     none h.here))))
 
--- the start
+-- the walk at the start
 pub walk-start : (init : List ℕ) (served : List ℕ → List ℕ → Option (List ℕ × List ℕ))
     (book : List Page) (walk : SetWalk) → walk.levels.items ≡ [] → walk.counts.items ≡ no_calls book
     → walk.here.words ≡ init → walk.here.room ≡ CAPACITY → IsMemo walk.memo
@@ -310,7 +310,7 @@ walk-start init served book walk levels counts here room memo callers none start
   room = room;
 }
 
--- what is known of a set that may stand next where a walk stands
+-- a set that may come next at a walk's cut fits the book's limits
 pub record SetFits (counts : List ℕ) (places : List Place) : Type 0 where
   pub callers : AllByRecursion (λ place. place.caller < length counts) places
   pub numbers : AllByRecursion (λ place. place.number < MAX_CALLS) places
@@ -337,7 +337,7 @@ set_fits init served book walk places after small begins grows h may counts set 
     subst (λ (c : List ℕ). SetFits c set) (sym e)
     (subst (λ (x : List Place). SetFits cut x) (sym f) fits)
 
--- what is known of the part of the candidates that is tried next
+-- a part of the candidates that is tried next fits the book's limits
 pub record PartFits (book : List Page) (counts part : List ℕ) : Type 0 where
   pub inside : AllByRecursion (λ i. i < length counts) part
   pub calls : AllByRecursion (λ i. IsCall book (next_call counts i)) part
@@ -386,7 +386,7 @@ after_fits init served book walk places after small begins grows h is may =
       s.words,
     )
 
--- what is known of a walk with a part that is to be tried
+-- a walk with a part of the candidates that is to be tried
 pub record Trial (book : List Page) (walk : SetWalk) : Type 0 where
   pub wide : length walk.counts.items ≡ length book
   pub part : IsPart book walk.counts.items (picked walk.left walk.callers.items)

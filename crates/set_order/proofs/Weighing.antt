@@ -24,7 +24,7 @@ lighter left fresh above below e positive few =
     let le : fresh * below ≤ 2 ^ MAX_CALLERS * below = mul-le-mul_right below small in
     omega arith
 
--- what goes down by a number weighs less than the number
+-- a new level with its numbers weighs less than one number of the level above it
 pub weigh-push : (depth : ℕ) (levels : List SetLevel) (level : SetLevel) (fresh : ℕ)
     → length levels < depth → fresh < 2 ^ MAX_CALLERS
     → weigh depth (levels ++ level ∷ []) fresh < weigh depth levels (level.left + 1)
@@ -34,14 +34,14 @@ weigh-push depth [] level fresh h few = lighter level.left fresh (ways depth) (w
 weigh-push depth (first ∷ levels) level fresh h few =
     omega (arith, weigh-push (depth - 1) levels level fresh (omega arith) few)
 
--- a number fewer weighs less
+-- a level with one number fewer weighs less
 pub weigh-skip : (depth : ℕ) (levels : List SetLevel) (left : ℕ)
     → weigh depth levels left < weigh depth levels (left + 1)
 unfolding weigh
 weigh-skip depth [] left = omega (arith, ways_positive depth)
 weigh-skip depth (first ∷ levels) left = omega (arith, weigh-skip (depth - 1) levels left)
 
--- what is left of a level weighs less than the level and what is below it
+-- the rest of a level weighs less than the level with all below it
 pub weigh-pop : (depth : ℕ) (levels : List SetLevel) (level : SetLevel)
     → weigh depth levels level.left < weigh depth (levels ++ level ∷ []) 0
 unfolding weigh
