@@ -1,4 +1,5 @@
--- Lines of calls are read as one book, or have one first fault; and so is the end of a text.
+-- Lines of calls are read as at most one book, and have at most one first fault; so does the end of
+-- a text.
 use Rattle.std.proofs.Common.{◌≡◌, ℕ, ◌⊎◌, List, [], Result, Ok, Err, refl, sym, ap, ◌∙◌, subst, inl, inr}
 use Rattle.std.specs.Prelude.{IsTrue, IfOk, IfErr, MatchResult}
 use Rattle.book_base.specs.declared.fault.TextFault.{TextFault}
@@ -50,7 +51,7 @@ module _ (version : Version) (operations : Operations) (one : OneOperation opera
 
 -- ---- the end
 
--- one line comes next
+-- a text has one next line
 same_next : (text x y : Unread) (a b : List ℕ) → line_at text ≡ Ok (a, x) → line_at text ≡ Ok (b, y)
     → (a ≡ b) × (x ≡ y)
 same_next text x y a b h k =

@@ -68,7 +68,7 @@ calls_of-with_line book call op (Some r) j lt =
     calls_of-with_operation (with_answer book call.caller r) call op j same
     ∙ calls_of-with_answer book call.caller r j lt
 
--- the line of a call leaves the answers of other callers
+-- the line of a call doesn't change the number of answers of any other caller
 pub answers_of-with_line : (book : List Page) (call : Call) (op : ℕ) (answer : Option Record)
     (j : ℕ) → call.caller < length book → j ≢ call.caller
     → answers_of (with_line book call op answer) j ≡ answers_of book j
@@ -83,7 +83,7 @@ answers_of-with_line book call op (Some r) j lt other =
     (records-with_operation (with_answer book call.caller r) call op j same)
     ∙ ap (λ (p : Page). length p.records) (page_of-set_other book call.caller j page other)
 
--- the line of a call adds one answer at most
+-- the line of a call adds at most one answer to its caller's
 pub answers_of-with_line_own : (book : List Page) (call : Call) (op : ℕ) (answer : Option Record)
     → call.caller < length book
     → answers_of (with_line book call op answer) call.caller ≤ answers_of book call.caller + 1
@@ -102,7 +102,7 @@ answers_of-with_line_own book call op (Some r) lt =
     ∙ ap (λ (p : Page). length p.records) (page_of-set_same book call.caller page lt) in
     omega (arith, records, length-append (page_of book call.caller).records (r ∷ []))
 
--- a call of the book that is open is refused by a test of its view alone
+-- the book refuses an answer of a call without one only by a test of its view
 pub may_refuse : (book : List Page) (call : Call) (view : List ℕ) (fault : BookFault)
     → IsCall book call → IsUnanswered book call → FailsTest book call.caller view fault
     → MayRefuse fault
@@ -157,7 +157,7 @@ pairs_once b (suc x ∷ xs) (suc y ∷ ys) same few h k e =
     let others = pairs_once (b + 1) xs ys (omega arith) (omega arith) h.1 k.1 line.1 in
     ap (λ (z : ℕ). z ∷ xs) first ∙ ap (λ (zs : List ℕ). suc y ∷ zs) others
 
--- no two cuts of this many callers share their words
+-- two cuts with the same words are equal
 pub cut_once : (version : Version) (n : ℕ) (xs ys : List ℕ) → n < 2 ^ 64 → length xs ≡ n → length ys
     ≡ n → AreNumbers xs → AreNumbers ys → cut_words version xs ≡ cut_words version ys → xs ≡ ys
 cut_once First n xs ys small x y h k e = same_numbers xs ys h k e
@@ -214,7 +214,7 @@ module _ (version : Version) (operations : Operations) (book : List Page) (call 
   entry_early what.View h = omega arith
   entry_early _ h = absurd h
 
-  -- the first test of the line by itself is the line's first test
+  -- the first test that the line fails by itself is its first test
   pub entry_first : (more : List Call) (name : What) → IsFirstTest EntryTest name
       → IsFirstTest (CallFails version operations book (call ∷ more) words) name
   entry_first more name h = record {
@@ -226,7 +226,7 @@ module _ (version : Version) (operations : Operations) (book : List Page) (call 
     ];
   }
 
-  -- where the line has a view, the first test that the book refuses it by is the line's first test
+  -- where the line has a view, the first test by which the book refuses it is the line's first test
   pub view_first : (more : List Call) (op : ℕ) (r : Record) (fault : BookFault) (name : What)
       → IsEntry version operations (length book) (is_gap book call) call words op (Some r)
       → IsFirstFault book call.caller r.view fault → view_test fault ≡ Some name
@@ -259,7 +259,7 @@ module _ (version : Version) (operations : Operations) (book : List Page) (call 
         ];
       }
 
-  -- what the book refused is the line's first test
+  -- the test by which the book refuses a line's answer is the line's first test
   pub refused_first : (more : List Call) (op : ℕ) (answer : Option Record) (fault : BookFault)
       (name : What)
       → IsEntry version operations (length book) (is_gap book call) call words op answer
@@ -283,7 +283,7 @@ pub stops_refused : {Due : Type 0} (rules : Rules Due) (due : Due) (text : Unrea
 stops_refused rules due text line (Some name) result h k f = rw h (f name refl)
 stops_refused rules due text line None result h k f = rw k tt
 
--- what is met after right lines
+-- a fault after right lines is the first fault of the whole text
 pub stops_then : {Due : Type 0} (rules : Rules Due) (due middle : Due) (text between : Unread)
     (e : ReadFault) → faults.GoesTo rules due text middle between → StopsFor rules middle between e
     → StopsFor rules due text e
@@ -298,7 +298,7 @@ calls_of-unanswered [] j = refl
 calls_of-unanswered (count ∷ calls) zero = length-replicate count 0
 calls_of-unanswered (count ∷ calls) (suc j) = calls_of-unanswered calls j
 
--- and none of them is answered
+-- a book without answers has no answered call
 pub answers_of-unanswered : (calls : List ℕ) (j : ℕ) → answers_of (unanswered_book calls) j ≡ 0
 answers_of-unanswered calls j =
     ap (λ (p : Page). length p.records) (page_of-unanswered_book calls j)

@@ -1,4 +1,4 @@
--- The end of a text by any rules in which the last line alone is right there.
+-- The end of a text by any rules by which only the last line is right there.
 use Rattle.std.proofs.Common.{◌≡◌, ◌≢◌, ℕ, List, sym, subst, inl, inr}
 use Rattle.book_base.specs.declared.fault.TextFault.{TextFault}
 use Rattle.book_base.specs.declared.fault.What.TheVariants.{End}

@@ -17,7 +17,7 @@ use Rattle.std.proofs.lemmas.Option.{some_pair_parts}
 use Rattle.book_text.specs.CallLines.{place_words, IsAfterOperation, IsAfterReply, HasView, IsNoView, EntryFails}
 use Rattle.book_text.specs.Entries.{IsNoAnswer}
 
--- no operation's words begin another's
+-- no operation's words are a proper prefix of another's
 abbrev pub OneOperation : Operations → Type 0
 OneOperation operations = (a b : ℕ) (x y : List (List ℕ)) → IsTrue (operations.has a)
     → IsTrue (operations.has b) → operations.words a ++ x ≡ operations.words b ++ y → a ≡ b
@@ -35,7 +35,8 @@ module _ (version : Version) (operations : Operations) (n : ℕ) (gap : Bool) (c
   abbrev Fails : What → Type 0
   Fails name = EntryFails version operations n gap call words name
 
-  -- the tests of the line that are tried before a turn, where none of them fails
+  -- none of the tests that are tried before a turn fails, where none of these tests fails for
+  -- itself
   pub no_earlier : (k : ℕ) → (6 < k → Fails what.Place → ⊥) → (7 < k → Fails what.Op → ⊥)
       → (8 < k → Fails what.Gap → ⊥) → (9 < k → Fails what.Reply → ⊥)
       → (10 < k → Fails what.View → ⊥)
@@ -60,7 +61,7 @@ module _ (version : Version) (operations : Operations) (n : ℕ) (gap : Bool) (c
   passes_gap closed h = absurd (cc (closed, h.3))
 
   module _ (one : OneOperation operations) where
-    -- what stands after the operation is one thing
+    -- the words after the operation are determined
     pub one_after : (x y : List (List ℕ)) → IsAfterOperation operations call words x
         → IsAfterOperation operations call words y → x ≡ y
     one_after x y a b =

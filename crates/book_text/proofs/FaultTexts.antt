@@ -1,4 +1,4 @@
--- The first fault stands where bytes leave the texts of books.
+-- The first fault is where bytes stop being the beginning of a book's text.
 use Rattle.std.proofs.Common.{◌≡◌, ◌≢◌, ℕ, zero, suc, ◌+◌, ◌<◌, ◌≤◌, ◌^◌, ◌⊎◌, Bool, true, List, [], ◌∷◌, ◌++◌, length, replicate, set, Option, Some, None, refl, sym, ap, subst, ◌∙◌, append_assoc, arith, inl, inr}
 use Rattle.std.specs.Prelude.{codes}
 use Rattle.std.specs.List.{AllByRecursion, join_with_byte}
@@ -66,7 +66,8 @@ named_still book after (call ∷ calls) size h = (
   named_still book after calls size h.1,
 )
 
--- what is due can come: each call that is due is named
+-- the state can be completed to a text: each call that is due has a caller and a number that can be
+-- written
 abbrev CanCome : Version → BookDue → Type 0
 CanCome version (InHead TitleDue) = Unit {0}
 CanCome version (InHead ObjectDue) = Unit {0}
@@ -94,7 +95,7 @@ all_named book most i (count ∷ counts) inside few small h =
     (all_named book most (i + 1) counts (omega arith) few small h.1)
 
 module _ (version : Version) where
-  -- what is due after a right line can come
+  -- the state after a right line can be completed
   comes_next : (due after : BookDue) (words : List (List ℕ)) → CanCome version due
       → BookPasses version due words after → CanCome version after
   comes_next (InHead TitleDue) after words can h =
@@ -126,7 +127,7 @@ module _ (version : Version) where
   comes_later due after (words ∷ lines) can h =
       comes_later h.0 after lines (comes_next due h.0 words can h.1) h.2
 
-  -- lines that complete a text
+  -- right lines that complete a text from a state
   record Completes (due : BookDue) : Type 0 where
     pub kind : Kind
     pub book : List Page
@@ -146,7 +147,7 @@ module _ (version : Version) where
     right = (AtEnd kind book, (refl, refl), refl);
   }
 
-  -- the calls that are due are written without answers
+  -- the calls that are due can be written without answers
   calls_come : (kind : Kind) (book : List Page) (calls : List Call)
       → AllByRecursion (IsNamedCall book) calls → Completes (InCalls kind book calls)
   calls_come kind book [] h = end_comes kind book
@@ -244,7 +245,7 @@ module _ (version : Version) where
     },
   )
 
-  -- some text begins with right lines
+  -- right lines begin some text
   begins_so : (reached : BookDue) (lines : List (List (List ℕ)))
       → AllPass (BookPasses version) (InHead TitleDue) lines reached
       → BeginsSomeText version (text_of lines)
@@ -276,7 +277,7 @@ module _ (version : Version) where
         whole_lines h.0 after lines h.2,
       )
 
-  -- ---- no text goes on with the line of a fault
+  -- ---- no text begins with the lines up to that of a fault
 
   entry_named : (operations : Operations) (n : ℕ) (gap : Bool) (call : Call) (words : List (List ℕ))
       (name : What) → EntryFails version operations n gap call words name → (name ≢ what.Cut)
@@ -317,7 +318,7 @@ module _ (version : Version) where
 
   module _ (reached : BookDue) (lines : List (List (List ℕ)))
       (right : AllPass (BookPasses version) (InHead TitleDue) lines reached) where
-    -- where a whole line is wrong, no text goes on with it
+    -- where a whole line is wrong, no text begins with the lines up to it
     no_text_so : (bytes line : List ℕ) (name : What) → book_wanted reached ≡ ALine
         → IsWrongLine (book_rules version) reached (line ++ 10 ∷ bytes) name
         → (kind : Kind) (book : List Page)
@@ -383,7 +384,7 @@ module _ (version : Version) where
     more = h.1;
   }))
 
--- the first fault stands where the bytes leave the texts
+-- the first fault is where the bytes stop being the beginning of a text
 pub leaves_texts : (version : Version) (bytes : List ℕ) (fault : TextFault)
     → IsFirstBookFault version bytes fault → LeavesTexts version bytes fault
 leaves_texts version bytes fault h =

@@ -1,5 +1,5 @@
--- By sharp rules whose right lines can always be completed, the first fault stands where bytes
--- leave the texts.
+-- By sharp rules whose right lines can always be completed, the first fault is where bytes stop
+-- being the beginning of a text.
 use Rattle.std.proofs.Common.{◌≡◌, ◌≢◌, ℕ, ◌+◌, ◌⊎◌, List, [], ◌∷◌, ◌++◌, length, refl, sym, ap, subst, ◌∙◌, append_assoc, arith, inl, inr}
 use Rattle.std.specs.List.{join_with_byte}
 use Rattle.std.proofs.lemmas.List.{append-nil}
@@ -14,7 +14,7 @@ use Rattle.text_fields.proofs.Readings.{no_first}
 use Rattle.book_text.specs.Beginnings.{AreWholeLines, EndsEarly}
 use Rattle.book_text.specs.ReadOnly.{BeginsSome, Breaks, GoesPast, LeavesAt}
 
--- right lines that lead from what is due to the end of a text
+-- right lines that lead from a state to the end of a text
 pub record Completes {Due Said : Type 0} (rules : Rules Due) (ended : Said → Due)
     (due : Due) : Type 0 where
   pub said : Said
@@ -67,7 +67,7 @@ module _ {Due Said : Type 0} (rules : Rules Due) (are_sharp : AreSharp rules) (s
     },
   )
 
-  -- some text begins with right lines
+  -- right lines begin some text
   begins_so : (reached : Due) (lines : List (List (List ℕ)))
       → AllPass rules.Passes start lines reached → BeginsSome IsText (text_of lines)
   begins_so reached lines h =
@@ -95,11 +95,11 @@ module _ {Due Said : Type 0} (rules : Rules Due) (are_sharp : AreSharp rules) (s
         whole_lines h.0 after lines h.2,
       )
 
-  -- ---- no text goes on with the line of a fault
+  -- ---- no text begins with the lines up to that of a fault
 
   module _ (reached : Due) (lines : List (List (List ℕ)))
       (right : AllPass rules.Passes start lines reached) where
-    -- where a whole line is wrong, no text goes on with it
+    -- where a whole line is wrong, no text begins with the lines up to it
     no_text_so : (bytes line : List ℕ) (name : What) → rules.wanted reached ≡ ALine
         → IsWrongLine rules reached (line ++ 10 ∷ bytes) name → (said : Said)
         → IsText (text_of lines ++ (line ++ 10 ∷ bytes)) said → ⊥
@@ -162,7 +162,7 @@ module _ {Due Said : Type 0} (rules : Rules Due) (are_sharp : AreSharp rules) (s
           more = over.1;
         }))
 
-  -- the first fault stands where the bytes leave the texts
+  -- the first fault is where the bytes stop being the beginning of a text
   pub leaves_texts : (bytes : List ℕ) (fault : TextFault)
       → IsFirstFault rules start (record { bytes = bytes; number = 1 }) fault
       → LeavesAt IsText bytes fault

@@ -16,7 +16,7 @@ page_with page k op None = record { operations = set page.operations k op; recor
 page_with page k op (Some answer) =
     record { operations = set page.operations k op; records = page.records ++ answer ∷ [] }
 
--- a page stands after those before it
+-- the page of a caller in a list of pages is the one after those of the callers before
 pub page_of-middle : (done : List Page) (page : Page) (later : List Page)
     → page_of (done ++ page ∷ later) (length done) ≡ page
 page_of-middle [] page later = refl
@@ -46,7 +46,7 @@ with_answer-middle done page later r =
     ap (λ (p : Page). set (done ++ page ∷ later) (length done) (made p))
     (page_of-middle done page later) ∙ set-middle done page (made page) later
 
--- a line changes the page of its caller alone
+-- the line of a call changes the page of its caller alone
 pub with_line-middle : (done : List Page) (page : Page) (later : List Page) (k op : ℕ)
     (answer : Option Record)
     → with_line (done ++ page ∷ later) (record { caller = length done; number = k }) op answer
@@ -120,7 +120,7 @@ same_page : (ops ops' : List ℕ) (rs rs' : List Record) → ops ≡ ops' → rs
     → made_page ops rs ≡ made_page ops' rs'
 same_page ops ops' rs rs' e f = ap (λ (os : List ℕ). made_page os rs) e ∙ ap (made_page ops') f
 
--- the line of the next call gives the page of one call more
+-- the line of the next call makes of the page up to this call the page up to the call after it
 pub page_to-more : (page : Page) (k op : ℕ) (answer : Option Record)
     → slice_get page.operations k ≡ Some op → slice_get page.records k ≡ answer
     → page_with (page_to k page) k op answer ≡ page_to (k + 1) page
@@ -133,7 +133,7 @@ page_to-more page k op (Some r) e f =
     same_page _ _ _ _ (operations_to-more k page.operations op e) (take-some k page.records r f)
     ∙ ap (λ (n : ℕ). page_to n page) next
 
--- when all lines are read, the page is whole
+-- once all lines are read, the page is the whole one
 pub page_to-all : (page : Page) → length page.records ≤ length page.operations
     → page_to (length page.operations) page ≡ page
 page_to-all page le =
@@ -168,7 +168,7 @@ pub record AreSameTo (k : ℕ) (a b : Page) : Type 0 where
   pub operations : (m : ℕ) → m < k → slice_get b.operations m ≡ slice_get a.operations m
   pub records : (m : ℕ) → m < k → slice_get b.records m ≡ slice_get a.records m
 
--- a line leaves the calls before its own
+-- the line of a call doesn't change its caller's earlier calls
 pub page_with-before : (page : Page) (k op : ℕ) (answer : Option Record)
     → (IsSome answer → k ≤ length page.records) → AreSameTo k page (page_with page k op answer)
 page_with-before page k op None late = record {

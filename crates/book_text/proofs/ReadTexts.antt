@@ -1,4 +1,4 @@
--- What is read as a book is what is written of it.
+-- A book that is read is the one of which the bytes are written.
 use Rattle.std.proofs.Common.{◌≡◌, ℕ, zero, suc, ◌+◌, ◌<◌, ◌≤◌, ◌^◌, IsTrue, true, ◌⊎◌, List, [], ◌∷◌, ◌++◌, length, map, get_or, replicate, set, Option, Some, None, refl, sym, ap, subst, ◌∙◌, append_assoc, arith, inl, inr, slice_get}
 use Rattle.std.specs.Prelude.{codes, unwrap_or, IsSome, nat_lt}
 use Rattle.std.proofs.lemmas.Bool.{cases_eq, lt-ltb, ltb-false}
@@ -22,7 +22,7 @@ use Rattle.book_text.specs.Grammar.{line_of, end_words, book_lines, IsWrittenTex
 use Rattle.book_text.specs.BookRules.{BookDue, InHead, InCalls, AtEnd, after_head, BookPasses, IsBookText}
 use Rattle.book_text.proofs.Pages.{page_with, page_of-middle, with_line-middle, AreSameTo, page_with-before, page_with-operation, page_with-record, page_with-few, slice_get-set_cases}
 
--- ---- what each line leaves to hold of a book
+-- ---- what each line preserves of a book
 
 -- a book that right lines give
 record IsSound (operations : Operations) (book : List Page) : Type 0 where
@@ -103,7 +103,7 @@ module _ (operations : Operations) where
       sound-with_operation (with_answer book call.caller r) call op
       (omega (arith, length-set book call.caller p)) has answered
 
-  -- an answer stands where all earlier calls of its caller are answered
+  -- a call has an answer only where all earlier calls of its caller are answered
   late : (book : List Page) (call : Call) (answer : Option Record) → MayStand book call answer
       → IsSome answer → call.number ≤ answers_of book call.caller
   late book call None stands some = absurd cc
@@ -131,13 +131,13 @@ sound-unanswered version kind counts = record {
       (page_of-unanswered_book counts call.caller)) ∙ e));
 }
 
--- ---- lines are inverted one by one
+-- ---- lines are taken back one by one
 
 module _ (version : Version) (kind : Kind) (book : List Page) where
   abbrev Leads : BookDue → List (List (List ℕ)) → Type 0
   Leads due lines = AllPass (BookPasses version) due lines (AtEnd kind book)
 
-  -- where the end isn't reached, a line stands
+  -- where the end isn't reached yet, there is a next line
   record HasLine (due : BookDue) (lines : List (List (List ℕ))) : Type 0 where
     pub words : List (List ℕ)
     pub others : List (List (List ℕ))
@@ -392,7 +392,7 @@ few_from_all most [] h i = omega arith
 few_from_all most (c ∷ counts) h zero = h.0
 few_from_all most (c ∷ counts) h (suc i) = few_from_all most counts h.1 i
 
--- what is read as a book is what is written of it
+-- a book that is read is the one of which the bytes are written
 pub read_is_written : (version : Version) (bytes : List ℕ) (kind : Kind) (book : List Page)
     → IsBookText version bytes kind book → IsWrittenText version bytes kind book
 read_is_written version bytes kind book h =

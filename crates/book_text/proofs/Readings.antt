@@ -1,4 +1,4 @@
--- Bytes are read as one book, or have one first fault.
+-- Bytes are read as at most one book, and have at most one first fault.
 use Rattle.std.proofs.Common.{◌≡◌, ℕ, ◌⊎◌, List, [], Result, Ok, Err, refl, ap, inl, inr}
 use Rattle.std.specs.Prelude.{IfOk, IfErr, MatchResult}
 use Rattle.book_base.specs.declared.fault.TextFault.{TextFault}
@@ -38,20 +38,20 @@ book_no_end version kind book text fault h =
 same_end : (k l : Kind) (a b : List Page) → AtEnd k a ≡ AtEnd l b → (k ≡ l) × (a ≡ b)
 same_end k l a b e = (cc, cc)
 
--- what bytes are read as is one thing
+-- bytes are read as at most one book
 pub one_book : (version : Version) (bytes : List ℕ) (k l : Kind) (a b : List Page)
     → IsBookText version bytes k a → IsBookText version bytes l b → (k ≡ l) × (a ≡ b)
 one_book version bytes k l a b h j =
     same_end k l a b (sharp.one_reading (book_rules version) (book_sharp version) (InHead TitleDue)
     (AtEnd k a) (AtEnd l b) (whole_text bytes) h.0 j.0 h.1 j.1).0
 
--- bytes have one first fault
+-- bytes have at most one first fault
 pub one_first_fault : (version : Version) (bytes : List ℕ) (a b : TextFault)
     → IsFirstBookFault version bytes a → IsFirstBookFault version bytes b → a ≡ b
 one_first_fault version bytes a b h k = sharp.one_fault (book_rules version) (book_sharp version)
     (InHead TitleDue) (whole_text bytes) a b h k
 
--- bytes that are read have no fault
+-- bytes that are read as a book have no fault
 pub no_first_fault : (version : Version) (bytes : List ℕ) (kind : Kind) (book : List Page)
     (fault : TextFault) → IsBookText version bytes kind book
     → IsFirstBookFault version bytes fault → ⊥

@@ -68,7 +68,7 @@ module _ (version : Version) (operations : Operations) (one : OneOperation opera
       let made : ℕ → List ℕ → Option Record = λ p v. Some (record { reply = p; view = v }) in
       ap (λ (p : ℕ). made p r.view) reply ∙ ap (made s.reply) view
 
-  -- a right line gives one book
+  -- a right line leads to one book only
   pub line_one_way : (words : List (List ℕ)) (a b : List Page)
       → IsCallLine version operations book call words a
       → IsCallLine version operations book call words b → a ≡ b

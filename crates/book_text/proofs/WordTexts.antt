@@ -1,4 +1,4 @@
--- The words of a line, as they are taken from its front.
+-- The words of a line, as they are taken one after another from its beginning.
 use Rattle.std.proofs.Common.{◌≡◌, ℕ, zero, suc, ◌+◌, ◌-◌, ◌<◌, ◌≤◌, ◌^◌, ◌⊎◌, List, [], ◌∷◌, ◌++◌, length, drop, Bor, Option, Some, None, refl, sym, ap, subst, ◌∙◌, append_assoc, arith, inl, inr}
 use Rattle.std.specs.Prelude.{IfSome, MatchOption, IsTrue, option_copied}
 use Rattle.std.proofs.lemmas.List.{append-nil, drop_at, length-append}
@@ -22,7 +22,7 @@ pub below_numbers : (xs : List ℕ) → AreNumbers xs → AreAtMost (2 ^ 64 - 1)
 below_numbers [] h = tt
 below_numbers (x ∷ xs) h = (let lt : x < 2 ^ 64 = h.0 in omega arith, below_numbers xs h.1)
 
--- a word without a colon after pairs
+-- the words after pairs, which begin with a word without a colon
 pub after_pairs : (xs ys all : List (List ℕ)) (word : List ℕ) (words : List (List ℕ))
     → all ≡ xs ++ ys → ys ≡ word ∷ words → NoPairFirst ys → HasWordAfterPairs all
 after_pairs [] ys all word words e f h =
@@ -42,7 +42,7 @@ pub next_word : (next : Option (Bor (List ℕ))) (words left : List (List ℕ))
 next_word None words left h = h
 next_word (Some word) words left h = h
 
--- the next word is taken away
+-- the words that are left once the next word is taken
 pub next_drops : (next : Option (Bor (List ℕ))) (words left : List (List ℕ))
     → MatchOption next ((words ≡ []) × (left ≡ [])) (λ word. words ≡ word.now ∷ left)
     → left ≡ drop 1 words
@@ -56,7 +56,7 @@ drop_more (suc k) [] = let same : suc k + 1 ≡ suc (k + 1) = omega arith in
 drop_more (suc k) (x ∷ xs) = let same : suc k + 1 ≡ suc (k + 1) = omega arith in
     ap (λ (m : ℕ). drop m (x ∷ xs)) same ∙ drop_more k xs
 
--- after a first word the next two are taken, as far as they are there
+-- after a first word the next two are taken, where they are there
 pub record AreTaken (all prefix left : List (List ℕ)) : Type 0 where
   pub whole : all ≡ prefix ++ left
   pub enough : (left ≡ []) ⊎ (length prefix ≡ 3)
@@ -72,7 +72,7 @@ three_taken first (Some s) None all one two three e h k =
 three_taken first (Some s) (Some t) all one two three e h k =
     record { whole = rw (e, h, k) refl; enough = inr refl }
 
--- after the operation that was spelled stands what is left
+-- the words after an operation that was spelled are those that are left
 pub spelled_prefix : (operations : Operations) (first : List ℕ)
     (all prefix one left : List (List ℕ)) (op used : ℕ) → all ≡ first ∷ one
     → AreTaken all prefix left → IsSpelled operations prefix op used
@@ -92,7 +92,7 @@ empty_list : (xs : List (List ℕ)) → length xs ≡ 0 → xs ≡ []
 empty_list [] e = refl
 empty_list (x ∷ xs) e = absurd (omega arith)
 
--- where no operation was spelled by the words taken, none stands in front
+-- where the words that were taken spell no operation, the words begin with none
 pub not_in_prefix : (operations : Operations) (all prefix left others : List (List ℕ)) (op : ℕ)
     → AreTaken all prefix left → IsTrue (operations.has op) → 0 < length (operations.words op)
     → length (operations.words op) ≤ 3

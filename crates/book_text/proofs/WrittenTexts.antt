@@ -1,4 +1,4 @@
--- What is written of a book is read as that book.
+-- The bytes that are written of a book are read as this book.
 use Rattle.std.proofs.Common.{◌≡◌, ℕ, zero, suc, ◌+◌, ◌<◌, ◌≤◌, ◌^◌, IsTrue, List, [], ◌∷◌, ◌++◌, length, map, get_or, Option, Some, None, refl, sym, ap, subst, ◌∙◌, append_assoc, arith, slice_get}
 use Rattle.std.specs.Prelude.{unwrap_or}
 use Rattle.std.proofs.lemmas.Bool.{le-ltb}
@@ -34,7 +34,7 @@ few_calls : (version : Version) → most_calls version < 2 ^ 64
 few_calls First = omega arith
 few_calls Second = omega arith
 
--- what stands at a place of a list
+-- there is an item at each place below a list's length
 there : {X : Type 0} (xs : List X) (k : ℕ) → k < length xs → (x : X) × (slice_get xs k ≡ Some x)
 there [] k lt = absurd (omega arith)
 there (x ∷ xs) zero lt = (x, refl)
@@ -49,7 +49,7 @@ pub at_most_from_places : (most : ℕ) (xs : List ℕ) → ((k : ℕ) → get_or
 at_most_from_places most [] h = tt
 at_most_from_places most (x ∷ xs) h = (h 0, at_most_from_places most xs (λ k. h (suc k)))
 
--- the pages of the callers of whom no line is read
+-- the pages of callers none of whose lines is read
 abbrev unread : List Page → List Page
 unread later = unanswered_book (announced later)
 
@@ -69,7 +69,7 @@ records_so_far [] page later n (suc i) k z e = unread-records later i k z e
 records_so_far (p ∷ done) page later n zero k z e = e
 records_so_far (p ∷ done) page later n (suc i) k z e = records_so_far done page later n i k z e
 
--- so are the numbers of calls
+-- the numbers of calls so far are the book's
 unread-announced : (later : List Page) → announced (unread later) ≡ announced later
 unread-announced [] = refl
 unread-announced (p ∷ later) =
@@ -191,7 +191,7 @@ module _ (version : Version) (kind : Kind) (book : List Page)
               (record_of book (call_at k)) (op.1 ∙ ap Some (sym is)) answer));
         }
 
-    -- so are all its lines
+    -- all remaining lines of this caller are right
     caller_passes : (k more : ℕ) (due : List Call) → k + more ≡ length page.operations
         → AllPass (BookPasses version)
         (InCalls kind (so_far k) (calls_from (length done) k more ++ due))
@@ -220,7 +220,7 @@ module _ (version : Version) (kind : Kind) (book : List Page)
         ) in
         ap (λ (p : Page). done ++ p ∷ unread later) (page_to-all page le)
 
-  -- so are the lines of all callers from one on
+  -- the lines of all callers from one on are right
   callers_pass : (done later : List Page) → book ≡ done ++ later
       → AllPass (BookPasses version)
       (InCalls kind (done ++ unread later) (all_calls (length done) (announced later)))
@@ -324,7 +324,7 @@ module _ (version : Version) (kind : Kind) (book : List Page)
         },
       )
 
--- what is written of a book is read as that book
+-- the bytes that are written of a book are read as this book
 pub written_is_read : (version : Version) (bytes : List ℕ) (kind : Kind) (book : List Page)
     → IsWrittenText version bytes kind book → IsBookText version bytes kind book
 written_is_read version bytes kind book h = subst (λ (b : List ℕ). IsBookText version b kind book)

@@ -10,7 +10,7 @@ use Rattle.text_fields.specs.Counts.{pair_word, pair_words}
 use Rattle.text_fields.specs.OperationLaws.{few_operation_words}
 use Rattle.book_writer.specs.Fields.{spaced}
 
--- two pieces, one after the other
+-- two pieces that are appended one after another are appended as one
 pub both_pieces : (old middle new a b : List ℕ) → middle ≡ old ++ a → new ≡ middle ++ b
     → new ≡ old ++ (a ++ b)
 both_pieces old middle new a b h k = k ∙ ap (λ (x : List ℕ). x ++ b) h ∙ append_assoc old a b
@@ -34,7 +34,7 @@ pub spaced-join : (words : List (List ℕ)) → 0 < length words
 spaced-join [] some = absurd (omega arith)
 spaced-join (word ∷ words) some = ap (λ (x : List ℕ). 32 ∷ x) (sym (join-spaced word words))
 
--- what is written of a line so far: its first word, and others after it
+-- the part of a line that is written so far: its first word, and others after it
 pub record IsLine (old new word : List ℕ) (words : List (List ℕ)) : Type 0 where
   pub text : new ≡ old ++ (word ++ spaced words)
 
@@ -170,7 +170,7 @@ answer_written old m1 m2 m3 new reply view pairs h k l m =
     (both_pieces old m2 m3 (32 ∷ reply) (32 ∷ view) (both_pieces old m1 m2 (32 ∷ []) reply h k) l) m
     ∙ ap (λ (x : List ℕ). old ++ x) (append_assoc (32 ∷ reply) (32 ∷ view) (spaced pairs))
 
--- what follows after a value
+-- what follows from a property of a value follows after an answer Ok
 pub OnOk_then : {T E P Q : Type 0} (r : Result T E) → OnOk r P → (P → Q) → OnOk r Q
 OnOk_then (Ok x) holds gives = gives holds
 OnOk_then (Err e) holds gives = tt

@@ -1,4 +1,4 @@
--- No text begins another.
+-- No text is a proper prefix of another one.
 use Rattle.std.proofs.Common.{◌≡◌, ◌≢◌, ℕ, suc, List, [], ◌∷◌, ◌++◌, map, get_or, Some, refl, sym, ap, subst, ◌∙◌, arith, inl, inr}
 use Rattle.std.specs.Prelude.{codes, unwrap_or, option_map}
 use Rattle.std.specs.List.{AllByRecursion}
@@ -53,7 +53,7 @@ no_prefix version bytes more k l a b h j =
 
 -- ---- sketches
 
--- lines that no end is among
+-- none of these lines is 'end'
 abbrev NoEnd : List (List (List ℕ)) → Type 0
 NoEnd lines = AllByRecursion (λ (words : List (List ℕ)). AreSolid words × (words ≢ end_words)) lines
 
@@ -63,7 +63,7 @@ solid_end = record {
   each = (plain (codes "end") (omega arith, (omega arith, (omega arith, tt))) (omega arith), tt);
 }
 
--- lines up to the first end begin no other such lines
+-- of two lists of lines up to the first 'end' none is a proper prefix of the other
 ends_once : (a b : List (List (List ℕ))) (more : List ℕ) → NoEnd a → NoEnd b
     → text_of (a ++ end_words ∷ []) ++ more ≡ text_of (b ++ end_words ∷ []) ++ [] → more ≡ []
 ends_once [] [] more h k e =

@@ -26,7 +26,7 @@ text_of-both a b = flat_map-append line_text a b
 pub text_of-one : (words : List (List ℕ)) → text_of (words ∷ []) ≡ line_text words
 text_of-one words = flat_map-cons line_text words [] ∙ append-nil (line_text words)
 
--- a text with one line more
+-- the text with one line more
 pub one_more : (old middle new : List ℕ) (lines : List (List (List ℕ))) (words : List (List ℕ))
     → middle ≡ old ++ text_of lines → new ≡ middle ++ line_text words
     → new ≡ old ++ text_of (lines ++ words ∷ [])
@@ -35,7 +35,7 @@ one_more old middle new lines words h k =
     ∙ ap (λ (x : List ℕ). old ++ x) (ap (λ (x : List ℕ). text_of lines ++ x)
     (sym (text_of-one words)) ∙ sym (text_of-both lines (words ∷ [])))
 
--- a text with more lines
+-- the text with more lines
 pub lines_more : (old middle new : List ℕ) (lines more : List (List (List ℕ))) → middle
     ≡ old ++ text_of lines → new ≡ middle ++ text_of more → new ≡ old ++ text_of (lines ++ more)
 lines_more old middle new lines more h k =
@@ -43,7 +43,7 @@ lines_more old middle new lines more h k =
     ∙ ap (λ (x : List ℕ). old ++ x) (sym (text_of-both lines more))
 
 module _ {X : Type 0} (line : X → List (List ℕ)) where
-  -- the lines of a list, and of one item more
+  -- the lines of a list of items, with one more item
   pub lines_push : (xs : List X) (x : X) → map line (xs ++ x ∷ []) ≡ map line xs ++ line x ∷ []
   lines_push xs x = map-append line xs (x ∷ [])
 
@@ -90,7 +90,7 @@ callers_more book i lt =
 pub value_is : {X : Type 0} (o : Option X) (x d : X) → o ≡ Some x → unwrap_or o d ≡ x
 value_is {X = X} o x d e = ap (λ (p : Option X). unwrap_or p d) e
 
--- what the calls of one caller more have
+-- the words of the calls of one caller more
 pub words_more : (book : List Page) (i : ℕ)
     → ((call : Call) → call.caller < i → IsCall book call → HasWords book call) → ((number : ℕ)
     → number < calls_of book i → HasWords book (record { caller = i; number = number }))
@@ -103,7 +103,7 @@ words_more book i h k call lt is = elim (cases_lt call.caller i) [
       (k call.number (subst (λ (j : ℕ). call.number < calls_of book j) (sym same) is))
 ]
 
--- what is written before the callers from this one on, of one caller more
+-- the lines of the callers before one, with those of one caller more
 pub caller_written : (kind : Kind) (book : List Page) (middle new : List ℕ) (i : ℕ)
     → i < length book
     → middle ≡ text_of (head_lines Second (codes "book") kind (announced book) ++ map
@@ -138,7 +138,7 @@ end_written kind book middle new i le h k =
     (append_assoc head (map line (all_calls 0 (take i (announced book)))) (end_words ∷ [])
     ∙ ap (λ (counts : List ℕ). head ++ (map line (all_calls 0 counts) ++ end_words ∷ [])) whole)
 
--- a book of numbers that a text has is written
+-- a book within the limits of texts is written
 pub book_written : (kind : Kind) (book : List Page) (bytes : List ℕ) → IsValid book → IsSmall book
     → ((call : Call) → call.caller < length book → IsCall book call → HasWords book call)
     → bytes ≡ text_of (book_lines Second kind book) → IsWrittenText Second bytes kind book

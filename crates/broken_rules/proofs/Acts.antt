@@ -1,4 +1,4 @@
--- What tests of deals decide.
+-- What the tests of deals decide.
 use Rattle.std.proofs.Common.{◌≡◌, ◌↔◌, ◌⊎◌, ◌∙◌, ℕ, Bool, true, false, not, ◌&&◌, ◌||◌, ◌==◌, List, Option, Some, None, refl, sym, ap, subst, inl, inr}
 use Rattle.std.proofs.lemmas.Bool.{false≢true, both_ways, not-true, not_from_false, false_from_ne_true, eqb-true, eq-eqb, or_cases, or_left}
 use Rattle.book_base.specs.declared.call.Call.{Call}
@@ -13,39 +13,39 @@ use Rattle.seq_objects.specs.declared.kind.Kind.TheVariants as kinds
 use Rattle.seq_objects.specs.Readings.{queue_reading}
 use Rattle.broken_rules.specs.Deeds.{reading_of, value_by, is_put, is_take, is_nothing, is_open}
 
--- The opposite of a test decides the opposite.
+-- The negation of a test decides the negation of what the test decides.
 pub not_decides : {b : Bool} {P : Type 0} → (b ≡ true) ↔ P → (not b ≡ true) ↔ (P → ⊥)
 not_decides {b} {P} is = (
   λ e h. both_ways b (not-true b e) (is.1 h),
   λ never. not_from_false b (false_from_ne_true b (λ e. never (is.0 e))),
 )
 
--- Readings that show alike tell the same of a take.
+-- Two readings that show the same of each reply read the same deal off a take's record.
 shown_alike : (a b : Reading) → ((reply : ℕ) → a.shown reply ≡ b.shown reply) → (o : Option Record)
     → recorded_deal a o ≡ recorded_deal b o
 shown_alike a b same None = refl
 shown_alike a b same (Some r) = ap shown_deal (same r.reply)
 
--- Of each kind a reply shows a value in one way.
+-- The replies of all kinds show a value in the same way.
 pub same_takes : (kind : Kind) (book : List Page) (call : Call)
     → take_of queue_reading book call ≡ take_of (reading_of kind) book call
 same_takes kinds.Queue book call = refl
 same_takes kind book call =
     shown_alike queue_reading (reading_of kind) (λ reply. refl) (record_of book call)
 
--- The test for a put of a value decides whether a deal is one.
+-- The test for a put of a value decides whether a deal is such a put.
 put_decides : (d : Deal) (v : ℕ) → ((is_put d && (value_by d == v)) ≡ true) ↔ (d ≡ deals.Put v)
 put_decides (deals.Put w) v =
     (λ e. ap deals.Put (eqb-true w v e), λ same. (let e : w ≡ v = cc in eq-eqb w v e))
 put_decides _ v = (λ e. absurd (false≢true e), λ same. absurd cc)
 
--- The test for a take of a value decides whether a deal is one.
+-- The test for a take of a value decides whether a deal is such a take.
 take_decides : (d : Deal) (v : ℕ) → ((is_take d && (value_by d == v)) ≡ true) ↔ (d ≡ deals.Took v)
 take_decides (deals.Took w) v =
     (λ e. ap deals.Took (eqb-true w v e), λ same. (let e : w ≡ v = cc in eq-eqb w v e))
 take_decides _ v = (λ e. absurd (false≢true e), λ same. absurd cc)
 
--- The test for a deal that may take a value decides whether a deal is one.
+-- The test for a deal that may take a value decides whether a deal may take it.
 neither : {A : Type 0} (d : Deal) (v : ℕ) → (d ≡ deals.Took v → ⊥) → (d ≡ deals.OpenTake → ⊥)
     → (d ≡ deals.Took v) ⊎ (d ≡ deals.OpenTake) → A
 neither d v took is_open h = elim h [ inl e ↦ absurd (took e) | inr e ↦ absurd (is_open e) ]

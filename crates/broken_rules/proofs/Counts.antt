@@ -1,4 +1,5 @@
--- The rules of counters: each count is given once, counts go up, and what is counted was seen.
+-- The rules of counters: each count is given once, counts go up, and a call's view holds the calls
+-- that it counts.
 use Rattle.std.proofs.Common.{◌≡◌, ◌≢◌, ◌∙◌, ℕ, zero, suc, ◌+◌, ◌*◌, ◌<◌, ◌≤◌, Bool, true, cond, List, [], ◌∷◌, ◌++◌, length, take, drop, sum, Option, Some, None, is_some, sym, ap, subst, inl, inr, slice_get, arith}
 use Rattle.std.specs.Prelude.{count_by, IsSomeAnd}
 use Rattle.std.proofs.lemmas.Bool.{cases_Bool, cases_order, cond-true, cond-false, false≢true}
@@ -33,7 +34,7 @@ use Rattle.broken_rules.specs.Rules.{SeesAtMost}
 use Rattle.broken_rules.proofs.Least.{split_step}
 use Rattle.broken_rules.proofs.Seen.{sees_what_stands_before}
 
--- what a counter knows is an increment
+-- an operation that a counter knows is an increment
 known_is_inc : (word : ℕ) → is_known_word kinds.Counter word ≡ true
     → is_operation_of word words.inc ≡ true
 unfolding is_known_word entry_of entries
@@ -52,7 +53,7 @@ is_inc word takes = elim (cases_Bool (is_known_word kinds.Counter word)) [
       absurd (cc (sym neither ∙ takes))
 ]
 
--- one more increment is counted
+-- the number of steps that pass a test, with one more that passes
 count_more : (p : ℕ × ℕ → Bool) (steps : List (ℕ × ℕ)) (j k : ℕ) (step : ℕ × ℕ)
     → slice_get steps j ≡ Some step → p step ≡ true → j < k
     → count_by p (take j steps) + 1 ≤ count_by p (take k steps)
@@ -99,7 +100,7 @@ count_at steps m step v short run at inc shows =
       length-take-le m steps (omega arith),
     )
 
--- so later increments reply greater counts
+-- later increments reply greater counts
 counts_rise : (steps : List (ℕ × ℕ)) (j k : ℕ) (a b : ℕ × ℕ) (v w : ℕ)
     → length steps ≤ MAX_CALLERS * MAX_CALLS → IsRunFrom (kind_next kinds.Counter) (0 ∷ []) steps
     → slice_get steps j ≡ Some a → slice_get steps k ≡ Some b → counter_reading.deed a.0 ≡ Takes
@@ -122,7 +123,7 @@ steps_are_short book order small legal = omega (
   order_is_short (0 ∷ []) (kind_next kinds.Counter) book order small legal,
 )
 
--- A counter that goes down has no legal order.
+-- A counter's book where a later call replies a lower count has no legal order.
 pub counted_down : (book : List Page) (v w : ℕ) (one other : Call) → IsSmall book → w < v
     → deal_of counter_reading book one ≡ deals.Took v
     → deal_of counter_reading book other ≡ deals.Took w → Precedes book one other
@@ -140,7 +141,7 @@ counted_down book v w one other small less takes_v takes_w precedes h =
     (legal.precedence a.0 b.0 one other a.2 b.2 precedes) in
     absurd (omega (arith, less, up))
 
--- Two calls that give one count have no legal order.
+-- A counter's book where two calls reply one count has no legal order.
 pub counted_twice : (book : List Page) (v w : ℕ) (one other : Call) → IsSmall book → v ≡ w
     → one ≢ other → deal_of counter_reading book one ≡ deals.Took v
     → deal_of counter_reading book other ≡ deals.Took w
@@ -174,7 +175,8 @@ counted_twice book v w one other small same apart takes_v takes_w h =
       ]
     ]
 
--- A count of more calls than the others in the call's view has no legal order.
+-- A counter's book where a call replies a count of more calls than the others in its view has no
+-- legal order.
 pub counted_unseen : (book : List Page) (v : ℕ) (one : Call) → IsSmall book
     → deal_of counter_reading book one ≡ deals.Took v → SeesAtMost book one v
     → ¬ HasLegalOrder (0 ∷ []) (kind_next kinds.Counter) book

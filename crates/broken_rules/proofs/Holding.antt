@@ -18,8 +18,8 @@ use Rattle.broken_rules.proofs.Standing.{taker_of_step, putter_of_step}
 
 module _ (reading : Reading) (init : List ℕ) (next : List ℕ → ℕ → List ℕ × ℕ) (book : List Page)
     (is : IsContainer reading next) (none : reading.values init ≡ []) where
-  -- What is taken is put in by a call that stands before: not each of its puts comes after the
-  -- take.
+  -- A value that is taken is put in by a call that comes before: not each of its puts comes after
+  -- the take.
   pub taken_unput : (v : ℕ) (taker : Call) → deal_of reading book taker ≡ deals.Took v
       → ((call : Call) → IsCall book call → deal_of reading book call ≡ deals.Put v
       → Precedes book taker call) → ¬ HasLegalOrder init next book
@@ -39,7 +39,7 @@ module _ (reading : Reading) (init : List ℕ) (next : List ℕ → ℕ → List
       (follow putter.0 putter.2 putter.3) in
       absurd (omega (arith, late, found.2))
 
-  -- What one call alone puts in, one call alone takes.
+  -- A value that one call alone puts in is taken by one call alone.
   pub taken_twice : (v : ℕ) (put taker : Call) → deal_of reading book put ≡ deals.Put v
       → deal_of reading book taker ≡ deals.Took v
       → ((call : Call) → IsCall book call → deal_of reading book call ≡ deals.Put v → call ≡ put)
@@ -59,8 +59,8 @@ module _ (reading : Reading) (init : List ℕ) (next : List ℕ → ℕ → List
             reading book call v takes_too) (takes_by_deal reading book taker v takes) alone h)
       ])
 
-  -- A value that is put in before a take found nothing is taken before it: not each of its takes
-  -- comes after that.
+  -- A value that is put in before a take that found nothing is taken before this take: not each of
+  -- its takes comes after it.
   pub found_nothing : (v : ℕ) (put empty : Call) → deal_of reading book put ≡ deals.Put v
       → deal_of reading book empty ≡ deals.FoundNothing → Precedes book put empty
       → ((call : Call) → IsCall book call → (deal_of reading book call ≡ deals.Took v)

@@ -1,5 +1,5 @@
--- Sets and maps without a key: no operation finds it, and only one that puts it in gives items
--- of it.
+-- Sets and maps without an item of a key: no operation finds the key, and only one that puts it in
+-- gives an item of it.
 use Rattle.std.proofs.Common.{◌≡◌, ◌∙◌, ℕ, ◌==◌, Bool, true, false, List, [], ◌∷◌, Option, Some, None, is_some, cond, if◌then◌else◌, refl, sym, ap, inl, inr}
 use Rattle.std.proofs.lemmas.Bool.{cases_Bool, cond-true, cond-false, false≢true, eq-eqb}
 use Rattle.std.proofs.lemmas.Option.{none-some}
@@ -20,7 +20,7 @@ use Rattle.broken_rules.specs.Deeds.{key_of_word, puts_key, finds_key}
 use Rattle.broken_rules.proofs.Codes.{has_code}
 
 -- An object of keys, whose keys are those of a kind's words. Without any item an operation finds
--- nothing, and leaves no item of its key unless it puts the key in.
+-- nothing, and makes no item of its key unless it puts the key in.
 pub record FindsWhatIsPut (kind : Kind) (key : ℕ → Option ℕ) (part : ℕ → List ℕ → List ℕ)
     (next : List ℕ → ℕ → List ℕ × ℕ) : Type 0 where
   pub keyed : IsKeyed key part next
@@ -106,7 +106,7 @@ set_keys word = elim (cases_Bool (is_operation_of word words.add)) [
   ]
 ]
 
--- an operation that isn't an add leaves an empty set empty
+-- an operation that isn't an add doesn't change an empty set
 set_leaves : (word k : ℕ) → set_key word ≡ Some k → puts_key word ≡ false
     → set_part k (set_after [] (set_operation word)).0 ≡ []
 set_leaves word k is other =
@@ -122,7 +122,7 @@ set_leaves word k is other =
       ]
     ]
 
--- an operation of an empty set finds nothing
+-- an operation on an empty set finds nothing
 set_lacks : (word k : ℕ) → set_key word ≡ Some k
     → finds_key kinds.IntSet word (set_after [] (set_operation word)).1 ≡ false
 set_lacks word k is =
@@ -209,7 +209,8 @@ map_keys word = elim (cases_Bool (is_operation_of word words.put)) [
   ]
 ]
 
--- what an operation that isn't a put makes of an empty map, and its reply
+-- an operation that isn't a put doesn't change an empty map, and its reply says that there is
+-- nothing
 map_step : (word : ℕ) → is_operation_of word words.put ≡ false
     → ((map_after [] (map_operation word)).0 ≡ [])
     × (is_value (map_after [] (map_operation word)).1 ≡ false)
@@ -244,7 +245,7 @@ map_leaves : (word k : ℕ) → map_key word ≡ Some k → puts_key word ≡ fa
 map_leaves word k is other =
     ap (map_part k) (map_step word (not_of_code word words.put refl other)).0
 
--- an operation of an empty map finds nothing
+-- an operation on an empty map finds nothing
 map_lacks : (word k : ℕ) → map_key word ≡ Some k
     → finds_key kinds.Map word (map_after [] (map_operation word)).1 ≡ false
 map_lacks word k is = elim (cases_Bool (is_operation_of word words.put)) [

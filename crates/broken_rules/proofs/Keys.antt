@@ -1,4 +1,4 @@
--- The rule of sets and maps: what is found was put in before.
+-- The rule of sets and maps: a key that is found was put in before.
 use Rattle.std.proofs.Common.{◌≡◌, ◌≢◌, ◌⊎◌, ◌∙◌, ℕ, zero, suc, ◌<◌, ◌≤◌, Bool, true, false, List, [], length, take, get_or, unwrap_or, Option, Some, None, refl, sym, ap, inl, inr, slice_get, arith}
 use Rattle.std.proofs.lemmas.Bool.{cases_Bool, cases_eq, false≢true, both_ways}
 use Rattle.std.proofs.lemmas.Option.{same_Some, none-some, slice_get-get_or, slice_get_within}
@@ -17,7 +17,7 @@ use Rattle.broken_rules.specs.Deeds.{key_of_word, puts_key, finds_key, has_found
 use Rattle.broken_rules.proofs.Standing.{reply_of_place}
 use Rattle.broken_rules.proofs.KeyedObjects.{FindsWhatIsPut}
 
--- there is this key, or there isn't
+-- an option is this key, or it isn't
 cases_key : (o : Option ℕ) (k : ℕ) → (o ≡ Some k) ⊎ (o ≢ Some k)
 cases_key None k = inr (λ e. none-some k e)
 cases_key (Some j) k = elim (cases_eq j k) [
@@ -25,7 +25,7 @@ cases_key (Some j) k = elim (cases_eq j k) [
   | inr other ↦ inr (λ e. other (same_Some j k e))
 ]
 
--- what is read as a take has a key, and found it
+-- an operation that is read as a take has a key, and found it
 found_parts : (o : Option ℕ) (found puts : Bool) (k : ℕ) → deal_on_key o found puts ≡ deals.Took k
     → (o ≡ Some k) × (found ≡ true)
 found_parts None found puts k e = absurd cc
@@ -33,7 +33,7 @@ found_parts (Some j) true puts k e = ((let same : j ≡ k = cc in ap Some same),
 found_parts (Some j) false true k e = absurd cc
 found_parts (Some j) false false k e = absurd cc
 
--- what found its key is answered
+-- an operation that found its key is answered
 found_record : (kind : Kind) (word : ℕ) (o : Option Record) → has_found kind word o ≡ true
     → (r : Record) × (o ≡ Some r) × (finds_key kind word r.reply ≡ true)
 found_record kind word None e = absurd (false≢true e)
@@ -42,14 +42,14 @@ found_record kind word (Some r) e = (r, refl, e)
 module _ (kind : Kind) (key : ℕ → Option ℕ) (part : ℕ → List ℕ → List ℕ)
     (next : List ℕ → ℕ → List ℕ × ℕ) (book : List Page)
     (is : FindsWhatIsPut kind key part next) where
-  -- while no item has a key, no operation of it finds it
+  -- while no item has a key, no operation on it finds it
   unfound : (list : List ℕ) (word k : ℕ) → key word ≡ Some k → part k list ≡ []
       → finds_key kind word (next list word).1 ≡ false
   unfound list word k same empty =
       ap (finds_key kind word) (is.keyed.reply list [] word k same (empty ∙ sym (is.none k)))
       ∙ is.lacks word k same
 
-  -- until a put of a key stands in a legal order, no item has the key
+  -- until a put of a key comes in a legal order, no item has the key
   lacks_key : (order : List Place) → IsLegalOrder [] next book order
       → (k m : ℕ) → ((j : ℕ) (call : Call) → StandsAt order j call → IsCall book call
       → deal_by_key kind book call ≡ deals.Put k → m < j)
@@ -103,7 +103,7 @@ module _ (kind : Kind) (key : ℕ → Option ℕ) (part : ℕ → List ℕ → L
             ]
       ]
 
-  -- A key that is found is put in by a call that stands before: not each of its puts comes after.
+  -- A key that is found is put in by a call that comes before: not each of its puts comes after.
   pub found_unput : (k : ℕ) (finder : Call) → deal_by_key kind book finder ≡ deals.Took k
       → ((call : Call) → IsCall book call → deal_by_key kind book call ≡ deals.Put k
       → Precedes book finder call) → ¬ HasLegalOrder [] next book

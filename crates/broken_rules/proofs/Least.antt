@@ -108,7 +108,7 @@ pub pqueue_is_container : IsContainer pqueue_reading
     (λ list word. pqueue_after list (pqueue_operation word))
 pqueue_is_container = record { put = pqueue_put; take = pqueue_take; neither = pqueue_neither }
 
--- ---- the two readings of priority queues are one
+-- ---- the two readings of priority queues are the same
 
 same_deed : (word : ℕ) → removals.pqueue_deed word ≡ pqueue_reading.deed word
 same_deed word = elim (cases_Bool (is_operation_of word words.insert)) [
@@ -137,7 +137,7 @@ same_takes v (step ∷ steps) = omega (
   same_takes v steps,
 )
 
--- what takes is a min
+-- an operation that is read as a take is a min
 is_min : (word : ℕ) → pqueue_reading.deed word ≡ Takes → is_operation_of word words.min ≡ true
 is_min word takes = elim (cases_Bool (is_operation_of word words.insert)) [
   | inl is ↦ absurd (cc (sym (deed_insert word is) ∙ takes))
@@ -147,7 +147,7 @@ is_min word takes = elim (cases_Bool (is_operation_of word words.insert)) [
   ]
 ]
 
--- a list with the step at a place
+-- the steps of a run before a step, the step, and those after it
 pub split_step : (steps : List (ℕ × ℕ)) (m : ℕ) (step : ℕ × ℕ) → slice_get steps m ≡ Some step
     → steps ≡ take m steps ++ step ∷ drop (suc m) steps
 split_step [] m step e = absurd (none-some step e)
@@ -155,7 +155,7 @@ split_step (first ∷ rest) zero step e = ap (λ (s : ℕ × ℕ). s ∷ rest) (
 split_step (first ∷ rest) (suc m) step e =
     ap (λ (xs : List (ℕ × ℕ)). first ∷ xs) (split_step rest m step e)
 
--- What a min gives is no greater than a value that was put in more often than it was taken.
+-- The value that a min gives is no greater than one that was put in more often than it was taken.
 min_is_least : (steps : List (ℕ × ℕ)) (m : ℕ) (step : ℕ × ℕ) (v w : ℕ)
     → IsRunFrom (kind_next kinds.Pqueue) [] steps → slice_get steps m ≡ Some step
     → pqueue_reading.deed step.0 ≡ Takes → shown_value step.1 ≡ Some w
@@ -189,7 +189,8 @@ min_is_least steps m step v w run at takes shows more =
           omega (arith, same, small, one.2.least v inside)
     ]
 
--- A lesser value that is put in before a take is taken before: not each of its takes comes after.
+-- A lesser value that is put in before a take is taken before it: not each of its takes comes
+-- after.
 pub lesser_left : (book : List Page) (v w : ℕ) (put taker : Call) → v < w
     → deal_of pqueue_reading book put ≡ deals.Put v
     → deal_of pqueue_reading book taker ≡ deals.Took w

@@ -1,4 +1,4 @@
--- The rule of queues: what is put in first is taken first.
+-- The rule of queues: a value that is put in first is taken first.
 use Rattle.std.proofs.Common.{◌≡◌, ◌⊎◌, ◌∙◌, ℕ, ◌<◌, List, [], ◌++◌, length, filter_map, Some, sym, ap, inl, inr, slice_get, arith}
 use Rattle.std.proofs.lemmas.Bool.{cases_lt}
 use Rattle.std.proofs.lemmas.Option.{slice_get_within}
@@ -19,7 +19,8 @@ use Rattle.container_pruning.specs.Deals.{deal_of}
 use Rattle.container_pruning.proofs.Dealing.{puts_by_deal, takes_by_deal}
 use Rattle.broken_rules.proofs.Standing.{taker_of_step, putter_of_step}
 
--- From an empty queue, what is taken was put in, and what was put in before that is taken before.
+-- From an empty queue, a value that is taken was put in, and whatever was put in before it is taken
+-- before it.
 queue_prefix : (reading : Reading) (next : List ℕ → ℕ → List ℕ × ℕ) → IsQueue reading next
     → (list : List ℕ) (steps : List (ℕ × ℕ)) → IsRunFrom next list steps → reading.values list ≡ []
     → (b m : ℕ) (step_m : ℕ × ℕ) → slice_get steps m ≡ Some step_m
@@ -66,7 +67,7 @@ queue_prefix reading next is list steps run empty b m step_m at_m is_m =
     )
 
 -- A value that is put in before each put of another one is taken before that one: not each of its
--- takes comes after.
+-- takes comes after that one's.
 pub passed_over : (reading : Reading) (init : List ℕ) (next : List ℕ → ℕ → List ℕ × ℕ)
     (book : List Page) → IsQueue reading next → reading.values init ≡ []
     → (v w : ℕ) (put taker : Call) → deal_of reading book put ≡ deals.Put v

@@ -52,7 +52,7 @@ register_is : HoldsLast register_reading held_in (kind_next kinds.Register)
 unfolding kind_next
 register_is = register_holds_last
 
--- the kinds whose objects hold values are containers, empty at first
+-- the kinds whose objects hold values are containers, which begin empty
 containers : (kind : Kind) → holds_values kind ≡ true
     → IsContainer (reading_of kind) (kind_next kind)
     × ((reading_of kind).values (kind_init kind) ≡ [])
@@ -96,7 +96,7 @@ not_keyed kinds.Stack is = refl
 not_keyed kinds.Pqueue is = refl
 not_keyed _ is = absurd (false≢true is)
 
--- a call of a container did what is read of it
+-- a call of a container did what its reading says
 did_by_reading : (kind : Kind) (book : List Page) → holds_values kind ≡ true → (call : Call)
     → did kind book call ≡ deal_of (reading_of kind) book call
 did_by_reading kind book is call = cond-false (is_keyed kind) (deal_by_key kind book call)

@@ -10,8 +10,8 @@ use Rattle.broken_rules.specs.declared.rule.Rule.{Rule}
 use Rattle.broken_rules.specs.declared.rule.Rule.TheVariants as named
 use Rattle.broken_rules.specs.Rules.{is_of_one_call, relation_of, Related, Breaks, all_rules}
 
--- what holds of the calls of the callers below one, and of this one's calls, holds of the calls of
--- all callers up to it
+-- a property of the calls of all callers below one, and of this one's calls, is one of the calls of
+-- the callers up to it
 pub callers_more : (P : Call → Type 0) (i : ℕ) → ((call : Call) → call.caller < i → P call)
     → ((number : ℕ) → P (record { caller = i; number = number })) → (call : Call)
     → call.caller < i + 1 → P call
@@ -22,7 +22,7 @@ callers_more P i before here call below = elim (cases_eq call.caller i) [
   | inr other ↦ before call (omega (arith, below, other))
 ]
 
--- two calls are one, or they aren't
+-- two calls are the same, or they aren't
 pub cases_call : (a b : Call) → (a ≡ b) ⊎ (a ≡ b → ⊥)
 cases_call a b = elim (cases_eq a.caller b.caller) [
   | inr other ↦ inr (λ (e : a ≡ b). other (ap (λ (c : Call). c.caller) e))
@@ -32,7 +32,7 @@ cases_call a b = elim (cases_eq a.caller b.caller) [
   ]
 ]
 
--- what breaks a rule breaks the rule of that name
+-- a book that breaks a rule breaks the rule of that name
 pub with_rule : (kind : Kind) (book : List Page) (broken : BrokenRule) (rule : Rule)
     → broken.rule ≡ rule → Breaks kind book broken
     → Breaks kind book (record { rule = rule; first = broken.first; second = broken.second })
@@ -64,7 +64,7 @@ all_listed named.CountedTwice = (9, refl)
 all_listed named.CountedDown = (10, refl)
 all_listed named.ReadOverwritten = (11, refl)
 
--- the two calls that break a rule of one call are one
+-- the two calls that break a rule of one call are the same call
 pub of_one_call : (rule : Rule) (kind : Kind) (book : List Page) (first second : Call)
     → is_of_one_call rule ≡ true → Related kind book (relation_of rule) first second
     → first ≡ second

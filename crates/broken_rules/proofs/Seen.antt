@@ -1,4 +1,5 @@
--- What a view holds: the calls of an order up to its own, each with a number of its own.
+-- The calls that a view holds: those of an order up to the view's own call are among them, each
+-- with a number of its own.
 use Rattle.std.proofs.Common.{◌≡◌, ◌⊎◌, ◌∙◌, ℕ, zero, suc, ◌+◌, ◌<◌, ◌≤◌, List, [], ◌∷◌, length, take, get_or, sum, Option, Some, slice_index, refl, sym, ap, subst, inl, inr, slice_get, arith}
 use Rattle.std.specs.Prelude.{IsSomeAnd}
 use Rattle.std.proofs.lemmas.Bool.{cases_lt, cases_order}
@@ -14,14 +15,15 @@ use Rattle.book_base.specs.Book.{Page, record_of, Precedes}
 use Rattle.book_base.specs.Order.{call_at, StandsAt, IsLegalOrder}
 use Rattle.book_base.proofs.ViewLemmas.{same_call}
 
--- a count that isn't 0 is one of the list
+-- a count that isn't 0 is one of the list's
 is_inside : (xs : List ℕ) (i n : ℕ) → n < get_or xs i 0 → i < length xs
 is_inside xs i n lt = elim (cases_lt i (length xs)) [
   | inl fine ↦ fine
   | inr past ↦ absurd (omega (arith, lt, get_or_past xs i 0 past))
 ]
 
--- what a view holds of the callers up to one is what it holds of those before, and of this one
+-- the calls that a view holds of the callers up to one are those of the callers before, and of this
+-- one
 with_own : (view : List ℕ) (i n : ℕ) → n < get_or view i 0
     → sum (take (i + 1) view) ≡ sum (take i view) + get_or view i 0
 with_own view i n lt = sum_by_more (λ (m : ℕ). m) view i 0 (is_inside view i n lt)
@@ -38,8 +40,8 @@ sums_rise (x ∷ xs) (suc i) (suc j) le = omega (
   sum_by-cons (λ (m : ℕ). m) x (take j xs),
 )
 
--- The calls of a view are numbered by what it holds of the callers before, and by their own
--- numbers: those of two callers have different numbers.
+-- The calls of a view are numbered: by how many it holds of the callers before, and by their own
+-- numbers. So those of two callers have different numbers.
 one_caller : (view : List ℕ) (i j x y : ℕ) → x < get_or view i 0 → y < get_or view j 0
     → sum (take i view) + x ≡ sum (take j view) + y → i ≡ j
 one_caller view i j x y below_x below_y same = elim (cases_order i j) [
@@ -62,12 +64,12 @@ one_caller view i j x y below_x below_y same = elim (cases_order i j) [
   ]
 ]
 
--- a call of a view stands in an order, at this index, and has this number in the view
+-- the call at this index of an order is one of the view, and has this number there
 abbrev IsNumbered : List Place → List ℕ → ℕ → ℕ → Type 0
 IsNumbered order view k code = (call : Call) × StandsAt order k call × Holds view call
     × (sum (take call.caller view) + call.number ≡ code)
 
--- A call stands in a legal order before as many others at most as its view holds.
+-- At most as many other calls come before a call in a legal order as its view holds.
 pub sees_what_stands_before : (init : List ℕ) (next : List ℕ → ℕ → List ℕ × ℕ) (book : List Page)
     (order : List Place) → IsLegalOrder init next book order
     → (call : Call) (r : Record) → record_of book call ≡ Some r → (m : ℕ) → StandsAt order m call

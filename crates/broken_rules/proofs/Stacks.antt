@@ -1,4 +1,4 @@
--- The rule of stacks: what is put in last is taken first.
+-- The rule of stacks: a value that is put in last is taken first.
 use Rattle.std.proofs.Common.{◌≡◌, ◌⊎◌, ◌∙◌, ℕ, zero, suc, ◌+◌, ◌-◌, ◌<◌, ◌≤◌, List, [], ◌∷◌, ◌++◌, length, take, get_or, Option, Some, None, refl, sym, ap, subst, inl, inr, slice_get, arith}
 use Rattle.std.proofs.lemmas.Bool.{eq-eqb}
 use Rattle.std.proofs.lemmas.Option.{slice_get-get_or, slice_get_within}
@@ -18,8 +18,8 @@ use Rattle.container_pruning.specs.Deals.{deal_of}
 use Rattle.container_pruning.proofs.Dealing.{puts_by_deal, takes_by_deal}
 use Rattle.broken_rules.proofs.Standing.{taker_of_step, putter_of_step}
 
--- What a stack has from v on, it has still after a step that doesn't take v; and it has no w over
--- v, if the step doesn't put w in.
+-- The values of a stack from v on are still there after a step that doesn't take v; and no w is
+-- over v, if the step doesn't put w in.
 covered_by_take : (w v : ℕ) (above below : List ℕ) (shown : Option ℕ) (after : List ℕ)
     → times w above ≡ 0 → GivesFirst (above ++ v ∷ below) shown after → (shown ≡ Some v → ⊥)
     → (now : List ℕ) × (after ≡ now ++ v ∷ below) × (times w now ≡ 0)
@@ -48,7 +48,7 @@ covered_by_step reading next is list op w v above below Takes e held none other 
 covered_by_step reading next is list op w v above below Neither e held none other apart =
     (above, is.neither list op e ∙ held, none)
 
--- So while v isn't taken and w isn't put in, a stack with v on top comes to have no w over v.
+-- While v isn't taken and w isn't put in, no w comes to be over v in a stack that had v on top.
 stays_covered : (reading : Reading) (next : List ℕ → ℕ → List ℕ × ℕ) → IsStack reading next
     → (list : List ℕ) (steps : List (ℕ × ℕ)) → IsRunFrom next list steps
     → (w v : ℕ) (below : List ℕ) (m d : ℕ)
@@ -86,15 +86,15 @@ stays_covered reading next is list steps run w v below m (suc d) top long no_put
       after.2,
     )
 
--- what is on top, where no w is over v
+-- the value on top of a stack isn't w, where no w is over v
 top_is : (w v : ℕ) (above below after : List ℕ) → above ++ v ∷ below ≡ w ∷ after
     → times w above ≡ 0 → v ≡ w
 top_is w v [] below after e none = cc
 top_is w v (u ∷ above) below after e none = let same : u ≡ w = cc in
     absurd (omega (arith, none, ap one_if (eq-eqb u w same)))
 
--- A value that is put in before a take of another one is taken before, where that one isn't put in
--- between: not each of its takes comes after.
+-- A value that is put in before a take of another one is taken before this take, where that other
+-- value isn't put in between: not each of its takes comes after.
 pub taken_from_under : (reading : Reading) (init : List ℕ) (next : List ℕ → ℕ → List ℕ × ℕ)
     (book : List Page) → IsStack reading next
     → (v w : ℕ) (put taker : Call) → deal_of reading book put ≡ deals.Put v

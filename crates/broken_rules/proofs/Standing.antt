@@ -1,4 +1,4 @@
--- The calls of the steps of a legal order.
+-- The calls whose operations are the steps of a legal order.
 use Rattle.std.proofs.Common.{◌≡◌, ◌⊎◌, ◌∙◌, ℕ, List, unwrap_or, Option, Some, refl, sym, ap, inl, inr, slice_get}
 use Rattle.std.proofs.lemmas.Option.{same_Some, none-some}
 use Rattle.list_laws.proofs.Options.{cases_Option}
@@ -13,14 +13,14 @@ use Rattle.container_pruning.specs.declared.deal.Deal.TheVariants as deals
 use Rattle.container_pruning.specs.Deals.{shown_deal, recorded_deal, deal_by_deed, deal_by_operation, deal_of}
 use Rattle.container_pruning.proofs.Dealing.{deal_of_put}
 
--- the deed of a step that takes out a value, and what its reply shows
+-- an effect with a value that it takes out is that of a take, which shows this value
 taken_from_value : (deed : Effect) (shown : Option ℕ) (v : ℕ) → value_taken deed shown ≡ Some v
     → (deed ≡ Takes) × (shown ≡ Some v)
 taken_from_value (Puts w) shown v e = absurd (none-some v e)
 taken_from_value Takes shown v e = (refl, e)
 taken_from_value Neither shown v e = absurd (none-some v e)
 
--- An answered call stands in a legal order with its recorded reply.
+-- A legal order has an answered call with its recorded reply.
 pub reply_of_place : (init : List ℕ) (next : List ℕ → ℕ → List ℕ × ℕ) (book : List Page)
     (order : List Place) → IsLegalOrder init next book order
     → (k : ℕ) (place : Place) → slice_get order k ≡ Some place
@@ -35,7 +35,8 @@ reply_of_place init next book order legal k place at r answered =
     same_Some it place (sym found.1 ∙ (ap (slice_get order) same_place ∙ at)) in
     ap (λ (p : Place). p.reply) one
 
--- A step that takes out a value is of a call that takes it, or of a take without an answer.
+-- A step that takes out a value is the operation of a call that takes it, or of a take without an
+-- answer.
 pub taker_of_step : (reading : Reading) (init : List ℕ) (next : List ℕ → ℕ → List ℕ × ℕ)
     (book : List Page) (order : List Place) → IsLegalOrder init next book order
     → (k v : ℕ) (step : ℕ × ℕ) → slice_get (steps_of book order) k ≡ Some step
@@ -67,7 +68,7 @@ taker_of_step reading init next book order legal k v step e is =
           )
     ]
 
--- A step that puts in a value is of a call that does.
+-- A step that puts in a value is the operation of a call that does.
 pub putter_of_step : (reading : Reading) (init : List ℕ) (next : List ℕ → ℕ → List ℕ × ℕ)
     (book : List Page) (order : List Place) → IsLegalOrder init next book order
     → (k v : ℕ) (step : ℕ × ℕ) → slice_get (steps_of book order) k ≡ Some step

@@ -1,4 +1,4 @@
--- The rules of registers: what is read was written last.
+-- The rules of registers: the value that is read was written last.
 use Rattle.std.proofs.Common.{◌≡◌, ◌⊎◌, ◌∙◌, ℕ, zero, suc, ◌<◌, ◌≤◌, List, length, take, get_or, Some, None, refl, sym, ap, inl, inr, slice_get, arith}
 use Rattle.std.proofs.lemmas.Bool.{cases_lt}
 use Rattle.std.proofs.lemmas.Option.{same_Some, none-some, slice_get-get_or, slice_get_within}
@@ -19,13 +19,13 @@ use Rattle.container_pruning.proofs.Dealing.{puts_by_deal, takes_by_deal}
 use Rattle.value_pruning.specs.HoldsLast.{HoldsLast}
 use Rattle.broken_rules.proofs.Standing.{putter_of_step}
 
--- no step from a moment on, and before another, writes
+-- no step between two moments writes
 abbrev NoneWrites : Reading → List (ℕ × ℕ) → ℕ → ℕ → Type 0
 NoneWrites reading steps from to = (j : ℕ) (step : ℕ × ℕ) (v : ℕ) → from ≤ j → j < to
     → slice_get steps j ≡ Some step → put_by reading step ≡ Some v → ⊥
 
--- What is held at a moment is what was held at first, and nothing was written; or it was written
--- last.
+-- The value held at a moment is the first one, and nothing was written before; or it was written by
+-- the last write before.
 abbrev IsLastWritten : Reading → (List ℕ → ℕ) → (List ℕ → ℕ → List ℕ × ℕ) → List ℕ → List (ℕ × ℕ)
     → ℕ → Type 0
 IsLastWritten reading held next list steps n =
@@ -34,7 +34,7 @@ IsLastWritten reading held next list steps n =
     × (put_by reading step ≡ Some (held (list_after_run next list (take n steps))))
     × NoneWrites reading steps (suc k) n)
 
--- one more step that doesn't write
+-- no step up to one more that doesn't write writes
 none_more : (reading : Reading) (steps : List (ℕ × ℕ)) (from n : ℕ) (step : ℕ × ℕ)
     → slice_get steps n ≡ Some step → put_by reading step ≡ None
     → NoneWrites reading steps from n → NoneWrites reading steps from (suc n)
@@ -48,7 +48,7 @@ none_more reading steps from n step at quiet none j other v low high there write
           none-some v (sym quiet ∙ (ap (put_by reading) (sym one) ∙ writes))
     ]
 
--- the deed of a step that writes
+-- an effect that puts in a value is a write of it
 put_from_value : (deed : Effect) (v : ℕ) → value_put deed ≡ Some v → deed ≡ Puts v
 put_from_value (Puts w) v e = ap Puts (same_Some w v e)
 put_from_value Takes v e = absurd (none-some v e)
@@ -99,7 +99,7 @@ last_written reading held next is list steps run (suc n) inside =
 
 module _ (reading : Reading) (held : List ℕ → ℕ) (init : List ℕ) (next : List ℕ → ℕ → List ℕ × ℕ)
     (book : List Page) (is : HoldsLast reading held next) where
-  -- A value that is read, and isn't there at first, is written before: not each of its writes comes
+  -- A value that is read, and isn't the first one, is written before: not each of its writes comes
   -- after.
   pub read_unwritten : (v : ℕ) (reader : Call) → (v ≡ held init → ⊥)
       → deal_of reading book reader ≡ deals.Took v
@@ -127,8 +127,8 @@ module _ (reading : Reading) (held : List ℕ → ℕ) (init : List ℕ) (next :
             absurd (omega (arith, late, later.2))
       ]
 
-  -- What is written over before a read isn't read: some write of what is read comes neither before
-  -- the other write, nor after the read.
+  -- A value that is written over before a read isn't read: some write of the value that is read
+  -- comes neither before the other write, nor after the read.
   pub read_overwritten : (v w : ℕ) (writer reader : Call) → deal_of reading book writer
       ≡ deals.Put v → deal_of reading book reader ≡ deals.Took w → Precedes book writer reader
       → ((call : Call) → IsCall book call → deal_of reading book call ≡ deals.Put w

@@ -14,7 +14,7 @@ use Rattle.book_text.specs.CallLines.{Progress, CallPasses, call_wanted, call_ru
 use Rattle.book_text.specs.BookRules.{InCalls, after_head, in_calls}
 use Rattle.certificate_text.specs.CertificateRules.{CertificateDue, InBook, after_book, CertificatePasses, certificate_wanted, certificate_rules}
 
--- what is due in the head of the book
+-- a state of reading the head, as one of reading the certificate
 abbrev pub in_head : HeadDue → CertificateDue
 in_head due = after_book (after_head due)
 
@@ -45,7 +45,7 @@ pub head_within : AreWithin (head_rules Second (codes "book")) certificate_rules
 head_within = record { right = head_right; wrong = head_wrong }
 
 module _ (kind : Kind) where
-  -- what is due in the calls of the book
+  -- how far the lines of calls are read, as a state of reading the certificate
   abbrev pub at_calls : Progress → CertificateDue
   at_calls progress = InBook (InCalls kind progress.book progress.due)
 

@@ -1,4 +1,4 @@
--- The first fault stands where bytes leave the texts of certificates.
+-- The first fault is where bytes stop being the beginning of a certificate's text.
 use Rattle.std.proofs.Common.{◌≡◌, ◌≢◌, ℕ, zero, suc, ◌+◌, ◌⊎◌, List, [], ◌∷◌, ◌++◌, length, Some, refl, sym, ap, subst, ◌∙◌, append_assoc, arith, inl, inr}
 use Rattle.std.specs.List.{join_with_byte}
 use Rattle.std.proofs.lemmas.List.{append-nil}
@@ -35,7 +35,7 @@ use Rattle.certificate_text.proofs.WrittenTexts.{order_passes, order_after}
 
 -- ---- whole lines
 
--- as many whole lines are the same lines, whatever follows
+-- two prefixes of one text with the same number of whole lines are equal
 whole_prefix : (count : ℕ) (prefix rest : List ℕ) → AreWholeLines count prefix
     → AreWholeLines count (prefix ++ rest) → rest ≡ []
 whole_prefix zero prefix rest h k = ap (λ (x : List ℕ). x ++ rest) (sym h) ∙ k
@@ -69,7 +69,7 @@ module _ {Due : Type 0} (rules : Rules Due) (sharp : AreSharp rules) where
 
 -- ---- some text begins with right lines
 
--- right lines of a book that a line is to follow begin some book's text
+-- right lines of a book that a further line has to follow begin some book's text
 book_begins : (due : BookDue) (lines : List (List (List ℕ))) → book_wanted due ≡ ALine
     → AllPass (BookPasses Second) (InHead TitleDue) lines due
     → books.BeginsSomeText Second (text_of lines)
@@ -101,7 +101,7 @@ book_begins due lines wanted right =
     leaves.bytes_are ∙ ap (λ (x : List ℕ). leaves.prefix ++ x) none ∙ append-nil leaves.prefix in
     subst (books.BeginsSomeText Second) (sym same) leaves.begins
 
--- after the title of the order no line of a book comes
+-- after the title of the order no state is one of reading the book
 no_book_after : (kind : Kind) (book : List Page) (done : List Place) (due : BookDue)
     (lines : List (List (List ℕ)))
     → AllPass CertificatePasses (InPlaces kind book done) lines (InBook due) → ⊥
@@ -155,7 +155,7 @@ text_of_lines kind book order lines h = (
   },
 )
 
--- lines that complete a text
+-- right lines that complete a text from a state
 completed : (reached : CertificateDue) (lines more : List (List (List ℕ))) (kind : Kind)
     (book : List Page) (order : List Place) → AllPass CertificatePasses nothing_read lines reached
     → AllPass CertificatePasses reached more (AllRead kind book order)
@@ -197,9 +197,9 @@ begins_so (InPlaces kind book order) lines h = completed (InPlaces kind book ord
 begins_so (AllRead kind book order) lines h =
     completed (AllRead kind book order) lines [] kind book order h refl
 
--- ---- no text goes on with the line of a fault
+-- ---- no text begins with the lines up to that of a fault
 
--- a test of a line is neither that it is cut off nor that bytes follow
+-- the test is one of a whole line: not that the text is cut, and not that bytes follow the end
 abbrev IsOfLine : What → Type 0
 IsOfLine name = (name ≢ what.Cut) × (name ≢ what.Rest)
 
@@ -259,7 +259,7 @@ line_named (AllRead kind book order) words name h = absurd h
 
 module _ (reached : CertificateDue) (lines : List (List (List ℕ)))
     (right : AllPass CertificatePasses nothing_read lines reached) where
-  -- where a whole line is wrong, no text goes on with it
+  -- where a whole line is wrong, no text begins with the lines up to it
   no_text_so : (bytes line : List ℕ) (name : What) → certificate_wanted reached ≡ ALine
       → IsWrongLine certificate_rules reached (line ++ 10 ∷ bytes) name
       → (kind : Kind) (book : List Page) (order : List Place)
@@ -326,7 +326,7 @@ leaves_at (AllRead kind book order) lines right rest name h = inr (inr (record {
   more = h.1;
 }))
 
--- the first fault stands where the bytes leave the texts
+-- the first fault is where the bytes stop being the beginning of a certificate's text
 pub leaves_texts : (bytes : List ℕ) (fault : TextFault) → IsFirstCertificateFault bytes fault
     → LeavesTexts bytes fault
 leaves_texts bytes fault h =

@@ -1,4 +1,4 @@
--- The lines of places, written one after the other after the lines of a book.
+-- The lines of places, which are written one after another after those of a book.
 use Rattle.std.proofs.Common.{◌≡◌, ℕ, ◌+◌, ◌<◌, ◌≤◌, List, [], ◌∷◌, ◌++◌, length, map, take, get_or, sym, ap, subst, ◌∙◌, append_assoc}
 use Rattle.std.specs.List.{AllByRecursion}
 use Rattle.std.proofs.lemmas.List.{map-append, take_more, take_all}
@@ -10,7 +10,7 @@ use Rattle.book_writer.proofs.Texts.{one_more}
 use Rattle.certificate_text.specs.Grammar.{order_words, place_line, order_lines, IsPlace}
 
 module _ (prefix : List (List (List ℕ))) (order : List Place) where
-  -- the lines in front, the title of the order, and the lines of these places
+  -- the lines before the order, its title, and the lines of these places
   abbrev pub lines_to : List Place → List (List (List ℕ))
   lines_to places = prefix ++ order_words ∷ map place_line places
 

@@ -1,4 +1,4 @@
--- What is read as a certificate is what is written of it.
+-- A certificate that is read is the one of which the bytes are written.
 use Rattle.std.proofs.Common.{◌≡◌, ℕ, ◌+◌, List, [], ◌∷◌, ◌++◌, length, map, refl, sym, ap, subst, ◌∙◌, append_assoc, inl, inr}
 use Rattle.std.specs.List.{AllByRecursion}
 use Rattle.std.proofs.lemmas.List.{append-nil}
@@ -19,7 +19,7 @@ use Rattle.certificate_text.specs.Laws.{OneTextPerCertificate, ATextIsItsLines}
 use Rattle.certificate_text.proofs.WrittenTexts.{written_is_read}
 
 module _ (kind : Kind) (book : List Page) (order : List Place) where
-  -- these lines lead from where this is due to the end of the certificate
+  -- these lines lead from a state to the end of the certificate
   abbrev Leads : CertificateDue → List (List (List ℕ)) → Type 0
   Leads due lines = AllPass CertificatePasses due lines (AllRead kind book order)
 
@@ -92,7 +92,7 @@ module _ (kind : Kind) (book : List Page) (order : List Place) where
 
   -- ---- the book
 
-  -- the lines are those of a book, up to its end, and others after them
+  -- the lines are those of a book, up to its end, followed by others
   record IsSplit (due : BookDue) (lines : List (List (List ℕ))) : Type 0 where
     pub k : Kind
     pub b : List Page
@@ -138,7 +138,7 @@ module _ (kind : Kind) (book : List Page) (order : List Place) where
         back_right = more.back_right;
       }
 
--- what is read as a certificate is what is written of it
+-- a certificate that is read is the one of which the bytes are written
 pub read_is_written : (bytes : List ℕ) (kind : Kind) (book : List Page) (order : List Place)
     → IsCertificateText bytes kind book order → IsWrittenCertificate bytes kind book order
 read_is_written bytes kind book order h =
@@ -173,7 +173,7 @@ read_is_written bytes kind book order h =
           ∙ sym (flat_map-append line_text (book_lines Second kind book) (order_lines order));
     }
 
--- a certificate has one text
+-- a certificate has at most one text
 pub one_text : OneTextPerCertificate
 one_text a b kind book order h k =
     (read_is_written a kind book order h).text ∙ sym (read_is_written b kind book order k).text

@@ -1,4 +1,4 @@
--- Bytes are read as one certificate, or have one first fault.
+-- Bytes are read as at most one certificate, and have at most one first fault.
 use Rattle.std.proofs.Common.{◌≡◌, ℕ, ◌⊎◌, List, [], ◌∷◌, ◌++◌, Result, Ok, Err, refl, ap, ◌∙◌, inl, inr}
 use Rattle.std.specs.Prelude.{IfOk, IfErr, MatchResult}
 use Rattle.std.proofs.lemmas.List.{append-nil}
@@ -21,23 +21,23 @@ same_end : (k l : Kind) (a b : List Page) (p q : List Place) → AllRead k a p �
     → AreOne k l a b p q
 same_end k l a b p q e = record { kinds = cc; books = cc; orders = cc }
 
--- what bytes are read as is one thing
+-- bytes are read as at most one certificate
 pub one_certificate : OneCertificatePerText
 one_certificate bytes k l a b p q h j =
     same_end k l a b p q (sharp.one_reading certificate_rules certificate_sharp nothing_read
     (AllRead k a p) (AllRead l b q) (whole_text bytes) h.0 j.0 h.1 j.1).0
 
--- bytes have one first fault
+-- bytes have at most one first fault
 pub one_fault : OneFirstFault
 one_fault bytes a b h k =
     sharp.one_fault certificate_rules certificate_sharp nothing_read (whole_text bytes) a b h k
 
--- bytes that are read have no fault
+-- bytes that are read as a certificate have no fault
 pub no_fault : NoFaultOfAText
 no_fault bytes kind book order fault h k = sharp.no_fault certificate_rules certificate_sharp
     nothing_read (AllRead kind book order) (whole_text bytes) h.0 fault h.1 k
 
--- where more bytes follow a text, the whole has a fault after it
+-- where more bytes follow a certificate's text, the whole has a fault after the text
 pub no_prefix : NoTextBeginsAnother
 no_prefix bytes [] k l a b p q h j = refl
 no_prefix bytes (byte ∷ more) k l a b p q h j =
@@ -58,7 +58,7 @@ no_prefix bytes (byte ∷ more) k l a b p q h j =
 
 -- ---- the answers of a reader
 
--- what is read is the text of its certificate
+-- a certificate that was read is the one that the bytes are the text of
 abbrev pub IsFound : List ℕ → Result Certificate ReadFault → Type 0
 IsFound bytes result =
     IfOk result (λ read. IsCertificateText bytes read.kind read.book read.order.items)

@@ -23,7 +23,7 @@ use Rattle.certificate_text.specs.CertificateRules.{CertificateDue, InBook, Orde
 
 -- ---- the lines of places
 
--- what a line names is one call, and what stands after it one list of words
+-- two ways to read the caller and the number of a line's call, and the words after them, are one
 pub record IsOneCall (a b : Call) (x y : List (List ℕ)) : Type 0 where
   pub callers : a.caller ≡ b.caller
   pub numbers : a.number ≡ b.number
@@ -41,7 +41,7 @@ one_call a b x y h k e =
       suffix = second.1;
     }
 
--- a line is one place at most
+-- a line is that of one place at most
 pub one_place : (words : List (List ℕ)) (a b : Place) → IsPlaceLine words a
     → IsPlaceLine words b → a ≡ b
 one_place words a b h k =
@@ -53,7 +53,7 @@ one_place words a b h k =
     ap (λ (i : ℕ). made i a.number a.reply) call.callers
     ∙ ap (λ (n : ℕ). made b.caller n a.reply) call.numbers ∙ ap (made b.caller b.number) reply
 
--- the end is no place
+-- the last line of a text is no line of a place
 pub end_or_place : (words : List (List ℕ)) (place : Place) → words ≡ end_words
     → IsPlaceLine words place → ⊥
 end_or_place words place e h =
@@ -72,7 +72,7 @@ place_apart words place what.Reply h k =
     k.4 place.reply h.may.reply call.suffix
 place_apart words place _ h k = k
 
--- nor does the end
+-- the last line of a text fails no test
 pub end_apart : (words : List (List ℕ)) (name : What) → words ≡ end_words
     → PlaceFails words name → ⊥
 end_apart words what.Place e k = k.0 e

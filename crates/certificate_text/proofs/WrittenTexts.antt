@@ -1,4 +1,4 @@
--- What is written of a certificate is read as that certificate.
+-- The bytes that are written of a certificate are read as this certificate.
 use Rattle.std.proofs.Common.{◌≡◌, ℕ, ◌+◌, List, [], ◌∷◌, ◌++◌, length, map, refl, sym, ap, subst, ◌∙◌, append_assoc, inl, inr}
 use Rattle.std.specs.List.{AllByRecursion}
 use Rattle.std.proofs.lemmas.List.{append-nil}
@@ -17,7 +17,7 @@ use Rattle.book_text.proofs.WrittenTexts as books
 use Rattle.certificate_text.specs.Grammar.{place_line, order_lines, IsPlace, IsWrittenCertificate}
 use Rattle.certificate_text.specs.CertificateRules.{OrderDue, InPlaces, AllRead, after_book, nothing_read, CertificatePasses, certificate_rules, IsCertificateText}
 
--- the right lines of a book are right in a certificate
+-- the right lines of a book are right in the text of a certificate
 pub book_right : (due after : BookDue) (words : List (List ℕ)) → BookPasses Second due words after
     → CertificatePasses (after_book due) words (after_book after)
 book_right (InHead due) after words h = (after, h, refl)
@@ -32,7 +32,7 @@ book_passes due after (words ∷ lines) h =
     (after_book h.0, book_right due h.0 words h.1, book_passes h.0 after lines h.2)
 
 module _ (kind : Kind) (book : List Page) where
-  -- the lines of places and the end
+  -- the lines of places and the end are right after the title of the order
   pub places_pass : (done order : List Place) → AllByRecursion IsPlace order
       → AllPass CertificatePasses (InPlaces kind book done) (map place_line order ++ end_words ∷ [])
       (AllRead kind book (done ++ order))
@@ -51,7 +51,7 @@ module _ (kind : Kind) (book : List Page) where
       → AllPass CertificatePasses (OrderDue kind book) (order_lines order) (AllRead kind book order)
   order_passes order h = (InPlaces kind book [], (refl, refl), places_pass [] order h)
 
--- after the text of a book come the lines of an order
+-- the lines of an order may follow the text of a book
 pub order_after : (bytes : List ℕ) (kind : Kind) (book : List Page) (order : List Place)
     → IsBookText Second bytes kind book → AllByRecursion IsPlace order
     → IsCertificateText (bytes ++ text_of (order_lines order)) kind book order
@@ -78,7 +78,7 @@ order_after bytes kind book order read places =
       },
     )
 
--- what is written of a certificate is read as it
+-- the bytes that are written of a certificate are read as this certificate
 pub written_is_read : (bytes : List ℕ) (kind : Kind) (book : List Page) (order : List Place)
     → IsWrittenCertificate bytes kind book order → IsCertificateText bytes kind book order
 written_is_read bytes kind book order h =

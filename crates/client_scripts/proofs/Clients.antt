@@ -1,4 +1,4 @@
--- What the clients of a script hold.
+-- What the clients of a script in memory hold.
 use Rattle.std.proofs.Common.{◌≡◌, ℕ, zero, suc, ◌+◌, ◌<◌, List, [], ◌∷◌, ◌++◌, length, get_or, set, replicate, Option, Some, None, refl, sym, ap, subst, ◌∙◌, arith, slice_get}
 use Rattle.std.proofs.lemmas.List.{get_or-map, length-map, map-set, map_push}
 use Rattle.std.proofs.lemmas.Option.{slice_get_read}
@@ -12,7 +12,7 @@ use Rattle.client_scripts.specs.ScriptRules.{Begun, begin, with_operations, with
 use Rattle.client_scripts.specs.ScriptLayout.{operations_in, stops_in, plan_in, told}
 use Rattle.client_scripts.proofs.Groups.{grouped-concat, concat-push}
 
--- the operations of a client are its caller's
+-- the operations of a client are those of its caller
 pub operations_at : (clients : List Client) (i : ℕ) (client : Client) → i < length clients → client
     ≡ get_or clients i client → get_or (operations_in clients) i [] ≡ client.operations.items
 operations_at clients i client lt is =
@@ -69,7 +69,7 @@ pub sizes-push : (clients : List Client) (client : Client)
 sizes-push clients client = ap sizes (map_push (λ (c : Client). c.operations.items) clients client)
     ∙ map_push (λ (ops : List ℕ). length ops) (operations_in clients) client.operations.items
 
--- the lines of all calls say what the clients hold
+-- the lines of all calls say the operations that the clients hold
 pub told_from : (clients : List Client) (calls : List ℕ) → sizes (operations_in clients) ≡ calls
     → stops_in clients ≡ replicate (length calls) None
     → with_operations (begin calls) (concat (operations_in clients)) ≡ told clients 0
@@ -79,7 +79,7 @@ told_from clients calls counts stops =
     ap (λ (cs : List ℕ). made cs (replicate (length calls) None)) (sym counts)
     ∙ ap (made (sizes (operations_in clients))) (sym stops)
 
--- with one more stop the operations stay
+-- one more stop doesn't change the operations
 pub told-stop : (clients : List Client) (i : ℕ) (client new : Client) (least phases : ℕ)
     → client ≡ get_or clients i client → new.operations ≡ client.operations → new.stop ≡ Some phases
     → with_stop (told clients least) i phases ≡ told (set clients i new) (i + 1)
@@ -95,7 +95,7 @@ told-stop clients i client new least phases is same stop =
     ap (λ (ops : List (List ℕ)). made ops (set (stops_in clients) i (Some phases))) (sym held)
     ∙ ap (made (operations_in (set clients i new))) (sym stops)
 
--- what the lines say is what the clients hold
+-- the plan that the lines determine is the one that the clients hold
 pub told-plan : (kind : Kind) (clients : List Client) (least : ℕ) (turns : List ℕ)
     → plan_with kind (told clients least) turns ≡ plan_in kind clients turns
 told-plan kind clients least turns = ap (λ (ops : List (List ℕ)).

@@ -1,4 +1,4 @@
--- The lines of calls, one after the other.
+-- The lines of calls, one after another.
 use Rattle.std.proofs.Common.{◌≡◌, ℕ, suc, ◌+◌, ◌-◌, ◌≤◌, List, ◌∷◌, ◌++◌, ap, arith}
 use Rattle.book_base.specs.declared.call.Call.{Call}
 use Rattle.book_text.specs.CallLines.{calls_from}

@@ -1,4 +1,4 @@
--- The first fault stands where bytes leave the texts of scripts.
+-- The first fault is where bytes stop being the beginning of a script's text.
 use Rattle.std.proofs.Common.{◌≡◌, ◌≢◌, ℕ, zero, suc, ◌+◌, ◌<◌, ◌≤◌, ◌^◌, ◌⊎◌, true, List, [], ◌∷◌, length, replicate, refl, sym, ap, subst, ◌∙◌, arith, inl, inr}
 use Rattle.std.specs.Prelude.{codes}
 use Rattle.std.specs.List.{AllByRecursion}
@@ -31,7 +31,8 @@ use Rattle.client_scripts.proofs.WrittenTexts.{few_callers, few_calls}
 
 -- ---- calls that can be written
 
--- what may be due: calls that can be written
+-- the state can be completed to a text: each call that is due has a caller and a number that can be
+-- written
 abbrev CanCome : ScriptDue → Type 0
 CanCome (InHead TitleDue) = Unit {0}
 CanCome (InHead ObjectDue) = Unit {0}
@@ -89,7 +90,7 @@ module _ (version : Version) where
   end_comes plan =
       record { said = plan; lines = end_words ∷ []; right = (AtEnd plan, (refl, refl), refl) }
 
-  -- the calls that are due have the operation 0, and nobody takes turns
+  -- the calls that are due can be written with the operation 0, without turns after them
   body_comes : (kind : Kind) (begun : Begun) (calls : List Call) → AllByRecursion IsNamedCall calls
       → Done (InBody kind begun calls)
   body_comes kind begun [] h =
@@ -201,7 +202,7 @@ module _ (version : Version) where
   line_or_end (Turned plan) can = inl refl
   line_or_end (AtEnd plan) can = inr (plan, refl)
 
--- the first fault stands where the bytes leave the texts
+-- the first fault is where the bytes stop being the beginning of a script's text
 pub script_leaves_texts : (version : Version) (bytes : List ℕ) (fault : TextFault)
     → IsFirstScriptFault version bytes fault → LeavesAt (IsScriptText version) bytes fault
 script_leaves_texts version = leaves_texts (script_rules version) (script_sharp version)

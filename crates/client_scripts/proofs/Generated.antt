@@ -10,7 +10,7 @@ use Rattle.client_scripts.specs.Plans.{sizes, AreStops, IsPlan}
 use Rattle.client_scripts.specs.Generator.{generated_operation, generated_operations, generated, value_of}
 use Rattle.client_scripts.proofs.Groups.{AreStops-none}
 
--- one value more
+-- a list of a function's values at numbers in a row, with one value more
 map_from-push : {X : Type 0} (f : ℕ → X) (a n j : ℕ) → a + n ≡ j
     → map f (range_with_len a (suc n)) ≡ map f (range_with_len a n) ++ f j ∷ []
 map_from-push {X} f a zero j e = let same : a ≡ j = omega arith in ap (λ (i : ℕ). f i ∷ []) same
@@ -32,7 +32,7 @@ module _ (number calls : ℕ) (kind : Kind) where
   few [] most le = tt
   few (i ∷ callers) most le = (omega (arith, size i), few callers most le)
 
-  -- what is generated is a plan
+  -- the generated script is a plan that texts can have
   pub generated_is_plan : (n : ℕ) → 1 ≤ n → n ≤ 16 → calls ≤ 256 → AllByRecursion
       (AllByRecursion (λ op. op < 2 ^ 128)) (generated number n calls kind).operations
       → IsPlan Second (generated number n calls kind)

@@ -1,4 +1,4 @@
--- Lists of lists, joined and cut into parts, and stops told one by one.
+-- Lists of lists, joined and cut into parts; and stops, given one by one.
 use Rattle.std.proofs.Common.{◌≡◌, ℕ, zero, suc, ◌+◌, ◌*◌, ◌<◌, List, [], ◌∷◌, ◌++◌, length, get_or, set, take, drop, replicate, Option, Some, None, refl, sym, ap, ◌∙◌, append_assoc, arith}
 use Rattle.std.specs.List.{concat}
 use Rattle.std.proofs.lemmas.List.{append-nil, take_at, drop_at, length-replicate}
@@ -28,7 +28,7 @@ concat-push [] ops = append-nil ops
 concat-push (x ∷ operations) ops = ap (λ (y : List ℕ). x ++ y) (concat-push operations ops)
     ∙ sym (append_assoc x (concat operations) ops)
 
--- what is written of a list, and of one item more
+-- the lines that are written of a list of items, with one more item
 pub by_number-push : {X Y : Type 0} (write : ℕ → X → List Y) (i : ℕ) (xs : List X) (x : X) (j : ℕ)
     → i + length xs ≡ j → by_number write i (xs ++ x ∷ []) ≡ by_number write i xs ++ write j x
 by_number-push {Y} write i [] x j e = let same : i ≡ j = omega arith in
@@ -39,7 +39,7 @@ by_number-push {Y} write i (y ∷ xs) x j e =
 
 -- ---- stops
 
--- no stop yet
+-- a list without any stop is one of stops
 pub AreStops-none : (counts : List ℕ) → AreStops counts (replicate (length counts) None)
 AreStops-none [] = tt
 AreStops-none (c ∷ counts) = (tt, AreStops-none counts)
@@ -70,7 +70,7 @@ set_in_gap (suc m) zero e x size = let same : m ≡ e = omega arith in ap (λ (n
 set_in_gap (suc m) (suc d) e x size = let rest = set_in_gap m d e x (omega arith) in
     ap (λ (ys : List (Option ℕ)). None ∷ ys) rest
 
--- a stop is put after those told
+-- a stop is set after those given so far
 pub set_after : (prefix : List (Option ℕ)) (m d e i : ℕ) (x : Option ℕ) → m ≡ d + e + 1
     → i ≡ length prefix + d → set (prefix ++ gap m) i x ≡ (prefix ++ (gap d ++ x ∷ [])) ++ gap e
 set_after [] m d e i x size here =

@@ -42,7 +42,7 @@ module _ (version : Version) (kind : Kind) (all prefix left : List (List ℕ))
     count = omega (arith, (few_operation_words kind op).some);
   })
 
-  -- an operation that uses all words
+  -- an operation whose words are all that is left
   pub spelled_all : left ≡ [] → (op used : ℕ)
       → IsSpelled (kind_operations version kind) prefix op used → length prefix ≡ used + 1
       → (op < word_limit version) × (all ≡ operation_words kind op)
@@ -55,7 +55,7 @@ module _ (version : Version) (kind : Kind) (all prefix left : List (List ℕ))
             ∙ append-nil (operation_words kind op),
       )
 
-  -- an operation that uses a part of the words
+  -- an operation whose words are only a part of what is left
   pub spelled_part : left ≡ [] → (op used : ℕ)
       → IsSpelled (kind_operations version kind) prefix op used → (length prefix ≡ used + 1 → ⊥)
       → (other : ℕ) → other < word_limit version → all ≡ operation_words kind other → ⊥

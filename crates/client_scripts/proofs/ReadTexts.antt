@@ -1,4 +1,4 @@
--- What is read as a script is what is written of it.
+-- A script that is read is the one of which the bytes are written.
 use Rattle.std.proofs.Common.{◌≡◌, ℕ, zero, suc, ◌+◌, ◌-◌, ◌<◌, ◌≤◌, ◌^◌, List, [], ◌∷◌, ◌++◌, length, set, Option, Some, refl, sym, ap, subst, ◌∙◌, append_assoc, arith, inl, inr}
 use Rattle.std.specs.Prelude.{codes}
 use Rattle.std.specs.List.{AllByRecursion, concat}
@@ -271,7 +271,7 @@ module _ (version : Version) (plan : Plan) where
         text = written ∙ ap (script_lines version) (sym is);
       }
 
--- what is read as a script is what is written of it
+-- a script that is read is the one of which the bytes are written
 pub read_is_written : (version : Version) (bytes : List ℕ) (plan : Plan)
     → IsScriptText version bytes plan → IsWrittenText version bytes plan
 read_is_written version bytes plan h =
@@ -283,13 +283,13 @@ read_is_written version bytes plan h =
           ∙ append-nil (text_of lines) ∙ ap text_of read.text;
     }
 
--- a script has one text
+-- a script has at most one text in a version
 pub one_text : (version : Version) (a b : List ℕ) (plan : Plan) → IsScriptText version a plan
     → IsScriptText version b plan → a ≡ b
 one_text version a b plan h k =
     (read_is_written version a plan h).text ∙ sym (read_is_written version b plan k).text
 
--- ---- what texts of version 1 say, texts of version 2 can say
+-- ---- the plans of texts of version 1 are plans of texts of version 2
 
 wider_counts : (m n : ℕ) (counts : List ℕ) → m ≤ n → AreAtMost m counts → AreAtMost n counts
 wider_counts m n [] le h = tt

@@ -1,4 +1,4 @@
--- Bytes are read as one script, or have one first fault.
+-- Bytes are read as at most one script, and have at most one first fault.
 use Rattle.std.proofs.Common.{◌≡◌, ℕ, ◌⊎◌, List, [], ◌++◌, Result, refl}
 use Rattle.std.specs.Prelude.{codes, IfOk, IfErr, MatchResult}
 use Rattle.book_base.specs.declared.fault.TextFault.{TextFault}
@@ -70,19 +70,19 @@ script_no_end version plan text fault h =
 pub same_end : (a b : Plan) → AtEnd a ≡ AtEnd b → a ≡ b
 same_end a b e = cc
 
--- what bytes are read as is one thing
+-- bytes are read as at most one script
 pub one_script : (version : Version) (bytes : List ℕ) (a b : Plan) → IsScriptText version bytes a
     → IsScriptText version bytes b → a ≡ b
 one_script version = readings.one_said (script_rules version) (script_sharp version)
     (InHead TitleDue) AtEnd same_end (λ plan. refl)
 
--- bytes have one first fault
+-- bytes have at most one first fault
 pub one_first_fault : (version : Version) (bytes : List ℕ) (a b : TextFault)
     → IsFirstScriptFault version bytes a → IsFirstScriptFault version bytes b → a ≡ b
 one_first_fault version = readings.one_first (script_rules version) (script_sharp version)
     (InHead TitleDue) AtEnd same_end (λ plan. refl)
 
--- bytes that are read have no fault
+-- bytes that are read as a script have no fault
 pub no_first_fault : (version : Version) (bytes : List ℕ) (plan : Plan) (fault : TextFault)
     → IsScriptText version bytes plan → IsFirstScriptFault version bytes fault → ⊥
 no_first_fault version = readings.no_first (script_rules version) (script_sharp version)

@@ -27,7 +27,7 @@ pub small_has : (version : Version) (op : ℕ) → op < word_limit version
     → IsTrue (nat_lt op (word_limit version))
 small_has version op h = lt-ltb op (word_limit version) h
 
--- words after an operation's are none where they are an operation's
+-- two operations whose words begin the same words are equal, and the same words follow
 pub one_operation : (version : Version) (kind : Kind) (a b : ℕ) (x y : List (List ℕ))
     → a < word_limit version → b < word_limit version
     → operation_words kind a ++ x ≡ operation_words kind b ++ y → a ≡ b
@@ -67,7 +67,7 @@ not_both : (x y : List (List ℕ)) → codes "stop" ∷ x ≡ codes "turns" ∷ 
 not_both x y e = let size =
     ap (length {A = ℕ}) (same_first (codes "stop") (codes "turns") x y e).0 in absurd (omega arith)
 
--- a line is one stop at most
+-- a line is that of one stop at most
 pub record IsOneStop (c d p q : ℕ) : Type 0 where
   pub callers : c ≡ d
   pub phases : p ≡ q

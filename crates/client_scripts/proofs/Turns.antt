@@ -1,4 +1,4 @@
--- The turns of a script, read one after the other, and the fault of a line.
+-- The turns of a script, read one after another, and the fault of a line.
 use Rattle.std.proofs.Common.{◌≡◌, ℕ, ◌<◌, ◌≤◌, ◌^◌, ◌⊎◌, List, [], ◌∷◌, ◌++◌, map, decimal, Ok, sym, arith, inl, inr}
 use Rattle.std.specs.List.{AllByRecursion}
 use Rattle.book_base.specs.declared.fault.What.{What}
@@ -10,7 +10,7 @@ use Rattle.text_fields.specs.Faults.{ALine, Rules, IsFirstTest, StopsFor}
 use Rattle.text_fields.proofs.NumberTexts.{same_first}
 use Rattle.text_fields.proofs.Sharp.{stops_line}
 
--- where a further word stands, it is the next turn's
+-- where there is a further word, it is the next turn's
 pub turn_after : (n : ℕ) (xs ys : List ℕ) (word : List ℕ) (words : List (List ℕ))
     → map decimal ys ≡ map decimal xs ++ word ∷ words → AllByRecursion (λ caller. caller < n) ys
     → (caller : ℕ) × (caller < n) × (word ≡ decimal caller)
@@ -21,7 +21,7 @@ turn_after n (x ∷ xs) [] word words e h = absurd cc
 turn_after n (x ∷ xs) (y ∷ ys) word words e h = turn_after n xs ys word words
     (same_first (decimal y) (decimal x) (map decimal ys) (map decimal xs ++ word ∷ words) e).1 h.1
 
--- callers can be written
+-- the numbers of callers can be written
 pub numbers_below : (n : ℕ) (xs : List ℕ) → n ≤ 2 ^ 64 → AllByRecursion (λ caller. caller < n) xs
     → AreNumbers xs
 numbers_below n [] few h = tt

@@ -1,4 +1,4 @@
--- The first fault stands where bytes leave the texts of set books.
+-- The first fault is where bytes stop being the beginning of a set book's text.
 use Rattle.std.proofs.Common.{◌≡◌, ◌≢◌, ℕ, zero, suc, ◌+◌, ◌≤◌, ◌⊎◌, List, [], ◌∷◌, length, replicate, refl, sym, ap, subst, ◌∙◌, arith, inl, inr, Some, None}
 use Rattle.std.specs.List.{AllByRecursion}
 use Rattle.std.proofs.lemmas.List.{length-map, length-replicate}
@@ -23,7 +23,8 @@ use Rattle.setbook_text.specs.SetBookRules.{SetBookDue, TitleDue, ObjectDue, Cal
 use Rattle.setbook_text.proofs.SharpSetBooks.{setbook_sharp, same_end}
 use Rattle.setbook_text.proofs.NamedCalls.{length-with_line, named_still, all_named}
 
--- what is due can come: each call that is due is named
+-- the state can be completed to a text: each call that is due has a caller and a number that can be
+-- written
 abbrev CanCome : SetBookDue → Type 0
 CanCome TitleDue = Unit {0}
 CanCome ObjectDue = Unit {0}
@@ -62,7 +63,7 @@ more : (due next : SetBookDue) (words : List (List ℕ)) → SetBookPasses due w
     → Done next → Done due
 more = one_more setbook_rules AtEnd
 
--- the calls that are due are written without answers
+-- the calls that are due can be written without answers
 calls_come : (book : List Page) (calls : List Call) → AllByRecursion (IsNamedCall book) calls
     → Done (InCalls book calls)
 calls_come book [] h =
@@ -155,7 +156,7 @@ line_or_end (CountsDue n) can = inl refl
 line_or_end (InCalls book calls) can = inl refl
 line_or_end (AtEnd book) can = inr (book, refl)
 
--- the first fault stands where the bytes leave the texts
+-- the first fault is where the bytes stop being the beginning of a set book's text
 pub set_book_leaves_texts : (bytes : List ℕ) (fault : TextFault) → IsFirstSetBookFault bytes fault
     → LeavesAt IsSetBookText bytes fault
 set_book_leaves_texts = leaves_texts setbook_rules setbook_sharp TitleDue AtEnd same_end

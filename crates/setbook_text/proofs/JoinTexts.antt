@@ -1,4 +1,4 @@
--- What words spell as an operation of joins, and what they don't.
+-- Which operation of joins words spell, if any.
 use Rattle.std.proofs.Common.{◌≡◌, ℕ, ◌+◌, ◌-◌, ◌<◌, ◌^◌, ◌∙◌, true, false, List, [], ◌∷◌, ◌++◌, length, decimal, Option, Some, None, sym, ap, inl, inr, arith}
 use Rattle.std.specs.Prelude.{codes}
 use Rattle.std.proofs.lemmas.Bool.{cases_Bool, lt-ltb, ltb-true}
@@ -52,7 +52,7 @@ spelled_join first second third n op name small is op_is =
       count = ap (λ (ws : List (List ℕ)). length ws) words;
     }
 
--- 'join' without a number below 32 spells nothing
+-- 'join' without a number below 32 after it spells no operation
 pub not_spelled_join : (first : List ℕ) (second third : Option (List ℕ)) → first ≡ codes "join"
     → ((n : ℕ) → n < 32 → second ≡ Some (decimal n) → ⊥)
     → (op used : ℕ) → IsSpelled join_operations (first ∷ further second third) op used → ⊥
@@ -97,7 +97,7 @@ not_spelled_other first others unnamed none op used h = elim (cases_Bool (is_joi
       none op small nothing (same_first first (other_word op) others h.suffix whole).0
 ]
 
--- what a counter reads in one word
+-- the operation that a counter reads of one word
 
 pub spells_other : (word : List ℕ) (op : ℕ) → is_join op ≡ false → word ≡ other_word op
     → Spells Counter (word ∷ []) op 0

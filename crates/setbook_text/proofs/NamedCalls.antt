@@ -10,7 +10,7 @@ use Rattle.book_base.specs.Book.{Page, page_of, with_answer}
 use Rattle.text_fields.specs.Counts.{AreAtMost}
 use Rattle.book_text.specs.CallLines.{with_line, IsNamedCall, calls_from, all_calls}
 
--- the line of a call leaves the number of callers
+-- the line of a call doesn't change the number of callers
 pub length-with_line : (book : List Page) (call : Call) (op : ℕ) (answer : Option Record)
     → length (with_line book call op answer) ≡ length book
 length-with_line book call op None = length-set book call.caller (record (page_of book call.caller)

@@ -1,5 +1,5 @@
--- The head of a set book is read as one head, or has one first fault; and what it says in the text
--- of a set book.
+-- The head of a set book is read as at most one head, and has at most one first fault; and it has a
+-- place in the text of a set book.
 use Rattle.std.proofs.Common.{◌≡◌, ℕ, List, [], ◌∷◌, refl, ap, sym, subst, ◌∙◌}
 use Rattle.std.proofs.lemmas.List.{length-replicate}
 use Rattle.book_base.specs.declared.fault.TextFault.{TextFault}
@@ -16,7 +16,7 @@ use Rattle.text_fields.proofs.Within.{AreWithin, wrong_alike, goes_within, fault
 use Rattle.setbook_text.specs.SetBookRules.{SetBookDue, TitleDue, ObjectDue, CallersDue, CountsDue, InCalls, AtEnd, in_calls, SetBookPasses, SetBookFails, setbook_wanted, setbook_rules, SetHeadPasses, SetHeadFails, set_head_wanted, set_head_rules, IsSetHead, IsSetHeadFault}
 use Rattle.setbook_text.proofs.SharpSetBooks.{setbook_sharp}
 
--- the lines of the head are right, and wrong, in the text of a set book
+-- the right lines of the head are right in the text of a set book, and its wrong ones wrong
 right : (due after : SetBookDue) (words : List (List ℕ)) → SetHeadPasses due words after
     → SetBookPasses due words after
 right TitleDue after words h = h
@@ -84,7 +84,7 @@ head_sharp =
       lines = lines;
     }
 
--- a book without answers tells its numbers of calls
+-- the book with these numbers of calls and without answers has these numbers of calls
 announced_again : (calls : List ℕ) → announced (unanswered_book calls) ≡ calls
 announced_again [] = refl
 announced_again (count ∷ calls) =

@@ -1,5 +1,5 @@
--- The rules of a set book's text are sharp: bytes are read as one set book, or have one first
--- fault.
+-- The rules of a set book's text are sharp: bytes are read as at most one set book, and have at
+-- most one first fault.
 use Rattle.std.proofs.Common.{◌≡◌, ℕ, ◌⊎◌, List, [], ◌∷◌, ◌++◌, map, decimal, Result, refl, sym, ap, subst, ◌∙◌, arith}
 use Rattle.std.specs.Prelude.{codes, IfOk, IfErr, MatchResult}
 use Rattle.book_base.specs.declared.call.Call.{Call}
@@ -171,24 +171,24 @@ set_book_no_end book text fault h =
 pub same_end : (a b : List Page) → AtEnd a ≡ AtEnd b → a ≡ b
 same_end a b e = cc
 
--- what bytes are read as is one thing
+-- bytes are read as at most one set book
 pub one_book : (bytes : List ℕ) (a b : List Page) → IsSetBookText bytes a
     → IsSetBookText bytes b → a ≡ b
 one_book = readings.one_said setbook_rules setbook_sharp TitleDue AtEnd same_end (λ book. refl)
 
--- bytes have one first fault
+-- bytes have at most one first fault
 pub one_first_fault : (bytes : List ℕ) (a b : TextFault) → IsFirstSetBookFault bytes a
     → IsFirstSetBookFault bytes b → a ≡ b
 one_first_fault =
     readings.one_first setbook_rules setbook_sharp TitleDue AtEnd same_end (λ book. refl)
 
--- bytes that are read have no fault
+-- bytes that are read as a set book have no fault
 pub no_first_fault : (bytes : List ℕ) (book : List Page) (fault : TextFault)
     → IsSetBookText bytes book → IsFirstSetBookFault bytes fault → ⊥
 no_first_fault =
     readings.no_first setbook_rules setbook_sharp TitleDue AtEnd same_end (λ book. refl)
 
--- where more bytes follow a text, the whole is none
+-- where more bytes follow a set book's text, the whole is no such text
 pub no_prefix : (bytes more : List ℕ) (a b : List Page) → IsSetBookText bytes a
     → IsSetBookText (bytes ++ more) b → more ≡ []
 no_prefix = readings.no_prefix setbook_rules setbook_sharp TitleDue AtEnd same_end (λ book. refl)

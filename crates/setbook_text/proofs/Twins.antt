@@ -21,7 +21,7 @@ pub same_head : (v w : List (List ℕ)) (x y : List (List (List ℕ))) → v ∷
     → (v ≡ w) × (x ≡ y)
 same_head v w x y e = (cc, cc)
 
--- lines lead to the end of a set book, and to the end of a book
+-- lines lead from a state to the end of a set book, or to the end of a book
 abbrev pub SetEnds : List Page → SetBookDue → List (List (List ℕ)) → Type 0
 SetEnds book due lines = AllPass SetBookPasses due lines (AtEnd book)
 
@@ -32,7 +32,7 @@ module _ (kind : Kind) where
   abbrev pub others : Operations
   others = kind_operations Second kind
 
-  -- two lines say one thing of a call
+  -- two lines say the same of a call, one in a set book and one in a book
   pub record IsTwin (call : Call) (words other : List (List ℕ)) : Type 0 where
     pub op : ℕ
     pub answer : Option Record
@@ -40,7 +40,7 @@ module _ (kind : Kind) where
     pub first : words ≡ call_words Second join_operations call op answer
     pub second : other ≡ call_words Second others call op answer
 
-  -- so do the lines of these calls, and the end follows
+  -- the lines of these calls are twins, and the end follows
   abbrev pub AreTwins : List Call → List (List (List ℕ)) → List (List (List ℕ)) → Type 0
   AreTwins [] lines twins = (lines ≡ end_words ∷ []) × (twins ≡ end_words ∷ [])
   AreTwins (call ∷ calls) [] twins = ⊥

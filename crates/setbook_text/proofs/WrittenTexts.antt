@@ -1,5 +1,5 @@
--- What is read as a set book is what is written of it, and the other way round. Both hold of books,
--- and a set book's calls have lines in the text of a book too.
+-- A set book that is read is the one of which the bytes are written, and the other way round. Both
+-- hold of books, and a set book's calls have lines in the text of a book too.
 use Rattle.std.proofs.Common.{◌≡◌, ◌≢◌, ℕ, ◌+◌, ◌^◌, IsTrue, List, [], ◌∷◌, ◌++◌, length, map, decimal, Option, Some, None, refl, sym, ap, subst, ◌∙◌, arith, inl, inr}
 use Rattle.std.specs.Prelude.{codes, unwrap_or, nat_lt}
 use Rattle.std.specs.List.{AllByRecursion, join_with_byte}
@@ -43,7 +43,7 @@ use Rattle.setbook_text.proofs.Twins.{same_head, SetEnds, BookEnds, others, twin
 
 -- ---- right lines are taken one by one
 
--- where the end isn't reached, a line stands
+-- where the end isn't reached yet, there is a next line
 record HasLine {Due : Type 0} (Passes : Due → List (List ℕ) → Due → Type 0) (end due : Due)
     (lines : List (List (List ℕ))) : Type 0 where
   pub words : List (List ℕ)
@@ -65,7 +65,7 @@ four_lines : (lines a b c d : List (List (List ℕ))) (p q r s t u v w : List (L
     → lines ≡ t ∷ u ∷ v ∷ w ∷ d
 four_lines lines a b c d p q r s t u v w h0 h1 h2 h3 e f g h = cc
 
--- the head of a set book, and what it leads to
+-- the head of a set book, and the lines after it
 record IsHeadRead (book : List Page) (lines : List (List (List ℕ))) : Type 0 where
   pub n : ℕ
   pub callers : AreCallers Second n
@@ -106,7 +106,7 @@ set_head book lines h =
           calls.right.3 calls.leads;
     }
 
--- the head of a book, and what it leads to
+-- the head of a book, and the lines after it
 record IsBookHead (kind : Kind) (book : List Page) (lines : List (List (List ℕ))) : Type 0 where
   pub object : Kind
   pub n : ℕ
@@ -321,7 +321,7 @@ as_book book w =
       replies = w.replies;
     }
 
--- what is read as a set book is what is written of it
+-- a set book that is read is the one of which the bytes are written
 pub read_is_written : (bytes : List ℕ) (book : List Page) → IsSetBookText bytes book
     → IsWrittenText bytes book
 read_is_written bytes book h =
@@ -389,7 +389,7 @@ read_is_written bytes book h =
           ∙ append-nil (text_of lines) ∙ ap text_of whole;
     }
 
--- what is written of a set book is read as it
+-- the bytes that are written of a set book are read as this set book
 pub written_is_read : (bytes : List ℕ) (book : List Page) → IsWrittenText bytes book
     → IsSetBookText bytes book
 written_is_read bytes book h =
@@ -433,7 +433,7 @@ written_is_read bytes book h =
     subst (λ (b : List ℕ). IsSetBookText b book)
     ((read_is_written (text_of lines) book read).text ∙ sym h.text) read
 
--- a set book has one text
+-- a set book has at most one text
 pub one_text : (a b : List ℕ) (book : List Page) → IsSetBookText a book
     → IsSetBookText b book → a ≡ b
 one_text a b book h k = (read_is_written a book h).text ∙ sym (read_is_written b book k).text

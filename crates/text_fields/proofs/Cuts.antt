@@ -1,4 +1,4 @@
--- Where a list is cut at the first byte of a kind.
+-- Lists that are cut at the first byte of a given value.
 use Rattle.std.proofs.Common.{◌≡◌, ℕ, ◌+◌, ◌<◌, ◌≤◌, Bool, true, false, cond, eqb, ltb, List, [], ◌∷◌, ◌++◌, length, get_or, take, drop, Some, None, refl, ap, ◌∙◌, arith}
 use Rattle.std.specs.Option.{option_map}
 use Rattle.std.specs.List.{slice_split, position_or_len, before_first, after_first}
@@ -21,7 +21,7 @@ pub chosen_some : (b : Bool) (i : ℕ) (bytes : List ℕ) (parts : List ℕ × L
 chosen_some true i bytes parts e = (refl, cc)
 chosen_some false i bytes parts e = absurd cc
 
--- where the byte isn't there, the list is the one part
+-- a list without the byte has one part
 pub split_uncut : (byte : ℕ) (bytes : List ℕ) → cut_at byte bytes ≡ None
     → slice_split (λ b. eqb b byte) bytes ≡ bytes ∷ []
 split_uncut byte bytes e =
@@ -30,7 +30,7 @@ split_uncut byte bytes e =
     (ltb (position_or_len p bytes) (length bytes)) (position_or_len p bytes) bytes e) in
     slice_split_none p bytes (λ k d lt. fails_before_first p bytes k d (omega arith))
 
--- where the list is cut, the first part stands before the byte
+-- the first part of a list that is cut is what is before the byte
 pub split_cut : (byte : ℕ) (bytes prefix rest : List ℕ) → cut_at byte bytes ≡ Some (prefix, rest)
     → slice_split (λ b. eqb b byte) bytes ≡ prefix ∷ slice_split (λ b. eqb b byte) rest
 split_cut byte bytes prefix rest e =

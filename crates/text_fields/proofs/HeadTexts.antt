@@ -15,7 +15,7 @@ use Rattle.text_fields.specs.Faults.{ALine, AreSharp}
 use Rattle.text_fields.specs.Head.{HeadDue, TitleDue, ObjectDue, CallersDue, CountsDue, HeadRead, HeadPasses, HeadFails, head_wanted, head_rules}
 use Rattle.text_fields.proofs.NumberTexts.{same_first, same_number, solid_word, solid_decimal}
 
--- numbers in a row are written apart
+-- two lists of numbers with the same words are equal
 pub same_numbers : (xs ys : List ℕ) → AreNumbers xs → AreNumbers ys
     → map decimal xs ≡ map decimal ys → xs ≡ ys
 same_numbers [] [] h k e = refl
@@ -43,7 +43,7 @@ few_calls : (version : Version) → most_calls version < 2 ^ 64
 few_calls First = omega arith
 few_calls Second = omega arith
 
--- a word of the texts' own
+-- a word that a form of text prescribes can be in a line
 pub plain : (word : List ℕ) → AllByRecursion (λ b. 32 < b) word → 0 < length word → IsSolid word
 plain word h some = record { some = some; above = All-from_recursion (λ b. 32 < b) word h }
 

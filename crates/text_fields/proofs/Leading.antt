@@ -1,4 +1,4 @@
--- Right lines that lead to a goal: their first line, and the head that they begin with.
+-- Right lines that lead to a goal: their first line, and the head with which they begin.
 use Rattle.std.proofs.Common.{◌≡◌, ℕ, true, List, [], ◌∷◌, ◌++◌, length, refl, sym, ap, subst, ◌∙◌}
 use Rattle.seq_objects.specs.declared.kind.Kind.{Kind}
 use Rattle.text_fields.specs.declared.version.Version.{Version}
@@ -10,7 +10,7 @@ module _ {Due : Type 0} (rules : Rules Due) (goal : Due) where
   abbrev pub Leads : Due → List (List (List ℕ)) → Type 0
   Leads due lines = AllPass rules.Passes due lines goal
 
-  -- where the goal isn't reached, a line stands
+  -- where the goal isn't reached yet, there is a next line
   pub record HasLine (due : Due) (lines : List (List (List ℕ))) : Type 0 where
     pub words : List (List ℕ)
     pub others : List (List (List ℕ))
@@ -45,7 +45,7 @@ module _ {Due : Type 0} (rules : Rules Due) (goal : Due) where
       (counts_due : (kind : Kind) (n : ℕ)
       → after_head (CountsDue kind n) ≡ in_head (CountsDue kind n))
       (unlike : (due : HeadDue) → in_head due ≡ goal → ⊥) where
-    -- the first four lines are a head
+    -- the first four lines are those of a head
     pub record IsHeadRead (lines : List (List (List ℕ))) : Type 0 where
       pub object : Kind
       pub known : has_kind version object ≡ true

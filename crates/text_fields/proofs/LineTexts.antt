@@ -14,7 +14,7 @@ use Rattle.text_fields.specs.Lines.{Unread, line_text, text_of, IsSolid, AreSoli
 use Rattle.list_laws.proofs.Splits.{Lacks, prefix_len-prefix, slice_split-join_with_byte}
 use Rattle.text_fields.proofs.Cuts.{cut_joins, chosen_some}
 
--- no byte of the list is this one
+-- whether a list lacks a byte
 abbrev pub lacks : ℕ → List ℕ → Bool
 lacks byte bytes = list_all (λ b. not (eqb b byte)) bytes
 
@@ -22,7 +22,7 @@ lacks byte bytes = list_all (λ b. not (eqb b byte)) bytes
 abbrev is_solid : List ℕ → Bool
 is_solid word = list_all (λ b. ltb 32 b) word
 
--- each word is so
+-- each byte of each word is above the space
 abbrev Above : List (List ℕ) → Type 0
 Above words = AllByRecursion (λ (word : List ℕ). is_solid word ≡ true) words
 
@@ -47,7 +47,7 @@ lacks-append : (byte : ℕ) (xs ys : List ℕ) → lacks byte xs ≡ true → la
 lacks-append byte xs ys a b =
     list_all-append (λ b. not (eqb b byte)) xs ys ∙ and_from (lacks byte xs) (lacks byte ys) a b
 
--- a list is cut after a prefix that lacks the byte
+-- a list is cut after a prefix that lacks the byte, where the byte follows
 pub cut_prefix : (byte : ℕ) (prefix rest : List ℕ) → lacks byte prefix ≡ true
     → cut_at byte (prefix ++ byte ∷ rest) ≡ Some (prefix, rest)
 cut_prefix byte prefix rest h =
@@ -63,7 +63,7 @@ cut_prefix byte prefix rest h =
     ∙ drop_at (prefix ++ byte ∷ []) rest (length prefix + 1) (length-append prefix (byte ∷ [])) in
     rw (at, inside) cc
 
--- what stands before the first such byte is cut off so before other bytes
+-- the part before the first byte of a value is cut off also before other bytes
 pub cut_again : (byte : ℕ) (bytes prefix rest other : List ℕ) → cut_at byte bytes
     ≡ Some (prefix, rest) → cut_at byte (prefix ++ byte ∷ other) ≡ Some (prefix, other)
 cut_again byte bytes prefix rest other e =
@@ -110,7 +110,7 @@ words_of-join_above w words h =
     (λ b. eqb b 32 ≡ false) word (all_other 32 word (lacks-solid 32 word (omega arith) solid)))
     (w ∷ words) (All-from_recursion (λ word. is_solid word ≡ true) (w ∷ words) h))
 
--- the words of a line are those that it was made of
+-- the words of a line that is made of words are these words
 pub words_of-join : (words : List (List ℕ)) → AreSolid words
     → words_of (join_with_byte 32 words) ≡ words
 words_of-join [] h = absurd (omega (arith, h.some))
@@ -129,7 +129,7 @@ line_from_takes bytes number (Some parts) is line left e =
     whole ∙ sym (append_assoc line (10 ∷ []) left.bytes)
     ∙ ap (λ (x : List ℕ). (x ++ 10 ∷ []) ++ left.bytes) (sym joined)
 
--- what is read as a line stands in front, with its line feed
+-- a text begins with the line that is read from it, and its line feed
 pub line_takes : (text : Unread) (line : List ℕ) (left : Unread) → line_at text ≡ Ok (line, left)
     → text.bytes ≡ line_text (words_of line) ++ left.bytes
 line_takes text line left e =
@@ -144,13 +144,13 @@ cut_line words rest h =
     ap (cut_at 10) parts
     ∙ cut_prefix 10 (join_with_byte 32 words) rest (clean_join words (above_words words h.each))
 
--- a text of one line more
+-- the text of one line more
 pub text_of-cons : (words : List (List ℕ)) (lines : List (List (List ℕ))) (rest : List ℕ)
     → text_of (words ∷ lines) ++ rest ≡ line_text words ++ (text_of lines ++ rest)
 text_of-cons words lines rest = ap (λ (x : List ℕ). x ++ rest) (flat_map-cons line_text words lines)
     ∙ append_assoc (line_text words) (text_of lines) rest
 
--- a text of the lines of two
+-- the text of two lists of lines is that of the first, followed by that of the second
 pub text_of-append : (a b : List (List (List ℕ))) (rest : List ℕ)
     → text_of (a ++ b) ++ rest ≡ text_of a ++ (text_of b ++ rest)
 text_of-append a b rest = ap (λ (x : List ℕ). x ++ rest) (flat_map-append line_text a b)

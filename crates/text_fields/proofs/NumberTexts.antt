@@ -1,4 +1,4 @@
--- Numbers in a row, as they are read one after the other.
+-- Numbers in a row, as they are read one after another.
 use Rattle.std.proofs.Common.{◌≡◌, ℕ, zero, suc, ◌+◌, ◌<◌, ◌≤◌, ◌^◌, true, false, Option, None, List, [], ◌∷◌, ◌++◌, length, map, get_or, set, decimal, Some, refl, sym, ap, ◌∙◌, arith, inl, inr, eqb}
 use Rattle.std.specs.Prelude.{not, is_some, MatchOption, ◌⊎◌}
 use Rattle.std.proofs.lemmas.Option.{some_pair_parts}
@@ -11,19 +11,19 @@ use Rattle.text_fields.specs.Lines.{IsSolid, cut_at}
 use Rattle.text_fields.specs.Counts.{AreAtMost, AreNumbers, AreParts, IsPair, IsNoPair, pair_word, pair_words, HasBadPair, NoPairFirst}
 use Rattle.text_fields.proofs.LineTexts.{lacks, cut_prefix}
 
--- the first of two words
+-- two equal lists of words have the same first word, and the same others
 pub same_first : (v w : List ℕ) (x y : List (List ℕ)) → v ∷ x ≡ w ∷ y → (v ≡ w) × (x ≡ y)
 same_first v w x y e = (cc, cc)
 
--- numbers are written apart
+-- two numbers with the same digits are equal
 pub same_number : (m n : ℕ) → m < 2 ^ 64 → n < 2 ^ 64 → decimal m ≡ decimal n → m ≡ n
 same_number m n h k e = decimal_injective m n h k e
 
--- a word of printed characters can stand in a line
+-- a word of printed characters can be in a line
 pub solid_word : (word : List ℕ) → IsWord word → IsSolid word
 solid_word word h = record { some = h.some; above = λ i d inside. (h.printed i d inside).0 }
 
--- a number's text can stand in a line
+-- a number's text can be in a line
 pub solid_decimal : (n : ℕ) → n < 2 ^ 64 → IsSolid (decimal n)
 solid_decimal n small = solid_word (decimal n) (IsWord-decimal n small)
 
@@ -43,7 +43,7 @@ pub some_next : {X : Type 0} (o : Option X) (P : Type 0) (Q : X → Type 0) → 
 some_next None P Q e h = absurd cc
 some_next (Some x) P Q e h = (x, h)
 
--- where fewer numbers were read than there are, the next is there
+-- where fewer numbers were read than there are, the next word is the next number
 pub number_after : (most : ℕ) (xs ys : List ℕ) (words : List (List ℕ))
     → map decimal xs ++ words ≡ map decimal ys → length xs < length ys → AreAtMost most ys
     → (n : ℕ) × (suffix : List (List ℕ)) × (n ≤ most) × (words ≡ decimal n ∷ suffix)
@@ -53,7 +53,7 @@ number_after most (x ∷ xs) (y ∷ ys) words e lt h = number_after most xs ys w
     (same_first (decimal x) (decimal y) (map decimal xs ++ words) (map decimal ys) e).1
     (omega arith) h.1
 
--- where all were read, nothing is left
+-- where all numbers were read, no word is left
 pub nothing_after : (xs ys : List ℕ) (words : List (List ℕ))
     → map decimal xs ++ words ≡ map decimal ys → length xs ≡ length ys → words ≡ []
 nothing_after [] [] words e same = e
@@ -70,7 +70,7 @@ pub pair_parts : (j count : ℕ) → j < 2 ^ 64
     → cut_at 58 (pair_word j count) ≡ Some (decimal j, decimal count)
 pair_parts j count small = cut_prefix 58 (decimal j) (decimal count) (lacks-decimal j small)
 
--- what stands before the colon of a pair, and after it
+-- a pair is cut at its colon into the caller and the count
 pub pair_split : (n : ℕ) (prefix suffix : List ℕ) (j count : ℕ) → n ≤ 2 ^ 64
     → AreParts prefix suffix → IsPair n (prefix ++ 58 ∷ suffix) j count → (prefix ≡ decimal j)
     × (suffix ≡ decimal count)
@@ -87,7 +87,7 @@ pair_words-zeros b [] h = refl
 pair_words-zeros b (zero ∷ cut) h = pair_words-zeros (b + 1) cut (λ k. h (suc k))
 pair_words-zeros b (suc count ∷ cut) h = absurd (omega (arith, h 0))
 
--- a count above all others that aren't 0 is the last pair
+-- a pair whose caller is above those of all others is the last one
 pub pair_words-set : (b : ℕ) (cut : List ℕ) (j count : ℕ) → j < length cut → 0 < count
     → ((k : ℕ) → j ≤ k → get_or cut k 0 ≡ 0)
     → pair_words b (set cut j count) ≡ pair_words b cut ++ pair_word (b + j) count ∷ []
@@ -111,7 +111,7 @@ pair_words-set b (suc c ∷ cut) (suc j) (suc count) lt some zeros =
     (omega arith) some (λ k le. zeros (suc k) (omega arith))
     ∙ ap (λ (i : ℕ). pair_words (b + 1) cut ++ pair_word i (suc count) ∷ []) there)
 
--- a count that is set is a number, as the others are
+-- counts that are numbers still are after one is set to a number
 pub numbers-set : (cut : List ℕ) (j count : ℕ) → count < 2 ^ 64 → AreNumbers cut
     → AreNumbers (set cut j count)
 numbers-set [] j count small h = tt
@@ -122,7 +122,7 @@ pub numbers-zeros : (cut : List ℕ) → ((k : ℕ) → get_or cut k 0 ≡ 0) �
 numbers-zeros [] h = tt
 numbers-zeros (c ∷ cut) h = (omega (arith, h 0), numbers-zeros cut (λ k. h (suc k)))
 
--- words that begin with a word that isn't cut at a colon
+-- words that begin with a word without a colon don't begin with a pair
 pub lacks_pair : (word : List ℕ) (words all : List (List ℕ)) → all ≡ word ∷ words
     → cut_at 58 word ≡ None → NoPairFirst all
 lacks_pair word words all e cut = rw e (ap is_some cut)

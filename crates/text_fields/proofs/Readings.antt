@@ -1,4 +1,4 @@
--- Bytes are read as one thing by sharp rules, or have one first fault.
+-- Bytes are read in at most one way by sharp rules, and have at most one first fault.
 use Rattle.std.proofs.Common.{◌≡◌, ℕ, ◌⊎◌, List, [], ◌∷◌, ◌++◌, Result, Ok, Err, refl, ap, ◌∙◌, inl, inr}
 use Rattle.std.specs.Prelude.{IfOk, IfErr, MatchResult}
 use Rattle.std.proofs.lemmas.List.{append-nil}
@@ -9,13 +9,13 @@ use Rattle.text_fields.specs.Lines.{Unread, text_of}
 use Rattle.text_fields.specs.Faults.{Wanted, TheEnd, Rules, IsThrough, IsReadTo, StopsFor, IsFirstFault, GoesTo, AreSharp}
 use Rattle.text_fields.proofs.Sharp as sharp
 
--- The rules of a kind of text, what is due at its start and at its end, and that the end tells
--- apart what texts stand for.
+-- The rules of a kind of text, the states at its start and at its end, and what a state at the end
+-- says.
 module _ {Due Said : Type 0} (rules : Rules Due) (are_sharp : AreSharp rules) (start : Due)
     (ended : Said → Due)
     (once : (a b : Said) → ended a ≡ ended b → a ≡ b)
     (last : (said : Said) → rules.wanted (ended said) ≡ TheEnd) where
-  -- the bytes from their first line on
+  -- bytes of which nothing is read yet, from line 1 on
   abbrev whole : List ℕ → Unread
   whole bytes = record { bytes = bytes; number = 1 }
 
@@ -25,16 +25,16 @@ module _ {Due Said : Type 0} (rules : Rules Due) (are_sharp : AreSharp rules) (s
   abbrev IsFirst : List ℕ → TextFault → Type 0
   IsFirst bytes fault = IsFirstFault rules start (whole bytes) fault
 
-  -- what bytes are read as is one thing
+  -- bytes are read as one thing at most
   pub one_said : (bytes : List ℕ) (a b : Said) → IsText bytes a → IsText bytes b → a ≡ b
   one_said bytes a b h k = once a b
       (sharp.one_reading rules are_sharp start (ended a) (ended b) (whole bytes) h.0 k.0 h.1 k.1).0
 
-  -- bytes have one first fault
+  -- bytes have one first fault at most
   pub one_first : (bytes : List ℕ) (a b : TextFault) → IsFirst bytes a → IsFirst bytes b → a ≡ b
   one_first bytes a b h k = sharp.one_fault rules are_sharp start (whole bytes) a b h k
 
-  -- bytes that are read have no fault
+  -- bytes that are a text have no fault
   pub no_first : (bytes : List ℕ) (said : Said) (fault : TextFault) → IsText bytes said
       → IsFirst bytes fault → ⊥
   no_first bytes said fault h k =
@@ -45,7 +45,7 @@ module _ {Due Said : Type 0} (rules : Rules Due) (are_sharp : AreSharp rules) (s
   nothing_left TheEnd bytes e h = h
   nothing_left _ bytes e h = absurd cc
 
-  -- where more bytes follow a text, the whole has a fault after it
+  -- where more bytes follow a text, the whole has a fault after the text
   pub no_prefix : (bytes more : List ℕ) (a b : Said) → IsText bytes a
       → IsText (bytes ++ more) b → more ≡ []
   no_prefix bytes [] a b h k = refl
@@ -65,7 +65,7 @@ module _ {Due Said : Type 0} (rules : Rules Due) (are_sharp : AreSharp rules) (s
       absurd (no_first (bytes ++ byte ∷ more) b _ k
       (sharp.stops_later rules start (ended a) (whole (bytes ++ byte ∷ more)) left _ goes rest))
 
-  -- ---- a reader that tells what it read, or why it stopped
+  -- ---- a reader that answers what it read, or the fault with which it stopped
 
   pub only_read : (bytes : List ℕ) (result : Result Said ReadFault)
       → IfOk result (λ said. IsText bytes said)
@@ -93,11 +93,11 @@ module _ {Due Said : Type 0} (rules : Rules Due) (are_sharp : AreSharp rules) (s
   first_read bytes (Err NoMemory) h k fault f = inr refl
   first_read bytes (Err (Text other)) h k fault f = inl (ap Text (one_first bytes other fault k f))
 
--- ---- a reader of a part of a text, whose rest others read
+-- ---- a reader of a part of a text, whose rest other rules read
 
 module _ {Due : Type 0} (rules : Rules Due) (are_sharp : AreSharp rules) (start : Due)
     (text : Unread) where
-  -- what a part is read as, and what it leaves, is one thing
+  -- a part is read in one way at most, and leaves one rest
   pub one_part : (a b : Due) (x y : Unread) → IsThrough (rules.wanted a) x.bytes
       → IsThrough (rules.wanted b) y.bytes → GoesTo rules start text a x
       → GoesTo rules start text b y → (a ≡ b) × (x ≡ y)

@@ -1,4 +1,4 @@
--- By sharp rules a text is read in one way, or has one first fault.
+-- By sharp rules a text is read in at most one way, and has at most one first fault.
 use Rattle.std.proofs.Common.{◌≡◌, ◌≢◌, ℕ, zero, suc, ◌+◌, List, [], ◌∷◌, ◌++◌, length, Option, Some, None, Ok, Err, refl, sym, ap, subst, ◌∙◌, arith, inl, inr}
 use Rattle.std.specs.List.{join_with_byte}
 use Rattle.std.proofs.lemmas.Bool.{cases_lt}
@@ -12,7 +12,7 @@ use Rattle.text_fields.proofs.LineTexts.{words_of-join, cut_line, line_takes, te
 
 -- ---- one test
 
--- the test with a turn
+-- the test with this turn
 abbrev test_at : ℕ → What
 test_at n =
     elim n as (λ n. What) [
@@ -124,7 +124,7 @@ test_at-turn Rest = refl
 turn_of-once : (a b : What) → turn_of a ≡ turn_of b → a ≡ b
 turn_of-once a b e = sym (test_at-turn a) ∙ ap test_at e ∙ test_at-turn b
 
--- a line has one first test
+-- a line has at most one first test that it fails
 pub one_test : (Fails : What → Type 0) (a b : What) → IsFirstTest Fails a
     → IsFirstTest Fails b → a ≡ b
 one_test Fails a b h k =
@@ -136,7 +136,7 @@ one_test Fails a b h k =
       ]
     ]
 
--- the one test of a line is its first
+-- a test that a line fails, and that is the only one, is the first
 pub only_test : (Fails : What → Type 0) (what : What) → Fails what
     → ((other : What) → Fails other → other ≡ what) → IsFirstTest Fails what
 only_test Fails what h only = record {
@@ -152,7 +152,7 @@ same_parts : (a b c d : List ℕ) → ◌≡◌ {A = Option (List ℕ × List �
 same_parts a b c d e = let same : ◌≡◌ {A = List ℕ × List ℕ} (a, b) (c, d) = cc in
     (ap (λ (x : List ℕ × List ℕ). x.0) same, ap (λ (x : List ℕ × List ℕ). x.1) same)
 
--- lines that stand before one text are the same line
+-- two lines that begin one text are the same line
 pub same_line : (v w : List (List ℕ)) (x y : List ℕ) → AreSolid v → AreSolid w
     → line_text v ++ x ≡ line_text w ++ y → (v ≡ w) × (x ≡ y)
 same_line v w x y h k e =
@@ -208,7 +208,7 @@ module _ {Due : Type 0} (rules : Rules Due) where
 
   -- ---- a line that was read
 
-  -- one right line
+  -- one right line leads from a state to the next
   pub goes_line : (due after : Due) (text left : Unread) (line : List ℕ) → line_at text
       ≡ Ok (line, left) → rules.Passes due (words_of line) after → GoesTo rules due text after left
   goes_line due after text left line e h =
@@ -225,7 +225,7 @@ module _ {Due : Type 0} (rules : Rules Due) where
             (parts.0, record { bytes = parts.1; number = text.number + 1 }) (line, left) = cc in
             sym (ap (λ (x : List ℕ × Unread). x.1.number) same)
 
-  -- no whole line is left where one is wanted
+  -- a reader stops where a line is wanted and no whole line is left
   pub stops_cut : (due : Due) (text : Unread) (fault : TextFault) → rules.wanted due ≡ ALine
       → line_at text ≡ Err fault → IsFirstFault rules due text fault
   stops_cut due text fault w e =
@@ -248,7 +248,7 @@ module _ {Due : Type 0} (rules : Rules Due) where
         )
         cut_from (Some parts) is e = absurd cc
 
-  -- a line that fails a test, and no earlier one
+  -- a reader stops at a line with the first test that the line fails
   pub stops_line : (due : Due) (text left : Unread) (line : List ℕ) (what : What) → rules.wanted due
       ≡ ALine → line_at text ≡ Ok (line, left) → IsFirstTest (rules.Fails due (words_of line)) what
       → IsFirstFault rules due text (record { line = text.number; what = what })
@@ -274,7 +274,7 @@ module _ {Due : Type 0} (rules : Rules Due) where
             (parts.0, record { bytes = parts.1; number = text.number + 1 }) (line, left) = cc in
             is ∙ ap (λ (x : List ℕ × Unread). Some (x.0, x.1.bytes)) same
 
-  -- bytes after the end
+  -- a reader stops at bytes after the end
   pub stops_rest : (due : Due) (text : Unread) → rules.wanted due ≡ TheEnd
       → text.bytes ≢ [] → IsFirstFault rules due text (record { line = text.number; what = Rest })
   stops_rest due text w h = record {
@@ -293,7 +293,7 @@ module _ {Due : Type 0} (rules : Rules Due) where
     no_line TheEnd e bytes h = absurd cc
     no_line Nothing e bytes h = absurd cc
 
-    -- where a right line stands, nothing is wrong
+    -- where the next line is right, nothing is wrong
     not_wrong : (due after : Due) (words : List (List ℕ)) (rest : List ℕ) (what : What)
         → rules.Passes due words after → IsWrong rules due ALine (line_text words ++ rest) what → ⊥
     not_wrong due after words rest what h (inl cut) = let whole =
@@ -360,7 +360,7 @@ module _ {Due : Type 0} (rules : Rules Due) where
         (subst (λ (d : Due). AllPass rules.Passes d b f) next k.2) line.1 p q in
         (ap suc more.0, more.1)
 
-    -- a text has one first fault
+    -- a text has at most one first fault
     pub one_fault : (due : Due) (text : Unread) (a b : TextFault) → IsFirstFault rules due text a
         → IsFirstFault rules due text b → a ≡ b
     one_fault due text a b h k =
@@ -393,7 +393,7 @@ module _ {Due : Type 0} (rules : Rules Due) where
         fault_misses h.0 e f a b x y n h.2
         (subst (λ (d : Due). AllPass rules.Passes d b f) next k.2) line.1 p q
 
-    -- a text that is read has no fault
+    -- a text that is read to its end has no fault
     pub no_fault : (due after : Due) (text left : Unread) (fault : TextFault)
         → IsReadTo rules due text after left → IsFirstFault rules due text fault → ⊥
     no_fault due after text left fault h k =
@@ -418,7 +418,7 @@ module _ {Due : Type 0} (rules : Rules Due) where
         (subst (λ (d : Due). AllPass rules.Passes d b f) next k.2) line.1 p q in
         (more.0, cc (line.0, more.1), more.2)
 
-    -- a text is read in one way
+    -- a text is read in at most one way
     pub one_reading : (due a b : Due) (text x y : Unread) → IsReadTo rules due text a x
         → IsReadTo rules due text b y → (a ≡ b) × (x ≡ y)
     one_reading due a b text x y h k =
@@ -435,7 +435,8 @@ module _ {Due : Type 0} (rules : Rules Due) where
     wanted_apart TheEnd h k = cc
     wanted_apart Nothing h k = cc
 
-    -- right lines that end where no line is wanted begin no other such lines
+    -- of two lists of right lines that end where no line is wanted, and begin one text, none is
+    -- longer
     pub same_rest : (due e f : Due) (a b : List (List (List ℕ))) (x y : List ℕ)
         → AllPass rules.Passes due a e → AllPass rules.Passes due b f → rules.wanted e ≡ TheEnd
         → rules.wanted f ≡ TheEnd

@@ -7,7 +7,7 @@ use Rattle.book_base.specs.declared.fault.ReadFault.TheVariants.{Text, NoMemory}
 use Rattle.text_fields.specs.Lines.{Unread, words_of}
 use Rattle.text_fields.specs.Faults.{ALine, Rules, IsWrong, AllPass, GoesTo, IsFirstFault, StopsFor}
 
--- What is due in the part is placed in the text: each line that is right in the part is right there,
+-- The states of a part are states of the text: each line that is right in the part is right there,
 -- and what is wrong in the part is wrong there.
 pub record AreWithin {Inner Outer : Type 0} (inner : Rules Inner) (outer : Rules Outer)
     (placed : Inner → Outer) : Type 0 where
@@ -17,7 +17,7 @@ pub record AreWithin {Inner Outer : Type 0} (inner : Rules Inner) (outer : Rules
       → IsWrong inner due (inner.wanted due) bytes what
       → IsWrong outer (placed due) (outer.wanted (placed due)) bytes what
 
--- where lines fail the same tests, the same is wrong with them
+-- the same is wrong by two lists of rules where lines fail the same tests by both
 pub wrong_alike : {Inner Outer : Type 0} (inner : Rules Inner) (outer : Rules Outer) (due : Inner)
     (there : Outer) → ((words : List (List ℕ)) (what : What)
     → inner.Fails due words what ↔ outer.Fails there words what)
