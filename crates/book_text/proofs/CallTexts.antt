@@ -157,7 +157,7 @@ pairs_once b (suc x ∷ xs) (suc y ∷ ys) same few h k e =
     let others = pairs_once (b + 1) xs ys (omega arith) (omega arith) h.1 k.1 line.1 in
     ap (λ (z : ℕ). z ∷ xs) first ∙ ap (λ (zs : List ℕ). suc y ∷ zs) others
 
--- two cuts with the same words are equal
+-- two cuts of as many callers with the same words are equal
 pub cut_once : (version : Version) (n : ℕ) (xs ys : List ℕ) → n < 2 ^ 64 → length xs ≡ n → length ys
     ≡ n → AreNumbers xs → AreNumbers ys → cut_words version xs ≡ cut_words version ys → xs ≡ ys
 cut_once First n xs ys small x y h k e = same_numbers xs ys h k e

@@ -22,7 +22,7 @@ pub below_numbers : (xs : List ℕ) → AreNumbers xs → AreAtMost (2 ^ 64 - 1)
 below_numbers [] h = tt
 below_numbers (x ∷ xs) h = (let lt : x < 2 ^ 64 = h.0 in omega arith, below_numbers xs h.1)
 
--- the words after pairs, which begin with a word without a colon
+-- words that go on with a word without a colon after pairs have a word after the pairs
 pub after_pairs : (xs ys all : List (List ℕ)) (word : List ℕ) (words : List (List ℕ))
     → all ≡ xs ++ ys → ys ≡ word ∷ words → NoPairFirst ys → HasWordAfterPairs all
 after_pairs [] ys all word words e f h =

@@ -6,7 +6,8 @@ use Rattle.book_base.specs.declared.fault.ReadFault.{ReadFault}
 use Rattle.book_base.specs.declared.fault.ReadFault.TheVariants.{Text, NoMemory}
 use Rattle.text_fields.specs.Faults.{IsFaultOf}
 
--- what can be found in bytes that have no fault for it is found, where it is one thing
+-- what bytes are found to say, where this is one thing and they have no fault then, is answered,
+-- want of memory aside
 pub only_answer : {V : Type 0} (IsFound : V → Type 0) (IsFirst : TextFault → Type 0)
     (result : Result V ReadFault) → IfOk result IsFound → IfErr result (IsFaultOf IsFirst)
     → ((a b : V) → IsFound a → IsFound b → a ≡ b)
@@ -17,7 +18,7 @@ only_answer IsFound IsFirst (Err NoMemory) found refused one none v is = refl
 only_answer IsFound IsFirst (Err (Text fault)) found refused one none v is =
     absurd (none v fault is refused)
 
--- bytes with a first fault are refused for it
+-- bytes with one first fault are refused for it, want of memory aside
 pub first_answer : {V : Type 0} (IsFound : V → Type 0) (IsFirst : TextFault → Type 0)
     (result : Result V ReadFault) → IfOk result IsFound → IfErr result (IsFaultOf IsFirst)
     → ((a b : TextFault) → IsFirst a → IsFirst b → a ≡ b)

@@ -1,5 +1,5 @@
--- What bytes say of a certificate: its list is a legal order of its book or has one first fault, or
--- the bytes have one.
+-- What bytes say of a certificate: its list is a legal order of its book, or the list has one first
+-- fault, or the bytes have one.
 use Rattle.std.proofs.Common.{◌≡◌, ◌⊎◌, ℕ, List, Result, Ok, Err, refl, ap, subst}
 use Rattle.std.specs.Prelude.{IfOk, IfErr, MatchResult}
 use Rattle.book_base.specs.declared.call.Place.{Place}

@@ -90,7 +90,7 @@ callers_more book i lt =
 pub value_is : {X : Type 0} (o : Option X) (x d : X) → o ≡ Some x → unwrap_or o d ≡ x
 value_is {X = X} o x d e = ap (λ (p : Option X). unwrap_or p d) e
 
--- the words of the calls of one caller more
+-- the operations and replies of one more caller's calls are words that texts can have
 pub words_more : (book : List Page) (i : ℕ)
     → ((call : Call) → call.caller < i → IsCall book call → HasWords book call) → ((number : ℕ)
     → number < calls_of book i → HasWords book (record { caller = i; number = number }))

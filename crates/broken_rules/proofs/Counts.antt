@@ -53,7 +53,7 @@ is_inc word takes = elim (cases_Bool (is_known_word kinds.Counter word)) [
       absurd (cc (sym neither ∙ takes))
 ]
 
--- the number of steps that pass a test, with one more that passes
+-- more steps pass a test up to a later moment, where one between the two moments passes
 count_more : (p : ℕ × ℕ → Bool) (steps : List (ℕ × ℕ)) (j k : ℕ) (step : ℕ × ℕ)
     → slice_get steps j ≡ Some step → p step ≡ true → j < k
     → count_by p (take j steps) + 1 ≤ count_by p (take k steps)

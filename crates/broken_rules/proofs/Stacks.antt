@@ -86,7 +86,7 @@ stays_covered reading next is list steps run w v below m (suc d) top long no_put
       after.2,
     )
 
--- the value on top of a stack isn't w, where no w is over v
+-- where w is on top of a stack that has v, and no w is over v, v is w
 top_is : (w v : ℕ) (above below after : List ℕ) → above ++ v ∷ below ≡ w ∷ after
     → times w above ≡ 0 → v ≡ w
 top_is w v [] below after e none = cc

@@ -20,7 +20,7 @@ taken_from_value (Puts w) shown v e = absurd (none-some v e)
 taken_from_value Takes shown v e = (refl, e)
 taken_from_value Neither shown v e = absurd (none-some v e)
 
--- A legal order has an answered call with its recorded reply.
+-- The place of an answered call in a legal order has the recorded reply.
 pub reply_of_place : (init : List ℕ) (next : List ℕ → ℕ → List ℕ × ℕ) (book : List Page)
     (order : List Place) → IsLegalOrder init next book order
     → (k : ℕ) (place : Place) → slice_get order k ≡ Some place

@@ -35,7 +35,7 @@ use Rattle.certificate_text.proofs.WrittenTexts.{order_passes, order_after}
 
 -- ---- whole lines
 
--- two prefixes of one text with the same number of whole lines are equal
+-- a prefix of bytes that has as many whole lines as they are is all of them
 whole_prefix : (count : ℕ) (prefix rest : List ℕ) → AreWholeLines count prefix
     → AreWholeLines count (prefix ++ rest) → rest ≡ []
 whole_prefix zero prefix rest h k = ap (λ (x : List ℕ). x ++ rest) (sym h) ∙ k
@@ -155,7 +155,7 @@ text_of_lines kind book order lines h = (
   },
 )
 
--- right lines that complete a text from a state
+-- right lines that further right lines complete begin some text
 completed : (reached : CertificateDue) (lines more : List (List (List ℕ))) (kind : Kind)
     (book : List Page) (order : List Place) → AllPass CertificatePasses nothing_read lines reached
     → AllPass CertificatePasses reached more (AllRead kind book order)

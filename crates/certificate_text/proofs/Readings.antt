@@ -37,7 +37,7 @@ pub no_fault : NoFaultOfAText
 no_fault bytes kind book order fault h k = sharp.no_fault certificate_rules certificate_sharp
     nothing_read (AllRead kind book order) (whole_text bytes) h.0 fault h.1 k
 
--- where more bytes follow a certificate's text, the whole has a fault after the text
+-- no certificate's text is a proper prefix of another's
 pub no_prefix : NoTextBeginsAnother
 no_prefix bytes [] k l a b p q h j = refl
 no_prefix bytes (byte ∷ more) k l a b p q h j =

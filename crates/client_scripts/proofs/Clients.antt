@@ -79,7 +79,7 @@ told_from clients calls counts stops =
     ap (λ (cs : List ℕ). made cs (replicate (length calls) None)) (sym counts)
     ∙ ap (made (sizes (operations_in clients))) (sym stops)
 
--- one more stop doesn't change the operations
+-- with one more stop the lines say what the clients with this stop hold
 pub told-stop : (clients : List Client) (i : ℕ) (client new : Client) (least phases : ℕ)
     → client ≡ get_or clients i client → new.operations ≡ client.operations → new.stop ≡ Some phases
     → with_stop (told clients least) i phases ≡ told (set clients i new) (i + 1)

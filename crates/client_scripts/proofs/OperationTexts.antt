@@ -42,7 +42,7 @@ module _ (version : Version) (kind : Kind) (all prefix left : List (List ℕ))
     count = omega (arith, (few_operation_words kind op).some);
   })
 
-  -- an operation whose words are all that is left
+  -- an operation whose words are all that is left is the one that the line gives
   pub spelled_all : left ≡ [] → (op used : ℕ)
       → IsSpelled (kind_operations version kind) prefix op used → length prefix ≡ used + 1
       → (op < word_limit version) × (all ≡ operation_words kind op)
@@ -55,7 +55,7 @@ module _ (version : Version) (kind : Kind) (all prefix left : List (List ℕ))
             ∙ append-nil (operation_words kind op),
       )
 
-  -- an operation whose words are only a part of what is left
+  -- where an operation's words are only a part of what is left, no operation's words are all of it
   pub spelled_part : left ≡ [] → (op used : ℕ)
       → IsSpelled (kind_operations version kind) prefix op used → (length prefix ≡ used + 1 → ⊥)
       → (other : ℕ) → other < word_limit version → all ≡ operation_words kind other → ⊥

@@ -27,7 +27,7 @@ pub small_has : (version : Version) (op : ℕ) → op < word_limit version
     → IsTrue (nat_lt op (word_limit version))
 small_has version op h = lt-ltb op (word_limit version) h
 
--- two operations whose words begin the same words are equal, and the same words follow
+-- two operations whose words begin the same words are equal
 pub one_operation : (version : Version) (kind : Kind) (a b : ℕ) (x y : List (List ℕ))
     → a < word_limit version → b < word_limit version
     → operation_words kind a ++ x ≡ operation_words kind b ++ y → a ≡ b

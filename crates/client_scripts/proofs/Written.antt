@@ -1,4 +1,4 @@
--- A script's text, written part by part.
+-- The text of a script, written part by part.
 use Rattle.std.proofs.Common.{◌≡◌, ℕ, zero, suc, ◌+◌, ◌<◌, List, [], ◌∷◌, ◌++◌, length, take, get_or, Some, sym, ap, ◌∙◌, append_assoc, arith, slice_get}
 use Rattle.std.specs.Prelude.{slice_index, codes}
 use Rattle.std.proofs.lemmas.List.{take_more, length-take}
@@ -36,7 +36,7 @@ value_at [] k x e = absurd (none-some x e)
 value_at (y ∷ xs) zero x e = sym (same_Some y x e)
 value_at (y ∷ xs) (suc k) x e = value_at xs k x e
 
--- the parts are the whole text
+-- the parts together are the whole text
 pub whole_written : (plan : Plan) (m1 m2 m3 m4 new : List ℕ)
     → m1 ≡ text_of (head_lines Second (codes "script") plan.kind (sizes plan.operations))
     → m2 ≡ m1 ++ text_of (by_number (caller_lines plan.kind) 0 plan.operations)

@@ -1,4 +1,4 @@
--- What is written of a script is read as that script.
+-- The bytes that are written of a plan are read as this plan.
 use Rattle.std.proofs.Common.{◌≡◌, ℕ, zero, suc, ◌+◌, ◌*◌, ◌<◌, ◌≤◌, ◌^◌, List, [], ◌∷◌, ◌++◌, length, get_or, set, Option, Some, None, refl, sym, ap, subst, ◌∙◌, append_assoc, arith, inl, inr}
 use Rattle.std.specs.List.{AllByRecursion, concat}
 use Rattle.std.proofs.lemmas.List.{append-nil, length-append, length-map}
@@ -68,7 +68,7 @@ module _ (version : Version) (kind : Kind) where
             (caller_passes next i (k + 1) ops due few (omega arith) has.1),
       )
 
-  -- so are the lines of all callers' calls
+  -- the lines of all callers' calls are right
   callers_pass : (most : ℕ) (begun : Begun) (i : ℕ) (operations : List (List ℕ)) → most < 2 ^ 32
       → i + length operations < 2 ^ 64 → AreAtMost most (sizes operations)
       → AllByRecursion AreSmall operations
@@ -92,7 +92,7 @@ module _ (version : Version) (kind : Kind) where
       (callers_pass most (with_operations begun ops) (i + 1) operations few
       (omega arith) calls.1 has.1))
 
-  -- the stops told so far are a prefix of all stops, and none is told of the callers after it
+  -- the stops given so far are a prefix of all stops, and no caller after them has one yet
   record AreToldTo (calls : List ℕ) (stops whole : List (Option ℕ)) (i least : ℕ)
       (done counts : List ℕ) (rest : List (Option ℕ)) : Type 0 where
     pub prefix : List (Option ℕ)
@@ -284,7 +284,7 @@ module _ (version : Version) (plan : Plan) (w : IsPlan version plan) where
         ),
       )
 
--- what is written of a plan is read as that plan
+-- the bytes that are written of a plan are read as this plan
 pub written_is_read : (version : Version) (bytes : List ℕ) (plan : Plan)
     → IsWrittenText version bytes plan → IsScriptText version bytes plan
 written_is_read version bytes plan h =

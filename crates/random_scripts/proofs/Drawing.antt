@@ -32,7 +32,7 @@ lines_drawn {X} write f old middle new k h e =
     lines_more old middle new (by_number write 0 drawn) (write k (f k)) h e
     ∙ ap (λ (ls : List (List (List ℕ))). old ++ text_of ls) (sym one)
 
--- what holds of one drawn item more
+-- a property of all drawn items holds of one drawn item more
 pub all_drawn : {X : Type 0} (P : X → Type 0) (f : ℕ → X) (k : ℕ)
     → AllByRecursion P (map f (range_with_len 0 k)) → P (f k)
     → AllByRecursion P (map f (range_with_len 0 (k + 1)))
@@ -61,7 +61,7 @@ pub drawn_sizes : (w : Workload) (seed : ℕ)
     → sizes (drawn_plan w seed).operations ≡ replicate w.callers w.calls
 drawn_sizes w seed = sizes_from w (key_of seed) 0 w.callers
 
--- what is drawn is a plan
+-- the drawn script is a plan that texts can have
 pub drawn_is_plan : (w : Workload) (seed : ℕ) → IsWorkload w
     → AllByRecursion (AllByRecursion (λ op. op < 2 ^ 128)) (drawn_plan w seed).operations
     → IsPlan Second (drawn_plan w seed)

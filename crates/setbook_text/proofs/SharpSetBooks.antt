@@ -188,7 +188,7 @@ pub no_first_fault : (bytes : List ℕ) (book : List Page) (fault : TextFault)
 no_first_fault =
     readings.no_first setbook_rules setbook_sharp TitleDue AtEnd same_end (λ book. refl)
 
--- where more bytes follow a set book's text, the whole is no such text
+-- no set book's text is a proper prefix of another's
 pub no_prefix : (bytes more : List ℕ) (a b : List Page) → IsSetBookText bytes a
     → IsSetBookText (bytes ++ more) b → more ≡ []
 no_prefix = readings.no_prefix setbook_rules setbook_sharp TitleDue AtEnd same_end (λ book. refl)

@@ -45,7 +45,7 @@ module _ {Due Said : Type 0} (rules : Rules Due) (are_sharp : AreSharp rules) (s
   nothing_left TheEnd bytes e h = h
   nothing_left _ bytes e h = absurd cc
 
-  -- where more bytes follow a text, the whole has a fault after the text
+  -- no text is a proper prefix of another one
   pub no_prefix : (bytes more : List ℕ) (a b : Said) → IsText bytes a
       → IsText (bytes ++ more) b → more ≡ []
   no_prefix bytes [] a b h k = refl

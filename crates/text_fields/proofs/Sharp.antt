@@ -136,7 +136,7 @@ one_test Fails a b h k =
       ]
     ]
 
--- a test that a line fails, and that is the only one, is the first
+-- a test that a line fails is its first one where it fails no other
 pub only_test : (Fails : What → Type 0) (what : What) → Fails what
     → ((other : What) → Fails other → other ≡ what) → IsFirstTest Fails what
 only_test Fails what h only = record {
