@@ -30,14 +30,15 @@ pub fn books_at_cuts_agree()
 /// The book at the cut of all records of a book has all answered calls of the book, and of the
 /// others exactly those that some view holds. It has a legal order exactly where the book has one.
 pub fn calls_without_a_view_are_free()
-    // The book at the cut of all its records has each record of the book.
+    // The book at the cut of all records of a book has each record of the book.
     ensures records { KeepsEachRecord }
-    // The book at the cut of all its records has exactly the calls that are answered or held by a
-    // view.
+    // The book at the cut of all records of a book has exactly the calls that are answered or held
+    // by a view.
     ensures calls { KeepsEachHeldCall }
-    // The book at the cut of all its records has the operations of the book.
+    // The book at the cut of all records of a book has the operations of the book.
     ensures operations { KeepsEachOperation }
-    // The book at the cut of all its records has a legal order exactly where the book has one.
+    // The book at the cut of all records of a book has a legal order exactly where the book has
+    // one.
     ensures orders { HasOneWhereTheBookHas }
 {}
 

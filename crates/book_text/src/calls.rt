@@ -15,9 +15,8 @@ use book_base::{Book, BookFault, Call, Cut, ReadFault, Record, TextFault, What};
 use std::alloc::Global;
 use text_fields::{Lines, OpText, Version};
 
-/// The book whose calls the lines tell, by the words of these operations; the lines after them are
+/// The book whose calls the lines give, by the words of these operations; the lines after them are
 /// left.
-///
 /// `calls` has the number of calls of each of the `n` callers. A text fault is the first fault of
 /// the lines of the calls. After a refusal the lines stay as they were.
 pub fn read_calls<T: OpText>(
@@ -59,7 +58,7 @@ pub fn read_calls<T: OpText>(
     Ok(book)
 }
 
-/// The book whose calls the lines tell, in a text of this version.
+/// The book whose calls the lines give, in a text of this version.
 pub(crate) fn read_calls_of<T: OpText>(
     version: Version,
     alloc: Global,

@@ -142,12 +142,12 @@ SeesAtMost book call most = IsSomeAnd (record_of book call) (λ r. sum r.view �
 
 -- Two calls are related in this way.
 abbrev pub Related : Kind → List Page → Relation → Call → Call → Type 0
--- they are one call
+-- they are the same call
 Related kind book relations.Same first second = first ≡ second
--- they are one call, whose view holds no more calls than the count that it replies
+-- they are the same call, whose view holds no more calls than the count that it replies
 Related kind book relations.Unseen first second =
     (first ≡ second) × SeesAtMost book first (value_at kind book first)
--- they are two calls
+-- they are different calls
 Related kind book relations.Apart first second = first ≢ second
 -- the first one precedes the second one
 Related kind book relations.Before first second = Precedes book first second

@@ -15,7 +15,7 @@ use book_base::{Call, Place, What};
 use seq_objects::reply_from_word;
 use text_fields::{Words, next_number};
 
-/// The place that a line tells, or `None` where it is the end.
+/// The place that a line gives, or `None` where it is the end.
 pub(crate) fn read_place_line(line: &[u8]) -> Result<Option<Place>, What>
     ensures found { IfOk result (SaysPlace (words_of line.now)) }
     ensures refused { IfErr result (IsFirstTest (PlaceFails (words_of line.now))) }

@@ -35,7 +35,7 @@ fn is_title(words: &mut Words) -> bool
         && words.next().is_none()
 }
 
-/// The places that the lines tell, up to the end.
+/// The places that the lines give, up to the end.
 pub(crate) fn read_places(alloc: Global, lines: &mut Lines) -> Result<Vec<Place>, ReadFault>
     ensures found { IfOk result (λ order. ArePlaces lines.old order.items lines.new) }
     ensures refused { IfErr result (AreNoPlaces lines.old) }

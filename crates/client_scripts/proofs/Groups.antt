@@ -39,7 +39,7 @@ by_number-push {Y} write i (y ∷ xs) x j e =
 
 -- ---- stops
 
--- a list without any stop is one of stops
+-- callers without any stop have a list of stops, as a plan wants it
 pub AreStops-none : (counts : List ℕ) → AreStops counts (replicate (length counts) None)
 AreStops-none [] = tt
 AreStops-none (c ∷ counts) = (tt, AreStops-none counts)

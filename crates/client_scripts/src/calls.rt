@@ -9,7 +9,7 @@ use book_base::{Call, Cut, OpWord, ReadFault, TextFault};
 use std::alloc::Global;
 use text_fields::{KindWords, Lines};
 
-/// The callers with the operations that the lines tell; the lines after them are left. `calls` has
+/// The callers with the operations that the lines give; the lines after them are left. `calls` has
 /// the number of calls of each caller.
 pub(crate) fn read_clients(
     alloc: Global,

@@ -437,7 +437,7 @@ early_by_count reading book uses a is early o e =
     inl (subst (λ (r : Option Record). IsSomeAnd r (λ r. get_or r.view o.caller 0 ≤ o.number))
     (sym found.1) (omega (arith, within o.caller, late)))
 
--- a value that is taken more often than it is put in leaves no legal order
+-- where a value is taken more often than it is put in, the book has no legal order
 pub none_by_count : (reading : Reading) (init : List ℕ) (next : List ℕ → ℕ → List ℕ × ℕ)
     (book : List Page) (uses : Uses) (v : ℕ) → AreUsesOf reading book (length book) 0 uses
     → (use_of uses.by_value.entries v).puts < (use_of uses.by_value.entries v).takes

@@ -17,13 +17,13 @@ sample_shown (suc v) = Some v
 abbrev pub sample : Reading
 sample = record { deed = sample_deed; shown = sample_shown; values = λ list. list }
 
--- A queue: a value comes in at the end, and the first leaves.
+-- A queue: a value comes in at the end, and the first one is taken out.
 abbrev pub queue_next : List ℕ → ℕ → List ℕ × ℕ
 queue_next [] zero = ([], 0)
 queue_next (x ∷ rest) zero = (rest, suc x)
 queue_next list (suc v) = (list ++ v ∷ [], 0)
 
--- A stack: a value comes in at the head of the list, and the first value leaves.
+-- A stack: a value comes in at the head of the list, and the first value is taken out.
 abbrev pub stack_next : List ℕ → ℕ → List ℕ × ℕ
 stack_next [] zero = ([], 0)
 stack_next (x ∷ rest) zero = (rest, suc x)

@@ -7,7 +7,7 @@ use Rattle.list_laws.proofs.Places.{slice_get-push_old, slice_get-push_last, sli
 abbrev pub IsMember : {X : Type 0} → List X → X → Type 0
 IsMember xs x = (k : ℕ) × (slice_get xs k ≡ Some x)
 
--- what stands earlier in a list comes before what stands later
+-- a list is ordered: each element comes before all that stand after it
 abbrev pub IsOrderedBy : {X : Type 0} → (X → X → Type 0) → List X → Type 0
 IsOrderedBy {X} before xs = (j k : ℕ) (x y : X) → slice_get xs j ≡ Some x → slice_get xs k ≡ Some y
     → j < k → before x y

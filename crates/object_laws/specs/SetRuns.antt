@@ -14,23 +14,23 @@ pub record AddStands (value : ℕ) (steps : List (ℕ × ℕ)) : Type 0 where
   pub adds : does_with words.add value add ≡ true
   pub stays : NonePass (does_with words.remove value) later
 
--- A reply tells whether a fact holds: it is `yes` where the fact holds, and `no` where it doesn't.
+-- A reply says whether a fact holds: it is `yes` where the fact holds, and `no` where it doesn't.
 abbrev pub Tells : ℕ → Type 0 → Type 0
 Tells reply P = ((reply ≡ reply_yes) × P) ⊎ ((reply ≡ reply_no) × (P → ⊥))
 
--- The reply to `has` tells whether an add of the value stands.
+-- The reply to `has` says whether an add of the value stands.
 abbrev pub HasTells : Type 0
 HasTells = (before rest : List (ℕ × ℕ)) (step : ℕ × ℕ) (value : ℕ)
     → IsRunOf IntSet (before ++ step ∷ rest)
     → does_with words.has value step ≡ true → Tells step.1 (AddStands value before)
 
--- The reply to `remove` tells whether an add of the value stands before it.
+-- The reply to `remove` says whether an add of the value stands before it.
 abbrev pub RemoveTells : Type 0
 RemoveTells = (before rest : List (ℕ × ℕ)) (step : ℕ × ℕ) (value : ℕ)
     → IsRunOf IntSet (before ++ step ∷ rest)
     → does_with words.remove value step ≡ true → Tells step.1 (AddStands value before)
 
--- The reply to `add` tells whether no add of the value stands before it.
+-- The reply to `add` says whether no add of the value stands before it.
 abbrev pub AddTells : Type 0
 AddTells = (before rest : List (ℕ × ℕ)) (step : ℕ × ℕ) (value : ℕ)
     → IsRunOf IntSet (before ++ step ∷ rest)

@@ -28,11 +28,11 @@ pub fn registers_give_the_last_write()
 /// A set's replies say whether an add of a value stands, which is one without a later remove of the
 /// value.
 pub fn sets_tell_what_stands()
-    // The reply to `has` tells whether an add of the value stands, without a later remove of it.
+    // The reply to `has` says whether an add of the value stands, without a later remove of it.
     ensures has { HasTells }
-    // The reply to `add` tells whether no add of the value stands before it.
+    // The reply to `add` says whether no add of the value stands before it.
     ensures add { AddTells }
-    // The reply to `remove` tells whether an add of the value stands before it.
+    // The reply to `remove` says whether an add of the value stands before it.
     ensures remove { RemoveTells }
 {}
 

@@ -65,7 +65,7 @@ pub fn runs_of_a_counter()
     // Two increments don't give the same count.
     ensures same_twice { ¬ IsRunOf kinds.Counter ((operation words.inc 0, reply_value 0)
         ∷ (operation words.inc 0, reply_value 0) ∷ []) }
-    // An increment doesn't leave out a count.
+    // No increment skips a count.
     ensures one_left_out { ¬ IsRunOf kinds.Counter ((operation words.inc 0, reply_value 0)
         ∷ (operation words.inc 0, reply_value 2) ∷ []) }
     // The first increment doesn't give 1.

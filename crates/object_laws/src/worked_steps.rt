@@ -114,7 +114,7 @@ pub fn worked_pqueue_steps()
         (4 ∷ []) (4 ∷ []) (codes "bad") }
 {}
 
-/// Steps of a queue: items come in at the end, and leave at the front.
+/// Steps of a queue: items come in at the end, and are taken out at the beginning.
 pub fn worked_queue_steps()
     // The queue begins with the empty list.
     ensures begins { kind_init kinds.Queue ≡ [] }
@@ -134,7 +134,7 @@ pub fn worked_queue_steps()
         (4 ∷ []) (4 ∷ []) (codes "bad") }
 {}
 
-/// Steps of a stack: items come in at the end, and leave at the end.
+/// Steps of a stack: items come in at the end, and are taken out there.
 pub fn worked_stack_steps()
     // The stack begins with the empty list.
     ensures begins { kind_init kinds.Stack ≡ [] }

@@ -14,7 +14,7 @@ use Rattle.book_laws.proofs.LegalOrder.{raised_same, raised_other, raised_more, 
 use Rattle.pruning_laws.specs.Keys.{IsKeyed, ForcedKeyGoesFirst}
 use Rattle.pruning_laws.proofs.Forcing.{forced-free, forced-stays}
 
--- a key is this one, or it isn't
+-- an option is this key, or it isn't
 cases_key : (o : Option ℕ) (k : ℕ) → (o ≡ Some k) ⊎ (o ≢ Some k)
 cases_key None k = inr (λ (e : None ≡ Some k). none-some k e)
 cases_key (Some j) k =

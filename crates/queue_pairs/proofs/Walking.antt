@@ -654,12 +654,12 @@ may_find reading book next cut list s q m n place rest h wide goes have = record
       ]);
 }
 
--- A walk goes on after a place to a whole standing, whatever standing it has then.
+-- Whatever standing a walk has after a place, steps lead from there to a whole one.
 abbrev Goes : Reading → List Page → List ℕ → List ℕ → ℕ → Type 0
 Goes reading book cut list n = (s : Paired) (q : List Pending) → Walked reading book cut list s q n
     → GoesOn reading book s
 
--- The walk goes on after a take that shows nothing.
+-- Where the walk leads to a whole standing after a take that shows nothing, it does before it.
 walk-nothing : (reading : Reading) (book : List Page) (next : List ℕ → ℕ → List ℕ × ℕ)
     (cut list : List ℕ) (s : Paired) (q : List Pending) (m n : ℕ) (place : Place)
     (rest : List Place)
@@ -686,7 +686,7 @@ walk-nothing reading book next cut list s q m n place rest h wide goes have on d
           )
     ]
 
--- The walk goes on after a take that shows a value.
+-- Where the walk leads to a whole standing after a take that shows a value, it does before it.
 walk-value : (reading : Reading) (book : List Page) (next : List ℕ → ℕ → List ℕ × ℕ)
     (cut list : List ℕ) (s : Paired) (q : List Pending) (m n : ℕ) (place : Place) (v : ℕ)
     → HasOneOpen book → Here reading book next cut list s q m n place
@@ -710,7 +710,8 @@ walk-value reading book next cut list s (x ∷ q) m n place v one h on is first 
       (may_pair reading book next cut list s x q m n place one h takes, found.1),
     )
 
--- The walk goes on after a take, by what the object shows.
+-- Where the walk leads to a whole standing after a take, it does before it, by what the object
+-- shows.
 walk-take : (reading : Reading) (book : List Page) (next : List ℕ → ℕ → List ℕ × ℕ)
     (cut list : List ℕ) (s : Paired) (q : List Pending) (m n : ℕ) (place : Place)
     (rest : List Place)
@@ -748,7 +749,8 @@ deal_at reading book next cut list place may is =
           ∙ ap (λ (w : ℕ). shown_deal (reading.shown w)) reply))
     ]
 
--- The walk goes on after a place, by what its operation does.
+-- Where the walk leads to a whole standing after a place, it does before it, by what its operation
+-- does.
 walk-deed : (reading : Reading) (book : List Page) (next : List ℕ → ℕ → List ℕ × ℕ)
     (cut list : List ℕ) (s : Paired) (q : List Pending) (m n : ℕ) (place : Place)
     (rest : List Place)

@@ -233,7 +233,7 @@ closed-at_once table standings s puts takes at_once reading book is = record {
   leads = inr (at_once reading book is);
 }
 
--- a standing of a list is one of the list as it is paired
+-- a standing of the code's list is one of the list of standings
 pub listed-there : (keys : List PairState) (place : ℕ) (s : PairState)
     → slice_get keys place ≡ Some s
     → IsOnePaired (listed keys) (paired s)

@@ -323,7 +323,8 @@ raised-steps reading book t s m (FindNothing n ∷ steps) h are =
       omega (arith, on.2),
     )
 
--- where takes that find nothing may be covered at once, as many steps lead on after them
+-- where takes that find nothing may be covered at once, as many steps lead to a whole standing
+-- after them
 at-once : (reading : Reading) (book : List Page) (s : Paired) (steps : List Step)
     → length book ≤ length s.puts → s.found < s.take_moment
     → (HasPutBefore reading book s s.take_moment → ⊥) → AreSteps reading book s steps

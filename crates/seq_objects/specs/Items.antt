@@ -19,11 +19,11 @@ last_taken [] = ([], reply_none)
 last_taken (x ∷ rest) =
     (take (length rest) (x ∷ rest), reply_value (slice_index (x ∷ rest) (length rest)))
 
--- Where a value stands in a list for the first time, if it does.
+-- The place of a value in a list for the first time, if it is there.
 abbrev pub place_of : List ℕ → ℕ → Option ℕ
 place_of list value = position (λ x. x == value) list
 
--- Where the first item greater than a value stands, or the end of the list where none is greater.
+-- The place of the first item greater than a value, or the end of the list where none is greater.
 abbrev pub place_for : List ℕ → ℕ → ℕ
 place_for list value = unwrap_or (position (λ x. nat_lt value x) list) (length list)
 

@@ -19,7 +19,7 @@ item_of key value = key * 2 ^ 32 + value
 abbrev pub key_of : ℕ → ℕ
 key_of item = item / 2 ^ 32
 
--- Where the first item with a key stands, if there is one.
+-- The place of the first item with a key, if there is one.
 abbrev pub place_of_key : List ℕ → ℕ → Option ℕ
 place_of_key list key = position (λ item. key_of item == key) list
 

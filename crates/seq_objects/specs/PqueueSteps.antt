@@ -17,7 +17,8 @@ pqueue_operation word =
     else if is_operation_of word words.min then Some Min
     else None
 
--- A priority queue: a value is inserted before the first greater item, and the first item leaves.
+-- A priority queue: a value is inserted before the first greater item, and the first item is taken
+-- out.
 abbrev pub pqueue_after : List ℕ → Option PqueueOperation → List ℕ × ℕ
 pqueue_after list (Some (Insert value)) = (inserted list value, reply_done)
 pqueue_after list (Some Min) = first_taken list

@@ -17,7 +17,7 @@ queue_operation word =
     else if is_operation_of word words.deq then Some Dequeue
     else None
 
--- A queue: items come in at the end, and leave at the front.
+-- A queue: items come in at the end, and are taken out at the beginning.
 abbrev pub queue_after : List ℕ → Option QueueOperation → List ℕ × ℕ
 queue_after list (Some (Enqueue value)) = (list ++ value ∷ [], reply_done)
 queue_after list (Some Dequeue) = first_taken list

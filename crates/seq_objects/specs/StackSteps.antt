@@ -17,7 +17,7 @@ stack_operation word =
     else if is_operation_of word words.pop then Some Pop
     else None
 
--- A stack: items come in at the end, and leave at the end.
+-- A stack: items come in at the end, and are taken out there.
 abbrev pub stack_after : List ℕ → Option StackOperation → List ℕ × ℕ
 stack_after list (Some (Push value)) = (list ++ value ∷ [], reply_done)
 stack_after list (Some Pop) = last_taken list

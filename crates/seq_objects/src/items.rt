@@ -46,14 +46,14 @@ pub fn set_only(state: &mut State, item: u64)
     state.push(item);
 }
 
-/// Where a value stands in a list for the first time, if it does.
+/// The place of a value in a list for the first time, if it is there.
 pub fn place_of(words: &[u64], value: u64) -> Option<usize>
     ensures { result ≡ items.place_of words.now value }
 {
     words.iter().position(|&item| item == value)
 }
 
-/// Where the first item greater than a value stands, or the length of the list where none is.
+/// The place of the first item greater than a value, or the length of the list where none is.
 pub fn place_for(words: &[u64], value: u64) -> usize
     ensures { result ≡ items.place_for words.now value }
 {

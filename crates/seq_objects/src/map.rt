@@ -56,7 +56,7 @@ fn item_of(key: u32, value: u32) -> u64
     u64::from(key) * VALUES + u64::from(value)
 }
 
-/// Where the first item with a key stands, if there is one.
+/// The place of the first item with a key, if there is one.
 fn place_of_key(words: &[u64], key: u32) -> Option<usize>
     ensures { result ≡ place_of_key words.now key }
 {

@@ -1,5 +1,5 @@
--- Registers, by the value that they hold: a put writes its value, and a take reads it and leaves
--- it.
+-- Registers, by the value that they hold: a put writes its value, and a take reads it without
+-- removing it.
 use Rattle.std.specs.Prelude.{◌≡◌, ◌≢◌, ℕ, ◌≤◌, ◌⊎◌, List, Some, slice_index}
 use Rattle.book_base.specs.declared.call.Call.{Call}
 use Rattle.book_base.specs.Book.{Page, IsAnswered}
