@@ -10,8 +10,7 @@ use Rattle.book_base.specs.Order.{IsLegalOrder}
 use Rattle.book_base.specs.Next.{next_call, MayComeNext, MayStandNext, Continues}
 use Rattle.book_base.specs.PruningRules.{Reaches}
 
--- Each view of a book holds at most one unanswered call of each caller: of each caller at most one
--- unanswered call is in some view.
+-- A book has one open: each of its views holds at most one unanswered call of each caller.
 abbrev pub HasOneOpen : List Page → Type 0
 HasOneOpen book = (call : Call) (r : Record) (i : ℕ) → record_of book call ≡ Some r
     → slice_index r.view i ≤ answers_of book i + 1
@@ -63,8 +62,8 @@ IsMarked marks i = IsTrue (slice_index_or marks.callers i false)
 abbrev pub MarksAllNext : List Page → List ℕ → Marks → Type 0
 MarksAllNext book cut marks = (i : ℕ) → IsMarked marks i ↔ MayComeNext book cut (next_call cut i)
 
--- Where places continue an order from a cut and a list, some that begin with the next call of a
--- marked caller do, and they are no more.
+-- Where places continue an order from a cut and a list, as many or fewer that begin with the next
+-- call of a marked caller do too.
 abbrev pub MarksSuffice : List Page → (List ℕ → ℕ → List ℕ × ℕ) → List ℕ → List ℕ → Marks → Type 0
 MarksSuffice book next cut list marks = (rest : List Place) → Continues book next cut list rest
     → (place : Place) × (other : List Place) × IsMarked marks place.caller

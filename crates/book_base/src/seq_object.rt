@@ -111,8 +111,8 @@ pub trait SeqObject {
         requires marks { MarksAllNext book.now cut.now marks }
         // Each caller that the answer marks was marked.
         ensures fewer { IsMarkedWithin result marks }
-        // Where places continue an order from the cut and the list, some that begin with the next
-        // call of a caller that the answer marks do, and they are no more.
+        // Where places continue an order from the cut and the list, as many or fewer that begin
+        // with the next call of a caller that the answer marks do too.
         ensures suffice { MarksSuffice book.now (next self.now) cut.now words.now result }
     {
         marks

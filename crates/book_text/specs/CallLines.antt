@@ -80,8 +80,8 @@ IsNoView Second n words = LacksViewWord words ⊎ ((suffix : List (List ℕ))
 
 -- ---- the tests of a line, by itself
 
--- A line for this call, in a text of this many callers, fails a test that needs no other view.
--- After a gap, an unanswered call of the same caller, a call is unanswered.
+-- A line for this call, in a text of this many callers, fails a test that needs no other view;
+-- `gap` says that an earlier call of the same caller is unanswered.
 abbrev pub EntryFails : Version → Operations → ℕ → Bool → Call → List (List ℕ) → What → Type 0
 -- the line doesn't begin with the caller and the number that are due
 EntryFails version operations n gap call words what.Place = (suffix : List (List ℕ))
@@ -143,7 +143,7 @@ pub record Progress : Type 0 where
   pub book : List Page
   pub due : List Call
 
--- the calls of a caller from this one on, and how many
+-- this many calls of a caller, from this number on
 abbrev pub calls_from : ℕ → ℕ → ℕ → List Call
 calls_from i k zero = []
 calls_from i k (suc more) = record { caller = i; number = k } ∷ calls_from i (k + 1) more

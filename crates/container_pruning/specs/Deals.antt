@@ -29,7 +29,7 @@ recorded_deal reading (Some r) = shown_deal (reading.shown r.reply)
 abbrev pub take_of : Reading → List Page → Call → Deal
 take_of reading book call = recorded_deal reading (record_of book call)
 
--- what a call with this deed did
+-- what a call did whose operation has this effect
 abbrev pub deal_by_deed : Reading → List Page → Call → Effect → Deal
 deal_by_deed reading book call (Puts v) = deals.Put v
 deal_by_deed reading book call Takes = take_of reading book call

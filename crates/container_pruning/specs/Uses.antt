@@ -15,8 +15,8 @@ use Rattle.container_pruning.specs.declared.uses.Use.{Use}
 use Rattle.container_pruning.specs.declared.uses.Uses.{Uses}
 use Rattle.container_pruning.specs.Deals.{deal_of}
 
--- the call has been read, where all calls of the first callers have been, and the first ones of the
--- next caller
+-- the call is among those read so far: all calls of the callers before one, and the first calls of
+-- this one
 abbrev pub IsReadTo : ℕ → ℕ → Call → Type 0
 IsReadTo caller number call = (call.caller < caller)
     ⊎ ((call.caller ≡ caller) × (call.number < number))

@@ -25,7 +25,7 @@ TakesShowing reading book call shown = (op : ℕ) × (r : Record) × (operation_
 abbrev pub TakesOut : Reading → List Page → Call → ℕ → Type 0
 TakesOut reading book call v = TakesShowing reading book call (Some v)
 
--- the call is answered and wanted to take, but found nothing
+-- the call is an answered take that found nothing
 abbrev pub FindsNothing : Reading → List Page → Call → Type 0
 FindsNothing reading book call = TakesShowing reading book call None
 

@@ -29,8 +29,8 @@ pub record IsTwin (book : List Page) (next : List ℕ → ℕ → List ℕ × �
   pub serves : ((r : Record) × (record_of book a ≡ Some r) × DoesTheSame book next list a r b)
       ⊎ ((IsAnswered book a → ⊥) × (IsAnswered book b → ⊥))
 
--- In a book with one open, where places continue an order and a twin serves for the first call,
--- some places that begin with the twin continue the order too, and they are no more.
+-- In a book with one open, where places continue an order and a twin serves for the first call, as
+-- many or fewer places that begin with the twin continue it too.
 abbrev pub TwinServes : Type 0
 TwinServes = (book : List Page) (next : List ℕ → ℕ → List ℕ × ℕ) (cut list : List ℕ) (a : Call)
     (place : Place) (rest : List Place)

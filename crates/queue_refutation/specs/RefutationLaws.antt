@@ -31,7 +31,7 @@ UnansweredPairsAreIdle = (reading : Reading) (book : List Page) (s : Paired) (pa
     → length book ≤ length s.takes → IsUnanswered book pair
     → AreSteps reading book s (Pairs pair ∷ steps) → AreSteps reading book s steps
 
--- A pair that may stand next serves for itself.
+-- A pair that may come next serves for itself.
 abbrev pub PairsServeForThemselves : Type 0
 PairsServeForThemselves = (reading : Reading) (book : List Page) (s : Paired) (pair : Pair)
     → MayPair reading book s pair → PairServesFor reading book s pair pair

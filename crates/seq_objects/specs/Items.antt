@@ -59,7 +59,7 @@ length-without list place =
     let joined = length-append (take place list) (drop (suc place) list) in
     omega (arith, joined, length-take place list, length-drop (suc place) list)
 
--- Where nothing is found the first doesn't pass, and nothing is found after it.
+-- Where no item of a list passes, the first one doesn't, and none after it does.
 pub not-found : {X : Type 0} (p : X → Bool) (x : X) (xs : List X)
     → is_some (find p (x ∷ xs)) ≡ false
     → (p x ≡ false) × (is_some (find p xs) ≡ false)

@@ -26,7 +26,7 @@ abbrev pub HasKeysOnce : List ℕ → Type 0
 HasKeysOnce [] = Unit {0}
 HasKeysOnce (item ∷ rest) = LacksKey (key_of item) rest × HasKeysOnce rest
 
--- After a put its key has the value.
+-- After a put of a value for a key, the key has this value.
 abbrev pub PutIsGot : Type 0
 PutIsGot = (list : List ℕ) (key value : ℕ) → value < 2 ^ 32
     → got (after_put list key value) key ≡ reply_value value
@@ -41,7 +41,7 @@ abbrev pub DeleteLeavesOthers : Type 0
 DeleteLeavesOthers = (list : List ℕ) (key other : ℕ) → other ≢ key
     → got (after_delete list key) other ≡ got list other
 
--- After a delete its key has no value, where no two items have one key.
+-- After a delete of a key, the key has no value, where no two items have one key.
 abbrev pub DeletedIsNone : Type 0
 DeletedIsNone = (list : List ℕ) (key : ℕ) → HasKeysOnce list
     → got (after_delete list key) key ≡ reply_none

@@ -35,9 +35,9 @@ IsServedFrom served book list (set ∷ sets) =
     (after : List ℕ) × (served list (operations_of book set) ≡ Some (after, replies_of set))
     × IsServedFrom served book after sets
 
--- A legal set order of a book, for the object that begins with init and serves a list of operations
--- at once (Neiger 1994). An unanswered call may stand in it with the reply that the object gives,
--- or be left out.
+-- A legal set order of a book, for the object with the first list `init`, which serves a list of
+-- operations at once (Neiger 1994). An unanswered call may stand in it with the reply that the
+-- object gives, or be left out.
 pub record IsLegalSetOrder (init : List ℕ) (served : List ℕ → List ℕ → Option (List ℕ × List ℕ))
     (book : List Page) (order : List (List Place)) : Type 0 where
   -- no set is empty

@@ -46,7 +46,7 @@ counter_words op nothing = operation_words-unknown Counter op (counter_unknown o
 pub as_counter : (op : ℕ) → is_join op ≡ false → join_words op ≡ operation_words Counter op
 as_counter op nothing = words-other op nothing ∙ sym (counter_words op nothing)
 
--- 'join' begins no word of an operation that joins nothing
+-- the words of an operation that joins nothing don't begin with 'join'
 pub not_other : (op : ℕ) (x y : List (List ℕ)) → codes "join" ∷ x ≡ other_word op ∷ y → ⊥
 not_other op x y e =
     let first : codes "join" ≡ other_word op =

@@ -24,8 +24,8 @@ IsListedBefore a b = (a.caller < b.caller) ⊎ ((a.caller ≡ b.caller) × (a.nu
 
 -- One event of a sketch comes before another.
 abbrev pub ComesBefore : List Page → Event → Event → Type 0
--- An invocation comes before another where no view holds the other alone, and calls that the same
--- views hold, or none, are invoked by caller and then by number.
+-- Call a is invoked before call b where each view that holds b holds a; calls that the same views
+-- hold are invoked by caller and then by number.
 ComesBefore book (Invoke a) (Invoke b) = IsSeenWith book a b
     × (IsSeenWith book b a → IsListedBefore a b)
 -- An invocation comes before a return where the view of the returning call holds the invoked one.

@@ -50,7 +50,7 @@ turn_of Turns = 19
 turn_of End = 20
 turn_of Rest = 21
 
--- Of the tests of a line it fails this one, and no earlier one.
+-- A line fails this test, and none with an earlier turn.
 pub record IsFirstTest (Fails : What → Type 0) (what : What) : Type 0 where
   pub fails : Fails what
   pub first : (other : What) → turn_of other < turn_of what → Fails other → ⊥

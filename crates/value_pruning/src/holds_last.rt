@@ -38,8 +38,8 @@ pub fn narrow_holds_last<R: Reader>(
     // Each caller that the answer marks was marked.
     ensures fewer { IsMarkedWithin result marks }
     // For each object that holds the value written last, and holds this one: where places continue
-    // an order from here, some that begin with the next call of a caller that the answer marks do,
-    // and they are no more.
+    // an order from here, as many or fewer that begin with the next call of a caller that the
+    // answer marks do too.
     ensures suffice { (held_in : List ℕ → ℕ) (next : List ℕ → ℕ → List ℕ × ℕ) (list : List ℕ)
         → HoldsLast (R.reading reader.now) held_in next
         → held_in list ≡ held → MarksSuffice book.now next cut.now list result }
