@@ -7,7 +7,8 @@ use Rattle.book_base.specs.Next.{list_after, Continues}
 use Rattle.book_base.specs.Pruning.{HasOneOpen}
 
 -- In a book with one open, where places continue an order and the first is an unanswered call that
--- doesn't change the list, as many or fewer places than those after it continue the order too.
+-- doesn't change the list, the order is also continued by places of which there are no more than
+-- after that call.
 abbrev pub IdleMayBeLeftOut : Type 0
 IdleMayBeLeftOut = (book : List Page) (next : List ℕ → ℕ → List ℕ × ℕ) (cut list : List ℕ)
     (place : Place) (rest : List Place)
