@@ -47,7 +47,8 @@ pub trait SeqObject {
     fn step(&self, state: &mut State, op: OpWord) -> u64
         // The state has capacity for one word more.
         requires { length state.old.words < state.old.room }
-        // The list becomes the one that follows it by the operation, and the capacity stays.
+        // The list becomes the one that follows it by the operation, and the capacity doesn't
+        // change.
         ensures list { state.new
             ≡ record state.old { words = (next self.now state.old.words op).0 } }
         // The answer is the object's reply to the operation at the list before.

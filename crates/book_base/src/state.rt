@@ -7,6 +7,7 @@ use std::alloc::Global;
 use std::marker::Model;
 
 /// The state of a sequential object: a list of words with a fixed capacity, in the code `room`.
+///
 /// The list is never longer than its capacity, which is taken when the state is made, so that no
 /// later call but [`State::copy`] takes memory.
 #[derive(Debug, Drop)]

@@ -17,6 +17,7 @@ use text_fields::{Lines, OpText, Version};
 
 /// The book whose calls the lines give, by the words of these operations; the lines after them are
 /// left.
+///
 /// `calls` has the number of calls of each of the `n` callers. A text fault is the first fault of
 /// the lines of the calls. After a refusal the lines stay as they were.
 pub fn read_calls<T: OpText>(

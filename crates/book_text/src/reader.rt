@@ -17,6 +17,7 @@ use std::alloc::Global;
 use text_fields::{KindWords, Lines, Version, read_head_of};
 
 /// The book that the bytes are the text of, in version 2, and the kind of its object.
+///
 /// A text fault names the first wrong line, and the first test that this line fails.
 pub fn read_book(alloc: Global, bytes: &[u8]) -> Result<(Kind, Book), ReadFault>
     // A book that was read is the one that the bytes are the text of.
@@ -37,6 +38,7 @@ pub fn read_book(alloc: Global, bytes: &[u8]) -> Result<(Kind, Book), ReadFault>
 }
 
 /// The book that the bytes are the text of, in version 1, and the kind of its object.
+///
 /// A text fault names the first wrong line, and the first test that this line fails.
 pub fn read_book1(alloc: Global, bytes: &[u8]) -> Result<(Kind, Book), ReadFault>
     // A book that was read is the one that the bytes are the text of.

@@ -18,6 +18,7 @@ pub enum BookVerdict {
 }
 
 /// Judges the book that the bytes are the text of.
+///
 /// A text fault names the first wrong line, and the first test that this line fails.
 pub fn verify(alloc: Global, bytes: &[u8]) -> Result<BookVerdict, ReadFault>
     // A verdict is that on the book that the bytes are the text of.

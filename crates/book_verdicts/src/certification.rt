@@ -13,6 +13,7 @@ use std::alloc::Global;
 
 /// The text of a certificate of the book that the bytes are the text of: the book, with a legal
 /// order of it. There is none where the book has no legal order.
+///
 /// A text fault names the first wrong line, and the first test that this line fails.
 pub fn certify(alloc: Global, bytes: &[u8]) -> Result<Option<Vec<u8>>, ReadFault>
     // A text that is answered certifies the book that the bytes are the text of, and none is

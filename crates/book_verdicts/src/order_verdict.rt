@@ -17,6 +17,7 @@ pub enum OrderVerdict {
 }
 
 /// Judges the certificate that the bytes are the text of.
+///
 /// A text fault names the first wrong line, and the first test that this line fails.
 pub fn order(alloc: Global, bytes: &[u8]) -> Result<OrderVerdict, ReadFault>
     // A verdict is that on the certificate that the bytes are the text of.

@@ -17,6 +17,7 @@ use std::alloc::Global;
 use text_fields::Lines;
 
 /// The certificate that the bytes are the text of.
+///
 /// A text fault names the first wrong line, and the first test that this line fails. The lines of
 /// the book are refused as in a book's text, and whether its calls are those that the order names
 /// is no question of the text.

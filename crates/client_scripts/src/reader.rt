@@ -19,6 +19,7 @@ use std::alloc::Global;
 use text_fields::{KindWords, Lines, Version, read_head_of};
 
 /// The script that the bytes are the text of, in version 2.
+///
 /// A text fault names the first wrong line, and the first test that this line fails.
 pub fn read_script(alloc: Global, bytes: &[u8]) -> Result<Script, ReadFault>
     // A script that was read is the one that the bytes are the text of.
@@ -39,6 +40,7 @@ pub fn read_script(alloc: Global, bytes: &[u8]) -> Result<Script, ReadFault>
 }
 
 /// The script that the bytes are the text of, in version 1.
+///
 /// A text fault names the first wrong line, and the first test that this line fails.
 pub fn read_script1(alloc: Global, bytes: &[u8]) -> Result<Script, ReadFault>
     // A script that was read is the one that the bytes are the text of.

@@ -15,8 +15,8 @@ use std::alloc::Global;
 /// The pruning rules of a queue's book (after Henzinger, Sezgin and Vafeiadis 2013): where the take
 /// of x precedes the take of v, x is put in before v; a take that finds nothing and precedes the
 /// take of v comes before the put of v; what no answered call takes is put in after whatever is
-/// taken, and after the takes that find nothing, of those takes that precede each unanswered one;
-/// and no value is taken more often than it is put in.
+/// taken by takes that precede each unanswered take, and after such takes that find nothing; and no
+/// value is taken more often than it is put in.
 pub fn queue_pruning_rules<R: Reader>(
     alloc: Global,
     reader: &R,
@@ -38,8 +38,8 @@ pub fn queue_pruning_rules<R: Reader>(
 /// The pruning rules of a stack's book: where the take of x precedes the take of v, v isn't put on
 /// x, so that a put of v which precedes the take of x comes before the put of x; a take that finds
 /// nothing and precedes the take of v comes before the put of v; what no answered call takes is put
-/// on nothing that is taken, and after the takes that find nothing, of those takes that precede
-/// each unanswered one; and no value is taken more often than it is put in.
+/// on nothing that is taken by takes that precede each unanswered take, and after such takes that
+/// find nothing; and no value is taken more often than it is put in.
 pub fn stack_pruning_rules<R: Reader>(
     alloc: Global,
     reader: &R,

@@ -28,7 +28,7 @@ pub fn joins_are_served_at_once()
     // An operation that joins nothing doesn't change a list of two words, and replies `bad`.
     ensures alone { served_joins (6 ∷ 9 ∷ []) (4294967328 ∷ [])
         ≡ Some (6 ∷ 9 ∷ [], reply_bad ∷ []) }
-    // No operations at all don't change the list, and there are no replies.
+    // Without operations the list doesn't change, and there are no replies.
     ensures none { served_joins (6 ∷ 9 ∷ []) [] ≡ Some (6 ∷ 9 ∷ [], []) }
 {}
 

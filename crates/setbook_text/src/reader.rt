@@ -19,6 +19,7 @@ use std::alloc::Global;
 use text_fields::{Lines, Version, Words, are_words, callers_of, calls_of};
 
 /// The set book that the bytes are the text of, in version 2.
+///
 /// A text fault names the first wrong line, and the first test that this line fails.
 pub fn read_setbook(alloc: Global, bytes: &[u8]) -> Result<Book, ReadFault>
     // A set book that was read is the one that the bytes are the text of.

@@ -131,7 +131,7 @@ fn earlier(book: &Book, a: Call, b: Call) -> Call
     }
 }
 
-/// The numbers of all callers' calls.
+/// How many calls each caller of the book made, as a cut.
 pub fn announced(book: &Book) -> Cut
     // The answer is how many calls each caller of the book made.
     ensures { result ≡ announced book.now }

@@ -66,7 +66,7 @@ impl<'a> Lines<'a> {
         self.number
     }
 
-    /// Another cursor at the same place, to read ahead with.
+    /// A copy of the cursor, to read ahead with.
     pub fn copy(&self) -> Lines<'a>
         ensures { result ≡ self.now }
     {

@@ -34,7 +34,7 @@ pub trait OpText {
             let others = further (option_copied second.entry) (option_copied third.entry) in
             ¬ (IsSpelled (operations self.now) (first.now ∷ others) op used)) };
 
-    /// No operation's words begin another's.
+    /// No operation's words are a prefix of another one's.
     ghost one_operation: { (text : Self) (a b : ℕ) (x y : List (List ℕ))
         → IsTrue ((operations text).has a) → IsTrue ((operations text).has b)
         → (operations text).words a ++ x ≡ (operations text).words b ++ y → a ≡ b };
