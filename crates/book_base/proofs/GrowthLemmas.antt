@@ -96,7 +96,8 @@ IsSmall-unanswered_book calls some few small = record {
   );
 }
 
--- the pages of unanswered calls of one caller more
+-- the unanswered calls of the first callers, with the page of the next caller, are those of one
+-- caller more
 pub unanswered_book-more : (book : List Page) (calls : List ℕ) (i : ℕ) (p : Page) → i < length calls
     → book ≡ unanswered_book (take i calls) → p ≡ unanswered_page (get_or calls i 0)
     → book ++ p ∷ [] ≡ unanswered_book (take (i + 1) calls)
@@ -157,7 +158,7 @@ IsSmall-with_operation book call op h small =
 
 -- ---- one more call
 
--- how many calls each caller has after one more call
+-- with one more call no caller has fewer calls
 pub calls_of-with_call : (book : List Page) (i op j : ℕ) → i < length book
     → calls_of book j ≤ calls_of (with_call book i op) j
 calls_of-with_call book i op j h =
@@ -218,7 +219,7 @@ IsSmall-with_call book i op h room small =
 
 -- ---- one more answer
 
--- one more answer changes no call
+-- one more answer changes no caller's number of calls
 pub calls_of-with_answer : (book : List Page) (i : ℕ) (r : Record) (j : ℕ) → i < length book
     → calls_of (with_answer book i r) j ≡ calls_of book j
 calls_of-with_answer book i r j h =
@@ -366,7 +367,7 @@ answers_are_recorded =
       ];
     }
 
--- an answer that makes a book which is valid may be given
+-- an answer with which the book is valid is one that may be given
 pub MayAnswer-from_valid : (book : List Page) (i : ℕ) (r : Record) → i < length book
     → IsValid (with_answer book i r) → MayAnswer book i r.view
 MayAnswer-from_valid book i r h valid =

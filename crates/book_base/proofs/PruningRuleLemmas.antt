@@ -74,7 +74,7 @@ call_bound_of-with_call_bound_other known call call_bound other has apart =
           (sym caller)))
     ]
 
--- each call that had a bound has one after another bound was changed
+-- each call that had a bound still has one after a bound was changed
 pub has_call_bound-with_call_bound : (known : Known) (call : Call) (call_bound : CallBound)
     (other : Call) → HasCallBound known call
     → HasCallBound known other → HasCallBound (with_call_bound known call call_bound) other
@@ -149,7 +149,7 @@ set_at_most [] i v = omega arith
 set_at_most (x ∷ xs) zero v = omega arith
 set_at_most (x ∷ xs) (suc i) v = set_at_most xs i v
 
--- where a cut lacks a call that must come first, the call after it is infeasible
+-- where a cut lacks a call that must come before another one, the other one is infeasible
 infeasible_from_first : (init : List ℕ) (next : List ℕ → ℕ → List ℕ × ℕ) (book : List Page)
     (cut list : List ℕ) (call other : Call) → MustComeFirst init next book other call
     → (Holds cut other → ⊥) → IsInfeasible init next book cut list call

@@ -16,7 +16,7 @@ use Rattle.book_base.specs.PruningRules.{list_after_run, Reaches}
 use Rattle.book_base.specs.PruningRuleLaws.{NoPlacesReachTheStart, OneMorePlaceReachesOn, OneCutIsReached, PrecedingComesFirst, ReadOnlyMayBeLeftOut, WhatStandsIsNotInfeasible}
 use Rattle.book_base.proofs.ViewLemmas.{same_call}
 
--- the object's list after one more place
+-- the object's list after one more place is the one that its operation makes of the list before it
 list_after_run-push : (next : List ℕ → ℕ → List ℕ × ℕ) (book : List Page) (list : List ℕ)
     (before : List Place) (place : Place)
     → list_after_run next list (map (step_at book) (before ++ place ∷ []))

@@ -29,7 +29,7 @@ answer_stands book call h =
       | inr past ↦ absurd (omega (arith, past.0))
     ]
 
--- the view of a later call of a caller isn't smaller than that of an earlier one
+-- the view of a caller's call is within that of each later call of the caller
 pub views_grow : (book : List Page) → IsValid book → (a b : Call) (r s : Record) → record_of book a
     ≡ Some r → record_of book b ≡ Some s → a.caller ≡ b.caller → a.number ≤ b.number
     → (i : ℕ) → get_or r.view i 0 ≤ get_or s.view i 0
@@ -126,8 +126,8 @@ answered_at book i =
           ∙ sym (ap (λ (p : Page). length p.records) (page_past book i past))
     ]
 
--- Of a caller's calls this many are held by the views of the first callers' records that a cut
--- holds.
+-- Views of records that the cut holds hold this many of a caller's calls, and no view of such a
+-- record of the first callers holds more.
 pub record IsHeldTo (book : List Page) (cut : List ℕ) (caller other held : ℕ) : Type 0 where
   pub held_by : (number : ℕ) → number < held
       → IsHeldBySomeView book cut (record { caller = caller; number = number })
@@ -164,7 +164,8 @@ held_to_more book cut caller other held last so_far by_last most_last = record {
   ];
 }
 
--- the number of a caller's calls that the views of all callers' records held by the cut hold
+-- where the records of all callers were looked at, exactly the caller's calls below the number
+-- found are held by some view of a record that the cut holds
 pub held_from_all : (book : List Page) (cut : List ℕ) (caller other held : ℕ) → length book ≤ other
     → IsHeldTo book cut caller other held
     → (number : ℕ) → number < held

@@ -39,7 +39,8 @@ stands_in_prefix : (order : List Place) (n k : ℕ) (call : Call) → k < n → 
     → StandsAt (take n order) k call
 stands_in_prefix order n k call h s = (s.0, slice_get-take_within n order k h ∙ s.1, s.2)
 
--- the operations of calls of the book at a cut are those of the book
+-- the places of an order have the same operations and replies in two books that agree on the
+-- operations of its calls
 steps_in_part : (book part : List Page) (order : List Place)
     → ((k : ℕ) (call : Call) → StandsAt order k call
     → operation_of part call ≡ operation_of book call)

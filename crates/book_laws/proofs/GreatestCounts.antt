@@ -4,7 +4,7 @@ use Rattle.std.proofs.lemmas.Bool.{cases_lt}
 use Rattle.std.proofs.lemmas.Option.{same_Some, none-some}
 use Rattle.book_base.specs.BookAt.{greatest_count}
 
--- the greatest count of two lists of cuts is the greater one of theirs
+-- the greatest count of two joined lists of cuts is the greater one of theirs
 pub greatest_count-append : (xs ys : List (List ℕ)) (i : ℕ)
     → greatest_count (xs ++ ys) i ≡ max (greatest_count xs i) (greatest_count ys i)
 greatest_count-append [] ys i = omega arith

@@ -74,7 +74,7 @@ raised_cases cut i call h held =
           inl (subst (λ (n : ℕ). call.number < n) (raised_other cut i call.caller other) held)
     ]
 
--- two callers' counts may be raised in either order, with the same cut
+-- raising the counts of two callers in either order makes the same cut
 pub raised_twice : (cut : List ℕ) (i j : ℕ) → i ≢ j
     → raised (raised cut i) j ≡ raised (raised cut j) i
 raised_twice cut i j apart =
@@ -126,8 +126,7 @@ same_place a b caller number reply =
     ap (λ (i : ℕ). made i a.number a.reply) caller
     ∙ (ap (λ (n : ℕ). made b.caller n a.reply) number ∙ ap (made b.caller b.number) reply)
 
--- a call that is in an order, and that the cut raised by the first place doesn't hold, isn't at the
--- first place
+-- a call that the cut raised by a place's call doesn't hold isn't the call of this place
 not_first : (cut : List ℕ) (place : Place) (call : Call) → place.caller < length cut
     → place.number ≡ get_or cut place.caller 0
     → get_or (raised cut place.caller) call.caller 0 ≤ call.number → call_at place ≡ call → ⊥
@@ -140,7 +139,7 @@ not_first cut place call inside at out is =
 nothing_stands : (k : ℕ) (call : Call) → StandsAt [] k call → ⊥
 nothing_stands k call (place, at, is) = none-some place at
 
--- The first place and the rest after it, each with the properties that a legal rest needs of it.
+-- A place that may come next, and the rest of a legal order after it.
 record Parts (book : List Page) (next : List ℕ → ℕ → List ℕ × ℕ) (cut list : List ℕ) (place : Place)
     (rest : List Place) : Type 0 where
   first : MayStandNext book next cut list place

@@ -82,7 +82,7 @@ overtaken_at_early = refl
 seen_is_valid : IsValid overtaken_seen
 seen_is_valid = stays_valid overtaken (2 ∷ 1 ∷ []) overtaken_is_valid
 
--- the first call of the order is the put of 6 by caller 1
+-- no answered next call precedes the first call of the order, the put of 6 by caller 1
 first_is_free : (i : ℕ) → IsAnswered overtaken_seen (next_call (0 ∷ 0 ∷ []) i)
     → Precedes overtaken_seen (next_call (0 ∷ 0 ∷ []) i) (record { caller = 1; number = 0 }) → ⊥
 first_is_free zero h p = elim p [ inl answered ↦ omega arith | inr own ↦ omega (arith, own.0) ]
@@ -92,14 +92,14 @@ first_is_free (suc zero) h p = elim p [
 ]
 first_is_free (suc (suc i)) h p = omega (arith, h)
 
--- the second call of the order is the put of 5 by caller 0
+-- no answered next call precedes the second call of the order, the put of 5 by caller 0
 second_is_free : (i : ℕ) → IsAnswered overtaken_seen (next_call (0 ∷ 1 ∷ []) i)
     → Precedes overtaken_seen (next_call (0 ∷ 1 ∷ []) i) (record { caller = 0; number = 0 }) → ⊥
 second_is_free zero h p = elim p [ inl answered ↦ omega arith | inr own ↦ omega (arith, own.1) ]
 second_is_free (suc zero) h p = omega (arith, h)
 second_is_free (suc (suc i)) h p = omega (arith, h)
 
--- the third call of the order is the take of caller 0
+-- no answered next call precedes the third call of the order, the take of caller 0
 third_is_free : (i : ℕ) → IsAnswered overtaken_seen (next_call (1 ∷ 1 ∷ []) i)
     → Precedes overtaken_seen (next_call (1 ∷ 1 ∷ []) i) (record { caller = 0; number = 1 }) → ⊥
 third_is_free zero h p = elim p [ inl answered ↦ omega arith | inr own ↦ omega (arith, own.1) ]
@@ -160,8 +160,7 @@ pub overtaking_is_too_long : IsLegalOrder [] line_next overtaken_early overtakin
 overtaking_is_too_long h =
     omega (arith, h.calls 2 (record { caller = 0; number = 1 }) (stand 0 1 6, refl, refl))
 
--- the order without its second place lacks caller 0's first call, which is answered at the early
--- cut
+-- the first place alone lacks caller 0's first call, which is answered at the early cut
 no_second : (k : ℕ) → slice_get (stand 1 0 0 ∷ []) k ≡ Some (stand 0 0 0) → ⊥
 no_second zero e =
     let same : stand 1 0 0 ≡ stand 0 0 0 = same_Some (stand 1 0 0) (stand 0 0 0) e in

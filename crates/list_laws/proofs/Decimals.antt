@@ -20,7 +20,7 @@ decimal_byte n i small inside = digit_at (decimal n) i (digits_decimal numerals 
 abbrev pub BeginsAsNumber : List ℕ → Type 0
 BeginsAsNumber word = (word ≡ 48 ∷ []) ⊎ IsInRange 49 57 (get_or word 0 0)
 
--- a number's text begins as such a text may
+-- the text of a number begins as the text of a number may
 pub BeginsAsNumber-decimal : (n : ℕ) → n < 2 ^ 64 → BeginsAsNumber (decimal n)
 BeginsAsNumber-decimal zero small = inl (decimal_digit 0 (omega arith))
 BeginsAsNumber-decimal (suc n) small =
@@ -39,7 +39,7 @@ single_zero : (word : List ℕ) → BeginsAsNumber word → get_or word 0 0 ≡ 
 single_zero word (inl zero_alone) _ = rw zero_alone
 single_zero word (inr digit) zero_first = absurd (omega arith)
 
--- a word that begins as a number's text is read as the number whose text it is
+-- where a word that begins as a number's text is read as a number, it is this number's text
 pub IfSome-parsed : {E : Type 0} (word : List ℕ) (r : Result ℕ E) → BeginsAsNumber word
     → ParsesUnsigned 64 10 word r → IfSome (result_ok r) (λ n. decimal n ≡ word)
 IfSome-parsed {E} word (Ok n) begins parses =
@@ -51,7 +51,7 @@ IfSome-parsed {E} word (Ok n) begins parses =
     (decimal-digits_value numerals word plain.0.0 plain.0.1 (single_zero word begins) plain.0.2)
 IfSome-parsed word (Err e) begins parses = tt
 
--- a word that isn't read as a number is no number's text
+-- a word that isn't read as a number is the text of no number below 2 ^ 64
 pub IfNone-parsed : {E : Type 0} (word : List ℕ) (r : Result ℕ E) → ParsesUnsigned 64 10 word r
     → IfNone (result_ok r) ((n : ℕ) → n < 2 ^ 64 → decimal n ≢ word)
 IfNone-parsed word (Ok n) parses = tt

@@ -70,7 +70,8 @@ are_distinct-inside same symmetric (z ∷ zs) x y distinct x_in y_in agree =
       ]
     ]
 
--- what is found among the values of a function is the function's value of what is found
+-- the first value of a function that passes a test is its value on the first element whose value
+-- passes
 pub find-map : {X Y : Type 0} (f : X → Y) (p : Y → Bool) (xs : List X)
     → find p (map f xs) ≡ option_map f (find (λ x. p (f x)) xs)
 find-map f p [] = refl

@@ -1,4 +1,4 @@
--- Words cut at the first byte of a value that the part before it lacks: both parts are known.
+-- Words that are cut at the first place of a byte: the parts before and after it are determined.
 use Rattle.std.proofs.Common.{◌≡◌, ◌≢◌, ℕ, ◌^◌, ◌<◌, false, eqb, List, [], ◌∷◌, ◌++◌, get_or, decimal, sym, refl, ne_eqb}
 use Rattle.std.specs.Int.{IsInRange}
 use Rattle.std.proofs.lemmas.Bool.{both_ways, eq-eqb}

@@ -29,7 +29,7 @@ pub some_from_is_some_and : {X : Type 0} (o : Option X) (P : X → Type 0) → I
 some_from_is_some_and None P h = absurd h
 some_from_is_some_and (Some x) P h = (x, refl)
 
--- what follows from a property of an empty option follows where the option is empty
+-- what holds where an option is empty may be replaced by what follows from it
 pub IfNone_then : {X P Q : Type 0} (o : Option X) → IfNone o P → (P → Q) → IfNone o Q
 IfNone_then None holds gives = gives holds
 IfNone_then (Some x) holds gives = tt
@@ -40,7 +40,8 @@ pub and_then_some : {X Y : Type 0} (o : Option X) (f : X → Option Y) (y : Y)
 and_then_some None f y e = absurd cc
 and_then_some (Some x) f y e = (x, refl, e)
 
--- where an option has a value after a function is applied, it has one before
+-- where an option has a value after a function is applied, this is the function's value on the one
+-- that the option had before
 pub map_some : {X Y : Type 0} (o : Option X) (f : X → Y) (y : Y) → option_map f o ≡ Some y → (x : X)
     × (o ≡ Some x) × (f x ≡ y)
 map_some None f y e = absurd cc

@@ -60,8 +60,8 @@ same_first before x y xs ys (suc j) (suc k) a b apart at bt =
     absurd (apart x y (0, refl) (suc j, at) (a 0 (suc j) x y refl at (omega arith))
     (b 0 (suc k) y x refl bt (omega arith)))
 
--- an element after the first one of an ordered list is after the first one of another ordered list
--- with the same elements
+-- an element after the first one of an ordered list is after the first one of each list that has it
+-- and begins with the same first one
 same_rest : {X : Type 0} (before : X → X → Type 0) (x y : X) (xs ys : List X) (z : X) (j k : ℕ)
     → IsOrderedBy before (x ∷ xs)
     → IsAsymmetricIn before (x ∷ xs) → x ≡ y → slice_get xs j ≡ Some z

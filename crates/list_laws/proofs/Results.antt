@@ -22,7 +22,7 @@ pub if_ok : {T E : Type 0} (b : Bool) (x y : T) (d : E) → cond b (Ok x) (Err d
 if_ok true x y d e = (refl, cc)
 if_ok false x y d e = absurd cc
 
--- what follows from a property after an error follows after an error
+-- what holds after an error may be replaced by what follows from it
 pub OnErr_then : {T E P Q : Type 0} (r : Result T E) → OnErr r P → (P → Q) → OnErr r Q
 OnErr_then (Ok x) holds gives = tt
 OnErr_then (Err e) holds gives = gives holds
