@@ -65,7 +65,7 @@ counted_same deal read more v used grows puts takes is = record {
   different = is.different;
 }
 
--- one more call that neither puts the value in nor takes it out
+-- one more call that neither puts the value in nor takes it out changes no count
 counted_skip : (deal : Call → Deal) (i n v : ℕ) (used : Use)
     → (deal (call_of i n) ≡ deals.Put v → ⊥) → (deal (call_of i n) ≡ deals.Took v → ⊥)
     → IsCounted deal (IsReadTo i n) v used → IsCounted deal (IsReadTo i (n + 1)) v used
@@ -122,7 +122,7 @@ taker_cases deal i n v calls took only zero c at =
 taker_cases deal i n v calls took only (suc k) c at = let o = only k c at in
     (read_more i n c o.0, o.1)
 
--- one more call that takes the value out
+-- one more call that takes the value out adds one to the count of takes
 counted_take : (deal : Call → Deal) (i n v : ℕ) (used : Use) → deal (call_of i n) ≡ deals.Took v
     → IsCounted deal (IsReadTo i n) v used
     → IsCounted deal (IsReadTo i (n + 1)) v (record used { takes = used.takes + 1 })
@@ -305,7 +305,7 @@ lowered xs i n =
       omega (arith, here),
     )
 
--- a call that is read once all callers up to one are read is read once all calls of this one are
+-- once all calls of a caller are read, each call with a deal of a caller up to this one is read
 read_to_next : (reading : Reading) (book : List Page) (i : ℕ) (c : Call)
     → (deal_of reading book c ≡ deals.Other → ⊥) → IsReadTo (i + 1) 0 c
     → IsReadTo i (calls_of book i) c

@@ -110,7 +110,7 @@ deal_of_take reading book call v h =
     ap (deal_by_operation reading book call) h.2 ∙ (ap (deal_by_deed reading book call) h.4
     ∙ (ap (recorded_deal reading) h.3 ∙ ap shown_deal h.5))
 
--- a call with the deal of a put or a take is a call of the book
+-- a call with another deal than `Other` is a call of the book
 pub call_by_deal : (reading : Reading) (book : List Page) (call : Call)
     → (deal_of reading book call ≡ deals.Other → ⊥) → IsCall book call
 call_by_deal reading book call some = elim (cases_Option (operation_of book call)) [

@@ -115,7 +115,8 @@ abbrev pub IsEnd : List Page → Known → List ℕ → Type 0
 IsEnd book known cut = (i : ℕ) → IsCall book (next_call cut i)
     → IsBlocked book known cut (next_call cut i)
 
--- no legal order has a first place outside the cut
+-- where each caller's next call after a cut is blocked, no legal order has a first place outside
+-- the cut
 none_outside : (init : List ℕ) (next : List ℕ → ℕ → List ℕ × ℕ) (book : List Page) (known : Known)
     (cut : List ℕ) (order : List Place) → ArePruningRules init next book known
     → IsEnd book known cut
@@ -170,7 +171,7 @@ none_outside init next book known cut order right ends legal p place at before o
       ]
     ]
 
--- all calls of a legal order are in the cut
+-- where each caller's next call after a cut is blocked, the cut holds all calls of a legal order
 all_inside : (init : List ℕ) (next : List ℕ → ℕ → List ℕ × ℕ) (book : List Page) (known : Known)
     (cut : List ℕ) (order : List Place) → ArePruningRules init next book known
     → IsEnd book known cut
@@ -198,7 +199,8 @@ all_inside init next book known cut order right ends legal (suc p) k call lt sta
       ]
     ]
 
--- a book with an answered call outside the cut has no legal order
+-- where each caller's next call after a cut is blocked, a book with an answered call outside the
+-- cut has no legal order
 pub ends_too_early : (init : List ℕ) (next : List ℕ → ℕ → List ℕ × ℕ) (book : List Page)
     (known : Known) (cut : List ℕ) → ArePruningRules init next book known → IsEnd book known cut
     → ((call : Call) × IsAnswered book call × (¬ Holds cut call)) → ¬ HasLegalOrder init next book

@@ -179,7 +179,8 @@ view_below book valid a c r s at_a at_c few i = elim (valid.comparable c a s r a
       chain_within r.view s.view (valid.wide a r at_a ∙ sym (valid.wide c s at_c)) within few i
 ]
 
--- an answered call whose view counts no more calls precedes all that the other call precedes
+-- an answered call whose view counts no more calls than that of another one precedes all that the
+-- other one precedes
 precedes_below : (book : List Page) → IsValid book → (a b c : Call) (r s : Record)
     → record_of book a ≡ Some r → record_of book c ≡ Some s → sum s.view ≤ sum r.view
     → Precedes book a b → Precedes book c b

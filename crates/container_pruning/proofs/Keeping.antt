@@ -1,5 +1,5 @@
--- Values that no answered call takes: only an unanswered take may take them, and a call that
--- precedes each unanswered take comes before that one.
+-- Values that no answered call takes: only an unanswered take may take them, so that a call that
+-- precedes each unanswered take comes before they are taken.
 use Rattle.std.proofs.Common.{◌≡◌, ℕ, suc, ◌<◌, ◌≤◌, ◌⊎◌, ◌∙◌, List, [], take, unwrap_or, Option, Some, None, refl, sym, ap, inl, inr, slice_get, arith}
 use Rattle.std.proofs.lemmas.Bool.{cases_lt}
 use Rattle.std.proofs.lemmas.Option.{same_Some, none-some}

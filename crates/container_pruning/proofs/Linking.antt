@@ -153,7 +153,7 @@ no_rows reading book discipline links none open_ = record {
   refused = λ so. absurd (true≢false (sym so ∙ open_));
 }
 
--- the links with one more row
+-- links with one more row of right links are right for each call
 pub row_more : (reading : Reading) (book : List Page) (discipline : Discipline) (caller : ℕ)
     (links : Links) (row : List Link) (rows : List (List Link))
     → length links.rows.items ≡ caller → rows

@@ -25,7 +25,7 @@ small_call book call small is = (
   omega (arith, small.calls call.caller, is),
 )
 
--- a past that has passed no call
+-- a past without a bound or a limit, that has passed no call, comes from any calls
 pub none_is_past : (P : Call → Type 0) (book : List Page) (links : Links) (past : Past)
     → past.passed ≡ replicate (length book) 0 → past.predecessor_bound ≡ replicate (length book) 0
     → past.limit ≡ 0
@@ -42,7 +42,8 @@ none_is_past P book links past passed predecessor_bound limit =
       limit = inl limit;
     }
 
--- the count of a raised predecessor bound at a caller
+-- a raised predecessor bound counts of each caller as many calls as before, or those up to the call
+-- by which it was raised
 raised_at : (predecessor_bound : List ℕ) (first : Call) (i : ℕ)
     → first.caller < length predecessor_bound
     → (get_or (raised_to predecessor_bound (Some first)) i 0 ≡ get_or predecessor_bound i 0)
@@ -148,7 +149,7 @@ past_more P book links old new a link small calls is passed at predecessor_bound
       ];
     }
 
--- what a call's link needs of a predecessor bound so that the call may be passed
+-- a call that a right link names has a caller and a number that a predecessor bound may count
 pub may_pass : (book : List Page) (links : Links) (a : Call) (link : Link)
     (predecessor_bound : List ℕ)
     → IsSmall book → AreLinksOf book links → link ≡ link_at links a
@@ -185,7 +186,7 @@ past_wider P Q book links past grows is = record {
   ];
 }
 
--- a past with other numbers of calls that were passed
+-- a past stays right with other numbers of calls that were passed
 pub past_counted : (P : Call → Type 0) (book : List Page) (links : Links) (old new : Past)
     → IsPast P book links old → new.predecessor_bound ≡ old.predecessor_bound
     → new.limit ≡ old.limit

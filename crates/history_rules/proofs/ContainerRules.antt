@@ -16,7 +16,8 @@ use Rattle.history_rules.proofs.Counting.{how_often, how_often-grows, how_often-
 use Rattle.history_rules.proofs.Runs.{step_of_run, holds_what_was_put}
 use Rattle.history_rules.proofs.Orders.{steps_of, answered_step, putting_step, put_alone, put_at_one_place}
 
--- what a container holds after a prefix of a run from empty
+-- after a prefix of a run from empty a value was put in as often as it was taken out and is still
+-- held, together
 pub held_after : (reading : Reading) (next : List ℕ → ℕ → List ℕ × ℕ) → IsContainer reading next
     → (v : ℕ) (list : List ℕ) (steps : List (ℕ × ℕ)) → IsRunFrom next list steps
     → reading.values list ≡ []

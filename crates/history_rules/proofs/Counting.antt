@@ -5,7 +5,7 @@ use Rattle.std.proofs.lemmas.Bool.{cases_eq, cases_lt, eq-eqb, ne_eqb}
 use Rattle.std.proofs.lemmas.Option.{same_Some, none-some}
 use Rattle.history_rules.specs.Container.{one_if, times}
 
--- one where an option shows this value, and else zero
+-- one where an option has this value, and else zero
 abbrev pub is_once : ℕ → Option ℕ → ℕ
 is_once v None = 0
 is_once v (Some w) = one_if (w == v)
@@ -35,7 +35,7 @@ how_often-grows f v [] (suc m) (suc n) le = omega arith
 how_often-grows f v (x ∷ xs) (suc m) (suc n) le =
     omega (arith, how_often-grows f v xs m n (omega arith))
 
--- a prefix shows a value once more than a shorter one where an item between the two ends shows it
+-- a prefix shows a value more often than a shorter one where an item between the two ends shows it
 pub how_often-more : {X : Type 0} (f : X → Option ℕ) (v : ℕ) (xs : List X) (k n : ℕ) (x : X)
     → slice_get xs k ≡ Some x → f x ≡ Some v → k < n
     → how_often f v (take k xs) + 1 ≤ how_often f v (take n xs)
@@ -60,7 +60,7 @@ how_often-found f v (x ∷ xs) (suc n) some = elim (is_once-cases v (f x)) [
       (suc found.0, found.1, omega (arith, found.2), found.3, found.4)
 ]
 
--- a value that is shown at one place only is shown once
+-- a value that is shown at one place only is shown at most once
 pub how_often-once : {X : Type 0} (f : X → Option ℕ) (v q : ℕ) (xs : List X) (n : ℕ)
     → ((k : ℕ) (x : X) → slice_get xs k ≡ Some x → f x ≡ Some v → k ≡ q)
     → how_often f v (take n xs) ≤ 1

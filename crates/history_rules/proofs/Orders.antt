@@ -28,7 +28,8 @@ place_of_step book [] k step e = absurd (none-some step e)
 place_of_step book (first ∷ rest) zero step e = (first, refl, same_Some (step_at book first) step e)
 place_of_step book (first ∷ rest) (suc k) step e = place_of_step book rest k step e
 
--- an effect that puts in a value, or takes one out, is the one of that name
+-- an effect with a value that it puts in is the put of this value, and one with a value that it
+-- takes out is a take
 put_from_value : (deed : Effect) (v : ℕ) → value_put deed ≡ Some v → deed ≡ Puts v
 put_from_value (Puts w) v e = ap Puts (same_Some w v e)
 put_from_value Takes v e = absurd (none-some v e)
@@ -49,7 +50,8 @@ has_operation book call h =
     slice_get-get_or (page_of book call.caller).operations call.number 0 h in
     there ∙ ap (λ (o : Option ℕ). Some (unwrap_or o 0)) (sym there)
 
--- the place and the step of an answered call in a legal order, with its recorded reply
+-- an answered take is at some place of a legal order, and the step there is a take that shows what
+-- the call's reply shows
 pub answered_step : (reading : Reading) (init : List ℕ) (next : List ℕ → ℕ → List ℕ × ℕ)
     (book : List Page) (order : List Place) → IsLegalOrder init next book order
     → (call : Call) (shown : Option ℕ) → TakesShowing reading book call shown
@@ -68,7 +70,7 @@ answered_step reading init next book order legal call shown h =
       h.5,
     )
 
--- the step of a call that puts in a value
+-- the step at the place of a call that puts in a value puts it in
 pub putting_step : (reading : Reading) (book : List Page) (order : List Place) (call : Call)
     (v k : ℕ) → PutsIn reading book call v → StandsAt order k call
     → (step : ℕ × ℕ) × (slice_get (steps_of book order) k ≡ Some step)

@@ -10,7 +10,7 @@ use Rattle.history_rules.specs.Container.{Effect, Puts, Takes, Neither, Reading,
 use Rattle.history_rules.proofs.Counting.{times-append}
 use Rattle.history_rules.proofs.Ranks.{rank, shown_at_rank, found_at_rank, rank-grows, rank-more}
 
--- a take that gives the first value gives one of the values
+-- a take that gives out the first of the values held gives out one of them
 gives_one : (before : List ℕ) (shown : Option ℕ) (after : List ℕ) → GivesFirst before shown after
     → GivesOne before shown after
 gives_one before None after h = h
@@ -41,7 +41,7 @@ cons_option-append : (o : Option ℕ) (xs ys : List ℕ)
 cons_option-append None xs ys = refl
 cons_option-append (Some v) xs ys = refl
 
--- what a queue holds after one more take
+-- what a queue held before a take is what the take takes out, followed by what the queue holds then
 queue_take : (before : List ℕ) (shown : Option ℕ) (after puts : List ℕ)
     → GivesFirst before shown after → before ++ puts ≡ cons_option shown (after ++ puts)
 queue_take before None after puts h = ap (λ (xs : List ℕ). xs ++ puts) (h.0 ∙ sym h.1)
@@ -80,7 +80,8 @@ queue_gives_in_order reading next is list (step ∷ steps) run =
     (queue_gives_in_order reading next is (next list step.0).0 steps run.1)
     ∙ cons_option-append (taken_by reading step) taken end))
 
--- From an empty queue, a value that is taken out before another one was put in before it.
+-- In a run from an empty queue, where x is taken out before v, and v is put in at one place only, x
+-- is put in before v.
 pub put_before : (reading : Reading) (next : List ℕ → ℕ → List ℕ × ℕ) → IsQueue reading next
     → (list : List ℕ) (steps : List (ℕ × ℕ)) → IsRunFrom next list steps → reading.values list ≡ []
     → (x v a b q : ℕ) (step_a step_b step_q : ℕ × ℕ) → slice_get steps a ≡ Some step_a

@@ -31,7 +31,8 @@ shown_at_rank f (y ∷ ys) zero x v e is =
 shown_at_rank f (y ∷ ys) (suc k) x v e is =
     cons_option-past (f y) (filter_map f ys) (rank f ys k) ∙ shown_at_rank f ys k x v e is
 
--- a value among all that are shown is shown by an item of its rank
+-- the value at some place among all that are shown is shown by an item of which this place is the
+-- rank
 found_in_prefix : {X : Type 0} (f : X → Option ℕ) (y : X) (ys : List X) (i v : ℕ) (o : Option ℕ)
     → f y ≡ o → slice_get (cons_option o (filter_map f ys)) i ≡ Some v
     → ((i : ℕ) → slice_get (filter_map f ys) i ≡ Some v → (k : ℕ) × (x : X)
@@ -63,7 +64,7 @@ rank-grows f xs (suc j) zero le = absurd (omega arith)
 rank-grows f [] (suc j) (suc k) le = omega arith
 rank-grows f (x ∷ xs) (suc j) (suc k) le = omega (arith, rank-grows f xs j k (omega arith))
 
--- the rank rises by one at each item that shows something
+-- the rank of an item that shows something is less than that of each later place
 pub rank-more : {X : Type 0} (f : X → Option ℕ) (xs : List X) (j k : ℕ) (x : X) (v : ℕ)
     → slice_get xs j ≡ Some x → f x ≡ Some v → j < k → rank f xs j < rank f xs k
 rank-more f [] j k x v e is lt = absurd (none-some x e)

@@ -23,7 +23,8 @@ step_of_run next list (first ∷ rest) zero step run e =
 step_of_run next list (first ∷ rest) (suc k) step run e =
     step_of_run next (next list first.0).0 rest k step run.1 e
 
--- a value that a take of a container takes out was held before
+-- what a container held before a take is what the take shows, with what the container holds
+-- afterwards
 container_take : (reading : Reading) (next : List ℕ → ℕ → List ℕ × ℕ) (list : List ℕ) (op v : ℕ)
     (shown : Option ℕ) → GivesOne (reading.values list) shown (reading.values (next list op).0)
     → times v (reading.values list) + 0
@@ -32,7 +33,8 @@ container_take reading next list op v None gives =
     omega (arith, ap (times v) gives.0, ap (times v) gives.1)
 container_take reading next list op v (Some w) gives = omega (arith, gives v)
 
--- what one step puts in, takes out, and doesn't change
+-- a value was held before one step and is put in by it as often as it is taken out by it and held
+-- afterwards, together
 container_step : (reading : Reading) (next : List ℕ → ℕ → List ℕ × ℕ) → IsContainer reading next
     → (list : List ℕ) (op v : ℕ) (deed : Effect) → reading.deed op ≡ deed
     → times v (reading.values list) + is_once v (value_put deed) ≡ is_once v

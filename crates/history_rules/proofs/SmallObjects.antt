@@ -9,7 +9,7 @@ use Rattle.history_rules.specs.SmallObjects.{sample, sample_deed, sample_shown, 
 use Rattle.history_rules.proofs.QueueRules.{puts_in_order}
 use Rattle.history_rules.proofs.MoreTaken.{infeasible_until_then}
 
--- two effects that put in the same have one value
+-- equal puts put in equal values
 same_put : (v w : ℕ) → Puts v ≡ Puts w → v ≡ w
 same_put v w e = same_Some v w (ap value_put e)
 

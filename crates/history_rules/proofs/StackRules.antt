@@ -78,7 +78,8 @@ stays_below reading next is list steps run v below m (suc d) top long never =
           ∙ (ap reading.values ran.1 ∙ after.1),
     )
 
--- a value that is taken from a stack is the one on top
+-- where the first value of a stack is also held below some value, it is that value, or the stack
+-- holds it twice
 first_of_stack : (x : ℕ) (above : List ℕ) (v : ℕ) (below after : List ℕ) → above ++ v ∷ below
     ≡ x ∷ after → 1 ≤ times x below → (v ≡ x) ⊎ (2 ≤ times x (above ++ v ∷ below))
 first_of_stack x [] v below after e some = let same : v ≡ x = cc in inl same
@@ -98,8 +99,8 @@ difference (suc m) zero le = absurd (omega arith)
 difference (suc m) (suc n) le = let rest = difference m n (omega arith) in
     (rest.0, omega (arith, rest.1))
 
--- A value isn't put on another one that is put in once and taken out, where it isn't itself taken
--- out before.
+-- A value v isn't put in while x is held, where x is put in once and is taken out, and v isn't
+-- taken out before x.
 covers_none : (reading : Reading) (init : List ℕ) (next : List ℕ → ℕ → List ℕ × ℕ)
     (book : List Page) (order : List Place) → IsStack reading next → reading.values init ≡ []
     → IsLegalOrder init next book order → (x v : ℕ) (take_x put_x put_v : Call)
@@ -155,7 +156,8 @@ covers_none reading init next book order is none legal x v take_x put_x put_v ta
       ]
     ]
 
--- the place after a prefix of an order is the one that follows this prefix
+-- the place after a prefix of an order is at the index of the prefix's length, and the steps before
+-- it are those of the prefix
 stands_after : (before : List Place) (place : Place) (rest : List Place)
     → slice_get (before ++ place ∷ rest) (length before) ≡ Some place
 stands_after [] place rest = refl
