@@ -172,7 +172,8 @@ least-old book cut caller old h within = record {
   ];
 }
 
--- each view is within that of a caller's next call where this call isn't answered
+-- where a caller's next call isn't answered, it has no view, and so each other view counts as
+-- within it
 pub no_view : (book : List Page) (cut : List ℕ) (a : Call) (caller : ℕ)
     → (IsAnswered book (next_call cut caller) → ⊥) → ViewsAreWithin book a (next_call cut caller)
 no_view book cut a caller not r s rt st =

@@ -15,7 +15,8 @@ abbrev pub HasOneOpenBelow : List Page → ℕ → Type 0
 HasOneOpenBelow book below = (call : Call) (r : Record) (i : ℕ) → call.caller < below
     → record_of book call ≡ Some r → get_or r.view i 0 ≤ answers_of book i + 1
 
--- a caller without records keeps the property for the callers below the next number
+-- the views of the callers below the next number hold at most one unanswered call of each caller,
+-- where this caller has no records and those of the callers below it do
 pub open_more-none : (book : List Page) (caller : ℕ) → HasOneOpenBelow book caller
     → answers_of book caller ≤ 0 → HasOneOpenBelow book (caller + 1)
 open_more-none book caller h none call r i below there =
@@ -27,8 +28,8 @@ open_more-none book caller h none call r i below there =
           (omega (arith, none, slice_get_within _ call.number r there, ap (answers_of book) at))
     ]
 
--- a caller whose last view holds at most one unanswered call of each keeps the property for the
--- callers below the next number
+-- the views of the callers below the next number hold at most one unanswered call of each caller,
+-- where this caller's last view and those of the callers below it do
 pub open_more-last : (book : List Page) (caller number : ℕ) (last : Record) → IsValid book
     → HasOneOpenBelow book caller → number + 1 ≡ answers_of book caller
     → record_of book (record { caller = caller; number = number }) ≡ Some last

@@ -81,7 +81,7 @@ legal_orders_fail_no_test init next book order h (Missing caller number) f =
     let there = h.answered call known.0 known.1 in
     f.1 there.0 (record { caller = caller; number = number; reply = known.0.reply }, there.1, refl)
 
--- the object's reply to the operation of one place is one
+-- the object gives equal places at one index the same reply
 same_run : (init : List ℕ) (next : List ℕ → ℕ → List ℕ × ℕ) (book : List Page) (order : List Place)
     (p q : ℕ) (a b : Place) → p ≡ q → a ≡ b
     → reply_at init next book order p a ≡ reply_at init next book order q b
@@ -94,7 +94,8 @@ same_place_at : (order : List Place) (p q : ℕ) (a b : Place) → p ≡ q → s
     → slice_get order q ≡ Some b → a ≡ b
 same_place_at order p q a b place at bt = same_Some a b (sym at ∙ (ap (slice_get order) place ∙ bt))
 
--- two faults that the list has of one place and turn are equal, where they have one step
+-- two faults that the list has are equal, where they are of one place within the list, and of one
+-- turn and step
 same_inside : (init : List ℕ) (next : List ℕ → ℕ → List ℕ × ℕ) (book : List Page)
     (order : List Place) (e f : OrderFault) → place_of order e < length order
     → FailsTest init next book order e → FailsTest init next book order f
@@ -152,7 +153,8 @@ same_fault init next book order e f a b place turn step =
       ]
     ]
 
--- one of two tests is tried first, unless their places, turns and steps are the same
+-- a list has at most one first fault, since of two tests one is tried first, unless their places,
+-- turns and steps are the same
 pub first_faults_are_one : FirstFaultsAreOne
 first_faults_are_one init next book order e f h k =
     elim (cases_lt (place_of order e) (place_of order f)) [

@@ -50,7 +50,7 @@ in_turn book order p standing place h at number c here n e =
       ap (λ (x : Call). get_or standing x.caller 0) one,
     ))
 
--- in a turn with one test no other test is tried before it
+-- within a turn no test is tried before one of step 0
 alone : (init : List ℕ) (next : List ℕ → ℕ → List ℕ × ℕ) (book : List Page) (order : List Place)
     (p : ℕ) (fault : OrderFault) → step_of fault ≡ 0
     → (other : OrderFault) → place_of order other ≡ p → turn_of other ≡ turn_of fault

@@ -285,7 +285,7 @@ standing_more book order p standing place h here at =
           ];
     }
 
--- before the first place there are no calls
+-- the calls before the first place are those of a cut that holds none
 pub standing_none : (book : List Page) (order : List Place) (standing : List ℕ) → length standing
     ≡ length book → ((i : ℕ) → get_or standing i 0 ≡ 0) → IsStanding book order 0 standing
 standing_none book order standing wide none = record {
@@ -297,8 +297,8 @@ standing_none book order standing wide none = record {
       λ (j : ℕ) (call : Call) (less : j < 0) (at : StandsAt order j call). absurd (omega arith);
 }
 
--- A call is in place where it is its caller's next one, precedes no call at an earlier place, and
--- has its recorded reply.
+-- A call of the book is in place where it is its caller's next one, precedes no call at an earlier
+-- place, and has its recorded reply if it is answered.
 pub in_place : (book : List Page) (order : List Place) (p : ℕ) (standing : List ℕ) (place : Place)
     → IsStanding book order p standing → slice_get order p ≡ Some place
     → IsCall book (call_at place) → place.number ≡ get_or standing place.caller 0
@@ -481,7 +481,8 @@ pub step_is : (book : List Page) (place : Place) (op : ℕ)
     → operation_of book (call_at place) ≡ Some op → (step_at book place).0 ≡ op
 step_is book place op at = ap (λ (o : Option ℕ). unwrap_or o 0) at
 
--- the object's list after one more place
+-- the object's list before the next place is the one that a place's operation makes of the list
+-- before it
 pub list_more : (init : List ℕ) (next : List ℕ → ℕ → List ℕ × ℕ) (book : List Page)
     (order : List Place) (p op : ℕ) (words : List ℕ) → p < length order
     → operation_of book (call_at (get_or order p no_place)) ≡ Some op
@@ -493,7 +494,7 @@ list_more init next book order p op words inside at is =
     (λ (o : ℕ). (next (list_before init next book order p) o).0) (sym (step_is book here op at))
     ∙ sym (fold_more (list_after book next) init order p no_place inside))
 
--- the object's reply to the operation of a place
+-- the object's reply at a place is the one to the place's operation at the list before it
 pub reply_more : (init : List ℕ) (next : List ℕ → ℕ → List ℕ × ℕ) (book : List Page)
     (order : List Place) (p op : ℕ) (words : List ℕ) (place : Place)
     → operation_of book (call_at place) ≡ Some op → words ≡ list_before init next book order p
@@ -502,7 +503,7 @@ reply_more init next book order p op words place at is =
     ap (λ (w : List ℕ). (next w op).1) is ∙ ap
     (λ (o : ℕ). (next (list_before init next book order p) o).1) (sym (step_is book place op at))
 
--- a place with this reply has the one that the object gives
+-- the reply at an index is the object's where the place there has the object's reply
 pub given_here : (init : List ℕ) (next : List ℕ → ℕ → List ℕ × ℕ) (book : List Page)
     (order : List Place) (p : ℕ) (place : Place) → slice_get order p ≡ Some place
     → reply_at init next book order p place ≡ place.reply → IsGiven init next book order p

@@ -32,7 +32,8 @@ some_or_none (Some k) = inl (k, refl)
 abbrev word_at : List Page → Place → ℕ
 word_at book place = (step_at book place).0
 
--- A place with the key comes first, and the forced call doesn't precede it.
+-- Some places that continue the order begin with a call on the key, and are no more than the given
+-- ones.
 abbrev KeyGoesFirst : (ℕ → Option ℕ) → List Page → (List ℕ → ℕ → List ℕ × ℕ) → List ℕ
     → List ℕ → ℕ → ℕ
     → List Place → Type 0
@@ -94,7 +95,7 @@ reply-after key part next is list a b apart =
       | inr none ↦ is.unkeyed (next list b).0 list a none
     ]
 
--- two operations on different keys make lists that are alike in either order
+-- an operation on a key and one that isn't on it make lists that are alike in either order
 alike-swapped : (key : ℕ → Option ℕ) (part : ℕ → List ℕ → List ℕ) (next : List ℕ → ℕ → List ℕ × ℕ)
     → IsKeyed key part next → (list : List ℕ) (a b k : ℕ)
     → key a ≡ Some k → key b ≢ Some k
@@ -116,7 +117,8 @@ alike-swapped key part next is list a b k with without j =
           ]
     ]
 
--- Two neighbours may be exchanged, where the second may come next at once.
+-- Two neighbours of two callers may be exchanged, where the second has a key that the first hasn't
+-- and may come next at once.
 swapped : (key : ℕ → Option ℕ) (part : ℕ → List ℕ → List ℕ) (next : List ℕ → ℕ → List ℕ × ℕ)
     → IsKeyed key part next
     → (book : List Page) (cut list : List ℕ) (k : ℕ) (p x : Place) (rest : List Place)

@@ -16,9 +16,9 @@ use Rattle.book_laws.proofs.LegalOrder.{raised_same, raised_other, raised_more, 
 use Rattle.pruning_laws.specs.Twins.{DoesTheSame, IsTwin, TwinServes}
 use Rattle.pruning_laws.proofs.Opening.{unanswered-precedes, unanswered-last, held_without}
 
--- A call a may be tried instead of a call b: both may come next, with one operation, and where a is
--- answered, the reply is its own and b's. Each call that b precedes, a precedes too, or it is of
--- b's caller and all answered calls precede it.
+-- A call a may be tried instead of a call b of another caller: both may come next, with one
+-- operation, and b is answered only where a is, and then with the same reply. Each call that b
+-- precedes, a precedes too, or it is of b's caller and all answered calls precede it.
 record Exchanged (book : List Page) (cut : List ℕ) (a b : Call) : Type 0 where
   apart : a.caller ≢ b.caller
   first : MayComeNext book cut a

@@ -12,8 +12,8 @@ use Rattle.book_laws.proofs.LegalOrder.{raised_same, raised_other, raised_cases,
 use Rattle.pruning_laws.specs.Idle.{IdleMayBeLeftOut}
 use Rattle.pruning_laws.proofs.Opening.{unanswered-precedes, unanswered-last, held_without}
 
--- Places that continue an order after an unanswered call continue it without that call, from the
--- same list, up to where all answered calls are in the cut.
+-- In a book with one open, where places continue an order after an unanswered call, as many or
+-- fewer continue it without that call, from the same list.
 pub goes_on_without : (book : List Page) (next : List ℕ → ℕ → List ℕ × ℕ) (cut list : List ℕ)
     (b : Call) (rest : List Place) → length book ≤ length cut → HasOneOpen book
     → MayComeNext book cut b → (IsAnswered book b → ⊥)

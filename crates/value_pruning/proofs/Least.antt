@@ -42,8 +42,7 @@ views_same book a r s rt st =
 abbrev IsOut : List Page → List ℕ → Call → Type 0
 IsOut book cut call = IsAnswered book call × (get_or cut call.caller 0 ≤ call.number)
 
--- the least call's view is within that of a call; where there is no least call, the call isn't
--- answered and outside the cut
+-- there is a least call, and its view is within that of another call
 abbrev LeastIsWithin : List Page → Option Call → Call → Type 0
 LeastIsWithin book None other = ⊥
 LeastIsWithin book (Some least) other = ViewsAreWithin book least other
@@ -62,7 +61,8 @@ least_of-start book cut calls = record {
   least = λ (k : ℕ) (other : Call) (below : k < 0) at out. absurd (omega (arith, below));
 }
 
--- with one more call, the new one has the least view where its view is within the old one's
+-- with one more call, the new one has the least view where its view is within that of the least one
+-- so far
 least-new : (book : List Page) (old : Option Call) (new other : Call) → IfSome old (IsAnswered book)
     → IfSome old (ViewsAreWithin book new) → LeastIsWithin book old other
     → ViewsAreWithin book new other
@@ -106,7 +106,7 @@ least_of-old book cut calls n old new valid at not is = record {
   ];
 }
 
--- a call that isn't answered and outside the cut changes nothing
+-- one more call that is unanswered or in the cut doesn't change which call is the least
 pub least_of-in : (book : List Page) (cut : List ℕ) (calls : List Call) (n : ℕ) (old : Option Call)
     (new : Call) → slice_get calls n ≡ Some new
     → (IsOut book cut new → ⊥) → LeastOf book cut calls n old → LeastOf book cut calls (n + 1) old
@@ -121,7 +121,7 @@ least_of-in book cut calls n old new at not is = record {
   ];
 }
 
--- the least call of all first calls is that of the whole list
+-- the least call of the first n calls of a list, n being its length, is the least of the list
 pub least_of-all : (book : List Page) (cut : List ℕ) (calls : List Call) (n : ℕ)
     (least : Option Call) → n ≡ length calls → LeastOf book cut calls n least
     → IfSome least (IsLeastListed book cut calls)

@@ -32,7 +32,7 @@ read_cases i n c (inr h) = elim (cases_lt c.number n) [
   | inr le ↦ inr (same_call c (call_of i n) h.0 (omega (arith, h.1)))
 ]
 
--- a call that is read once all callers up to one are read is read once all calls of this one are
+-- once all calls of a caller are read, each call of the book of a caller up to this one is read
 read_caller : (book : List Page) (i : ℕ) (c : Call) → IsCall book c → IsReadTo (i + 1) 0 c
     → IsReadTo i (calls_of book i) c
 read_caller book i c is (inl lt) = elim (cases_lt c.caller i) [
@@ -57,7 +57,7 @@ call_from_take : (reading : Reading) (book : List Page) (c : Call) (v : ℕ)
 call_from_take reading book c v takes =
     slice_get_within (page_of book c.caller).operations c.number takes.0 takes.2
 
--- a call puts in one value
+-- a call puts in at most one value
 puts_one : (reading : Reading) (book : List Page) (c : Call) (v w : ℕ) → PutsIn reading book c v
     → PutsIn reading book c w → v ≡ w
 puts_one reading book c v w one other =
@@ -65,7 +65,7 @@ puts_one reading book c v w one other =
     let both : Puts v ≡ Puts w = sym one.2 ∙ (ap reading.deed same ∙ other.2) in
     cc
 
--- a call takes out one value
+-- a call takes out at most one value
 takes_one : (reading : Reading) (book : List Page) (c : Call) (v w : ℕ) → TakesOut reading book c v
     → TakesOut reading book c w → v ≡ w
 takes_one reading book c v w one other =
@@ -80,7 +80,7 @@ puts_or_takes reading book c v w puts takes =
     let both : Puts v ≡ Takes = sym puts.2 ∙ (ap reading.deed same ∙ takes.4) in
     cc
 
--- what one more call, which is a put, adds to what is listed
+-- a sight with one more put lists all calls that are read once this put is read
 pub lists_put : (reading : Reading) (book : List Page) (call : Call) (v : ℕ) (old new : Sight)
     → PutsIn reading book call v
     → ListsRead reading book call.caller call.number old → HasPut old new v call
@@ -102,7 +102,7 @@ lists_put reading book call v old new does is has = record {
   ];
 }
 
--- what one more call, which is a take, adds to what is listed
+-- a sight with one more take lists all calls that are read once this take is read
 pub lists_take : (reading : Reading) (book : List Page) (call : Call) (v : ℕ) (old new : Sight)
     → TakesOut reading book call v
     → ListsRead reading book call.caller call.number old → HasTake old new v call
@@ -142,7 +142,7 @@ lists_neither reading book call sight no_put no_take is = record {
   ];
 }
 
--- The sight lists all calls of a caller.
+-- Once all calls of a caller are read, the sight lists all calls of the callers up to this one.
 pub lists_caller : (reading : Reading) (book : List Page) (caller number : ℕ) (sight : Sight)
     → number ≡ calls_of book caller → ListsRead reading book caller number sight
     → ListsRead reading book (caller + 1) 0 sight
@@ -190,14 +190,15 @@ one_listed calls a b one at_a at_b =
 
 -- ---- places
 
--- the calls at a place, with one more place after it
+-- one more place at the end doesn't change the calls at a place before it
 at_pushed : (f : Labelled → List Call) (xs : List Labelled) (new : Labelled) (k : ℕ) → k < length xs
     → get_or (map f xs) k [] ≡ get_or (map f (xs ++ new ∷ [])) k []
 at_pushed f [] new k inside = absurd (omega (arith, inside))
 at_pushed f (x ∷ xs) new zero inside = refl
 at_pushed f (x ∷ xs) new (suc k) inside = at_pushed f xs new k (omega (arith, inside))
 
--- the calls at a place, with another one at some place
+-- calls that are listed at a place stay so where some place is replaced by one that lists all its
+-- calls
 listed_set : (f : Labelled → List Call) (xs : List Labelled) (i : ℕ) (new : Labelled) (k : ℕ)
     (c : Call) → (IsListed (get_or (map f xs) i []) c → IsListed (f new) c)
     → IsListed (get_or (map f xs) k []) c → IsListed (get_or (map f (set xs i new)) k []) c
@@ -249,7 +250,7 @@ shows_in l = l.shows.items
 same_number : (v : ℕ) → (v == v) ≡ false → ⊥
 same_number v fails = let holds : (v == v) ≡ true = eq-eqb v v refl in cc
 
--- The sight with a new place for a value that had none.
+-- A sight with a new place for a value that had none has a place for it, and lists all that it did.
 pub has_place : (old new : Sight) (v place : ℕ) (l : Labelled) → HasItsPlaces old
     → place_of old v ≡ None → place ≡ length old.labelled.items
     → new.labelled.items ≡ old.labelled.items ++ l ∷ []
@@ -301,8 +302,8 @@ has_place old new v place l places none size items at =
       ];
     }
 
--- the calls listed at the places of a sight are listed at those of another sight with the same
--- places
+-- calls that are listed for a value stay so where some place is replaced by one that lists all its
+-- calls
 listed_kept : (f : Labelled → List Call) (at at_new : Option ℕ → List Call) (xs : List Labelled)
     (place : ℕ) (new : Labelled) (o : Option ℕ) (c : Call)
     → ((k : ℕ) → at (Some k) ≡ get_or (map f xs) k [])
@@ -315,7 +316,7 @@ listed_kept f at at_new xs place new (Some k) c old some none more is =
     subst (λ (l : List Call). IsListed l c) (sym (some k))
     (listed_set f xs place new k c more (subst (λ (l : List Call). IsListed l c) (old k) is))
 
--- The sight with one more put at a value's place.
+-- A sight with one more put at a value's place lists one more put of the value.
 pub has_put : (old mid new : Sight) (v place : ℕ) (call : Call) (was now : Labelled)
     → HasPlace old mid v place → was ≡ get_or mid.labelled.items place was
     → ((w : ℕ) → place_of new w ≡ place_of mid w) → new.labelled.items
@@ -355,7 +356,7 @@ has_put old mid new v place call was now is there same items puts shows =
           (length was.puts.items, slice_get-push_last was.puts.items call);
     }
 
--- The sight with one more take at a value's place.
+-- A sight with one more take at a value's place lists one more take of the value.
 pub has_take : (old mid new : Sight) (v place : ℕ) (call : Call) (was now : Labelled)
     → HasPlace old mid v place → was ≡ get_or mid.labelled.items place was
     → ((w : ℕ) → place_of new w ≡ place_of mid w)
@@ -395,7 +396,8 @@ has_take old mid new v place call was now is there same items puts shows =
           (length was.shows.items, slice_get-push_last was.shows.items call);
     }
 
--- A call that alone puts in a value less than all items, and whose value's take may come next.
+-- A caller's next call puts the least value where it alone puts in a value less than all items, and
+-- the take of this value with the least view may come next.
 pub puts_least : (reading : Reading) (book : List Page) (cut list : List ℕ) (sight : Sight)
     (marks : Marks) (caller v : ℕ) (taker : Option ℕ) → ListsValues reading book sight
     → MarksAllNext book cut marks → PutsIn reading book (next_call cut caller) v

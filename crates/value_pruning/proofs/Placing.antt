@@ -9,7 +9,8 @@ use Rattle.book_base.specs.Pruning.{IsReached}
 use Rattle.history_rules.specs.Container.{Effect, Puts, Takes, Neither, Reading}
 use Rattle.value_pruning.specs.LeastFirst.{placed, IsRising, GivesLeastFirst, IsBelowFirst}
 
--- the list with a value before its first item, where the value is less, or after it, where it isn't
+-- a value is placed before the first item of a list where it is less, and else among the items
+-- after it
 pub placed-less : (v x : ℕ) (rest : List ℕ) → v < x → placed v (x ∷ rest) ≡ v ∷ x ∷ rest
 placed-less v x rest less = cond-true (ltb v x) (v ∷ x ∷ rest) (x ∷ placed v rest) (lt-ltb v x less)
 

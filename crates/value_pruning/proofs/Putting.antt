@@ -137,8 +137,8 @@ abbrev pub Gives : (List ℕ → ℕ → List ℕ × ℕ) → List Page → Call
 Gives next book call = (list : List ℕ) (r : Record) → record_of book call ≡ Some r
     → r.reply ≡ (next list (word_of_call book call)).1
 
--- Places that continue an order from a list without the value continue it once the value has been
--- put in and taken.
+-- Where places continue an order from a list without the value, at least two fewer continue it from
+-- there once the value has been put in and taken.
 put_and_taken : (reading : Reading) (next : List ℕ → ℕ → List ℕ × ℕ) (bound : ℕ)
     → GivesLeastFirst reading next bound → (book : List Page) (v : ℕ) (put take : Call)
     → v < bound → IsValid book → HasOneOpen book → PutsInAlone reading book put v

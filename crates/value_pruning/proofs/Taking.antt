@@ -106,7 +106,7 @@ pub record Parted (low : ℕ) (before after : List ℕ) : Type 0 where
   pub above : AllByRecursion (λ (y : ℕ). low ≤ y) after
 
 -- An operation makes of a list with the value and of one without it lists that differ in the value
--- alone, with one reply.
+-- alone, with one reply, and isn't a take of the value.
 record StepsAlike (reading : Reading) (next : List ℕ → ℕ → List ℕ × ℕ) (low op : ℕ)
     (before after : List ℕ) : Type 0 where
   new_before : List ℕ
@@ -224,7 +224,7 @@ steps_alike reading next bound is low op before after small parted =
       ]
     ]
 
--- The take with the least view is a twin of any take of the value in the order.
+-- The take with the least view is a twin of any other place that may come next and takes the value.
 pub least_is_twin : (reading : Reading) (next : List ℕ → ℕ → List ℕ × ℕ)
     → ((a b : ℕ) → reading.deed a ≡ Takes → reading.deed b ≡ Takes → a ≡ b)
     → ((a b v : ℕ) → reading.shown a ≡ Some v → reading.shown b ≡ Some v → a ≡ b)
@@ -271,8 +271,8 @@ least_is_twin reading next one_take one_reply book cut list low take place apart
       serves = inl (r, least.takes.3, does);
     }
 
--- Places that continue an order from a list with the value continue it from the list without it,
--- once the take with the least view has come.
+-- Where places continue an order from a list with the value, fewer continue it from the list
+-- without it, once the take with the least view has come.
 pub taken_first : (reading : Reading) (next : List ℕ → ℕ → List ℕ × ℕ) (bound : ℕ)
     → GivesLeastFirst reading next bound → (book : List Page) (low : ℕ) (take : Call)
     → low < bound → IsValid book → HasOneOpen book → (rest : List Place) (cut before after : List ℕ)

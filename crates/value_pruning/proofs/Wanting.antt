@@ -1,5 +1,5 @@
--- Places that continue an order may begin with a take, with the forced call, or with the put of
--- what the next take takes: all other puts may come later.
+-- Where places continue an order, some that begin with a call that puts nothing in, with the forced
+-- call, or with the put of what the next call takes do too: all other puts may come later.
 use Rattle.std.proofs.Common.{◌≡◌, ◌≢◌, ℕ, ◌+◌, ◌<◌, ◌≤◌, ◌⊎◌, ◌∙◌, ◌↔◌, List, [], ◌∷◌, map, length, get_or, Some, refl, sym, ap, subst, inl, inr, arith}
 use Rattle.std.proofs.lemmas.Bool.{cases_eq, cases_lt}
 use Rattle.book_base.specs.declared.call.Call.{Call}
@@ -319,7 +319,7 @@ put_before_taken reading next bound is book valid one cut list c x most rising w
       short = omega (arith, by.short, enough);
     }
 
--- Wherever places continue an order, some do in one of these two ways.
+-- Where places continue an order, as many or fewer that begin as `ByFree` or `ByTaken` says do too.
 outcomes : (reading : Reading) (next : List ℕ → ℕ → List ℕ × ℕ) (bound : ℕ)
     → GivesLeastFirst reading next bound → (book : List Page) → IsValid book → HasOneOpen book
     → (c : Place) (rest : List Place) (cut list : List ℕ) → IsRising bound list
@@ -371,7 +371,8 @@ outcomes reading next bound is book valid one c (x ∷ rest) cut list rising wai
 
 -- ---- what needn't be tried
 
--- The call after a put that takes what it puts in might take the value as the next call, too.
+-- Where an order continues with a put and the take of what it puts in, the take may come next
+-- without the put, and could take the value.
 could_take : (reading : Reading) (next : List ℕ → ℕ → List ℕ × ℕ) (bound : ℕ)
     → GivesLeastFirst reading next bound → (book : List Page) → IsValid book → HasOneOpen book
     → (cut list : List ℕ) (c : Place) (most : ℕ) → Waits book cut c
@@ -486,7 +487,8 @@ answered_takes reading book cut v i answered none could =
     (could.op, there.0, could.operation, there.1, could.takes, could.shows there.0 there.1) in
     none (takes, omega arith)
 
--- One more caller, whose next call is unwanted, has lost its mark.
+-- The remaining marks are some of all marks, and each caller that lost its mark has an unwanted
+-- next call.
 pub record AreWanted (reading : Reading) (book : List Page) (cut list : List ℕ) (forced : ℕ)
     (all left : Marks) : Type 0 where
   pub fewer : IsMarkedWithin left all

@@ -81,7 +81,8 @@ there_at next book list place = record {
   reply = (next list (word_at book place)).1;
 }
 
--- A place that may come next at a list may come next at one that is alike.
+-- A place that may come next at a list may come next at one that is alike, with the object's reply
+-- there.
 stands_there : (reading : Reading) (held : List ℕ → ℕ) (next : List ℕ → ℕ → List ℕ × ℕ)
     → HoldsLast reading held next → (book : List Page) (cut one other : List ℕ) (place : Place)
     → Alike reading book held cut one other → MayStandNext book next cut one place
@@ -103,7 +104,7 @@ stands_there reading held next is book cut one other place alike may = record {
   reply = refl;
 }
 
--- Places that continue an order from a list continue it from one that is alike.
+-- Where places continue an order from a list, as many or fewer continue it from one that is alike.
 goes_on_there : (reading : Reading) (held : List ℕ → ℕ) (next : List ℕ → ℕ → List ℕ × ℕ)
     → HoldsLast reading held next → (book : List Page) (rest : List Place) (cut one other : List ℕ)
     → length book ≤ length cut → Alike reading book held cut one other
@@ -129,8 +130,8 @@ abbrev GivesAlways : (List ℕ → ℕ → List ℕ × ℕ) → List Page → Ca
 GivesAlways next book call = (list : List ℕ) (r : Record) → record_of book call ≡ Some r
     → r.reply ≡ (next list (unwrap_or (operation_of book call) 0)).1
 
--- Places that continue an order continue it also after an answered write whose value no answered
--- call outside the cut reads.
+-- Where places continue an order from a list, fewer continue it from one that is alike after an
+-- answered write whose value no answered call outside the cut reads.
 written_first : (reading : Reading) (held : List ℕ → ℕ) (next : List ℕ → ℕ → List ℕ × ℕ)
     → HoldsLast reading held next → (book : List Page) (write : Call) (v : ℕ)
     → PutsIn reading book write v → IsAnswered book write
@@ -273,8 +274,8 @@ irreplaceable_is_held reading held next is book v read reads
     (next list op).0 wider later
     (unwritten_later reading book cut v place.caller there unwritten) still goes.1
 
--- Where places that continue an order begin with a call that needn't be tried, fewer places do
--- without it.
+-- Where places that continue an order begin with a call that needn't be tried, fewer places
+-- continue it too.
 needless_is_left_out : (reading : Reading) (held : List ℕ → ℕ) (next : List ℕ → ℕ → List ℕ × ℕ)
     → HoldsLast reading held next → (book : List Page) (cut list : List ℕ) (place : Place)
     (rest : List Place) → length book ≤ length cut → HasOneOpen book
@@ -380,7 +381,8 @@ needed_suffice reading held next is book cut list forced all left wide one force
     (all_next_suffice book next cut list forced all force marks) needless (length rest) rest
     (omega arith) goes
 
--- One more caller, whose next call is needless, has lost its mark.
+-- The remaining marks are some of all marks, and each caller that lost its mark has a needless next
+-- call.
 pub record AreNeeded (reading : Reading) (book : List Page) (cut : List ℕ) (held : ℕ)
     (all left : Marks) : Type 0 where
   pub fewer : IsMarkedWithin left all
