@@ -67,7 +67,8 @@ pub held_later : (book : List Page) (call : Call) (m n : ℕ) → m ≤ n → Is
     → IsHeldBy book call n
 held_later book call m n le h = (h.0, h.1, h.2, h.3, omega (arith, h.4, le))
 
--- A pair may come next where as many calls of its callers are covered, at no later moments.
+-- A pair that may come next at a standing may come next at one that covers as many calls of the
+-- pair's callers, at no later moments.
 pub pair-at : (reading : Reading) (book : List Page) (t s : Paired) (pair : Pair)
     → get_or t.puts pair.put.caller 0 ≡ get_or s.puts pair.put.caller 0
     → get_or t.takes pair.take.caller 0 ≡ get_or s.takes pair.take.caller 0
@@ -86,7 +87,8 @@ pair-at reading book t s pair puts takes put_moment take_moment may = record {
   take_effect = may.take_effect;
 }
 
--- Takes that find nothing may come next where no fewer of them are covered, after no later take.
+-- Takes that find nothing and may come next at a standing may come next at one that covers no fewer
+-- of them, after no later take.
 pub find-at : (reading : Reading) (book : List Page) (t s : Paired) (m : ℕ)
     → ((e : Call) → deal_of reading book e ≡ deals.FoundNothing → IsHeldBy book e s.found
     → IsHeldBy book e t.found) → t.take_moment ≤ s.take_moment
@@ -151,7 +153,8 @@ find-idle reading book s m steps turn none are =
       take_moment = omega (arith, are.0.after_takes);
     }) are.1
 
--- Some takes that find nothing may come before the others of a later step.
+-- Steps that begin with takes that find nothing lead to a whole standing also from where some of
+-- these takes, those of an earlier moment, are covered.
 pub find-earlier : (reading : Reading) (book : List Page) (s : Paired) (g m : ℕ) (steps : List Step)
     → s.found ≤ g → g ≤ m
     → AreSteps reading book s (FindNothing m ∷ steps)
@@ -192,8 +195,8 @@ next-same kind numbers call other next there is has caller =
     next-least kind numbers other call there is (sym caller) next.outside in
     same_call other call caller (omega arith)
 
--- a call that isn't covered after the next call of a kind is isn't covered before, and is another
--- call
+-- a call of a kind that is uncovered is the next one of the kind, or it stays uncovered once that
+-- one is covered; a call that is uncovered then was so before
 pub still-outside : (kind : Call → Type 0) (numbers : List ℕ) (call other : Call)
     → IsNext kind numbers call → kind other → get_or numbers other.caller 0 ≤ other.number
     → (other ≡ call)

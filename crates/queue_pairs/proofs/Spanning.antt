@@ -19,7 +19,7 @@ use Rattle.queue_pairs.specs.Spans.{IsSpanOf, AreHolding, IsFirstBelow}
 
 -- ---- moments
 
--- a view counts few calls of a caller
+-- a view counts no more calls of a caller than a caller may make
 pub few-counts : (book : List Page) (call : Call) (r : Record) → IsValid book → IsSmall book
     → record_of book call ≡ Some r → (i : ℕ) → get_or r.view i 0 ≤ MAX_CALLS
 few-counts book call r valid small at i =
@@ -93,7 +93,8 @@ holding-high book caller call low high middle valid h above below s at holds = r
       omega (arith, rise, holds);
 }
 
--- the moment of a caller's first view that holds a call is the least of this caller's
+-- the moment of a caller's first view that holds a call is the least of this caller's, and where
+-- all views are passed none holds the call
 pub first-held : (book : List Page) (caller : ℕ) (call : Call) (first : ℕ) (r : Record)
     → AreHolding book caller call first first
     → record_of book (record { caller = caller; number = first }) ≡ Some r

@@ -90,7 +90,8 @@ swapped-end reading book s t p w h whole = let k = h.places in record {
   ];
 }
 
--- A pair with another put may come next at both standings.
+-- A pair with a third put that may come next at standing s may come next at t too, and s and t
+-- still differ in the two puts after it.
 swapped-later : (reading : Reading) (book : List Page) (s t : Paired) (p w : Call) (pair : Pair)
     → PutsSwapped reading book s t p w → MayPair reading book s pair
     → pair.put.caller ≢ p.caller → pair.put.caller ≢ w.caller → MayPair reading book t pair
@@ -114,7 +115,8 @@ swapped-later reading book s t p w pair h may not_p not_w = (
   },
 )
 
--- Where standing s goes on with p, standing t may go on with w, and then both cover the same puts.
+-- Where the next pair at standing s has the put p, that pair with w for p may come next at standing
+-- t, and then both standings cover the same puts.
 swapped-here : (reading : Reading) (book : List Page) (s t : Paired) (p w : Call) (pair : Pair)
     → PutsSwapped reading book s t p w → MayPair reading book s pair → pair.put ≡ p
     → MayPair reading book t (record pair { put = w })
@@ -257,7 +259,8 @@ takes-end reading book s t p w h whole = let k = h.places in record {
       (arith, h.put_moment, whole.kept c r put known (omega (arith, out, h.puts.numbers c.caller)));
 }
 
--- An answered take takes effect no later than its record says.
+-- An answered take that isn't covered is due no earlier than the last take so far, where steps lead
+-- to a whole standing.
 take-in-time : (reading : Reading) (book : List Page) (s : Paired) (steps : List Step) (p : Call)
     (o : Record) → AreSteps reading book s steps → IsTake reading book p
     → record_of book p ≡ Some o → get_or s.takes p.caller 0 ≤ p.number
@@ -271,7 +274,8 @@ take-in-time reading book s steps p o are takes known out =
           absurd (omega (arith, past, slice_get_within _ p.number o known))
     ]
 
--- A pair with another take may come next at both standings.
+-- A pair with a third take that may come next at standing s may come next at t too, and s and t
+-- still differ in the two takes after it.
 takes-later : (reading : Reading) (book : List Page) (s t : Paired) (p w : Call) (pair : Pair)
     → TakesSwapped reading book s t p w → MayPair reading book s pair
     → pair.take.caller ≢ p.caller → pair.take.caller ≢ w.caller → MayPair reading book t pair
@@ -293,7 +297,8 @@ takes-later reading book s t p w pair h may not_p not_w = (
   },
 )
 
--- Where standing s goes on with p, standing t may go on with w, and then both cover the same takes.
+-- Where the next pair at standing s has the take p, that pair with w for p may come next at
+-- standing t, and then both standings cover the same takes.
 takes-here : (reading : Reading) (book : List Page) (s t : Paired) (p w : Call) (pair : Pair)
     → TakesSwapped reading book s t p w → MayPair reading book s pair → pair.take ≡ p
     → MayPair reading book t (record pair { take = w })

@@ -111,7 +111,7 @@ finds-more reading book caller below finds t h new nothing = record {
   ];
 }
 
--- one more call, which doesn't find nothing
+-- one more call that isn't a take that finds nothing adds no entry
 pub finds-other : (reading : Reading) (book : List Page) (caller below : ℕ) (finds : List TimedCall)
     → AreFindsTo reading book caller below finds
     → (deal_of reading book (record { caller = caller; number = below }) ≡ deals.FoundNothing → ⊥)
@@ -167,7 +167,7 @@ pub finds-step : (reading : Reading) (book : List Page) (caller below : ℕ)
 finds-step reading book caller below finds new t =
     finds-by reading book caller below finds new t (is_find t.deal) refl
 
--- all calls of a caller are looked at
+-- once all calls of a caller are looked at, the entries are those of all callers up to this one
 pub finds-caller : (reading : Reading) (book : List Page) (caller : ℕ) (finds : List TimedCall)
     → AreFindsTo reading book caller (calls_of book caller) finds
     → AreFindsTo reading book (caller + 1) 0 finds
@@ -191,7 +191,8 @@ finds-caller reading book caller finds h = record {
 
 -- ---- the first from a number on
 
--- nothing is found past the end of a row
+-- where a search of a row from some number on finds nothing, it finds nothing past the row's end
+-- either
 pub past-none : (row : List TimedCall) (from : ℕ) (find : Option TimedCall → Option TimedCall)
     → find None ≡ None
     → ((k : ℕ) → from ≤ k → k < length row → find (slice_get row k) ≡ None)

@@ -27,7 +27,7 @@ use Rattle.queue_pairs.specs.Pairs.{Paired, Pair, Step, Pairs, FindNothing, IsPu
 use Rattle.queue_pairs.specs.PairLaws.{LegalOrdersHavePairs}
 use Rattle.queue_pairs.proofs.Moments.{held_unless_preceded, moments_keep_precedence}
 
--- a take with a record isn't unanswered
+-- a take with a record doesn't have the deal of an unanswered one
 shown_open : (shown : Option ℕ) → shown_deal shown ≡ deals.OpenTake → ⊥
 shown_open None e = cc
 shown_open (Some v) e = cc
@@ -68,7 +68,8 @@ has_operation book call is =
       | inr past ↦ absurd (omega (arith, past.0, is))
     ]
 
--- a call that an order has from a moment on isn't due earlier
+-- an answered call outside the cut is due no earlier than the moment from which on the places after
+-- the cut take effect
 pub outside-last : (book : List Page) (next : List ℕ → ℕ → List ℕ × ℕ) (cut list : List ℕ) (m : ℕ)
     (rest : List Place) (call : Call) (r : Record) → length book ≤ length cut
     → Continues book next cut list rest → HaveMoments book m (map call_at rest)
@@ -273,7 +274,7 @@ waiting-paired reading book cut numbers low high p (x ∷ q) inside turn h = (
 
 -- How far a walk through an order has come, after the calls of a cut and up to a moment: the
 -- pending puts are those whose values the queue holds, and the standing covers all other puts and
--- takes of the cut.
+-- all answered takes of the cut.
 record Walked (reading : Reading) (book : List Page) (cut list : List ℕ) (s : Paired)
     (q : List Pending) (m : ℕ) : Type 0 where
   values : reading.values list ≡ map (λ x. x.value) q
@@ -295,8 +296,8 @@ record Walked (reading : Reading) (book : List Page) (cut list : List ℕ) (s : 
 abbrev pub GoesOn : Reading → List Page → Paired → Type 0
 GoesOn reading book s = (steps : List Step) × AreSteps reading book s steps
 
--- All that is known at a place: it may come next, its call takes effect at this moment, and isn't
--- in the cut.
+-- All that is known at a place of a walk: it may come next, its call may take effect at a moment no
+-- earlier than the walk's, and the cut has a count for its caller.
 record Here (reading : Reading) (book : List Page) (next : List ℕ → ℕ → List ℕ × ℕ)
     (cut list : List ℕ) (s : Paired) (q : List Pending) (m n : ℕ) (place : Place) : Type 0 where
   walked : Walked reading book cut list s q m
@@ -305,7 +306,8 @@ record Here (reading : Reading) (book : List Page) (next : List ℕ → ℕ → 
   effect : MayTakeEffect book (call_at place) n
   inside : place.caller < length cut
 
--- A call comes that neither puts in nor takes: the walk goes on with the same standing.
+-- A call comes that is neither a put nor an answered take, and leaves the queue's values as they
+-- are: the walk goes on with the same standing.
 walked-other : (reading : Reading) (book : List Page) (next : List ℕ → ℕ → List ℕ × ℕ)
     (cut list : List ℕ) (s : Paired) (q : List Pending) (m n : ℕ) (place : Place)
     → Here reading book next cut list s q m n place
@@ -625,7 +627,7 @@ may_pair reading book next cut list s x q m n place one h is =
       take_effect = h.effect;
     }
 
--- At the end the standing covers all answered takes.
+-- At the end of a walk the standing is whole.
 walked-end : (reading : Reading) (book : List Page) (cut list : List ℕ) (s : Paired)
     (q : List Pending) (m : ℕ) → Walked reading book cut list s q m → HoldsAnswered book cut
     → IsWhole reading book s
@@ -659,7 +661,7 @@ abbrev Goes : Reading → List Page → List ℕ → List ℕ → ℕ → Type 0
 Goes reading book cut list n = (s : Paired) (q : List Pending) → Walked reading book cut list s q n
     → GoesOn reading book s
 
--- Where the walk leads to a whole standing after a take that shows nothing, it does before it.
+-- Where steps lead to a whole standing after a take that shows nothing, they do before the take.
 walk-nothing : (reading : Reading) (book : List Page) (next : List ℕ → ℕ → List ℕ × ℕ)
     (cut list : List ℕ) (s : Paired) (q : List Pending) (m n : ℕ) (place : Place)
     (rest : List Place)
@@ -686,7 +688,7 @@ walk-nothing reading book next cut list s q m n place rest h wide goes have on d
           )
     ]
 
--- Where the walk leads to a whole standing after a take that shows a value, it does before it.
+-- Where steps lead to a whole standing after a take that shows a value, they do before the take.
 walk-value : (reading : Reading) (book : List Page) (next : List ℕ → ℕ → List ℕ × ℕ)
     (cut list : List ℕ) (s : Paired) (q : List Pending) (m n : ℕ) (place : Place) (v : ℕ)
     → HasOneOpen book → Here reading book next cut list s q m n place
@@ -710,8 +712,7 @@ walk-value reading book next cut list s (x ∷ q) m n place v one h on is first 
       (may_pair reading book next cut list s x q m n place one h takes, found.1),
     )
 
--- Where the walk leads to a whole standing after a take, it does before it, by what the object
--- shows.
+-- Where steps lead to a whole standing after a take, whatever it shows, they do before the take.
 walk-take : (reading : Reading) (book : List Page) (next : List ℕ → ℕ → List ℕ × ℕ)
     (cut list : List ℕ) (s : Paired) (q : List Pending) (m n : ℕ) (place : Place)
     (rest : List Place)
@@ -749,8 +750,8 @@ deal_at reading book next cut list place may is =
           ∙ ap (λ (w : ℕ). shown_deal (reading.shown w)) reply))
     ]
 
--- Where the walk leads to a whole standing after a place, it does before it, by what its operation
--- does.
+-- Where steps lead to a whole standing after a place, whatever its operation does, they do before
+-- the place.
 walk-deed : (reading : Reading) (book : List Page) (next : List ℕ → ℕ → List ℕ × ℕ)
     (cut list : List ℕ) (s : Paired) (q : List Pending) (m n : ℕ) (place : Place)
     (rest : List Place)

@@ -204,8 +204,8 @@ counted-off reading book table s pair v u m n is wide_puts wide_takes may e = re
       (early-takes-take u n) may.take e.take_at (omega (arith, e.take_inside, wide_takes));
 }
 
--- where a put of a pair is counted as due, its take may take effect by the other moment, unless it
--- takes effect later
+-- where the put of a pair is counted as due, and its take takes effect by the other moment, the
+-- take is counted as early
 put-needs : (reading : Reading) (book : List Page) (table : Table) (s : Paired) (pair : Pair)
     (u m n : ℕ) → MayPair reading book s pair → (e : Entered reading book table pair)
     → (n < pair.take_moment → ⊥) → is_counted counted.DuePuts u m e.put ≡ true
@@ -224,8 +224,8 @@ put-needs reading book table s pair u m n may e late told =
       | inr later ↦ absurd (late (omega (arith, later, first.0)))
     ]
 
--- where a take of a pair is counted as due, its put may take effect by the other moment, unless it
--- takes effect later
+-- where the take of a pair is counted as due, and its put takes effect by the other moment, the put
+-- is counted as early
 take-needs : (reading : Reading) (book : List Page) (table : Table) (s : Paired) (pair : Pair)
     (v m n : ℕ) → MayPair reading book s pair → (e : Entered reading book table pair)
     → (m < pair.put_moment → e.take.span.last ≤ n → ⊥)
@@ -247,7 +247,7 @@ take-needs reading book table s pair v m n may e late told =
 
 -- ---- puts and takes
 
--- no take of a pair is later than a remaining take that is due
+-- no take of a pair takes effect after a moment by which a remaining take is due
 take-in-time : (reading : Reading) (book : List Page) (table : Table) (v n : ℕ) (s : Paired)
     (pair : Pair) (steps : List Step) → IsTable reading book table → n < NEVER
     → AreSteps reading book s (Pairs pair ∷ steps)
@@ -262,7 +262,7 @@ take-in-time reading book table v n s pair steps is few are more later =
       pair-takes-due reading book s pair steps there.0.call v due.0 are due.1 due.2 there.2,
     )
 
--- no put of a pair is later than a remaining put that is due
+-- no put of a pair takes effect after a moment by which a remaining put is due
 put-in-time : (reading : Reading) (book : List Page) (table : Table) (u m : ℕ) (s : Paired)
     (pair : Pair) (steps : List Step) → IsTable reading book table → m < NEVER
     → AreSteps reading book s (Pairs pair ∷ steps)
@@ -277,8 +277,8 @@ put-in-time reading book table u m s pair steps is few are more later =
       pair-puts-due reading book s pair steps there.0.call due.0 are due.1 due.2 there.2,
     )
 
--- Of the remaining calls, takes of a value aren't ahead while puts of some value are, nor while
--- they are counted up to a moment that is no later.
+-- Where steps lead to a whole standing, the remaining takes of a value aren't ahead while the
+-- remaining puts of some value are, nor where the takes' moment is no later than the puts'.
 takes-clash : (reading : Reading) (book : List Page) (table : Table) (v u m n : ℕ)
     → IsTable reading book table → m < NEVER → n < NEVER → (s : Paired) (steps : List Step)
     → length book ≤ length s.puts → length book ≤ length s.takes → AreSteps reading book s steps

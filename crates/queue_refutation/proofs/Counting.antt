@@ -31,8 +31,8 @@ less-counts one other low high less first second =
 abbrev pub bit : Bool → ℕ
 bit b = cond b 1 0
 
--- The count of a row's calls from a number on is that of the calls after a later one, before which
--- none passes, and one more where that one passes.
+-- Where no call of a row from a number on passes before a later call, the count from this number on
+-- is that after the later call, and one more where the later call passes.
 row-past : (test : TimedCall → Bool) (row : List TimedCall) (gap from n : ℕ) (t : TimedCall)
     → n ≡ from + gap → slice_get row n ≡ Some t
     → ((k : ℕ) (u : TimedCall) → from ≤ k → k < n → slice_get row k ≡ Some u → test u ≡ false)
@@ -119,8 +119,8 @@ outside-same test one other i (row ∷ rows) same =
     = outside-same test one other (i + 1) rows (λ j low. same j (omega (arith, low))) in
     omega (arith, first, rest)
 
--- Once a caller's call is covered before which none passes, the count is less by one where that
--- call passes.
+-- Once a call of a caller is covered, where no remaining call of the caller before it passes, the
+-- count is less by one if the call passes, and else the same.
 outside-past : (test : TimedCall → Bool) (numbers : List ℕ) (p : Call) (t : TimedCall) (gap i : ℕ)
     (rows : List (List TimedCall)) → p.caller ≡ i + gap → p.caller < length numbers
     → get_or numbers p.caller 0 ≤ p.number → slice_get (get_or rows gap []) p.number ≡ Some t

@@ -48,8 +48,8 @@ lacks-outside book kind few many call other r h is known out =
       | inr apart ↦ omega (arith, out, h.others other.caller apart)
     ]
 
--- no later call of the unanswered call's caller comes next at any moment, since a view would hold
--- both
+-- no later call of the unanswered call's caller may take effect at any moment, since a view would
+-- hold both
 lacks-apart : (book : List Page) (kind : Call → Type 0) (few many : List ℕ) (call other : Call)
     (m : ℕ) → HasOneOpen book → Lacks book kind few many call
     → get_or many other.caller 0 ≤ other.number → MayTakeEffect book other m
@@ -70,7 +70,7 @@ lacks-apart book kind few many call other m one h out effect same =
           (answers_of book) same,
     ))
 
--- another caller's call is covered by both
+-- the numbers still differ in the unanswered call alone once both cover another caller's call
 lacks-later : (book : List Page) (kind : Call → Type 0) (few many : List ℕ) (call other : Call)
     → Lacks book kind few many call → other.caller ≢ call.caller
     → other.caller < length few → other.caller < length many

@@ -217,8 +217,9 @@ served reading book s pair other steps valid one wide_puts wide_takes serves are
 
 -- ---- takes that find nothing
 
--- A standing covers the same puts and takes, and no fewer takes that find nothing; the moment of
--- its last put is later by at most a moment before which no remaining put is due.
+-- A standing covers the same puts and takes as another one, and no fewer takes that find nothing;
+-- its last put is no later than that of the other one, or than a moment before which no remaining
+-- put is due.
 record IsRaised (reading : Reading) (book : List Page) (t s : Paired) (m : ℕ) : Type 0 where
   puts : IsSame t.puts s.puts
   takes : IsSame t.takes s.takes
@@ -231,7 +232,7 @@ record IsRaised (reading : Reading) (book : List Page) (t s : Paired) (m : ℕ) 
       → get_or s.puts p.caller 0 ≤ p.number → m ≤ moment_of r
   wide : length book ≤ length s.puts
 
--- as many steps lead from this standing to a whole one
+-- as many steps lead from this standing to a whole one as from the other one
 raised-steps : (reading : Reading) (book : List Page) (t s : Paired) (m : ℕ) (steps : List Step)
     → IsRaised reading book t s m → AreSteps reading book s steps
     → (other : List Step) × AreSteps reading book t other × (length other ≡ length steps)
@@ -387,8 +388,8 @@ find-not-overdue reading book s m g steps valid low are overdue =
 
 -- ---- standings
 
--- From one of these standings fewer steps lead to a whole one; or as many do, and more takes that
--- find nothing are covered.
+-- From one of these standings fewer steps lead to a whole one; or as many do, and takes that find
+-- nothing are covered up to a later moment.
 abbrev pub LeadsOn : Reading → List Page → List Paired → Paired → List Step → Type 0
 LeadsOn reading book standings s steps =
     (next : Paired) × (other : List Step) × IsOnePaired standings next

@@ -318,7 +318,8 @@ finds-some reading book table s next_entries standings g m is h few g_is may lea
           inr (g, omega (arith, later, g_is), omega (arith, late, g_is, may.after_takes), leads)
     ]
 
--- takes that find nothing may be covered at once
+-- takes that find nothing may be covered at once where the first moment of the remaining ones is no
+-- later than the last take, and no remaining put is due before the last take
 pub finds-at-once : (reading : Reading) (book : List Page) (table : Table) (s : PairState)
     (next_entries : NextEntries) (standings : List Paired) → IsTable reading book table
     → AreNextEntries table s next_entries

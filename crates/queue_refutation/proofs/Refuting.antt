@@ -26,8 +26,8 @@ latest-bounds (t ∷ standings) zero s at =
     omega (arith, same)
 latest-bounds (t ∷ standings) (suc k) s at = omega (arith, latest-bounds standings k s at)
 
--- no steps of a given number lead to a whole standing where none of fewer do, by how many moments
--- are left at which takes may find nothing
+-- no steps of a given number lead from a closed list of standings to a whole one where none of
+-- fewer do, by induction on the moments that are left for takes that find nothing
 dead-within : (reading : Reading) (book : List Page) (standings : List Paired) (few more : ℕ)
     → IsValid book → HasOneOpen book → AreClosed reading book standings
     → ((s : Paired) (steps : List Step) → IsOnePaired standings s → AreSteps reading book s steps

@@ -1,4 +1,4 @@
--- Lists of standings that have all standings after each of them.
+-- Lists of standings that have, for each of them, the standing after each step that may come next.
 use Rattle.std.proofs.Common.{ℕ, List, refl, inl, inr, arith}
 use Rattle.std.proofs.lemmas.Bool.{cases_lt}
 use Rattle.book_base.specs.declared.call.Call.{Call}
