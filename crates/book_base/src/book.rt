@@ -263,9 +263,9 @@ impl Book {
         None
     }
 
-    // The least call of a caller whose view and the given one aren't comparable. Only the first
-    // view of the caller that isn't within the given one may be such a view: a caller's views rise,
-    // so that the given one is within all later ones where it is within that first one.
+    // The least call of a caller whose view and the given one aren't comparable. It can only be the
+    // first call whose view isn't within the given one: a caller's views rise, so that the given
+    // one is within all later views where it is within that one.
     fn first_crossing_of(&self, caller: u32, view: &Cut) -> Option<u64>
         requires valid { IsValid self.now }
         requires caller { caller < length self.now }

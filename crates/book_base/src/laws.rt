@@ -30,8 +30,8 @@ pub fn views_of_a_caller_rise()
     ensures precedes { PrecedesByItsView }
 {}
 
-/// A low and a high word are those of the operation word that they are joined to, and each
-/// operation word is joined of its own.
+/// Joining a low and a high word below 2^64 gives an operation word with these two words, and each
+/// operation word is joined from its own low and high word.
 pub fn operation_words_are_two_words()
     // The low and the high word of a joined operation word are those of which it was joined, and
     // each operation word is joined of its own.
@@ -62,7 +62,8 @@ pub fn infeasible_and_first_calls()
     ensures first { PrecedingComesFirst }
 {}
 
-/// A read-only operation may be put into a run or left out of it.
+/// A read-only operation with its reply may be put into a run or left out of it, at a list at which
+/// the object gives this reply.
 pub fn read_only_operations_may_be_left_out()
     ensures { ReadOnlyMayBeLeftOut }
 {}

@@ -1,4 +1,4 @@
-//! Cuts, books, states and the trait of sequential objects, on which every other crate stands.
+//! Cuts, books, states and the trait of sequential objects, on which the crates above stand.
 #![tactic(auto)]
 
 mod book;

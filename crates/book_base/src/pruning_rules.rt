@@ -12,8 +12,8 @@ use std::alloc::Global;
 use std::collections::BTreeMap;
 use std::marker::Model;
 
-/// What forbids a call next: it comes only after the calls that `predecessor_bound` holds, and at
-/// no list that has a word of a rank below `limit`.
+/// What forbids a call next: the call comes only after the calls that `predecessor_bound` holds,
+/// and at no list that has a word of a rank below `limit`.
 #[derive(Clone, Copy, Debug)]
 pub struct CallBound {
     pub predecessor_bound: [u64; MAX_CALLERS],
@@ -89,7 +89,7 @@ impl PruningRules {
         })
     }
 
-    /// Forbids a call next until after another one.
+    /// Forbids a call next after each cut that lacks another call.
     pub fn hold_back(&mut self, call: Call, other: Call)
         // There is a bound for the call.
         requires call_bound { HasCallBound self.old call }

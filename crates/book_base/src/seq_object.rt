@@ -122,8 +122,8 @@ pub trait SeqObject {
     /// What the object says of a whole book without a search. An object that leaves this out says
     /// nothing.
     fn decide(&self, alloc: Global, book: &Book) -> Result<Decision, NoMemory>
-        // An order that is answered is a legal one of the book, and that there is none is answered
-        // only where the book has none.
+        // An order in the answer is a legal one of the book, and the answer is `NoOrder` only where
+        // the book has none.
         ensures { IfOk result (IsRightDecision (init self.now) (next self.now) book.now) }
     {
         Ok(Decision::Unsaid)

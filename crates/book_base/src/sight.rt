@@ -11,8 +11,8 @@ pub struct Labelled {
 }
 
 /// When a call may take effect, by moments, which are the numbers of calls that views count: from
-/// the moment of the first view that holds the call to that of its own view. A moment without such
-/// a view is the greatest number.
+/// the moment of the first view that holds the call to that of its own view. Where there is no such
+/// view, the moment is the greatest number.
 #[derive(Clone, Copy, Debug, Drop)]
 pub struct Span {
     pub first: u64,

@@ -26,14 +26,14 @@ IsTheBookAtTheSmaller = (book : List Page) (smaller larger : List ℕ) → IsVal
     → IsWithin smaller larger
     → book_at smaller (book_at larger book) ≡ book_at smaller book
 
--- Where a cut counts no more records than a book has, the record counts of the book at the cut are
--- the cut.
+-- Where a cut of a book's callers counts for each no more records than the book has, the record
+-- counts of the book at the cut are the cut.
 abbrev pub RecordCountsAreTheCut : Type 0
 RecordCountsAreTheCut = (book : List Page) (cut : List ℕ) → length cut ≡ length book
     → IsWithin cut (answered book)
     → answered (book_at cut book) ≡ cut
 
--- The book at the cut of all records of a book has each record of the book.
+-- The book at the cut of all records of a book has exactly the records of the book.
 abbrev pub KeepsEachRecord : Type 0
 KeepsEachRecord = (book : List Page) (call : Call) → IsValid book
     → record_of (book_at (answered book) book) call ≡ record_of book call

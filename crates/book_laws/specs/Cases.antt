@@ -26,7 +26,7 @@ abbrev pub overtaken : List Page
 overtaken = caller_page (5 ∷ 0 ∷ 7 ∷ []) (answer 0 (1 ∷ 1 ∷ []) ∷ answer 6 (2 ∷ 1 ∷ []) ∷ [])
     ∷ caller_page (6 ∷ []) (answer 0 (1 ∷ 1 ∷ []) ∷ []) ∷ []
 
--- The book `overtaken` at the cut of its three records, which lacks the call that no view holds.
+-- The book `overtaken` at the cut of its three records: it lacks the call that no view holds.
 abbrev pub overtaken_seen : List Page
 overtaken_seen = caller_page (5 ∷ 0 ∷ []) (answer 0 (1 ∷ 1 ∷ []) ∷ answer 6 (2 ∷ 1 ∷ []) ∷ [])
     ∷ caller_page (6 ∷ []) (answer 0 (1 ∷ 1 ∷ []) ∷ []) ∷ []

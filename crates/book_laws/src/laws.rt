@@ -30,7 +30,7 @@ pub fn books_at_cuts_agree()
 /// The book at the cut of all records of a book has all answered calls of the book, and of the
 /// others exactly those that some view holds. It has a legal order exactly where the book has one.
 pub fn calls_without_a_view_are_free()
-    // The book at the cut of all records of a book has each record of the book.
+    // The book at the cut of all records of a book has exactly the records of the book.
     ensures records { KeepsEachRecord }
     // The book at the cut of all records of a book has exactly the calls that are answered or held
     // by a view.
@@ -55,8 +55,8 @@ pub fn error_is_final()
     ensures larger { LargerHasNone }
 {}
 
-/// The greatest counts of one or more pairwise comparable cuts are one of these cuts, which
-/// contains each other.
+/// The greatest counts of one or more pairwise comparable cuts are one of these cuts, and contain
+/// each of them.
 #[tactic(auto, using(crate::proofs::GreatestCuts::greatest_is_one, crate::proofs::GreatestCuts::greatest_contains_each))]
 pub fn greatest_of_comparable()
     // The greatest counts of some pairwise comparable cuts, at least one, are one of these cuts.
