@@ -1,4 +1,5 @@
--- What the rules need of a reading beside what a container is.
+-- What the rules need of a reading besides that the object is a container: the values that it reads
+-- of a list include each word of the list that a reply may show.
 use Rattle.std.specs.Prelude.{◌≡◌, ℕ, List, Contains, Some}
 use Rattle.history_rules.specs.Container.{Reading}
 

@@ -59,8 +59,8 @@ abbrev pub reach_for : Discipline → ℕ → ℕ
 reach_for Queue reach = 0
 reach_for Stack reach = reach
 
--- the call that comes before the puts of what is taken after a take, by the only put of what the
--- take itself takes: in a queue that put, in a stack none
+-- the call that a take's link names as one that comes before the puts of what is taken later: in a
+-- queue the only put of what the take itself takes, in a stack none
 abbrev pub before_for : Discipline → Option Call → Option Call
 before_for Queue put = put
 before_for Stack put = None

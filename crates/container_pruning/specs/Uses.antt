@@ -29,17 +29,18 @@ no_use = record { puts = 0; put = record { caller = 0; number = 0 }; takes = 0 }
 abbrev pub use_of : List (ℕ × Use) → ℕ → Use
 use_of uses v = unwrap_or (lookup (is_at (nat_cmp v)) uses) no_use
 
--- The use of a value is right: it says how many of the calls read so far put the value in and how
--- many take it out, as listed here.
+-- The use of a value is right: of the calls read so far, no more put the value in than it counts,
+-- exactly as many take it out as it counts, and the put that it names puts the value in.
 pub record IsCounted (deal : Call → Deal) (read : Call → Type 0) (v : ℕ) (used : Use) : Type 0 where
-  -- the calls that put the value in
+  -- a list of calls, of the length that the use counts, that has all calls read so far that put the
+  -- value in
   pub putters : List Call
   pub puts : length putters ≡ used.puts
   pub all_putters : (call : Call) → read call → deal call ≡ deals.Put v → (k : ℕ)
       × (slice_get putters k ≡ Some call)
   -- the put that the use names is one of the calls that put the value in
   pub put : 1 ≤ used.puts → deal used.put ≡ deals.Put v
-  -- the calls that take the value out
+  -- the calls read so far that take the value out, each once
   pub takers : List Call
   pub takes : length takers ≡ used.takes
   pub all_takers : (call : Call) → read call → deal call ≡ deals.Took v → (k : ℕ)

@@ -37,8 +37,7 @@ pub fn hold(book: &Book, links: &Links, uses: &Uses, known: &mut PruningRules)
     }
 }
 
-// Holds back each put of what is taken, after what the links of the calls that precede its take
-// name.
+// Holds back each put of what is taken, as the links of the calls that precede the take say.
 fn follow(book: &Book, links: &Links, known: &mut PruningRules)
     requires links { AreLinksOf book.now links.now }
     requires call_bounds { (c : Call) → IsCall book.now c → HasCallBound known.old c }
@@ -78,8 +77,8 @@ fn follow_caller(book: &Book, links: &Links, known: &mut PruningRules, caller: u
     }
 }
 
-// Holds back the puts of what no answered call takes, after what the links name of the calls that
-// precede each unanswered take.
+// Holds back the puts of what no answered call takes, as the links of the calls that precede each
+// unanswered take say.
 fn keep(book: &Book, links: &Links, uses: &Uses, known: &mut PruningRules)
     requires links { AreLinksOf book.now links.now }
     requires call_bounds { (c : Call) → IsCall book.now c → HasCallBound known.old c }

@@ -32,7 +32,7 @@ impl Takers {
         Ok(takers)
     }
 
-    // Adds a take to those of the puts.
+    // Notes a take as the call that takes the value of its put.
     fn add(&mut self, links: &Links, take: Call) {
         if let Some(put) = links.at(take).after
             && let Some(row) = self.rows.get_mut(put.caller as usize)

@@ -20,8 +20,8 @@ QueueGivesInOrder =
     → filter_map (put_by reading) steps
     ≡ filter_map (taken_by reading) steps ++ reading.values (list_after_run next init steps)
 
--- A container gives out only what was put in: after a legal run from empty, each value was put in
--- as often as it was given out and is still held together.
+-- A container gives out only what was put in: after a legal run from empty, how often a value was
+-- put in is how often it was given out plus how often it is still held.
 abbrev pub ContainerGivesWhatWasPut : Type 0
 ContainerGivesWhatWasPut = (reading : Reading) (init : List ℕ) (next : List ℕ → ℕ → List ℕ × ℕ)
     (steps : List (ℕ × ℕ)) (v : ℕ)

@@ -10,12 +10,13 @@ pub fn what_is_given_out_was_put_in()
     // After a legal run of a queue from empty, all values put in are those given out, followed by
     // those that it still holds, in order.
     ensures queue { QueueGivesInOrder }
-    // After a legal run of a container from empty, each value was put in as often as it was given
-    // out and is still held together.
+    // After a legal run of a container from empty, how often a value was put in is how often it was
+    // given out plus how often it is still held.
     ensures container { ContainerGivesWhatWasPut }
 {}
 
-/// In any container a take that found nothing comes before the put of what is taken after it.
+/// In any container a take that found nothing comes before the put of each value whose take it
+/// precedes.
 pub fn empty_takes_stand_before_puts()
     ensures { EmptyBeforePut }
 {}
@@ -38,13 +39,13 @@ pub fn no_more_is_taken_than_put()
     ensures any { TakenNoMoreThanPut }
 {}
 
-/// Whatever the object, an order may take an answered call at once that may come next and whose
-/// recorded reply the object gives, where its operation is read-only with this reply.
+/// Whatever the object, an answered call that may come next may be taken at once, where the object
+/// gives its recorded reply and its operation is read-only with this reply.
 pub fn read_only_calls_stand_at_once()
     ensures { GoesOnWithIt }
 {}
 
-/// A call is infeasible next after each cut that lacks a call that must come first.
+/// A call is infeasible next after each cut that lacks a call that must come before it.
 pub fn infeasible_until_the_first_stands()
     ensures { InfeasibleUntilThen }
 {}

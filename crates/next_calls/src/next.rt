@@ -68,9 +68,10 @@ pub fn first_view<'b>(book: &'b Book, counts: &[u16], caller: u32) -> &'b Cut
 pub fn all_next(book: &Book, cut: &Cut, view: &Cut, first: u32) -> Marks
     // The cut has a count for each caller of the book.
     requires wide { length cut.now ≡ length book.now }
-    // Of all answered calls outside the cut the first caller's first one has the least view.
+    // Of all answered calls outside the cut, the first one of the caller `first` has the least
+    // view.
     requires first { IsLeast book.now cut.now (length book.now) first }
-    // The view is that of this first call.
+    // The given view is the view of the first call of `first` outside the cut.
     requires view { (r : Record) → record_of book.now (next_call cut.now first) ≡ Some r
         → r.view ≡ view.now }
     // The view has a count for each caller of the book.

@@ -29,8 +29,8 @@ abbrev pub reply_with : Option ℕ → ℕ
 reply_with (Some value) = reply_value value
 reply_with None = reply_none
 
--- A dequeue gives the value after as many of the values put in as were given out before it, or none
--- where there is no such value.
+-- Where n values were given out before a dequeue, it gives the value at place n, counted from 0, of
+-- those put in before it, or none where there is no such value.
 abbrev pub DequeuesGiveTheOldest : Type 0
 DequeuesGiveTheOldest = (before rest : List (ℕ × ℕ)) (step : ℕ × ℕ)
     → IsRunOf Queue (before ++ step ∷ rest) → does deq step ≡ true

@@ -11,7 +11,7 @@ use crate::place::{call_at, first_fault_at};
 use book_base::{Book, Call, Cut, MAX_CALLERS, MAX_CALLS, NoMemory, Place, SeqObject, State};
 use std::alloc::Global;
 
-// The capacity of a list with one word more than a book has calls.
+// The capacity of a list with one word more than a book may have calls.
 const CAPACITY: u64 = MAX_CALLERS as u64 * MAX_CALLS + 1;
 
 /// Judges a list of places: Ok where it is a legal order of the book, and else its first fault.

@@ -62,8 +62,8 @@ fn is_call(book: &Book, call: Call) -> bool
     call.caller < book.callers() && call.number < book.calls(call.caller)
 }
 
-// The least place before another one whose call the call of that other place precedes. There is
-// none where this call's view holds all calls before it.
+// The least place before the given one whose call the given call precedes. There is none where the
+// view of the given call holds all calls before the given place.
 fn first_preceded(
     book: &Book,
     order: &[Place],

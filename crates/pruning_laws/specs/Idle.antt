@@ -6,9 +6,8 @@ use Rattle.book_base.specs.Order.{call_at}
 use Rattle.book_base.specs.Next.{list_after, Continues}
 use Rattle.book_base.specs.Pruning.{HasOneOpen}
 
--- In a book with one open, where places continue an order and the first is an unanswered call that
--- doesn't change the list, the order is also continued by places of which there are no more than
--- after that call.
+-- In a book with one open, where the places that continue an order begin with an unanswered call
+-- that doesn't change the list, fewer places continue the order too.
 abbrev pub IdleMayBeLeftOut : Type 0
 IdleMayBeLeftOut = (book : List Page) (next : List ℕ → ℕ → List ℕ × ℕ) (cut list : List ℕ)
     (place : Place) (rest : List Place)

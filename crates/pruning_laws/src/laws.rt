@@ -5,8 +5,8 @@ ghost use Rattle.pruning_laws.specs.Idle.{IdleMayBeLeftOut};
 ghost use Rattle.pruning_laws.specs.Keys.{ForcedKeyGoesFirst};
 
 /// Of two calls of one operation that may come next, an answered one serves for the other where the
-/// other has the same reply and a view that contains its own, or is unanswered. Of two unanswered
-/// ones either serves.
+/// other has the same reply and a view that contains its own, or is unanswered and would get the
+/// same reply now. Of two unanswered ones either serves.
 #[tactic(auto, using(crate::proofs::Exchanging::twin_serves))]
 pub fn twins_serve_for_one_another()
     ensures { TwinServes }

@@ -50,8 +50,8 @@ first_after found None = NEVER
 first_after found (Some t) = if nat_lt found t.span.first then t.span.first else NEVER
 
 -- The next entries are right at a standing: they have the next put and the next take of each
--- caller, the first moment of the remaining takes that find nothing, and the latest moments of all
--- remaining calls.
+-- caller, the first moment of the remaining takes that find nothing, and for puts, for takes and
+-- for takes that find nothing the least of the latest moments of those that remain.
 pub record AreNextEntries (table : Table) (s : PairState)
     (next_entries : NextEntries) : Type 0 where
   pub puts : (i : ℕ) → i < MAX_CALLERS

@@ -47,7 +47,8 @@ MayTakeOut reading book v call = (deal_of reading book call ≡ deals.Took v)
 abbrev pub IsTake : Reading → List Page → Call → Type 0
 IsTake reading book call = (v : ℕ) × MayTakeOut reading book v call
 
--- The call is the first of a kind among its caller's calls from the given number on.
+-- The call is its caller's next one of a kind: it isn't below the caller's number, and no call from
+-- this number on and before it is of the kind.
 pub record IsNext (kind : Call → Type 0) (numbers : List ℕ) (call : Call) : Type 0 where
   pub outside : slice_index numbers call.caller ≤ call.number
   pub first : (n : ℕ) → slice_index numbers call.caller ≤ n → n < call.number
@@ -69,8 +70,8 @@ pub record MayPair (reading : Reading) (book : List Page) (s : Paired) (pair : P
   pub take_effect : MayTakeEffect book pair.take pair.take_moment
 
 -- The takes that find nothing and that some view holds at a moment may come next at a standing: the
--- moment is no earlier than that of the last take so far, and no later than those of the takes that
--- find nothing and aren't covered yet.
+-- moment is no earlier than that of the last take so far, and no later than that of each of these
+-- takes that isn't covered yet.
 pub record MayFind (reading : Reading) (book : List Page) (s : Paired) (m : ℕ) : Type 0 where
   pub after_takes : s.take_moment ≤ m
   pub in_time : (e : Call) (r : Record) → deal_of reading book e ≡ deals.FoundNothing

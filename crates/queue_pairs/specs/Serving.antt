@@ -16,7 +16,8 @@ abbrev pub IsDueNoLater : List Page → Call → Call → Type 0
 IsDueNoLater book other call = (r : Record) → record_of book call ≡ Some r → (o : Record)
     × (record_of book other ≡ Some o) × (moment_of o ≤ moment_of r)
 
--- As many steps as these lead from a standing to one that is whole, with this pair first.
+-- Some steps lead from a standing to one that is whole: this pair, and after it as many steps as
+-- these.
 abbrev pub GoesOnWith : Reading → List Page → Paired → Pair → List Step → Type 0
 GoesOnWith reading book s pair steps = (other : List Step)
     × AreSteps reading book s (Pairs pair ∷ other) × (length other ≡ length steps)

@@ -11,7 +11,8 @@ ghost use Rattle.queue_pairs.specs.Serving.{EarlierPutServes, EarlierTakeServes}
 pub fn moments_keep_precedence()
     // An answered call precedes exactly those calls that no view holds up to its own moment.
     ensures precedes { PrecedesByMoments }
-    // Calls that views hold keep precedence exactly where they may take effect one after another.
+    // In a book with one open, calls that views hold keep precedence exactly where they may take
+    // effect one after another.
     ensures order { MomentsKeepPrecedence }
 {}
 

@@ -124,7 +124,7 @@ impl NextEntries {
     }
 
     /// Whether some remaining call is due before one of these moments, a put before the first or a
-    /// take before the second, so that no pair may come next at them.
+    /// take before the second, so that nothing may come next at them.
     pub fn is_past(&self, put_moment: u64, take_moment: u64) -> bool
         ensures { IsTrue result ↔ IsPast self.now put_moment take_moment }
     {

@@ -6,7 +6,7 @@ use crate::walk::{Choice, PairWalk, Step};
 use book_base::{Book, Call, MAX_CALLERS, MAX_CALLS, NoMemory, Place, SeqObject, State};
 use std::alloc::Global;
 
-// The capacity of a list with one word more than a book has calls.
+// The capacity of a list with one word more than a book may have calls.
 const CAPACITY: u64 = MAX_CALLERS as u64 * MAX_CALLS + 1;
 
 /// A call, and the moment at which it takes effect.

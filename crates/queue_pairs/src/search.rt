@@ -198,7 +198,7 @@ fn pair_next(
     })
 }
 
-// Of two calls the one that is held by the earlier first view.
+// Of two calls the one with the earlier first moment.
 fn earlier_of(one: Option<TimedCall>, other: TimedCall) -> Option<TimedCall> {
     match one {
         Some(first) if first.span.first <= other.span.first => one,

@@ -10,7 +10,8 @@ use crate::NEVER;
 use book_base::{Book, Call, Cut, Span};
 
 /// When a call may take effect: from the moment of the first view that holds it to that of its own
-/// view, where a moment is how many calls a view counts. A moment without such a view is [`NEVER`].
+/// view, where a moment is how many calls a view counts. Where there is no such view, the moment is
+/// [`NEVER`].
 pub fn span_of(book: &Book, call: Call) -> Span
     requires { IsCall book.now call }
     ensures { IsSpanOf book.now call result }

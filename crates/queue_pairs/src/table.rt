@@ -222,8 +222,8 @@ impl Table {
         least
     }
 
-    /// The least last moment of all calls that take and find nothing and that no view holds up to a
-    /// moment.
+    /// The least of the last moments of all calls that take and find nothing and that no view holds
+    /// up to a moment.
     pub fn find_limit(&self, found: u64) -> u64
         ensures { IsLeastOf (λ k. last_after found (slice_get self.now.finds.items k))
             (length self.now.finds.items) result }

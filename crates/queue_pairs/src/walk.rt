@@ -10,8 +10,8 @@ use std::mem;
 pub enum Step {
     /// A put, and the take that takes its value out.
     Pair(TimedPair),
-    /// The takes that find nothing and that some view holds at the second moment and none at the
-    /// first.
+    /// The takes that find nothing and that some view holds up to the second moment, and none up to
+    /// the first.
     Finds(u64, u64),
 }
 

@@ -84,8 +84,8 @@ FindsLead reading book standings s m =
     ⊎ ((g : ℕ) × (s.found < g) × (g ≤ m)
     × (IsOnePaired standings (after s (FindNothing g)) ⊎ IsOverdue reading book s g g))
 
--- Whatever may come next at a standing leads to one of these standings or needn't be tried, and the
--- standing isn't whole.
+-- Whatever may come next at a standing leads to one of these standings or needn't be tried; the
+-- standing isn't whole, and its last put has no later moment than its last take.
 pub record AllLead (reading : Reading) (book : List Page) (standings : List Paired)
     (s : Paired) : Type 0 where
   pub in_turn : s.put_moment ≤ s.take_moment

@@ -100,8 +100,8 @@ fn finds_refute(table: &Table, left: &Moments) -> bool
     false
 }
 
-// Whether takes of one value are ahead of its puts, and the takes' moment is no later than the
-// puts', or puts of another value are ahead of its takes at the same moments.
+// Whether takes of one value are ahead of its puts, while the takes' moment is no later than the
+// puts' or puts of another value are ahead of its takes at these moments.
 fn refutes(table: &Table, ahead: u64, other: u64, put_moment: u64, take_moment: u64) -> bool
     ensures { IsTrue result → HasNoPairs table.now }
 {

@@ -16,7 +16,8 @@ use indexmap::IndexSet;
 use queue_pairs::{NEVER, NextEntries, PairState, QueueDeal, Table, TimedCall, TimedPair};
 
 /// Standings that a search entered, to be checked once more. Where whatever may come next at each
-/// of them leads to one of them or needn't be tried, no pairs can be completed from any.
+/// of them leads to one of them or needn't be tried, no steps lead from any of them to a whole
+/// standing.
 pub struct DeadEnds<'a> {
     pub table: &'a Table,
     pub standings: &'a IndexSet<PairState>,

@@ -19,7 +19,7 @@ last_taken [] = ([], reply_none)
 last_taken (x ∷ rest) =
     (take (length rest) (x ∷ rest), reply_value (slice_index (x ∷ rest) (length rest)))
 
--- The place of a value in a list for the first time, if it is there.
+-- The first place of a value in a list, if it is there.
 abbrev pub place_of : List ℕ → ℕ → Option ℕ
 place_of list value = position (λ x. x == value) list
 

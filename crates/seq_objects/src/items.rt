@@ -46,7 +46,7 @@ pub fn set_only(state: &mut State, item: u64)
     state.push(item);
 }
 
-/// The place of a value in a list for the first time, if it is there.
+/// The first place of a value in a list, if it is there.
 pub fn place_of(words: &[u64], value: u64) -> Option<usize>
     ensures { result ≡ items.place_of words.now value }
 {

@@ -31,8 +31,8 @@ pub fn empty_sight(alloc: Global) -> Sight {
 /// Of the marked callers those whose next calls have the forced call's key, or all where it has
 /// none.
 ///
-/// They suffice: in any order that continues, the first call with this key may change places with
-/// all before it, and it may come next (after Herlihy and Wing 1990, on locality).
+/// They suffice: where places continue an order, the first one of a call with this key may be put
+/// before all others, since this call may come next (after Herlihy and Wing 1990, on locality).
 pub fn narrow_to_key<K: Keyed>(
     object: &K,
     book: &Book,

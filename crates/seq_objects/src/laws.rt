@@ -17,7 +17,7 @@ pub fn one_name_per_kind()
 /// Each operation word has one text per kind: no two words of a kind share a text, words of a text
 /// are read as at most one operation, and a text is its words with one space between two.
 pub fn one_text_per_operation()
-    // Two operation words that have one text of a kind are equal.
+    // Two operation words with the same text of a kind are equal.
     ensures text { (kind : Kind) (a b : ℕ) → IsOperationWord a → IsOperationWord b
         → operation_text kind a ≡ operation_text kind b → a ≡ b }
     // Where words begin with those of two operation words of a kind, the two are equal.
@@ -33,7 +33,7 @@ pub fn one_text_per_operation()
 
 /// Each reply word has one text: no two share a text, and a text is a word.
 pub fn one_text_per_reply()
-    // Two reply words with one text are equal.
+    // Two reply words with the same text are equal.
     ensures text { (a b : ℕ) → a < 2 ^ 64 → b < 2 ^ 64 → reply_word a ≡ reply_word b → a ≡ b }
     // The text of each reply word is a word: it isn't empty, and each of its bytes is a printed
     // character.

@@ -152,8 +152,8 @@ impl SeqObject for Map {
         ensures { IsTrue result ↔ Leaves (λ list op. map_after list (map_operation op)) op reply }
     {
         match MapOperation::from_word(op) {
-            // A put that found its key may reply any value, and also the one that it puts, which is
-            // there already then.
+            // A put that replies the value that it puts in found this value there, and no put gives
+            // a reply that is neither `NONE` nor a value.
             Some(MapOperation::Put(_, value)) => {
                 reply == value_reply(u64::from(value)) || reply != NONE && !is_value(reply)
             }

@@ -20,7 +20,7 @@ abbrev pub NeverRepliesFrom : (List ℕ → List ℕ → Option (List ℕ × Lis
 NeverRepliesFrom served list op reply = (sets : List (List ℕ)) (later : List ℕ)
     → ServesTo served list sets later → NeverReplies served later op reply
 
--- what a sequential object serves: a set of one operation, as the object applies it, and no larger
+-- what a sequential object serves: a set of one operation, as the object applies it, and no other
 -- set
 abbrev pub served_alone : (List ℕ → ℕ → List ℕ × ℕ) → List ℕ → List ℕ → Option (List ℕ × List ℕ)
 served_alone next list (op ∷ []) = Some ((next list op).0, (next list op).1 ∷ [])

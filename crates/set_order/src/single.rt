@@ -6,7 +6,7 @@ use crate::set_object::SetObject;
 use book_base::{OpWord, SeqObject, State};
 
 /// A sequential object as one that serves sets: it serves a set of one operation as the object
-/// does, and no larger set.
+/// does, and no other set.
 #[derive(Clone, Copy, Debug)]
 pub struct Single<S> {
     pub object: S,

@@ -8,7 +8,8 @@ use book_base::{MAX_CALLERS, MAX_CALLS, NoMemory, Place, State};
 use frontier_check::Memo;
 use std::alloc::Global;
 
-/// The capacity of a list with as many words as a book has calls, one more, and those of one set.
+/// The capacity of a list with as many words as a book may have calls, one more, and those of one
+/// set.
 pub const CAPACITY: u64 = MAX_CALLERS as u64 * MAX_CALLS + 1 + MAX_CALLERS as u64;
 
 /// A level: a cut and a list on the way to the present ones of a search, with the set that was

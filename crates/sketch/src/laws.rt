@@ -30,8 +30,8 @@ pub fn views_hold_what_was_invoked()
     ensures { ViewsHoldWhatWasInvoked }
 {}
 
-/// The return of a call comes before the invocation of another exactly where the call's view
-/// doesn't hold the other.
+/// In a sketch the return of a call stands before the invocation of another exactly where the call
+/// is answered and its view doesn't hold the other.
 #[tactic(auto, using(crate::proofs::Orderly::returns_come_before_unseen_calls))]
 pub fn returns_come_before_unseen_calls()
     ensures { ReturnsComeBeforeUnseenCalls }

@@ -38,7 +38,7 @@ pub fn is_written<R: Reader>(reader: &R, sight: &Sight, book: &Book, cut: &Cut, 
     }
 }
 
-// Whether some of these calls is answered, outside a cut, and reads a value.
+// Whether one of these calls is answered, is outside a cut and reads a value.
 fn some_reads<R: Reader>(reader: &R, book: &Book, cut: &Cut, calls: &[Call], value: u64) -> bool
     requires wide { length cut.now ≡ length book.now }
     ensures found { IsTrue result → IsRead (R.reading reader.now) book.now cut.now value }

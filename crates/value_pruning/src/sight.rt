@@ -153,7 +153,7 @@ pub fn least_take(sight: &Sight, book: &Book, cut: &Cut, value: u64) -> Option<C
     least_outside(book, cut, &labelled_of(sight, value)?.shows)
 }
 
-// Of those of these calls that are answered and outside a cut one with the least view.
+// One with the least view of these calls that are answered and outside a cut.
 fn least_outside(book: &Book, cut: &Cut, calls: &[Call]) -> Option<Call>
     requires { length cut.now ≡ length book.now }
     ensures answered { IfSome result (IsAnswered book.now) }
