@@ -81,7 +81,7 @@ IsNoView Second n words = LacksViewWord words ⊎ ((suffix : List (List ℕ))
 -- ---- the tests of a line, by itself
 
 -- A line for this call, in a text of this many callers, fails a test that needs no other view;
--- `gap` says that an earlier call of the same caller is unanswered.
+-- `gap` says whether an earlier call of the same caller is unanswered.
 abbrev pub EntryFails : Version → Operations → ℕ → Bool → Call → List (List ℕ) → What → Type 0
 -- the line doesn't begin with the caller and the number that are due
 EntryFails version operations n gap call words what.Place = (suffix : List (List ℕ))
@@ -126,7 +126,7 @@ MayRefuse _ = Unit {0}
 abbrev pub IsUnanswered : List Page → Call → Type 0
 IsUnanswered book call = answers_of book call.caller ≤ call.number
 
--- the line's view fails a test against the views of the book that the lines before it give
+-- the line's view fails a test of an answer to this call, in the book that the lines before it give
 pub record ViewFails (version : Version) (operations : Operations) (book : List Page) (call : Call)
     (words : List (List ℕ)) (name : What) : Type 0 where
   pub view : List ℕ

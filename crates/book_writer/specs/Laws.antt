@@ -10,7 +10,7 @@ use Rattle.book_text.specs.BookRules.{IsBookText}
 use Rattle.sketch.specs.declared.event.Event.{Event}
 use Rattle.book_writer.specs.Sketches.{sketch_lines, AreEventsOf}
 
--- Two books with one written text are equal, and so are their kinds.
+-- Two books with the same written text are equal, and so are their kinds.
 abbrev pub WrittenBooksAreOne : Type 0
 WrittenBooksAreOne = (version : Version) (bytes : List ℕ) (k l : Kind) (a b : List Page)
     → IsWrittenText version bytes k a → IsWrittenText version bytes l b → (k ≡ l) × (a ≡ b)

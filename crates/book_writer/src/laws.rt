@@ -4,7 +4,7 @@
 
 ghost use Rattle.book_writer.specs.Laws.{WrittenBooksAreOne, NoBookTextBeginsAnother, NoSketchTextBeginsAnother};
 
-/// Two books with one written text are equal, and so are their kinds, in both versions.
+/// Two books with the same written text are equal, and so are their kinds, in both versions.
 pub fn written_books_are_one()
     ensures { WrittenBooksAreOne }
 {}

@@ -128,7 +128,7 @@ fn is_outside(book: &Book, first: Call, second: Call, call: Call) -> bool
     }
 }
 
-// Whether a call is this only one, if it puts in the only one's value.
+// Whether a call is the call `only`, if it puts in the value of that call.
 fn put_is_only(kind: Kind, book: &Book, only: Call, call: Call) -> bool
     requires only { IsCall book.now only }
     requires call { IsCall book.now call }
@@ -142,7 +142,7 @@ fn put_is_only(kind: Kind, book: &Book, only: Call, call: Call) -> bool
     }
 }
 
-// Whether a call is this only one, if it takes the only one's value.
+// Whether a call is the call `only`, if it takes the value of that call.
 fn take_is_only(kind: Kind, book: &Book, only: Call, call: Call) -> bool
     requires only { IsCall book.now only }
     requires call { IsCall book.now call }

@@ -123,7 +123,7 @@ pub record IsReadTo {Due : Type 0} (rules : Rules Due) (due : Due) (text : Unrea
 -- Rules are sharp where a line is right in one way, no right line fails a test, and a right line
 -- can be read back.
 pub record AreSharp {Due : Type 0} (rules : Rules Due) : Type 0 where
-  -- a right line leads from a state to one other state only
+  -- a right line leads from a state to exactly one state
   pub one_way : (due a b : Due) (words : List (List ℕ)) → rules.Passes due words a
       → rules.Passes due words b → a ≡ b
   -- a right line fails no test

@@ -10,7 +10,7 @@ pub record Operations : Type 0 where
   pub has : ℕ → Bool
   pub words : ℕ → List (List ℕ)
 
--- Words begin with those of an operation: a first one, and as many further ones as are used.
+-- Words begin with those of an operation: a first one, and `used` further ones.
 pub record IsSpelled (operations : Operations) (words : List (List ℕ)) (op used : ℕ) : Type 0 where
   pub has : IsTrue (operations.has op)
   pub suffix : List (List ℕ)
