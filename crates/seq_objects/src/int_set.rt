@@ -155,8 +155,8 @@ impl SeqObject for IntSet {
         requires marks { MarksAllNext book.now cut.now marks }
         // Each caller that the answer marks was marked.
         ensures fewer { IsMarkedWithin result marks }
-        // Where places continue an order from here, as many or fewer that begin with the next call
-        // of a caller that the answer marks do too.
+        // Where places continue an order from the cut and the list, as many or fewer that begin
+        // with the next call of a caller that the answer marks do too.
         ensures suffice { MarksSuffice book.now
             (λ list op. set_after list (set_operation op)) cut.now
             words.now result }

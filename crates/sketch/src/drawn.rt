@@ -50,9 +50,9 @@ impl Drawn {
 
     /// The event that comes next, unless all are drawn.
     ///
-    /// Of the calls that are still to return, one with the least view returns next. Until all calls
-    /// that this view holds are invoked, the first of them that isn't is invoked next. After the
-    /// last return all other calls are invoked.
+    /// While some call that the least view of the calls still to return holds isn't invoked, the
+    /// first such call is invoked; then the first call with this view returns. After the last
+    /// return all other calls are invoked.
     pub fn next(&self, book: &Book) -> Option<Event>
         requires valid { IsValid book.now }
         requires part { IsPartOf book.now self.now }

@@ -37,8 +37,8 @@ IsRead reading book cut v = (call : Call) × ReadsOutside reading book cut v cal
 abbrev pub IsWritten : Reading → List Page → List ℕ → ℕ → Type 0
 IsWritten reading book cut v = (call : Call) × WritesOutside reading book cut v call
 
--- The value held is read by a call outside a cut, and written by none: it must not be overwritten
--- yet.
+-- The value held is read by an answered call outside a cut, and written by no call outside it: it
+-- must not be overwritten yet.
 abbrev pub IsIrreplaceable : Reading → List Page → List ℕ → ℕ → Type 0
 IsIrreplaceable reading book cut held = IsRead reading book cut held
     × (IsWritten reading book cut held → ⊥)

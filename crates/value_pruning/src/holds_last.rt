@@ -37,9 +37,9 @@ pub fn narrow_holds_last<R: Reader>(
     requires marks { MarksAllNext book.now cut.now marks }
     // Each caller that the answer marks was marked.
     ensures fewer { IsMarkedWithin result marks }
-    // For each object that holds the value written last, and holds this one: where places continue
-    // an order from here, as many or fewer that begin with the next call of a caller that the
-    // answer marks do too.
+    // For each object that holds the value written last, and holds this one at a list: where places
+    // continue an order from the cut and the list, as many or fewer that begin with the next call
+    // of a caller that the answer marks do too.
     ensures suffice { (held_in : List ℕ → ℕ) (next : List ℕ → ℕ → List ℕ × ℕ) (list : List ℕ)
         → HoldsLast (R.reading reader.now) held_in next
         → held_in list ≡ held → MarksSuffice book.now next cut.now list result }
