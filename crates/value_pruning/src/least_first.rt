@@ -40,9 +40,10 @@ pub fn narrow_least_first<R: Reader>(
     requires marks { MarksAllNext book.now cut.now marks }
     // Each caller that the answer marks was marked.
     ensures fewer { IsMarkedWithin result marks }
-    // For each object that gives its least value first, at a rising list that some order reaches
-    // with this cut: where places continue an order from the cut and the list, as many or fewer
-    // that begin with the next call of a caller that the answer marks do too.
+    // For each object that gives its least value first and begins with a rising list, at a list
+    // that some order reaches with this cut: where places continue an order from the cut and the
+    // list, as many or fewer that begin with the next call of a caller that the answer marks do
+    // too.
     ensures suffice { (init : List ℕ) (next : List ℕ → ℕ → List ℕ × ℕ) (bound : ℕ)
         → GivesLeastFirst (R.reading reader.now) next bound
         → IsRising bound init → IsReached init next book.now cut.now words.now
