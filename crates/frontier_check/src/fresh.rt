@@ -140,8 +140,10 @@ fn best_choice<S: SeqObject>(
 {
     let mut best: Option<Choice> = None;
     for caller in 0..book.callers() {
-        let found = choice_of(object, book, prefix, spare, guess, view, caller);
-        best = better_of(book, &prefix.cut, best, found);
+        if prefix.cut.get(caller) < view.get(caller) {
+            let found = choice_of(object, book, prefix, spare, guess, view, caller);
+            best = better_of(book, &prefix.cut, best, found);
+        }
     }
     best
 }

@@ -62,6 +62,7 @@ impl Guess {
         ensures taken { length self.new.taken ≡ length book.now }
     {
         let number = cut.get(caller);
+        self.takes.pass(cut);
         self.counts.set(caller, count_of(book, caller, number));
         let taken = if number < book.calls(caller) {
             self.takes

@@ -110,8 +110,8 @@ fn most_calls(book: &Book, cut: &Cut) -> u64
 /// How many calls a view counts.
 pub fn total(view: &Cut) -> usize {
     let mut calls = 0usize;
-    for caller in 0..view.n() {
-        calls = calls.saturating_add(view.get(caller) as usize);
+    for count in view.counts() {
+        calls = calls.saturating_add(*count as usize);
     }
     calls
 }

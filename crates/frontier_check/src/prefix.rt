@@ -193,8 +193,8 @@ impl Prefix {
         if number >= book.answers(caller) {
             return true;
         }
-        let record = book.record(Call { caller, number });
-        record.reply == reply && self.cut.within(&record.view)
+        let call = Call { caller, number };
+        book.reply(call) == reply && self.cut.within(book.view(call))
     }
 
     /// Puts a place after the others. Whether the object gave its reply.
@@ -238,9 +238,7 @@ pub fn leaves_open(book: &Book, cut: &Cut) -> bool
 {
     for caller in 0..book.callers() {
         let number = cut.get(caller);
-        if number < book.answers(caller)
-            && !cut.within(&book.record(Call { caller, number }).view)
-        {
+        if number < book.answers(caller) && !cut.within(book.view(Call { caller, number })) {
             return false;
         }
     }

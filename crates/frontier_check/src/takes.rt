@@ -14,14 +14,16 @@ struct Take {
     count: u64,
 }
 
-/// The answered calls outside a cut that may take out a word, the operation of them all, and two
-/// operations that put in words; and whether no guess is made by them: they have several
+/// The answered calls outside a cut that may take out a word, the one with the least view first,
+/// and how many of the first ones a cut holds that was raised since; the operation of them all, and
+/// two operations that put in words; and whether no guess is made by them: they have several
 /// operations, or don't take out first what was put in first.
 ///
 /// No clause says what they are: they cost or save time alone.
 #[derive(Drop)]
 pub struct Takes {
     takes: Vec<Take>,
+    passed: usize,
     op: Option<OpWord>,
     put: Option<OpWord>,
     other: Option<OpWord>,
@@ -43,6 +45,7 @@ impl Takes {
     {
         let mut takes = Takes {
             takes: Vec::new(alloc),
+            passed: 0,
             op: None,
             put: None,
             other: None,
@@ -52,6 +55,7 @@ impl Takes {
             takes.list_caller(object, book, caller, cut.get(caller), spare)?;
         }
         takes.differ = takes.differ || !takes.is_queue(object, spare);
+        takes.takes.sort_by_key(|take| take.count)?;
         Ok(takes)
     }
 
@@ -73,7 +77,7 @@ impl Takes {
         for number in first..answers {
             let call = Call { caller, number };
             let op = book.op(call);
-            if !may_take(object, spare, op) {
+            if self.op != Some(op) && !may_take(object, spare, op) {
                 self.list_put(op);
             } else if !self.differ {
                 self.differ = self.op.unwrap_or(op) != op;
@@ -109,6 +113,18 @@ impl Takes {
             && is_first_out(object, spare, other, put, take)
     }
 
+    /// Passes over the first calls that a cut holds.
+    pub fn pass(&mut self, cut: &Cut) {
+        let mut passed = self.passed;
+        for at in passed..self.takes.len() {
+            if !is_in(cut, self.takes[at].call) {
+                break;
+            }
+            passed = at + 1;
+        }
+        self.passed = passed;
+    }
+
     /// How many calls the view of that call counts which takes out the word that a call puts in: the
     /// first one by this number, of those outside a cut. It is more than any view counts, where
     /// there is none.
@@ -124,22 +140,27 @@ impl Takes {
         requires room { spare.old.room ≡ CAPACITY }
         ensures room { spare.new.room ≡ CAPACITY }
     {
-        let mut least = u64::MAX;
-        if self.differ {
-            return least;
+        let put = book.op(call);
+        let Some(take) = self.op else {
+            return u64::MAX;
+        };
+        if self.differ || put == take {
+            return u64::MAX;
         }
-        let Some(op) = self.op else {
-            return least;
+        let Some(reply) = reply_of_take(object, spare, put, take) else {
+            return u64::MAX;
         };
-        let Some(reply) = reply_of_take(object, spare, book.op(call), op) else {
-            return least;
-        };
-        for take in &self.takes {
-            if take.reply == reply && !is_in(cut, take.call) {
-                least = least.min(take.count);
+        for at in self.passed..self.takes.len() {
+            let Take {
+                call,
+                reply: shown,
+                count,
+            } = self.takes[at];
+            if shown == reply && !is_in(cut, call) {
+                return count;
             }
         }
-        least
+        u64::MAX
     }
 }
 
