@@ -135,11 +135,25 @@ impl Prefix {
         ensures { OnOk result (KeepsMarks self.now records.now marks.old.items marks.new.items) }
     {
         if self.places.len() % INTERVAL == 0 {
-            let mark = self.mark(alloc, records)?;
-            marks.push(mark)?;
-            if marks.len() > MOST_MARKS {
-                marks.remove(self.places.len() / INTERVAL % (MOST_MARKS / 2));
-            }
+            self.leave_mark(alloc, records, marks)?;
+        }
+        Ok(())
+    }
+
+    // Leaves a mark where the places end, in a book with these records. Where there are many marks,
+    // one of the earlier half goes.
+    fn leave_mark(
+        &self,
+        alloc: Global,
+        records: &Cut,
+        marks: &mut Vec<Mark>,
+    ) -> Result<(), NoMemory>
+        ensures { OnOk result (KeepsMarks self.now records.now marks.old.items marks.new.items) }
+    {
+        let mark = self.mark(alloc, records)?;
+        marks.push(mark)?;
+        if marks.len() > MOST_MARKS {
+            marks.remove(self.places.len() / INTERVAL % (MOST_MARKS / 2));
         }
         Ok(())
     }

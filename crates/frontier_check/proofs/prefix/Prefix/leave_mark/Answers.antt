@@ -1,5 +1,5 @@
 use Rattle.frontier_check.proofs.Resuming.{keeps_one, keeps_removed}
-use Rattle.frontier_check.proofs.prefix.Prefix.mark_at_interval.Goals as goal
+use Rattle.frontier_check.proofs.prefix.Prefix.leave_mark.Goals as goal
 
 pub returns-then-len-gt-MOST_MARKS : goal.returns-then-len-gt-MOST_MARKS
 returns-then-len-gt-MOST_MARKS c =
