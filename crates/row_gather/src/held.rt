@@ -1,35 +1,34 @@
 //! How many calls of each caller the views of some records hold.
-ghost use Rattle.std.specs.Prelude.{ℕ, ◌≡◌, ◌<◌, ◌≤◌, length};
+ghost use Rattle.std.specs.Prelude.{ℕ, ◌≡◌, ◌≤◌, max, length, slice_index};
 ghost use Rattle.book_base.specs.declared.TheConstants.{MAX_CALLERS};
-ghost use Rattle.row_gather.specs.Words.{AreWide, records_at, greatest_of, greatest_in};
+ghost use Rattle.row_gather.specs.Words.{AreWide, records_at, greatest_of};
 ghost use Rattle.row_gather.specs.Known.{AreGreatest, lists_in};
 
 use book_base::{Cut, Record};
 
-// The greatest count for caller i of n in the views of one caller's records.
-fn greatest_of(n: u32, records: &[Record], i: u32) -> u64
-    requires caller { i < n }
-    requires wide { AreWide n records.now }
-    ensures { result ≡ greatest_of records.now i }
+// Raises each count of a cut to that of a view, where this is greater.
+fn raise(held: &mut Cut, view: &Cut)
+    requires wide { length view.now ≡ length held.old }
+    ensures wide { length held.new ≡ length held.old }
+    ensures counts { (i : ℕ)
+        → slice_index held.new i ≡ max (slice_index held.old i) (slice_index view.now i) }
 {
-    let mut most: u64 = 0;
-    for answer in records {
-        most = most.max(answer.view.get(i));
+    for caller in 0..held.n() {
+        held.set(caller, held.get(caller).max(view.get(caller)));
     }
-    most
 }
 
-// The greatest count for caller i of n in the views of all callers' records.
-fn greatest_in(n: u32, lists: &[Vec<Record>], i: u32) -> u64
-    requires caller { i < n }
-    requires wide { (j : ℕ) → AreWide n (records_at (lists_in lists.now) j) }
-    ensures { result ≡ greatest_in (lists_in lists.now) i }
+// Raises each count of a cut to the greatest one in the views of one caller's records, where this
+// is greater.
+fn raise_to_all(held: &mut Cut, records: &[Record])
+    requires wide { AreWide (length held.old) records.now }
+    ensures wide { length held.new ≡ length held.old }
+    ensures counts { (i : ℕ)
+        → slice_index held.new i ≡ max (slice_index held.old i) (greatest_of records.now i) }
 {
-    let mut most: u64 = 0;
-    for records in lists {
-        most = most.max(greatest_of(n, records, i));
+    for answer in records {
+        raise(held, &answer.view);
     }
-    most
 }
 
 // For each of n callers how many of its calls the views hold: the greatest count of any.
@@ -41,8 +40,8 @@ pub fn held_calls(n: u32, lists: &[Vec<Record>]) -> Cut
     ensures held { AreGreatest n (lists_in lists.now) result }
 {
     let mut held = Cut::zero(n);
-    for i in 0..n {
-        held.set(i, greatest_in(n, lists, i));
+    for records in lists {
+        raise_to_all(&mut held, records);
     }
     held
 }
