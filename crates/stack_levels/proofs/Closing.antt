@@ -20,6 +20,7 @@ use Rattle.value_pruning.specs.HoldsLast.{IsRead}
 use Rattle.stack_pruning.specs.LastFirst.{GivesLastFirst, HasTop}
 use Rattle.stack_levels.specs.declared.table.Level.{Level}
 use Rattle.stack_levels.specs.declared.table.Node.{Node}
+use Rattle.stack_levels.specs.declared.table.NodeKey.{NodeKey}
 use Rattle.stack_levels.specs.Levels.{Layer, Nodes, IsOneLevel, DeedLeads, CallLeads, IsFollowed, IsClosedAt, IsKeptLayer, no_calls}
 use Rattle.stack_levels.specs.LevelLaws.{StackHasNoOrder}
 use Rattle.stack_levels.specs.Tables.{layer_of, layers_of, cut_at, nodes_of, Begins}
@@ -29,12 +30,6 @@ use Rattle.stack_levels.proofs.Refuting.{no_order_where_closed}
 pub layer_at : (levels : List Level) (l : ℕ) (level : Level) → slice_get levels l ≡ Some level
     → slice_get (layers_of levels) l ≡ Some (layer_of level)
 layer_at levels l level at = slice_get-map layer_of levels l ∙ ap (option_map layer_of) at
-
--- a node of a table is one of its pairs
-pub node_there : (book : List Page) (nodes : List Node) (place : ℕ) (node : Node)
-    → slice_get nodes place ≡ Some node
-    → nodes_of book nodes node.level (cut_at book node)
-node_there book nodes place node at = (place, node, at, refl, refl)
 
 -- no counts are the cut without calls
 pub zero_counts : (book : List Page) → length book ≤ MAX_CALLERS
@@ -114,17 +109,20 @@ call_leads reading book layers nodes node layer cut new call op role its known d
     )
 
 -- A table refutes a book whose nodes are closed, and that begins with the bottom.
-pub refuted : (reading : Reading) (book : List Page) (levels : List Level) (nodes : List Node)
+pub refuted : (reading : Reading) (book : List Page) (levels : List Level) (cuts : List (List ℕ))
+    (nodes : List NodeKey)
     → IsValid book → HasOneOpen book
-    → Begins book levels nodes
+    → Begins book levels cuts nodes
     → ((l : ℕ) (level : Level) → slice_get levels l ≡ Some level → IsTrue level.top.kept
     → IsKeptLayer reading book (layers_of levels) (layer_of level))
-    → ((k : ℕ) (node : Node) → slice_get nodes k ≡ Some node
-    → IsClosedAt reading book (layers_of levels) (nodes_of book nodes) node.level
-    (cut_at book node))
+    → ((k : ℕ) (key : NodeKey) → slice_get nodes k ≡ Some key
+    → (counts : List ℕ) → slice_get cuts key.cut ≡ Some counts
+    → IsClosedAt reading book (layers_of levels) (nodes_of book cuts nodes) key.level
+    (take (length book) counts))
     → StackHasNoOrder reading book
-refuted reading book levels nodes valid one begins kept closed =
-    no_order_where_closed reading book (layers_of levels) (nodes_of book nodes) valid one (record {
+refuted reading book levels cuts nodes valid one begins kept closed =
+    no_order_where_closed reading book (layers_of levels) (nodes_of book cuts nodes) valid one
+    (record {
       bottom = begins.bottom;
       first = begins.first;
       empty = begins.empty;
@@ -135,8 +133,8 @@ refuted reading book levels nodes valid one begins kept closed =
           subst (IsKeptLayer reading book (layers_of levels)) found.2
           (kept l found.0 found.1 (subst (λ (x : Layer). IsTrue x.top.kept) (sym found.2) said));
       closed = λ l cut node.
-          subst (IsClosedAt reading book (layers_of levels) (nodes_of book nodes) l) node.4
-          (subst (λ (m : ℕ). IsClosedAt reading book (layers_of levels) (nodes_of book nodes) m
-          (cut_at book node.1)) node.3
-          (closed node.0 node.1 node.2));
+          subst (IsClosedAt reading book (layers_of levels) (nodes_of book cuts nodes) l) node.4.2
+          (subst (λ (m : ℕ). IsClosedAt reading book (layers_of levels) (nodes_of book cuts nodes) m
+          (take (length book) node.4.0)) node.3
+          (closed node.0 node.1 node.2 node.4.0 node.4.1));
     })

@@ -3,6 +3,7 @@ use Rattle.std.specs.Prelude.{◌≡◌, ℕ, IsTrue, List, length, map, take, S
 use Rattle.book_base.specs.Book.{Page}
 use Rattle.stack_levels.specs.declared.table.Level.{Level}
 use Rattle.stack_levels.specs.declared.table.Node.{Node}
+use Rattle.stack_levels.specs.declared.table.NodeKey.{NodeKey}
 use Rattle.stack_levels.specs.Levels.{Layer, Nodes, IsOneLevel, no_calls}
 
 -- a level, without how it was found
@@ -16,18 +17,19 @@ layers_of levels = map layer_of levels
 abbrev pub cut_at : List Page → Node → List ℕ
 cut_at book node = take (length book) node.counts
 
--- the pairs that these nodes are
-abbrev pub nodes_of : List Page → List Node → Nodes
-nodes_of book nodes l cut = (k : ℕ) × (node : Node) × (slice_get nodes k ≡ Some node)
-    × (node.level ≡ l)
-    × (cut_at book node ≡ cut)
+-- The pairs that these nodes are, where each names its cut by a place among these counts.
+abbrev pub nodes_of : List Page → List (List ℕ) → List NodeKey → Nodes
+nodes_of book cuts nodes l cut = (k : ℕ) × (key : NodeKey) × (slice_get nodes k ≡ Some key)
+    × (key.level ≡ l)
+    × ((counts : List ℕ) × (slice_get cuts key.cut ≡ Some counts) × (take (length book) counts ≡ cut))
 
 -- The bottom is the first level, and one of the nodes is the bottom after no call.
-pub record Begins (book : List Page) (levels : List Level) (nodes : List Node) : Type 0 where
+pub record Begins (book : List Page) (levels : List Level) (cuts : List (List ℕ))
+    (nodes : List NodeKey) : Type 0 where
   pub bottom : Layer
   pub first : slice_get (layers_of levels) 0 ≡ Some bottom
   pub empty : bottom.top.last ≡ None
-  pub start : nodes_of book nodes 0 (no_calls book)
+  pub start : nodes_of book cuts nodes 0 (no_calls book)
 
 -- a level of these that is said to be kept
 abbrev pub IsSaidKept : List Layer → ℕ → Type 0

@@ -1,4 +1,4 @@
-ghost use Rattle.std.specs.Prelude.{◌≡◌, ℕ, ◌<◌, false, length, map, slice_get, slice_index, take, Some, IfSome, IsTrue};
+ghost use Rattle.std.specs.Prelude.{◌≡◌, ℕ, ◌<◌, false, List, length, map, slice_get, slice_index, take, Some, IfSome, IsTrue};
 ghost use Rattle.book_base.specs.declared.TheConstants.{MAX_CALLERS, MAX_CALLS};
 ghost use Rattle.book_base.specs.declared.call.Call.{Call};
 ghost use Rattle.book_base.specs.Book.{IsCall, operation_of};
@@ -6,6 +6,7 @@ ghost use Rattle.book_base.specs.Next.{next_call, MayComeNext};
 ghost use Rattle.book_base.specs.Pruning.{HasOneOpen, IsMarked, IsMarkedWithin, MarksAllNext};
 ghost use Rattle.history_rules.specs.Calls.{IsNeverTaken};
 ghost use Rattle.stack_levels.specs.declared.table.Node.{Node};
+ghost use Rattle.stack_levels.specs.declared.table.NodeKey.{NodeKey};
 ghost use Rattle.stack_levels.specs.Levels.{CallLeads, IsClosedAt, IsFollowed, IsKeptLayer, IsOneLevel, IsServed, TakeLeads};
 ghost use Rattle.stack_levels.specs.declared.table.Level.{Level};
 ghost use Rattle.stack_levels.specs.LevelLaws.{StackHasNoOrder};
@@ -13,7 +14,7 @@ ghost use Rattle.stack_levels.specs.Tables.{Begins, IsSaidKept, LiesOn, cut_at, 
 ghost use Rattle.value_pruning.specs.Sights.{ListsValues};
 
 use crate::stack_book::{Look, StackBook};
-use crate::table::{Beginning, Level, LevelTable, Node, raised};
+use crate::table::{Beginning, Level, LevelTable, Node, NodeKey, raised};
 use book_base::{Call, MAX_CALLERS};
 use container_pruning::{Reader, Role};
 use next_calls::has_one_open;
@@ -61,7 +62,7 @@ impl<R: Reader> Closure<'_, R> {
     // Whether the first level is the bottom, and one of the nodes is the bottom after no call.
     fn begins(&self) -> bool
         ensures { IsTrue result → Begins self.now.on.now.book.now self.now.table.now.levels.items
-            self.now.table.now.nodes.keys }
+            self.now.table.now.cuts.keys self.now.table.now.nodes.keys }
     {
         let _callers = self.on.book.callers();
         let Some(bottom) = self.level(0) else {
@@ -84,12 +85,36 @@ impl<R: Reader> Closure<'_, R> {
     // Whether a level after these counts is one of the nodes.
     fn has(&self, level: usize, counts: [u16; MAX_CALLERS]) -> bool
         ensures { IsTrue result
-            → nodes_of self.now.on.now.book.now self.now.table.now.nodes.keys level
-            (take (length self.now.on.now.book.now) counts) }
+            → nodes_of self.now.on.now.book.now self.now.table.now.cuts.keys
+            self.now.table.now.nodes.keys level (take (length self.now.on.now.book.now) counts) }
     {
-        let node = Node { level, counts };
-        match self.table.nodes.get_full(&node) {
-            Some((_, kept)) => kept.is_same(&node),
+        match self.cut_of(counts) {
+            Some(cut) => self.has_at(level, cut, counts),
+            None => false,
+        }
+    }
+
+    // The number of the cut with these counts, where it is one of the table's.
+    fn cut_of(&self, counts: [u16; MAX_CALLERS]) -> Option<usize>
+        ensures { IfSome result
+            (λ cut. slice_get self.now.table.now.cuts.keys cut ≡ Some counts) }
+    {
+        match self.table.cuts.get_full(&counts) {
+            Some((cut, kept)) if *kept == counts => Some(cut),
+            Some(_) | None => None,
+        }
+    }
+
+    // Whether a level is one of the nodes, after the counts of the cut with this number.
+    fn has_at(&self, level: usize, cut: usize, counts: [u16; MAX_CALLERS]) -> bool
+        requires cut { slice_get self.now.table.now.cuts.keys cut ≡ Some counts }
+        ensures { IsTrue result
+            → nodes_of self.now.on.now.book.now self.now.table.now.cuts.keys
+            self.now.table.now.nodes.keys level (take (length self.now.on.now.book.now) counts) }
+    {
+        let key = NodeKey { level, cut };
+        match self.table.nodes.get_full(&key) {
+            Some((_, kept)) => kept.is_same(&key),
             None => false,
         }
     }
@@ -184,12 +209,14 @@ impl<R: Reader> Closure<'_, R> {
         requires sight { ListsValues (R.reading self.now.on.now.reader.now) self.now.on.now.book.now
             self.now.on.now.sight.now }
         requires open { HasOneOpen self.now.on.now.book.now }
-        ensures { IsTrue result → (k : ℕ) (node : Node)
-            → slice_get self.now.table.now.nodes.keys k ≡ Some node
+        ensures { IsTrue result → (k : ℕ) (key : NodeKey)
+            → slice_get self.now.table.now.nodes.keys k ≡ Some key
+            → (counts : List ℕ) → slice_get self.now.table.now.cuts.keys key.cut ≡ Some counts
             → IsClosedAt (R.reading self.now.on.now.reader.now) self.now.on.now.book.now
             (layers_of self.now.table.now.levels.items)
-            (nodes_of self.now.on.now.book.now self.now.table.now.nodes.keys) node.level
-            (cut_at self.now.on.now.book.now node) }
+            (nodes_of self.now.on.now.book.now self.now.table.now.cuts.keys
+            self.now.table.now.nodes.keys) key.level
+            (take (length self.now.on.now.book.now) counts) }
     {
         for place in 0..self.table.nodes.len() {
             if !self.is_closed_at(place) {
@@ -204,15 +231,39 @@ impl<R: Reader> Closure<'_, R> {
         requires sight { ListsValues (R.reading self.now.on.now.reader.now) self.now.on.now.book.now
             self.now.on.now.sight.now }
         requires open { HasOneOpen self.now.on.now.book.now }
-        ensures { IsTrue result → (node : Node)
-            → slice_get self.now.table.now.nodes.keys place ≡ Some node
+        ensures { IsTrue result → (key : NodeKey)
+            → slice_get self.now.table.now.nodes.keys place ≡ Some key
+            → (counts : List ℕ) → slice_get self.now.table.now.cuts.keys key.cut ≡ Some counts
             → IsClosedAt (R.reading self.now.on.now.reader.now) self.now.on.now.book.now
             (layers_of self.now.table.now.levels.items)
-            (nodes_of self.now.on.now.book.now self.now.table.now.nodes.keys) node.level
-            (cut_at self.now.on.now.book.now node) }
+            (nodes_of self.now.on.now.book.now self.now.table.now.cuts.keys
+            self.now.table.now.nodes.keys) key.level
+            (take (length self.now.on.now.book.now) counts) }
     {
         match self.table.nodes.get_index(place) {
-            Some(node) => self.is_closed(node),
+            Some(key) => self.is_closed_key(*key),
+            None => true,
+        }
+    }
+
+    // Whether the node of a key leads to them alone.
+    fn is_closed_key(&self, key: NodeKey) -> bool
+        requires sight { ListsValues (R.reading self.now.on.now.reader.now) self.now.on.now.book.now
+            self.now.on.now.sight.now }
+        requires open { HasOneOpen self.now.on.now.book.now }
+        ensures { IsTrue result → (counts : List ℕ)
+            → slice_get self.now.table.now.cuts.keys key.cut ≡ Some counts
+            → IsClosedAt (R.reading self.now.on.now.reader.now) self.now.on.now.book.now
+            (layers_of self.now.table.now.levels.items)
+            (nodes_of self.now.on.now.book.now self.now.table.now.cuts.keys
+            self.now.table.now.nodes.keys) key.level
+            (take (length self.now.on.now.book.now) counts) }
+    {
+        match self.table.cuts.get_index(key.cut) {
+            Some(counts) => self.is_closed(&Node {
+                level: key.level,
+                counts: *counts,
+            }),
             None => true,
         }
     }
@@ -225,7 +276,7 @@ impl<R: Reader> Closure<'_, R> {
         ensures { IsTrue result
             → IsClosedAt (R.reading self.now.on.now.reader.now) self.now.on.now.book.now
             (layers_of self.now.table.now.levels.items)
-            (nodes_of self.now.on.now.book.now self.now.table.now.nodes.keys) node.now.level
+            (nodes_of self.now.on.now.book.now self.now.table.now.cuts.keys self.now.table.now.nodes.keys) node.now.level
             (cut_at self.now.on.now.book.now node.now) }
     {
         let callers = self.on.book.callers() as usize;
@@ -247,7 +298,7 @@ impl<R: Reader> Closure<'_, R> {
         ensures { IsTrue result → (i : ℕ) → IsMarked look.now.marks i
             → IsFollowed (R.reading self.now.on.now.reader.now) self.now.on.now.book.now
             (layers_of self.now.table.now.levels.items)
-            (nodes_of self.now.on.now.book.now self.now.table.now.nodes.keys) node.now.level
+            (nodes_of self.now.on.now.book.now self.now.table.now.cuts.keys self.now.table.now.nodes.keys) node.now.level
             (layer_of level.now) look.now.cut (next_call look.now.cut i) }
     {
         for caller in 0..self.on.book.callers() {
@@ -268,7 +319,7 @@ impl<R: Reader> Closure<'_, R> {
         ensures { IsTrue result → IsMarked look.now.marks caller
             → IsFollowed (R.reading self.now.on.now.reader.now) self.now.on.now.book.now
             (layers_of self.now.table.now.levels.items)
-            (nodes_of self.now.on.now.book.now self.now.table.now.nodes.keys) node.now.level
+            (nodes_of self.now.on.now.book.now self.now.table.now.cuts.keys self.now.table.now.nodes.keys) node.now.level
             (layer_of level.now) look.now.cut (next_call look.now.cut caller) }
     {
         if !look.marks.has(caller) {
@@ -288,7 +339,7 @@ impl<R: Reader> Closure<'_, R> {
         requires number { call.number ≡ slice_index look.now.cut call.caller }
         ensures { IsTrue result → IsFollowed (R.reading self.now.on.now.reader.now)
             self.now.on.now.book.now (layers_of self.now.table.now.levels.items)
-            (nodes_of self.now.on.now.book.now self.now.table.now.nodes.keys) node.now.level
+            (nodes_of self.now.on.now.book.now self.now.table.now.cuts.keys self.now.table.now.nodes.keys) node.now.level
             (layer_of level.now) look.now.cut call }
     {
         if self.on.shows_another(level.top.last, call) {
@@ -312,7 +363,7 @@ impl<R: Reader> Closure<'_, R> {
         requires call { IsCall self.now.on.now.book.now call }
         ensures { IsTrue result → IsServed (R.reading self.now.on.now.reader.now)
             self.now.on.now.book.now (layers_of self.now.table.now.levels.items)
-            (nodes_of self.now.on.now.book.now self.now.table.now.nodes.keys) node.now.level
+            (nodes_of self.now.on.now.book.now self.now.table.now.cuts.keys self.now.table.now.nodes.keys) node.now.level
             (layer_of level.now) look.now.cut call }
     {
         for caller in 0..self.on.book.callers() {
@@ -334,7 +385,7 @@ impl<R: Reader> Closure<'_, R> {
         requires call { IsCall self.now.on.now.book.now call }
         ensures { IsTrue result → IsServed (R.reading self.now.on.now.reader.now)
             self.now.on.now.book.now (layers_of self.now.table.now.levels.items)
-            (nodes_of self.now.on.now.book.now self.now.table.now.nodes.keys) node.now.level
+            (nodes_of self.now.on.now.book.now self.now.table.now.cuts.keys self.now.table.now.nodes.keys) node.now.level
             (layer_of level.now) look.now.cut call }
     {
         if !look.all.has(caller) {
@@ -356,7 +407,7 @@ impl<R: Reader> Closure<'_, R> {
         requires number { call.number ≡ slice_index look.now.cut call.caller }
         ensures { IsTrue result → CallLeads (R.reading self.now.on.now.reader.now)
             self.now.on.now.book.now (layers_of self.now.table.now.levels.items)
-            (nodes_of self.now.on.now.book.now self.now.table.now.nodes.keys) node.now.level
+            (nodes_of self.now.on.now.book.now self.now.table.now.cuts.keys self.now.table.now.nodes.keys) node.now.level
             (layer_of level.now) look.now.cut call }
     {
         let _callers = self.on.book.callers();
@@ -372,7 +423,7 @@ impl<R: Reader> Closure<'_, R> {
     fn put_leads(&self, level: usize, value: u64, counts: [u16; MAX_CALLERS]) -> bool
         ensures { IsTrue result → (m : ℕ)
             × LiesOn (layers_of self.now.table.now.levels.items) m level value
-            × nodes_of self.now.on.now.book.now self.now.table.now.nodes.keys m
+            × nodes_of self.now.on.now.book.now self.now.table.now.cuts.keys self.now.table.now.nodes.keys m
             (take (length self.now.on.now.book.now) counts) }
     {
         if self.put_leads_to(level, value, counts, true) {
@@ -385,14 +436,17 @@ impl<R: Reader> Closure<'_, R> {
     fn put_leads_to(&self, level: usize, value: u64, counts: [u16; MAX_CALLERS], kept: bool) -> bool
         ensures { IsTrue result → (m : ℕ)
             × LiesOn (layers_of self.now.table.now.levels.items) m level value
-            × nodes_of self.now.on.now.book.now self.now.table.now.nodes.keys m
+            × nodes_of self.now.on.now.book.now self.now.table.now.cuts.keys self.now.table.now.nodes.keys m
             (take (length self.now.on.now.book.now) counts) }
     {
         let top = Top {
             last: Some(value),
             kept,
         };
-        match self.table.beginnings.get_full(&Beginning { counts, top }) {
+        let Some(cut) = self.table.cuts.get_index_of(&counts) else {
+            return false;
+        };
+        match self.table.beginnings.get_full(&Beginning { cut, top }) {
             Some((above, _)) => self.leads_to(above, level, value, counts),
             None => false,
         }
@@ -403,7 +457,7 @@ impl<R: Reader> Closure<'_, R> {
     fn leads_to(&self, above: usize, level: usize, value: u64, counts: [u16; MAX_CALLERS]) -> bool
         ensures { IsTrue result
             → LiesOn (layers_of self.now.table.now.levels.items) above level value
-            × nodes_of self.now.on.now.book.now self.now.table.now.nodes.keys above
+            × nodes_of self.now.on.now.book.now self.now.table.now.cuts.keys self.now.table.now.nodes.keys above
             (take (length self.now.on.now.book.now) counts) }
     {
         if !self.lies_on(above, level, value) {
@@ -430,7 +484,7 @@ impl<R: Reader> Closure<'_, R> {
     // bottom nowhere else.
     fn take_leads(&self, place: usize, level: &Level, counts: [u16; MAX_CALLERS]) -> bool
         ensures { IsTrue result
-            → TakeLeads (nodes_of self.now.on.now.book.now self.now.table.now.nodes.keys) place
+            → TakeLeads (nodes_of self.now.on.now.book.now self.now.table.now.cuts.keys self.now.table.now.nodes.keys) place
             level.now.top.last
             level.now.parents.items (take (length self.now.on.now.book.now) counts) }
     {
@@ -443,11 +497,25 @@ impl<R: Reader> Closure<'_, R> {
     // Whether all of these levels after these counts are among the nodes.
     fn has_all(&self, parents: &[usize], counts: [u16; MAX_CALLERS]) -> bool
         ensures { IsTrue result → (p : ℕ) → IsOneLevel parents.now p
-            → nodes_of self.now.on.now.book.now self.now.table.now.nodes.keys p
-            (take (length self.now.on.now.book.now) counts) }
+            → nodes_of self.now.on.now.book.now self.now.table.now.cuts.keys
+            self.now.table.now.nodes.keys p (take (length self.now.on.now.book.now) counts) }
+    {
+        match self.cut_of(counts) {
+            Some(cut) => self.has_all_at(parents, cut, counts),
+            None => false,
+        }
+    }
+
+    // Whether all of these levels are among the nodes, after the counts of the cut with this
+    // number.
+    fn has_all_at(&self, parents: &[usize], cut: usize, counts: [u16; MAX_CALLERS]) -> bool
+        requires cut { slice_get self.now.table.now.cuts.keys cut ≡ Some counts }
+        ensures { IsTrue result → (p : ℕ) → IsOneLevel parents.now p
+            → nodes_of self.now.on.now.book.now self.now.table.now.cuts.keys
+            self.now.table.now.nodes.keys p (take (length self.now.on.now.book.now) counts) }
     {
         for k in 0..parents.len() {
-            if !self.has(parents[k], counts) {
+            if !self.has_at(parents[k], cut, counts) {
                 return false;
             }
         }

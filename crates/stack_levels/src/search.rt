@@ -4,17 +4,18 @@ ghost use Rattle.book_base.specs.Pruning.{HasOneOpen, IsMarkedWithin, MarksAllNe
 ghost use Rattle.value_pruning.specs.Sights.{ListsValues};
 
 use crate::stack_book::{Look, StackBook};
-use crate::table::{Beginning, Ending, Level, LevelTable, Node, Origin, Reached, raised};
+use crate::table::{Beginning, Ending, Level, LevelTable, NodeKey, Origin, Reached, raised};
 use book_base::{Call, MAX_CALLERS, MAX_CALLS, NoMemory};
 use container_pruning::{Reader, Role};
+use indexmap::IndexSet;
 use stack_pruning::Top;
 use std::alloc::Global;
 use std::cmp::Reverse;
 
 // How many nodes a search looks at, and how often it may lead to one.
-const NODES: u64 = 200_000;
+const NODES: u64 = 3_000_000;
 
-const LINKS: u64 = 1_000_000;
+const LINKS: u64 = 30_000_000;
 
 /// What a search comes to.
 #[derive(Drop)]
@@ -39,20 +40,22 @@ impl<R> Drop for LevelSearch<'_, R> {
     }
 }
 
-/// The levels that were found, the numbers of the nodes that are still to be looked at, and how
-/// often something led to a node.
+/// The levels that were found, the numbers of the nodes that are still to be looked at, how often
+/// something led to a node, and what is to be tried at the cuts and tops that were looked at.
 #[derive(Drop)]
 struct Progress {
     table: LevelTable,
     open: Vec<usize>,
     links: u64,
+    looked: IndexSet<Beginning>,
+    steps: Vec<Vec<Step>>,
 }
 
 /// A node, its number, and what is known of the lists that its level ends.
 #[derive(Clone, Copy)]
 struct Here {
     place: usize,
-    node: Node,
+    node: NodeKey,
     top: Top,
 }
 
@@ -61,6 +64,13 @@ struct Here {
 struct Turn {
     turn: u64,
     call: Call,
+}
+
+/// A call that is to be tried, and the number of the cut that it leads to.
+#[derive(Clone, Copy)]
+struct Step {
+    call: Call,
+    cut: usize,
 }
 
 impl<R: Reader> LevelSearch<'_, R> {
@@ -74,6 +84,8 @@ impl<R: Reader> LevelSearch<'_, R> {
             table: LevelTable::start(self.alloc)?,
             open: vec![in self.alloc; 0]?,
             links: 0,
+            looked: IndexSet::new(self.alloc),
+            steps: Vec::new(self.alloc),
         };
         for _ in 0..NODES {
             let Some(place) = progress.open.pop() else {
@@ -102,16 +114,45 @@ impl<R: Reader> LevelSearch<'_, R> {
             return Ok(false);
         };
         let top = level.top;
-        let callers = self.on.book.callers() as usize;
-        let Some(look) = self.on.look(&node.counts[..callers], top) else {
+        let Some(looked) = self.steps_at(progress, Beginning { cut: node.cut, top })? else {
             return Ok(true);
         };
-        let turns = self.turns(&look, top)?;
         let here = Here { place, node, top };
-        for turn in &turns {
-            self.follow(progress, here, turn.call)?;
+        for k in 0..MAX_CALLERS {
+            let Some(step) = step_of(progress, looked, k) else {
+                break;
+            };
+            self.follow(progress, here, step)?;
         }
         Ok(false)
+    }
+
+    // The number of what is to be tried at a cut and a top, which is looked for once; there is none
+    // where the cut holds all answered calls.
+    fn steps_at(&self, progress: &mut Progress, at: Beginning) -> Result<Option<usize>, NoMemory>
+        requires sight { ListsValues (R.reading self.now.on.now.reader.now) self.now.on.now.book.now
+            self.now.on.now.sight.now }
+        requires open { HasOneOpen self.now.on.now.book.now }
+    {
+        if let Some(looked) = progress.looked.get_index_of(&at) {
+            return Ok(Some(looked));
+        }
+        let Some(counts) = progress.table.cuts.get_index(at.cut).copied() else {
+            return Ok(None);
+        };
+        let callers = self.on.book.callers() as usize;
+        let Some(look) = self.on.look(&counts[..callers], at.top) else {
+            return Ok(None);
+        };
+        let mut steps = Vec::new(self.alloc);
+        for turn in &self.turns(&look, at.top)? {
+            let call = turn.call;
+            let (cut, _is_new) = progress.table.cuts.insert_full(more(&counts, call.caller))?;
+            steps.push(Step { call, cut })?;
+        }
+        progress.steps.push(steps)?;
+        let (looked, _is_new) = progress.looked.insert_full(at)?;
+        Ok(Some(looked))
     }
 
     // The calls that are to be tried, the best one last.
@@ -187,28 +228,28 @@ impl<R: Reader> LevelSearch<'_, R> {
     }
 
     // Goes on from a node by a call.
-    fn follow(&self, progress: &mut Progress, here: Here, call: Call) -> Result<(), NoMemory>
+    fn follow(&self, progress: &mut Progress, here: Here, step: Step) -> Result<(), NoMemory>
         requires sight { ListsValues (R.reading self.now.on.now.reader.now) self.now.on.now.book.now
             self.now.on.now.sight.now }
     {
+        let Step { call, cut } = step;
         if !self.is_call(call) {
             return Ok(());
         }
-        let counts = more(&here.node.counts, call.caller);
         match self.on.reader.role(self.on.book.op(call)) {
-            Role::Put(value) => self.begin(progress, here, value, call, counts),
+            Role::Put(value) => self.begin(progress, here, value, step),
             Role::Take if here.top.last.is_some() => {
                 let take = Ending {
                     node: here.place,
                     take: call,
-                    counts,
+                    cut,
                 };
                 end(progress, here.node.level, take)
             }
             Role::Take | Role::Other => {
-                let node = Node {
+                let node = NodeKey {
                     level: here.node.level,
-                    counts,
+                    cut,
                 };
                 reach(progress, node, Reached::Stays(here.place, call))
             }
@@ -222,8 +263,7 @@ impl<R: Reader> LevelSearch<'_, R> {
         progress: &mut Progress,
         here: Here,
         value: u64,
-        put: Call,
-        counts: [u16; MAX_CALLERS],
+        step: Step,
     ) -> Result<(), NoMemory>
         requires sight { ListsValues (R.reading self.now.on.now.reader.now) self.now.on.now.book.now
             self.now.on.now.sight.now }
@@ -232,20 +272,26 @@ impl<R: Reader> LevelSearch<'_, R> {
             last: Some(value),
             kept: here.top.kept && !self.on.is_taken(value),
         };
+        let cut = step.cut;
         let (level, is_new) = progress
             .table
             .beginnings
-            .insert_full(Beginning { counts, top })?;
+            .insert_full(Beginning { cut, top })?;
         if is_new {
             progress.table.levels.push(Level::new(self.alloc, top))?;
         }
         let origin = Origin {
             node: here.place,
-            put,
+            put: step.call,
         };
         lay_on(progress, level, here.node.level, origin)?;
-        reach(progress, Node { level, counts }, Reached::Begins)
+        reach(progress, NodeKey { level, cut }, Reached::Begins)
     }
+}
+
+// The step with this number of those at a cut and a top.
+fn step_of(progress: &Progress, looked: usize, k: usize) -> Option<Step> {
+    progress.steps.get(looked)?.get(k).copied()
 }
 
 // The counts with one more call of a caller, where there may be one.
@@ -275,10 +321,9 @@ fn lay_on(
     upper.origins.push(origin)?;
     for k in 0..upper.endings.len() {
         if let Some(ending) = ending_of(progress, level, k) {
-            let counts = ending.counts;
-            let node = Node {
+            let node = NodeKey {
                 level: below,
-                counts,
+                cut: ending.cut,
             };
             let by = Reached::Returns(origin, ending.node, ending.take);
             reach(progress, node, by)?;
@@ -294,8 +339,10 @@ fn ending_of(progress: &Progress, level: usize, k: usize) -> Option<Ending> {
 
 // A take ends a level: it leads to each of the levels below.
 fn end(progress: &mut Progress, level: usize, ending: Ending) -> Result<(), NoMemory> {
-    let counts = ending.counts;
-    let node = Node { level, counts };
+    let node = NodeKey {
+        level,
+        cut: ending.cut,
+    };
     if !progress.table.ended.insert(node)? {
         return Ok(());
     }
@@ -305,10 +352,9 @@ fn end(progress: &mut Progress, level: usize, ending: Ending) -> Result<(), NoMe
     upper.endings.push(ending)?;
     for k in 0..upper.parents.len() {
         if let Some((below, origin)) = parent_of(progress, level, k) {
-            let counts = ending.counts;
-            let node = Node {
+            let node = NodeKey {
                 level: below,
-                counts,
+                cut: ending.cut,
             };
             let by = Reached::Returns(origin, ending.node, ending.take);
             reach(progress, node, by)?;
@@ -326,7 +372,7 @@ fn parent_of(progress: &Progress, level: usize, k: usize) -> Option<(usize, Orig
 }
 
 // Something leads to a node, which is looked at if it is new.
-fn reach(progress: &mut Progress, node: Node, by: Reached) -> Result<(), NoMemory> {
+fn reach(progress: &mut Progress, node: NodeKey, by: Reached) -> Result<(), NoMemory> {
     progress.links = progress.links.saturating_add(1);
     let (place, is_new) = progress.table.nodes.insert_full(node)?;
     if is_new {

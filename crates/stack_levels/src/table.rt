@@ -7,17 +7,24 @@ use stack_pruning::Top;
 use std::alloc::Global;
 
 /// A level, by its number, and the counts of a cut after which it is the last item.
-#[derive(Clone, Copy, Debug, PartialEq, Eq, Hash)]
+#[derive(Clone, Copy)]
 pub struct Node {
     pub level: usize,
     pub counts: [u16; MAX_CALLERS],
 }
 
-/// What a level is shared by: all puts of one value that lead to one cut, with one answer to
-/// whether all below is kept.
+/// A node as a table lists it: the number of its level, and that of its cut among the table's cuts.
+#[derive(Clone, Copy, Debug, PartialEq, Eq, Hash)]
+pub struct NodeKey {
+    pub level: usize,
+    pub cut: usize,
+}
+
+/// What a level is shared by: all puts of one value that lead to one cut, by its number, with one
+/// answer to whether all below is kept.
 #[derive(Clone, Copy, Debug, PartialEq, Eq, Hash)]
 pub struct Beginning {
-    pub counts: [u16; MAX_CALLERS],
+    pub cut: usize,
     pub top: Top,
 }
 
@@ -28,13 +35,13 @@ pub struct Origin {
     pub put: Call,
 }
 
-/// A take that ended a level, the number of the node that it comes from, and the counts that it
-/// leads to.
+/// A take that ended a level, the number of the node that it comes from, and the number of the cut
+/// that it leads to.
 #[derive(Clone, Copy)]
 pub struct Ending {
     pub node: usize,
     pub take: Call,
-    pub counts: [u16; MAX_CALLERS],
+    pub cut: usize,
 }
 
 /// A level: what is known of the lists that it ends, the levels that may lie below it with the puts
@@ -60,23 +67,25 @@ pub enum Reached {
     Returns(Origin, usize, Call),
 }
 
-/// The levels of a search and its nodes. The bottom is the first level; a level's number is that of
-/// its beginning, and a node's number that of how it was reached.
+/// The levels of a search, the cuts that it came to, by their counts, and its nodes. The bottom is
+/// the first level; a level's number is that of its beginning, and a node's number that of how it
+/// was reached.
 #[derive(Drop)]
 pub struct LevelTable {
     pub levels: Vec<Level>,
+    pub cuts: IndexSet<[u16; MAX_CALLERS]>,
     pub beginnings: IndexSet<Beginning>,
-    pub nodes: IndexSet<Node>,
+    pub nodes: IndexSet<NodeKey>,
     pub reached: Vec<Reached>,
-    pub ended: IndexSet<Node>,
+    pub ended: IndexSet<NodeKey>,
 }
 
-impl Node {
+impl NodeKey {
     /// Whether both are one level and one cut.
-    pub fn is_same(&self, other: &Node) -> bool
+    pub fn is_same(&self, other: &NodeKey) -> bool
         ensures { IsTrue result → self.now ≡ other.now }
     {
-        self.level == other.level && self.counts == other.counts
+        self.level == other.level && self.cut == other.cut
     }
 }
 
@@ -99,17 +108,18 @@ impl LevelTable {
             last: None,
             kept: true,
         };
-        let counts = [0; MAX_CALLERS];
         let mut table = LevelTable {
             levels: Vec::new(alloc),
+            cuts: IndexSet::new(alloc),
             beginnings: IndexSet::new(alloc),
             nodes: IndexSet::new(alloc),
             reached: Vec::new(alloc),
             ended: IndexSet::new(alloc),
         };
         table.levels.push(Level::new(alloc, top))?;
-        let _is_new = table.beginnings.insert(Beginning { counts, top })?;
-        let _is_new = table.nodes.insert(Node { level: 0, counts })?;
+        let (cut, _is_new) = table.cuts.insert_full([0; MAX_CALLERS])?;
+        let _is_new = table.beginnings.insert(Beginning { cut, top })?;
+        let _is_new = table.nodes.insert(NodeKey { level: 0, cut })?;
         table.reached.push(Reached::Begins)?;
         Ok(table)
     }

@@ -23,7 +23,7 @@ returns-in-Put g c told =
     let by = c.put_leads.ensures told in
     call_leads (g.R.Reader.reading c.args.self.now.on.now.reader.now) book
     (layers_of c.args.self.now.table.now.levels.items)
-    (nodes_of book c.args.self.now.table.now.nodes.keys)
+    (nodes_of book c.args.self.now.table.now.cuts.keys c.args.self.now.table.now.nodes.keys)
     c.args.node.now (layer_of c.args.level.now) c.args.look.now.cut c.raised-counts.result
     c.args.call c.op.result c.role.result (roles.Put c.in-Put.value)
     c.op.ensures c.role.ensures c.in-Put.is c.requires.cut c.requires.caller c.raised-counts.ensures
@@ -34,7 +34,7 @@ returns-in-Take g c told =
     let book = c.args.self.now.on.now.book.now in
     call_leads (g.R.Reader.reading c.args.self.now.on.now.reader.now) book
     (layers_of c.args.self.now.table.now.levels.items)
-    (nodes_of book c.args.self.now.table.now.nodes.keys)
+    (nodes_of book c.args.self.now.table.now.cuts.keys c.args.self.now.table.now.nodes.keys)
     c.args.node.now (layer_of c.args.level.now) c.args.look.now.cut c.raised-counts.result
     c.args.call c.op.result c.role.result roles.Take
     c.op.ensures c.role.ensures c.in-Take.is c.requires.cut c.requires.caller
@@ -45,7 +45,7 @@ returns-in-Other g c told =
     let book = c.args.self.now.on.now.book.now in
     call_leads (g.R.Reader.reading c.args.self.now.on.now.reader.now) book
     (layers_of c.args.self.now.table.now.levels.items)
-    (nodes_of book c.args.self.now.table.now.nodes.keys)
+    (nodes_of book c.args.self.now.table.now.cuts.keys c.args.self.now.table.now.nodes.keys)
     c.args.node.now (layer_of c.args.level.now) c.args.look.now.cut c.raised-counts.result
     c.args.call c.op.result c.role.result roles.Other
     c.op.ensures c.role.ensures c.in-Other.is c.requires.cut c.requires.caller

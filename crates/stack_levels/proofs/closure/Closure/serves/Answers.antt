@@ -24,7 +24,7 @@ returns g c told =
       subst (λ (n : ℕ). ServesAtLevel reading book c.args.level.now.top.last (made n) c.args.call)
           c.get-number.ensures (c.serves.ensures c.if-not-serves.false),
       subst (λ (n : ℕ). CallLeads reading book (layers_of c.args.self.now.table.now.levels.items)
-          (nodes_of book c.args.self.now.table.now.nodes.keys)
+          (nodes_of book c.args.self.now.table.now.cuts.keys c.args.self.now.table.now.nodes.keys)
           c.args.node.now.level (layer_of c.args.level.now) c.args.look.now.cut (made n))
           c.get-number.ensures (c.leads.ensures told),
     )
