@@ -7,11 +7,12 @@ ghost use Rattle.stack_pruning.specs.LastFirst.{GivesLastFirst, HasTop, IsSmall,
 use crate::again::puts_are_next_or_later;
 use crate::forced::{forced_take, without_needless};
 use crate::kept::kept_put;
+use crate::takes::next_least_take;
 use crate::top::Top;
 use crate::words::{holds, last_word};
 use book_base::{Book, Call, Cut, Marks, Sight};
 use container_pruning::Reader;
-use value_pruning::{is_put_once, next_take, value_put};
+use value_pruning::{is_put_once, value_put};
 
 /// Which of the calls that may come next a search has to try, of a stack. A take that shows the
 /// last item alone, where it has the least view of all that show it and no call puts the value in
@@ -128,7 +129,7 @@ fn narrow_by<R: Reader>(
         → MarksSuffice book.now next cut.now list result }
 {
     let _callers = book.callers();
-    if let Some(caller) = last_take(reader, sight, book, cut, ends, marks) {
+    if let Some(caller) = last_take(reader, book, cut, ends, marks) {
         return Marks::only(caller);
     }
     if let Some(caller) = paired_put(reader, sight, book, cut, others, marks) {
@@ -173,13 +174,11 @@ fn put_if_kept<R: Reader>(
 // the cut that puts its value in again may come next, or comes later.
 fn last_take<R: Reader>(
     reader: &R,
-    sight: &Sight,
     book: &Book,
     cut: &Cut,
     words: &[u64],
     marks: Marks,
 ) -> Option<u32>
-    requires sight { ListsValues (R.reading reader.now) book.now sight.now }
     requires wide { length cut.now ≡ length book.now }
     requires marks { MarksAllNext book.now cut.now marks }
     ensures caller { IfSome result (λ i. i < length book.now) }
@@ -187,7 +186,7 @@ fn last_take<R: Reader>(
     ensures take { IfSome result (TakesLast (R.reading reader.now) book.now cut.now words.now) }
 {
     let value = last_word(words)?;
-    let caller = next_take(reader, sight, book, cut, marks, value)?;
+    let caller = next_least_take(reader, book, cut, marks, value)?;
     if !puts_are_next_or_later(reader, book, cut, marks, caller, value) {
         return None;
     }
@@ -250,5 +249,5 @@ fn puts_paired<R: Reader>(
     if holds(words, value) {
         return false;
     }
-    next_take(reader, sight, book, cut, marks, value).is_some()
+    next_least_take(reader, book, cut, marks, value).is_some()
 }

@@ -5,6 +5,7 @@ mod again;
 mod forced;
 mod kept;
 mod last_first;
+mod takes;
 mod top;
 mod words;
 
