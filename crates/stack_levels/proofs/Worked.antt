@@ -17,8 +17,8 @@ use Rattle.book_laws.proofs.LegalOrder.{legal_order_from_continues}
 use Rattle.history_rules.specs.Container.{Effect, Puts, Takes, Neither, value_put}
 use Rattle.stack_pruning.specs.LastFirst.{GivesLastFirst}
 use Rattle.stack_pruning.proofs.Stepping.{put_no_take, neither_no_take}
-use Rattle.stack_levels.specs.Levels.{Layer, IsAmong, IsOneLevel, IsFollowed, IsClosedAt, IsKeptLayer, IsClosed}
-use Rattle.stack_levels.specs.Cases.{pile, pile_deed, pile_shown, pile_next, pile_after, without_last, layer, puts_and_takes, one_below_two, up_to_two, without_start, taken_too_often, one_on_one, up_and_down}
+use Rattle.stack_levels.specs.Levels.{Layer, IsAmong, IsOneLevel, LeavesTop, TakeLeads, IsFollowed, IsClosedAt, IsKeptLayer, IsClosed}
+use Rattle.stack_levels.specs.Cases.{pile, pile_deed, pile_shown, pile_next, pile_after, without_last, layer, puts_and_takes, one_below_two, up_to_two, without_start, taken_too_often, one_on_one, up_and_down, unanswered, both_below, one_below}
 use Rattle.stack_levels.proofs.Refuting.{closed_tables_have_no_order}
 
 -- ---- tables that are closed
@@ -520,3 +520,49 @@ no_start (suc (suc k)) e = none-some (0, 0 ∷ []) e
 
 pub start_left_out : IsClosed pile (puts_and_takes 1) one_below_two (IsAmong without_start) → ⊥
 start_left_out closed = no_start closed.start.0 closed.start.1
+
+-- ---- what leaves a list, and where a take leads
+
+neither_no_put : (v : ℕ) → Puts v ≡ Neither → ⊥
+neither_no_put v e = put_no_neither v (sym e)
+
+pub take_leaves_bottom : LeavesTop pile unanswered None (call 0 0)
+take_leaves_bottom = (λ answered. omega (arith, answered), (0, refl, inr (refl, refl)))
+
+pub take_leaves_no_item : LeavesTop pile unanswered (Some 1) (call 0 0) → ⊥
+take_leaves_no_item leaves = elim leaves.1.2 [
+  | inl neither ↦
+      neither_no_take (sym (subst (λ (op : ℕ). pile_deed op ≡ Neither)
+      (sym (same_Some 0 leaves.1.0 leaves.1.1)) neither))
+  | inr takes ↦ none-some 1 (sym takes.1)
+]
+
+pub put_leaves_nothing : LeavesTop pile unanswered None (call 1 0) → ⊥
+put_leaves_nothing leaves =
+    let at : 1 ≡ leaves.1.0 = same_Some 1 leaves.1.0 leaves.1.1 in
+    elim leaves.1.2 [
+      | inl neither ↦ neither_no_put 1 (subst (λ (op : ℕ). pile_deed op ≡ Neither) (sym at) neither)
+      | inr takes ↦ put_no_take 1 (subst (λ (op : ℕ). pile_deed op ≡ Takes) (sym at) takes.0)
+    ]
+
+pub answered_is_another : LeavesTop pile taken_too_often None (call 0 1) → ⊥
+answered_is_another leaves = leaves.0 (omega arith)
+
+pub take_leads_to_both : TakeLeads (IsAmong both_below) 3 (Some 1) (1 ∷ 2 ∷ []) (2 ∷ [])
+take_leads_to_both p (zero, at) =
+    subst (λ (q : ℕ). IsAmong both_below q (2 ∷ [])) (same_Some 1 p at) (0, refl)
+take_leads_to_both p (suc zero, at) =
+    subst (λ (q : ℕ). IsAmong both_below q (2 ∷ [])) (same_Some 2 p at) (1, refl)
+take_leads_to_both p (suc (suc k), at) = absurd (none-some p at)
+
+-- the one pair that is there is of level 1
+one_pair : (l : ℕ) → IsAmong one_below l (2 ∷ []) → l ≡ 1
+one_pair l (zero, at) =
+    sym (ap (λ (pair : ℕ × List ℕ). pair.0) (same_Some (1, 2 ∷ []) (l, 2 ∷ []) at))
+one_pair l (suc k, at) = absurd (none-some (l, 2 ∷ []) at)
+
+pub take_leads_not_to_one : TakeLeads (IsAmong one_below) 3 (Some 1) (1 ∷ 2 ∷ []) (2 ∷ []) → ⊥
+take_leads_not_to_one leads = omega (arith, one_pair 2 (leads 2 (1, refl)))
+
+pub take_stays_at_bottom : TakeLeads (IsAmong one_below) 0 None [] (2 ∷ []) → ⊥
+take_stays_at_bottom leads = omega (arith, one_pair 0 leads)

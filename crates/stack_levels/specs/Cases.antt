@@ -71,3 +71,14 @@ one_on_one = layer None true [] ∷ layer (Some 1) false (0 ∷ []) ∷ layer (S
 abbrev pub up_and_down : List (ℕ × List ℕ)
 up_and_down = (0, 0 ∷ 0 ∷ []) ∷ (1, 1 ∷ 0 ∷ []) ∷ (2, 1 ∷ 1 ∷ []) ∷ (1, 2 ∷ 1 ∷ [])
     ∷ (0, 3 ∷ 1 ∷ []) ∷ []
+
+-- Caller 0 wants to take and caller 1 to put in 1, and neither is answered.
+abbrev pub unanswered : List Page
+unanswered = caller_page (0 ∷ []) [] ∷ caller_page (1 ∷ []) [] ∷ []
+
+-- two levels after two calls, and the first of them alone
+abbrev pub both_below : List (ℕ × List ℕ)
+both_below = (1, 2 ∷ []) ∷ (2, 2 ∷ []) ∷ []
+
+abbrev pub one_below : List (ℕ × List ℕ)
+one_below = (1, 2 ∷ []) ∷ []

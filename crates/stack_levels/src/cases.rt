@@ -1,10 +1,13 @@
 //! Worked cases: tables of levels that are closed, and tables that aren't.
 
-ghost use Rattle.std.specs.Prelude.{ℕ, List, []};
+ghost use Rattle.std.specs.Prelude.{ℕ, List, [], ◌∷◌, Some, None};
 ghost use Rattle.book_base.specs.Order.{HasLegalOrder};
 ghost use Rattle.stack_pruning.specs.LastFirst.{GivesLastFirst};
-ghost use Rattle.stack_levels.specs.Levels.{Layer, IsAmong, IsClosed};
+ghost use Rattle.stack_levels.specs.Levels.{Layer, IsAmong, IsClosed, LeavesTop, TakeLeads};
 ghost use Rattle.stack_levels.specs.Cases.{
+  both_below,
+  one_below,
+  unanswered,
   one_below_two,
   one_on_one,
   pile,
@@ -42,4 +45,26 @@ pub fn legal_books_have_no_closed_table()
         → ¬ IsClosed pile (puts_and_takes 2) layers (IsAmong pairs) }
     // A table that leaves out the start isn't closed for the book whose take shows the 1.
     ensures start { ¬ IsClosed pile (puts_and_takes 1) one_below_two (IsAmong without_start) }
+{}
+
+/// An unanswered take leaves the bottom alone as it is, and no put leaves any list.
+pub fn an_unanswered_take_leaves_the_bottom_alone()
+    // An unanswered take leaves the list in which nothing is.
+    ensures bottom { LeavesTop pile unanswered None (record { caller = 0; number = 0 }) }
+    // It doesn't leave a list with a last item.
+    ensures item { ¬ LeavesTop pile unanswered (Some 1) (record { caller = 0; number = 0 }) }
+    // An unanswered put doesn't leave the bottom.
+    ensures put { ¬ LeavesTop pile unanswered None (record { caller = 1; number = 0 }) }
+    // Nothing is said of an answered take.
+    ensures answered { ¬ LeavesTop pile taken_too_often None (record { caller = 0; number = 1 }) }
+{}
+
+/// A take leads to all levels below the one that it ends, not to some of them.
+pub fn a_take_leads_to_each_level_below()
+    // It leads to two levels below, where both are among the pairs.
+    ensures all { TakeLeads (IsAmong both_below) 3 (Some 1) (1 ∷ 2 ∷ []) (2 ∷ []) }
+    // It doesn't where one of the two is missing.
+    ensures missing { ¬ TakeLeads (IsAmong one_below) 3 (Some 1) (1 ∷ 2 ∷ []) (2 ∷ []) }
+    // From the bottom it leads nowhere else.
+    ensures bottom { ¬ TakeLeads (IsAmong one_below) 0 None [] (2 ∷ []) }
 {}

@@ -13,7 +13,7 @@ use std::alloc::Global;
 use std::cmp::Reverse;
 
 // How many nodes a search looks at, and how often it may lead to one.
-const NODES: u64 = 3_000_000;
+const NODES: u64 = 2_000_000;
 
 const LINKS: u64 = 30_000_000;
 
