@@ -8,9 +8,8 @@ use Rattle.book_base.specs.declared.call.Call.{Call}
 use Rattle.book_base.specs.Book.{Page, calls_of, IsCall}
 use Rattle.book_base.proofs.PageLemmas.{caller_from_call}
 use Rattle.seq_objects.specs.declared.kind.Kind.{Kind}
-use Rattle.smaller_book.specs.Part.{numbers_of, IsPart}
+use Rattle.smaller_book.specs.Part.{size_of, numbers_of, IsPart}
 use Rattle.smaller_book.specs.Keys.{key_of_call, is_among, keys_from_to, row_without, all_without}
-use Rattle.smaller_book.specs.Minimal.{size_of}
 use Rattle.smaller_book.proofs.Building.{range_with_len-more}
 use Rattle.smaller_book.proofs.Filtering.{filter-fewer}
 use Rattle.smaller_book.proofs.Removing.{size-less_at}

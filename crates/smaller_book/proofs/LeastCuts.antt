@@ -1,5 +1,5 @@
 -- The book at the least cuts at which it has no legal order.
-use Rattle.std.proofs.Common.{◌≡◌, ◌≢◌, ℕ, zero, suc, ◌-◌, ◌<◌, ◌≤◌, ◌⊎◌, ◌∙◌, List, [], length, map, get_or, set, Some, refl, sym, ap, subst, inl, inr, zero-add, arith}
+use Rattle.std.proofs.Common.{◌≡◌, ◌≢◌, ℕ, zero, suc, ◌+◌, ◌-◌, ◌<◌, ◌≤◌, ◌⊎◌, ◌∙◌, List, [], length, map, get_or, set, Some, refl, sym, ap, subst, inl, inr, zero-add, arith}
 use Rattle.std.specs.List.{range_with_len}
 use Rattle.std.specs.Option.{IsSomeAnd}
 use Rattle.std.proofs.lemmas.Bool.{cases_lt, cases_eq}
@@ -12,13 +12,15 @@ use Rattle.book_base.specs.Cut.{IsWithin}
 use Rattle.book_base.specs.Book.{Page, calls_of, IsCall, operation_of, record_of, answered, IsValid}
 use Rattle.book_base.specs.BookAt.{IsBookAt, book_at}
 use Rattle.book_base.specs.Order.{HasLegalOrder}
+use Rattle.book_base.specs.Pruning.{HasOneOpen}
 use Rattle.book_base.proofs.PageLemmas.{page_past}
 use Rattle.book_base.proofs.GrowthLemmas.{below_calls}
 use Rattle.book_laws.proofs.BookAt.{record_from_part, record_of-part, answered_at}
 use Rattle.book_laws.proofs.BookAtLaws.{is_the_only_one, stays_valid, is_the_book_at_the_smaller, record_counts_are_the_cut, has_one_where_the_book_has, smaller_has_one}
 use Rattle.book_laws.proofs.LegalOrder.{same_call}
-use Rattle.smaller_book.specs.Part.{numbers_of, AreRising, count_below, original, IsRenumbered, IsPart, CarriesOver}
-use Rattle.smaller_book.specs.Earliest.{all_numbers, IsEarliest, IsIllegalCut, one_less, IsLeastAt, IsLeastCut}
+use Rattle.smaller_book.specs.Part.{size_of, numbers_of, AreRising, count_below, original, IsRenumbered, IsPart, CarriesOver}
+use Rattle.smaller_book.specs.declared.TheConstants.{FEW_CALLS}
+use Rattle.smaller_book.specs.Earliest.{all_numbers, IsTried, IsEarliest, IsIllegalCut, one_less, IsLeastAt, IsLegalBelow, IsLeastOpenCut, IsLeastCut}
 use Rattle.smaller_book.proofs.Counts.{counted_from_below, count_below-at, count_below-within}
 
 -- Numbers from 0 on rise, and as many of them are below a bound as the bound says.
@@ -225,6 +227,57 @@ within_one_less cut other i within less k =
           omega (arith, get_or-set_other cut i k (get_or cut i 0 - 1) 0 other_one, within k)
     ]
 
+-- A cut is least where no record of any caller can go from it.
+pub least_from_all : (init : List ℕ) (next : List ℕ → ℕ → List ℕ × ℕ) (book : List Page)
+    (cut : List ℕ) → IsValid book → IsIllegalCut init next book cut
+    → ((i : ℕ) → IsLeastAt init next book cut i) → IsLeastCut init next book cut
+least_from_all init next book cut valid here least = record {
+  here = here;
+  least = λ other i within less tried. elim (least i) [
+    | inl none ↦ absurd (omega (arith, none, less))
+    | inr legal ↦
+        smaller_has_one init next book other (one_less cut i) valid
+        (within_one_less cut other i within less) legal
+  ];
+}
+
+-- A cut at which the book is large and has one open is least where none is less at which it has one
+-- open.
+pub least_from_open : (init : List ℕ) (next : List ℕ → ℕ → List ℕ × ℕ) (book : List Page)
+    (cut : List ℕ) → IsValid book → FEW_CALLS < size_of (book_at cut book)
+    → HasOneOpen (book_at cut book) → IsLeastOpenCut init next book cut
+    → IsLeastCut init next book cut
+least_from_open init next book cut valid large one is = record {
+  here = is.here;
+  least = λ other i within less tried. elim tried [
+    | inl few ↦ absurd (omega (arith, few, large))
+    | inr rest ↦ elim rest [
+      | inl several ↦ absurd (several one)
+      | inr still ↦ is.least i other within less
+          (subst HasOneOpen (is_the_book_at_the_smaller book other cut valid within) still)
+    ]
+  ];
+}
+
+-- What is legal below a count of a caller at a cut, is so at a lesser cut and below a lesser count.
+pub legal_below_stays : (init : List ℕ) (next : List ℕ → ℕ → List ℕ × ℕ) (book : List Page)
+    (cut few : List ℕ) (i high low : ℕ) → IsWithin few cut → low ≤ high
+    → IsLegalBelow init next book cut i high → IsLegalBelow init next book few i low
+legal_below_stays init next book cut few i high low within le legal other inside less one =
+    legal other (λ j. omega (arith, inside j, within j)) (omega (arith, less, le)) one
+
+-- Where the book is legal at a cut that holds each cut up to a count of a caller at which it has
+-- one open, it is legal below the next count.
+pub legal_below_from_greatest : (init : List ℕ) (next : List ℕ → ℕ → List ℕ × ℕ) (book : List Page)
+    (cut tried : List ℕ) (i count : ℕ) → IsValid book → HasLegalOrder init next (book_at tried book)
+    → ((other : List ℕ) → IsWithin other cut → get_or other i 0 ≤ count
+    → HasOneOpen (book_at other book) → IsWithin other tried)
+    → IsLegalBelow init next book cut i (count + 1)
+legal_below_from_greatest init next book cut tried i count valid legal greatest other within less
+    one =
+    smaller_has_one init next book other tried valid
+    (greatest other within (omega (arith, less)) one) legal
+
 -- The book at a cut at which it has no legal order has none.
 pub illegal_from_cut : (init : List ℕ) (next : List ℕ → ℕ → List ℕ × ℕ) (book : List Page)
     (cut : List ℕ) (part : List Page) → IsValid book → IsIllegalCut init next book cut
@@ -243,19 +296,16 @@ earliest_from_least init next book cut part valid is at =
     let counts : answered part ≡ cut =
     ap answered part_is ∙ record_counts_are_the_cut book cut is.here.wide is.here.within in
     record {
-      earlier = λ other i within less.
+      earlier = λ other i within less tried.
           let few : IsWithin other cut = subst (IsWithin other) counts within in
           let below : get_or other i 0 < get_or cut i 0 =
           omega (arith, less, answered_at part i, ap (λ (c : List ℕ). get_or c i 0) counts) in
           let same : book_at other part ≡ book_at other book =
           ap (book_at other) part_is ∙ is_the_book_at_the_smaller book other cut valid few in
-          elim (is.least i) [
-            | inl none ↦ absurd (omega arith)
-            | inr legal ↦
-                subst (λ (b : List Page). HasLegalOrder init next b) (sym same)
-                (smaller_has_one init next book other (one_less cut i) valid
-                (within_one_less cut other i few below) legal)
-          ];
+          let there : IsTried (book_at cut book) other =
+          subst (λ (b : List Page). IsTried b other) part_is tried in
+          subst (λ (b : List Page). HasLegalOrder init next b) (sym same)
+          (is.least other i few below there);
       held = λ call inside.
           let found = (at.calls call).0 inside in
           let there : record_of part found.0 ≡ Some found.1 =

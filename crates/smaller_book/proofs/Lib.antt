@@ -8,6 +8,7 @@ pub mod KeySteps
 pub mod KeyRows
 pub mod KeyCodes
 pub mod KeyLaw
+pub mod OpenCuts
 pub mod LeastCuts
 pub mod Building
 pub mod Removing

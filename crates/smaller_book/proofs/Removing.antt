@@ -15,10 +15,10 @@ use Rattle.book_base.specs.Book.{Page, page_of, calls_of, IsCall, IsAnswered, op
 use Rattle.book_base.proofs.PageLemmas.{caller_from_call}
 use Rattle.book_base.proofs.GrowthLemmas.{announced_at}
 use Rattle.book_laws.proofs.LegalOrder.{same_call}
-use Rattle.smaller_book.specs.Part.{numbers_of, AreRising, original, IsPart}
+use Rattle.smaller_book.specs.Part.{size_of, numbers_of, AreRising, original, IsPart}
 use Rattle.smaller_book.specs.Numbers.{AreNumbersOf}
 use Rattle.smaller_book.specs.ReadOnly.{IsReadOnly, LacksReadOnlyAlone}
-use Rattle.smaller_book.specs.Minimal.{numbers_except, row_but, all_but, size_of}
+use Rattle.smaller_book.specs.Minimal.{numbers_except, row_but, all_but}
 use Rattle.smaller_book.proofs.LeastCuts.{range-rising}
 use Rattle.smaller_book.proofs.Building.{length-rising}
 

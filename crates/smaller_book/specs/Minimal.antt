@@ -1,13 +1,13 @@
 -- A book that no rule makes smaller.
-use Rattle.std.specs.Prelude.{◌≡◌, ℕ, ◌+◌, ◌-◌, ◌<◌, ◌++◌, cond, nat_eq, List, length, map, sum, slice_index, Some}
+use Rattle.std.specs.Prelude.{◌≡◌, ℕ, ◌+◌, ◌-◌, ◌<◌, ◌++◌, cond, nat_eq, List, length, map, slice_index, Some}
 use Rattle.std.specs.List.{range_with_len}
 use Rattle.book_base.specs.declared.call.Call.{Call}
-use Rattle.book_base.specs.Book.{Page, calls_of, IsCall, announced}
+use Rattle.book_base.specs.Book.{Page, calls_of, IsCall}
 use Rattle.book_base.specs.Order.{HasLegalOrder}
 use Rattle.book_base.specs.Pruning.{HasOneOpen}
 use Rattle.seq_objects.specs.declared.kind.Kind.{Kind}
 use Rattle.seq_objects.specs.Objects.{kind_init, kind_next}
-use Rattle.smaller_book.specs.Part.{numbers_of, IsPart, KeepsAnswers}
+use Rattle.smaller_book.specs.Part.{size_of, numbers_of, IsPart, KeepsAnswers}
 use Rattle.smaller_book.specs.ReadOnly.{IsReadOnly}
 use Rattle.smaller_book.specs.Earliest.{IsEarliest}
 use Rattle.smaller_book.specs.Keys.{key_of_call, keys_from_to, all_without, IsEvidence}
@@ -42,7 +42,7 @@ IsKeyNeeded kind book key = HasOneWith kind book (all_without kind (keys_from_to
 
 -- No rule makes the book smaller and leaves it without a legal order.
 pub record IsMinimal (kind : Kind) (book : List Page) : Type 0 where
-  -- the book at each earlier cut has a legal order
+  -- the book at each earlier cut at which it is tried has a legal order
   pub earliest : IsEarliest (kind_init kind) (kind_next kind) book
   -- and so does the book without a read-only call
   pub read_only : (call : Call) → IsReadOnly (kind_next kind) book call → IsNeeded kind book call
@@ -50,10 +50,6 @@ pub record IsMinimal (kind : Kind) (book : List Page) : Type 0 where
   -- calls of one key
   pub keys : HasOneOpen book → (call : Call) (key : ℕ) → IsCall book call
       → key_of_call kind book call ≡ Some key → IsKeyNeeded kind book key
-
--- how many calls a book has
-abbrev pub size_of : List Page → ℕ
-size_of book = sum (announced book)
 
 -- A part of a book that has no legal order, and lacks a call.
 pub record IsSmaller (kind : Kind) (book : List Page) (names : List (List ℕ))
@@ -73,7 +69,8 @@ abbrev pub composed : List (List ℕ) → List (List ℕ) → List (List ℕ)
 composed first second =
     map (λ i. picked (numbers_of first i) (numbers_of second i)) (range_with_len 0 (length second))
 
--- A part of a book that has no legal order, while each earlier cut of it has one.
+-- A part of a book that has no legal order, while it has one at each earlier cut at which it is
+-- tried.
 pub record IsShrunk (kind : Kind) (book : List Page) (names : List (List ℕ))
     (part : List Page) : Type 0 where
   pub is_part : IsPart book names part

@@ -1,10 +1,14 @@
 -- A part of a book: some of its calls, with their numbers and their views made anew.
-use Rattle.std.specs.Prelude.{◌≡◌, ℕ, ◌<◌, ◌≤◌, ltb, List, [], length, Some, IsSomeAnd, slice_index, slice_index_or}
+use Rattle.std.specs.Prelude.{◌≡◌, ℕ, ◌<◌, ◌≤◌, ltb, List, [], length, sum, Some, IsSomeAnd, slice_index, slice_index_or}
 use Rattle.std.specs.List.{prefix_len}
 use Rattle.book_base.specs.declared.call.Call.{Call}
 use Rattle.book_base.specs.declared.call.Record.{Record}
-use Rattle.book_base.specs.Book.{Page, calls_of, answers_of, IsCall, IsAnswered, operation_of, record_of}
+use Rattle.book_base.specs.Book.{Page, calls_of, answers_of, IsCall, IsAnswered, operation_of, record_of, announced}
 use Rattle.book_base.specs.Order.{HasLegalOrder}
+
+-- how many calls a book has
+abbrev pub size_of : List Page → ℕ
+size_of book = sum (announced book)
 
 -- the numbers of a caller's calls that a part has
 abbrev pub numbers_of : List (List ℕ) → ℕ → List ℕ

@@ -1,5 +1,5 @@
 //! The book at the earliest cuts at which it has no legal order.
-ghost use Rattle.std.specs.Prelude.{◌≡◌, ◌<◌, ◌≤◌, length, slice_index, slice_set, IfOk, IfSome, IsTrue};
+ghost use Rattle.std.specs.Prelude.{◌≡◌, ℕ, ◌<◌, ◌≤◌, length, slice_index, slice_set, IfOk, IfSome, IsTrue};
 ghost use Rattle.book_base.specs.Cut.{IsWithin};
 ghost use Rattle.book_base.specs.Book.{answers_of, answered};
 ghost use Rattle.book_base.specs.Order.{HasLegalOrder};
@@ -9,20 +9,23 @@ ghost use Rattle.smaller_book.specs.Numbers.{numbers_in};
 ghost use Rattle.smaller_book.specs.Minimal.{IsSmaller};
 ghost use Rattle.smaller_book.specs.Earliest.{all_numbers, IsEarliest, IsIllegalCut, IsLeastAt, IsLeastCut};
 
+use crate::FEW_CALLS;
 use crate::composing::numbers_of_all;
-use crate::judging::{breaks_rule_at, calls_of_all, is_illegal_at};
+use crate::judging::{breaks_rule_at, calls_of_all, is_illegal_at, is_large_and_open_at};
+use crate::open_cuts::least_open_cut;
 use crate::removal::{Smaller, has_fewer};
 use book_base::{Book, Call, Cut, NoMemory};
 use seq_objects::Kind;
 use std::alloc::Global;
 
-/// The book at a cut at which it has no legal order, where it has one at each earlier cut. Its
-/// calls are those that its views hold.
+/// The book at a cut at which it has no legal order, where it has one at each earlier cut at which
+/// it is tried. Its calls are those that its views hold.
 ///
 /// An error is final (Castañeda and Rodríguez 2023), so that the cuts are found by halving: first
 /// those of the records whose views hold few calls, and then the least count of each caller. Before
 /// that, records go while the book breaks a rule, which is cheap to see: a search for an order has
-/// more to try with each record that is gone, until few are left.
+/// more to try with each record that is gone, until few are left. So where many calls are left,
+/// only such records go after which the book has one open still.
 pub fn earliest(alloc: Global, kind: Kind, book: &Book) -> Result<Book, NoMemory>
     // The book has no legal order.
     requires { ¬ HasLegalOrder (kind_init kind) (kind_next kind) book.now }
@@ -34,8 +37,8 @@ pub fn earliest(alloc: Global, kind: Kind, book: &Book) -> Result<Book, NoMemory
     // The part has no legal order.
     ensures illegal { IfOk result (λ part.
         ¬ HasLegalOrder (kind_init kind) (kind_next kind) part) }
-    // The part has a legal order at each cut that lacks a record of it, and each of its calls is in
-    // some view.
+    // The part has a legal order at each cut that lacks a record of it and at which it is tried,
+    // and each of its calls is in some view.
     ensures earliest { IfOk result (IsEarliest (kind_init kind) (kind_next kind)) }
 {
     let _callers = book.callers();
@@ -44,6 +47,24 @@ pub fn earliest(alloc: Global, kind: Kind, book: &Book) -> Result<Book, NoMemory
     let cut = least_cut(alloc, kind, book, broken)?;
     let part = book.at(alloc, &cut)?;
     Ok(part)
+}
+
+// A least cut: records go one by one where few calls are left, or where a view holds several
+// unanswered calls of a caller, and else as long as the book has one open.
+fn least_cut(alloc: Global, kind: Kind, book: &Book, cut: Cut) -> Result<Cut, NoMemory>
+    requires { IsIllegalCut (kind_init kind) (kind_next kind) book.now cut }
+    ensures { IfOk result (IsLeastCut (kind_init kind) (kind_next kind) book.now) }
+{
+    let _callers = book.callers();
+    if !is_large_and_open_at(alloc, book, &cut)? {
+        return least_of_all(alloc, kind, book, cut);
+    }
+    let least = least_open_cut(alloc, kind, book, cut)?;
+    if is_large_and_open_at(alloc, book, &least)? {
+        Ok(least)
+    } else {
+        least_of_all(alloc, kind, book, least)
+    }
 }
 
 /// The book without the calls that only later views hold than those of an earlier cut at which it
@@ -55,7 +76,37 @@ pub fn without_later(alloc: Global, kind: Kind, book: &Book) -> Result<Option<Sm
 {
     let _callers = book.callers();
     let cut = first_illegal(alloc, kind, book)?;
-    let part = book.at(alloc, &cut)?;
+    smaller_at(alloc, kind, book, &cut)
+}
+
+/// The book without calls that only views of some records hold, where the book has no legal order
+/// without these records and has one open still. None is looked for in a book of few calls.
+pub fn without_open(alloc: Global, kind: Kind, book: &Book) -> Result<Option<Smaller>, NoMemory>
+    requires { ¬ HasLegalOrder (kind_init kind) (kind_next kind) book.now }
+    ensures { IfOk result (λ found. IfSome found (λ smaller.
+        IsSmaller kind book.now (numbers_in smaller.numbers.items) smaller.book)) }
+{
+    let _callers = book.callers();
+    if calls_of_all(book) <= FEW_CALLS {
+        return Ok(None);
+    }
+    let cut = least_open_cut(alloc, kind, book, all_records(book))?;
+    smaller_at(alloc, kind, book, &cut)
+}
+
+// The book at a cut at which it has no legal order, where it has fewer calls there.
+fn smaller_at(
+    alloc: Global,
+    kind: Kind,
+    book: &Book,
+    cut: &Cut,
+) -> Result<Option<Smaller>, NoMemory>
+    requires { IsIllegalCut (kind_init kind) (kind_next kind) book.now cut.now }
+    ensures { IfOk result (λ found. IfSome found (λ smaller.
+        IsSmaller kind book.now (numbers_in smaller.numbers.items) smaller.book)) }
+{
+    let _callers = book.callers();
+    let part = book.at(alloc, cut)?;
     if !has_fewer(&part, book) {
         return Ok(None);
     }
@@ -208,7 +259,7 @@ fn is_broken_with(
 }
 
 // Takes as many records of each caller from a cut as can be, one caller after another.
-fn least_cut(alloc: Global, kind: Kind, book: &Book, cut: Cut) -> Result<Cut, NoMemory>
+fn least_of_all(alloc: Global, kind: Kind, book: &Book, cut: Cut) -> Result<Cut, NoMemory>
     requires { IsIllegalCut (kind_init kind) (kind_next kind) book.now cut }
     ensures { IfOk result (IsLeastCut (kind_init kind) (kind_next kind) book.now) }
 {

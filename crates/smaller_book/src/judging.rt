@@ -1,11 +1,15 @@
 //! Whether a book has a legal order, for an object of a kind.
-ghost use Rattle.std.specs.Prelude.{◌≡◌, false, length, IfOk, IsTrue};
+ghost use Rattle.std.specs.Prelude.{◌≡◌, ◌<◌, ◌≤◌, false, length, IfOk, IsTrue};
 ghost use Rattle.book_base.specs.Cut.{IsWithin};
 ghost use Rattle.book_base.specs.Book.{answered};
 ghost use Rattle.book_base.specs.BookAt.{book_at};
 ghost use Rattle.book_base.specs.Order.{HasLegalOrder};
+ghost use Rattle.book_base.specs.Pruning.{HasOneOpen};
 ghost use Rattle.seq_objects.specs.Objects.{kind_init, kind_next};
+ghost use Rattle.smaller_book.specs.declared.TheConstants.{FEW_CALLS};
+ghost use Rattle.smaller_book.specs.Part.{size_of};
 
+use crate::FEW_CALLS;
 use crate::one_open::has_one_open;
 use book_base::{Book, Cut, NoMemory};
 use broken_rules::broken_rule;
@@ -20,7 +24,7 @@ pub fn is_illegal(alloc: Global, kind: Kind, book: &Book) -> Result<bool, NoMemo
     ensures legal { IfOk result (λ found. found ≡ false
         → HasLegalOrder (kind_init kind) (kind_next kind) book.now) }
 {
-    if breaks_rule(kind, book, most_paired(book)) {
+    if !has_one_open(book) && breaks_rule(kind, book, MOST_PAIRED) {
         return Ok(true);
     }
     match check(alloc, &kind, book)? {
@@ -29,25 +33,13 @@ pub fn is_illegal(alloc: Global, kind: Kind, book: &Book) -> Result<bool, NoMemo
     }
 }
 
-/// All pairs of a book's calls are looked at for a broken rule, where it has no more calls than
-/// this.
-const MOST_PAIRED: u64 = 256;
+/// All pairs of a book's calls are looked at for a broken rule before an order is looked for, where
+/// the book has no more calls than this, and a view holds several unanswered calls of a caller: a
+/// search finds little there that it may leave out.
+const MOST_PAIRED: u64 = 512;
 
-/// A book with a view that holds several unanswered calls of a caller may have more calls: a search
-/// finds little there that it may leave out.
-const MOST_PAIRED_OPEN: u64 = 512;
-
-/// While records go from a cut, a book may have more calls still: no order is looked for.
+/// While records go from a cut, a book may have more calls: no order is looked for.
 const MOST_PAIRED_AT_A_CUT: u64 = 2048;
-
-// How many calls a book may have, for which an order is looked for where it breaks no rule.
-fn most_paired(book: &Book) -> u64 {
-    if has_one_open(book) {
-        MOST_PAIRED
-    } else {
-        MOST_PAIRED_OPEN
-    }
-}
 
 // Whether a book of at most this many calls is found to break a rule of its kind.
 fn breaks_rule(kind: Kind, book: &Book, most: u64) -> bool
@@ -71,8 +63,27 @@ pub fn breaks_rule_at(alloc: Global, kind: Kind, book: &Book, cut: &Cut) -> Resu
     Ok(breaks_rule(kind, &part, MOST_PAIRED_AT_A_CUT))
 }
 
+/// Whether a book has more than a few calls at a cut, and each of its views there holds at most one
+/// unanswered call of each caller.
+pub fn is_large_and_open_at(alloc: Global, book: &Book, cut: &Cut) -> Result<bool, NoMemory>
+    requires wide { length cut.now ≡ length book.now }
+    requires within { IsWithin cut.now (answered book.now) }
+    ensures large { IfOk result (λ found. IsTrue found
+        → FEW_CALLS < size_of (book_at cut.now book.now)) }
+    ensures open { IfOk result (λ found. IsTrue found → HasOneOpen (book_at cut.now book.now)) }
+{
+    let _callers = book.callers();
+    let part = book.at(alloc, cut)?;
+    if calls_of_all(&part) <= FEW_CALLS {
+        return Ok(false);
+    }
+    Ok(has_one_open(&part))
+}
+
 /// How many calls a book has.
-pub fn calls_of_all(book: &Book) -> u64 {
+pub fn calls_of_all(book: &Book) -> u64
+    ensures { result ≤ size_of book.now }
+{
     let mut calls: u64 = 0;
     for caller in 0..book.callers() {
         calls = calls.saturating_add(book.calls(caller));

@@ -10,6 +10,7 @@ mod keys;
 pub mod laws;
 mod numbered;
 mod one_open;
+mod open_cuts;
 mod read_only_calls;
 mod removal;
 mod shrinking;
@@ -19,3 +20,7 @@ pub use cuts::earliest;
 pub use numbered::part;
 pub use removal::Smaller;
 pub use shrinking::shrink;
+
+/// A book with at most this many calls is small: each earlier cut of it is tried, also one with a
+/// view that holds several unanswered calls of a caller.
+pub const FEW_CALLS: u64 = 24;

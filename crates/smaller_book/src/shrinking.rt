@@ -5,11 +5,11 @@ ghost use Rattle.book_base.specs.Book.{IsCall};
 ghost use Rattle.book_base.specs.Order.{HasLegalOrder};
 ghost use Rattle.book_base.specs.Pruning.{HasOneOpen};
 ghost use Rattle.seq_objects.specs.Objects.{kind_init, kind_next};
-ghost use Rattle.smaller_book.specs.Part.{IsPart};
+ghost use Rattle.smaller_book.specs.Part.{size_of, IsPart};
 ghost use Rattle.smaller_book.specs.Numbers.{numbers_in};
 ghost use Rattle.smaller_book.specs.ReadOnly.{IsReadOnly};
 ghost use Rattle.smaller_book.specs.Keys.{key_of_call, IsEvidence};
-ghost use Rattle.smaller_book.specs.Minimal.{IsNeeded, IsKeyNeeded, IsMinimal, IsSmaller, IsShrunk, size_of};
+ghost use Rattle.smaller_book.specs.Minimal.{IsNeeded, IsKeyNeeded, IsMinimal, IsSmaller, IsShrunk};
 
 use crate::composing::{numbers_of_all, numbers_through, smaller_still};
 use crate::cuts::earliest;

@@ -6,7 +6,7 @@ ghost use Rattle.smaller_book.specs.Numbers.{numbers_in};
 ghost use Rattle.smaller_book.specs.Minimal.{IsSmaller};
 
 use crate::composing::smaller_still;
-use crate::cuts::without_later;
+use crate::cuts::{without_later, without_open};
 use crate::keyless::without_halves;
 use crate::read_only_calls::{without_singles, without_slices};
 use crate::removal::Smaller;
@@ -17,8 +17,8 @@ use std::alloc::Global;
 /// The book up to the first views at which it has no legal order, without keys and read-only calls
 /// that can be left out: many at once, and then single ones (after Zeller and Hildebrandt 2002).
 ///
-/// No answer of a call that stays is dropped: while each view holds at most one unanswered call of
-/// each caller, a search is short.
+/// No answer goes whose caller has a later call in some view: while each view holds at most one
+/// unanswered call of each caller, a search is short.
 pub fn thinned(alloc: Global, kind: Kind, book: &Book) -> Result<Option<Smaller>, NoMemory>
     requires { ¬ HasLegalOrder (kind_init kind) (kind_next kind) book.now }
     ensures { IfOk result (λ found. IfSome found (λ smaller.
@@ -28,7 +28,8 @@ pub fn thinned(alloc: Global, kind: Kind, book: &Book) -> Result<Option<Smaller>
     let keyless = without_halves_too(alloc, kind, book, early)?;
     let sliced = without_slices_too(alloc, kind, book, keyless)?;
     let thin = without_singles_too(alloc, kind, book, sliced)?;
-    without_halves_too(alloc, kind, book, thin)
+    let open = without_open_too(alloc, kind, book, thin)?;
+    without_halves_too(alloc, kind, book, open)
 }
 
 // The book without the keys too that can be left out one half after another.
@@ -88,6 +89,28 @@ fn without_singles_too(
     match found {
         None => without_singles(alloc, kind, book),
         Some(smaller) => match without_singles(alloc, kind, &smaller.book)? {
+            None => Ok(Some(smaller)),
+            Some(next) => Ok(Some(smaller_still(alloc, kind, book, smaller, next)?)),
+        },
+    }
+}
+
+// The book without records too that can go while it has one open.
+fn without_open_too(
+    alloc: Global,
+    kind: Kind,
+    book: &Book,
+    found: Option<Smaller>,
+) -> Result<Option<Smaller>, NoMemory>
+    requires illegal { ¬ HasLegalOrder (kind_init kind) (kind_next kind) book.now }
+    requires found { IfSome found (λ smaller.
+        IsSmaller kind book.now (numbers_in smaller.numbers.items) smaller.book) }
+    ensures { IfOk result (λ found. IfSome found (λ smaller.
+        IsSmaller kind book.now (numbers_in smaller.numbers.items) smaller.book)) }
+{
+    match found {
+        None => without_open(alloc, kind, book),
+        Some(smaller) => match without_open(alloc, kind, &smaller.book)? {
             None => Ok(Some(smaller)),
             Some(next) => Ok(Some(smaller_still(alloc, kind, book, smaller, next)?)),
         },

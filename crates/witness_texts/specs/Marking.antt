@@ -7,9 +7,9 @@ use Rattle.seq_objects.specs.Objects.{kind_init, kind_next}
 use Rattle.book_picture.specs.declared.marks.Marks.{Marks}
 use Rattle.book_picture.specs.declared.marks.Marks.TheVariants.{Unasked, Smaller, TooLarge, NoMemory}
 use Rattle.book_picture.specs.Marks.{numbers_in}
-use Rattle.smaller_book.specs.Part.{IsPart}
+use Rattle.smaller_book.specs.Part.{size_of, IsPart}
 use Rattle.smaller_book.specs.Keys.{IsEvidence}
-use Rattle.smaller_book.specs.Minimal.{IsMinimal, size_of}
+use Rattle.smaller_book.specs.Minimal.{IsMinimal}
 use Rattle.witness_texts.specs.declared.marking.TheConstants.{MOST_CALLS}
 
 -- These are the numbers of the calls of a smaller book: a part of the book without a legal order,

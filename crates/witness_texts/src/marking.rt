@@ -7,7 +7,7 @@ ghost use Rattle.frontier_check.specs.Verdict.{IsRight};
 ghost use Rattle.seq_objects.specs.Objects.{kind_init, kind_next};
 ghost use Rattle.book_picture.specs.Marks.{numbers_in};
 ghost use Rattle.book_picture.specs.Titles.{is_legal};
-ghost use Rattle.smaller_book.specs.Minimal.{size_of};
+ghost use Rattle.smaller_book.specs.Part.{size_of};
 ghost use Rattle.witness_texts.specs.Marking.{AreOfASmallerBook, AreMarksOf, AreMarksFor};
 
 use book_base::{Book, NoMemory};

@@ -1,29 +1,13 @@
-use Rattle.std.proofs.Common.{ℕ, ◌+◌, ◌<◌, List, set, sym, subst, inl, inr, arith}
-use Rattle.std.proofs.lemmas.Bool.{cases_eq}
 use Rattle.seq_objects.specs.Objects.{kind_init, kind_next}
-use Rattle.smaller_book.specs.Earliest.{IsIllegalCut, IsLeastAt}
-use Rattle.smaller_book.proofs.LeastCuts.{least_stays}
+use Rattle.smaller_book.proofs.LeastCuts.{least_from_open}
 use Rattle.smaller_book.proofs.cuts.least_cut.Goals as goal
 
-pub loop-caller-preserved : goal.loop-caller-preserved
-loop-caller-preserved c =
-    let init = kind_init c.args.kind in
-    let next = kind_next c.args.kind in
-    let book = c.args.book.now in
-    let cut = c.loop-caller.least in
-    let i = c.loop-caller.caller in
-    let count = c.in_ok-count.count in
-    let P : List ℕ → Type 0 = λ new. IsIllegalCut init next book new
-    × ((j : ℕ) → j < i + 1 → IsLeastAt init next book new j) in
-    let whole : P (set cut i count) = (
-      c.in_ok-count.ensures.illegal,
-      λ (j : ℕ) (less : j < i + 1). elim (cases_eq j i) [
-        | inl e ↦ subst (λ (k : ℕ). IsLeastAt init next book (set cut i count) k)
-            (sym e) c.in_ok-count.ensures.least
-        | inr other ↦
-            least_stays init next book cut i j count c.callers-caller-end.ensures.valid other
-            c.in_ok-count.ensures.few
-            (c.loop-caller.invariant.1 j (omega (arith, less, other)))
-      ],
-    ) in
-    subst P (sym c.set.ensures) whole
+pub returns-then-branch : goal.returns-then-branch
+returns-then-branch c =
+    least_from_open (kind_init c.args.kind) (kind_next c.args.kind) c.args.book.now
+    c.in_ok-least.least c.callers-callers.ensures.valid
+    (c.in_ok-is_large_and_open_at-2.ensures.large c.if-branch.true)
+    (c.in_ok-is_large_and_open_at-2.ensures.open c.if-branch.true) c.in_ok-least.ensures
+
+pub returns-else-branch : goal.returns-else-branch
+returns-else-branch c = c.least_of_all-else-branch.ensures

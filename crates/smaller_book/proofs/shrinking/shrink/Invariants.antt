@@ -1,5 +1,6 @@
 use Rattle.smaller_book.specs.Numbers.{numbers_in}
-use Rattle.smaller_book.specs.Minimal.{IsShrunk, size_of}
+use Rattle.smaller_book.specs.Part.{size_of}
+use Rattle.smaller_book.specs.Minimal.{IsShrunk}
 use Rattle.smaller_book.proofs.shrinking.shrink.Given as goal
 
 abbrev pub invariant-shrinking : goal.invariant-shrinking

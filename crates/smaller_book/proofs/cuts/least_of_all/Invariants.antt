@@ -1,7 +1,7 @@
 use Rattle.std.proofs.Common.{ℕ, ◌<◌}
 use Rattle.seq_objects.specs.Objects.{kind_init, kind_next}
 use Rattle.smaller_book.specs.Earliest.{IsIllegalCut, IsLeastAt}
-use Rattle.smaller_book.proofs.cuts.least_cut.Given as goal
+use Rattle.smaller_book.proofs.cuts.least_of_all.Given as goal
 
 abbrev pub invariant-loop-caller : goal.invariant-loop-caller
 invariant-loop-caller l =
