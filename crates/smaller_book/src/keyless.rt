@@ -1,5 +1,5 @@
 //! Calls of one key or of several, taken out of a book together.
-ghost use Rattle.std.specs.Prelude.{◌≡◌, ℕ, ◌<◌, length, Some, IfOk, IfSome, IfNone};
+ghost use Rattle.std.specs.Prelude.{◌≡◌, ℕ, ◌<◌, All, length, Some, IfOk, IfSome, IfNone};
 ghost use Rattle.book_base.specs.declared.call.Call.{Call};
 ghost use Rattle.book_base.specs.Book.{calls_of, IsCall};
 ghost use Rattle.book_base.specs.Pruning.{HasOneOpen};
@@ -120,8 +120,9 @@ pub fn without_one_key(alloc: Global, kind: Kind, book: &Book) -> Result<Option<
     if !has_one_open(book) {
         return Ok(None);
     }
+    let mut needed = Vec::new(alloc);
     for caller in 0..book.callers() {
-        let found = without_key_of_caller(alloc, kind, book, caller)?;
+        let found = without_key_of_caller(alloc, kind, book, caller, &mut needed)?;
         match found {
             Some(smaller) => return Ok(Some(smaller)),
             None => {}
@@ -130,15 +131,20 @@ pub fn without_one_key(alloc: Global, kind: Kind, book: &Book) -> Result<Option<
     Ok(None)
 }
 
-// The book without a key that calls of this caller are about.
+// The book without a key that calls of this caller are about, and that isn't among those which are
+// needed. Where there is none, the keys of its calls are among them too.
 fn without_key_of_caller(
     alloc: Global,
     kind: Kind,
     book: &Book,
     caller: u32,
+    needed: &mut Vec<u64>,
 ) -> Result<Option<Smaller>, NoMemory>
     requires open { HasOneOpen book.now }
     requires caller { caller < length book.now }
+    requires needed { All (IsKeyNeeded kind book.now) needed.old.items }
+    ensures needed { IfOk result (λ found. IfNone found
+        (All (IsKeyNeeded kind book.now) needed.new.items)) }
     ensures smaller { IfOk result (λ found. IfSome found (λ smaller.
         IsSmaller kind book.now (numbers_in smaller.numbers.items) smaller.book)) }
     ensures none { IfOk result
@@ -147,7 +153,7 @@ fn without_key_of_caller(
         → IsKeyNeeded kind book.now key)) }
 {
     for number in 0..book.calls(caller) {
-        let found = without_key_of(alloc, kind, book, Call { caller, number })?;
+        let found = without_key_of(alloc, kind, book, Call { caller, number }, needed)?;
         match found {
             Some(smaller) => return Ok(Some(smaller)),
             None => {}
@@ -156,15 +162,20 @@ fn without_key_of_caller(
     Ok(None)
 }
 
-// The book without the key of this call, where it has no legal order without it.
+// The book without the key of this call, where it has no legal order without it. A key that is
+// among those which are needed isn't tried again.
 fn without_key_of(
     alloc: Global,
     kind: Kind,
     book: &Book,
     call: Call,
+    needed: &mut Vec<u64>,
 ) -> Result<Option<Smaller>, NoMemory>
     requires open { HasOneOpen book.now }
     requires call { IsCall book.now call }
+    requires needed { All (IsKeyNeeded kind book.now) needed.old.items }
+    ensures needed { IfOk result (λ found. IfNone found
+        (All (IsKeyNeeded kind book.now) needed.new.items)) }
     ensures smaller { IfOk result (λ found. IfSome found (λ smaller.
         IsSmaller kind book.now (numbers_in smaller.numbers.items) smaller.book)) }
     ensures none { IfOk result (λ found. IfNone found ((key : ℕ)
@@ -172,7 +183,39 @@ fn without_key_of(
 {
     match key_of(kind, book, call) {
         None => Ok(None),
-        Some(key) => without_key(alloc, kind, book, call, key),
+        Some(key) => without_new_key(alloc, kind, book, call, key, needed),
+    }
+}
+
+// The book without this key of this call, where the key isn't among those which are needed, and the
+// book has no legal order without it.
+fn without_new_key(
+    alloc: Global,
+    kind: Kind,
+    book: &Book,
+    call: Call,
+    key: u64,
+    needed: &mut Vec<u64>,
+) -> Result<Option<Smaller>, NoMemory>
+    requires open { HasOneOpen book.now }
+    requires call { IsCall book.now call }
+    requires key { key_of_call kind book.now call ≡ Some key }
+    requires needed { All (IsKeyNeeded kind book.now) needed.old.items }
+    ensures needed { IfOk result (λ found. IfNone found
+        (All (IsKeyNeeded kind book.now) needed.new.items)) }
+    ensures smaller { IfOk result (λ found. IfSome found (λ smaller.
+        IsSmaller kind book.now (numbers_in smaller.numbers.items) smaller.book)) }
+    ensures none { IfOk result (λ found. IfNone found (IsKeyNeeded kind book.now key)) }
+{
+    if needed.contains(&key) {
+        return Ok(None);
+    }
+    match without_key(alloc, kind, book, call, key)? {
+        Some(smaller) => Ok(Some(smaller)),
+        None => {
+            needed.push(key)?;
+            Ok(None)
+        }
     }
 }
 

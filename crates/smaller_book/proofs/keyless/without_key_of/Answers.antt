@@ -18,6 +18,6 @@ returns-in-Some-clause-none c =
     let key = c.in-Some.key in
     let All : Type 0 = (k : ℕ) → key_of_call kind book c.args.call ≡ Some k
     → IsKeyNeeded kind book k in
-    none_then c.without_key.result (IsKeyNeeded kind book key) All
+    none_then c.without_new_key.result (IsKeyNeeded kind book key) All
     (λ needed k known. subst (λ (j : ℕ). IsKeyNeeded kind book j) (same_Some key k
-    (sym c.in-Some.is ∙ (c.key_of.ensures ∙ known))) needed) c.without_key.ensures.none
+    (sym c.in-Some.is ∙ (c.key_of.ensures ∙ known))) needed) c.without_new_key.ensures.none
