@@ -40,3 +40,11 @@ one_open =
     caller_page (operation deq 0 ∷ operation enq 7 ∷ []) []
     ∷ caller_page (operation deq 0 ∷ []) (answer (reply_value 7) (1 ∷ 1 ∷ []) ∷ [])
     ∷ []
+
+-- Caller 0 puts 5 and then 6 into a queue. Caller 1 takes 5, and sees both puts.
+abbrev pub two_puts : List Page
+two_puts =
+    caller_page (operation enq 5 ∷ operation enq 6 ∷ [])
+    (answer reply_done (1 ∷ 0 ∷ []) ∷ answer reply_done (2 ∷ 0 ∷ []) ∷ [])
+    ∷ caller_page (operation deq 0 ∷ []) (answer (reply_value 5) (2 ∷ 1 ∷ []) ∷ [])
+    ∷ []

@@ -1,6 +1,7 @@
 //! Worked cases: which calls a part has, what its views count, and which calls may be left out.
 
 ghost use Rattle.std.specs.Prelude.{◌≡◌, [], ◌∷◌, Some, None};
+ghost use Rattle.book_base.specs.BookAt.{book_at};
 ghost use Rattle.book_base.specs.PruningRules.{Leaves};
 ghost use Rattle.book_base.specs.Pruning.{HasOneOpen};
 ghost use Rattle.book_laws.specs.Cases.{line_next, tenfold_next, mistaken, overtaken};
@@ -13,7 +14,8 @@ ghost use Rattle.smaller_book.specs.Part.{count_below};
 ghost use Rattle.smaller_book.specs.ReadOnly.{IsReadOnly};
 ghost use Rattle.smaller_book.specs.Minimal.{numbers_except, all_but, composed};
 ghost use Rattle.smaller_book.specs.Keys.{key_of_step, keys_from_to, all_without, items_without};
-ghost use Rattle.smaller_book.specs.Worked.{put_twice, of_two_keys, two_open, one_open};
+ghost use Rattle.smaller_book.specs.Earliest.{IsTried};
+ghost use Rattle.smaller_book.specs.Worked.{put_twice, of_two_keys, two_open, one_open, two_puts};
 
 /// A view counts the calls that a part has: of calls 0, 2 and 5 two are among the first three, and
 /// all are among the first six.
@@ -136,4 +138,15 @@ pub fn open_calls()
     ensures two { ¬ HasOneOpen two_open }
     // A book whose views hold one unanswered call of each caller at most has one open.
     ensures one { HasOneOpen one_open }
+{}
+
+/// At a cut without the last put of a caller, another caller's take sees one unanswered put, and at
+/// a cut without both puts it sees two. As the book has few calls, it is tried at both cuts.
+pub fn cuts_with_one_open()
+    // At the cut without the last put the book has one open.
+    ensures one { HasOneOpen (book_at (1 ∷ 1 ∷ []) two_puts) }
+    // At the cut without both puts it hasn't.
+    ensures two { ¬ HasOneOpen (book_at (0 ∷ 1 ∷ []) two_puts) }
+    // A book of few calls is tried at the cut without both puts too.
+    ensures few { IsTried two_puts (0 ∷ 1 ∷ []) }
 {}

@@ -28,8 +28,10 @@ use std::alloc::Global;
 /// The rules are three: the book at an earlier cut, the book without an answered read-only call of
 /// the object, and the book without all calls of one key, where each view holds at most one
 /// unanswered call of each caller. A key is a value of a queue, a stack or a priority queue, or a
-/// key of a set or a map. The numbers of the calls and their views are made anew, and the numbers
-/// that the calls had come with the book.
+/// key of a set or a map. Where more than `FEW_CALLS` calls are left, and each view holds at most
+/// one unanswered call of each caller, only such earlier cuts are tried at which this is still so,
+/// as it is at each moment of a run. The numbers of the calls and their views are made anew, and
+/// the numbers that the calls had come with the book.
 pub fn shrink(alloc: Global, kind: Kind, book: &Book) -> Result<Option<Smaller>, NoMemory>
     // No book is answered only where the book has a legal order.
     ensures none { IfOk result (λ found. IfNone found
