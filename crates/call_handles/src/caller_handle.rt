@@ -1,6 +1,6 @@
-ghost use Rattle.std.specs.Prelude.{◌≡◌, ◌↔◌, IsTrue, IsSome, IfSome, IfNone, IfOk};
+ghost use Rattle.std.specs.Prelude.{◌≡◌, ◌↔◌, false, IsTrue, IsSome, IfSome, IfNone, IfOk};
 ghost use Rattle.std.specs.Arc.{arc_value};
-ghost use Rattle.row_table.specs.Callers.{who_of, IsCallerOf, IsFree};
+ghost use Rattle.row_table.specs.Callers.{who_of, local_with, stance_of, IsCallerOf, IsFree};
 
 use crate::announcing::announce_alone;
 use crate::judging::judge_alone;
@@ -73,6 +73,13 @@ impl CallerHandle {
         ensures caller { IsCallerOf every_reply (rows_of self) result }
         // The caller has the number of the handle's caller.
         ensures who { who_of result ≡ who_of (caller_in (stage_of self)) }
+        // The caller has the local of the handle's caller.
+        ensures local { local_with result ≡ local_with (caller_in (stage_of self)) }
+        // A caller that has announced a call is halted.
+        ensures halted { HasAnnounced self → (stance_of result).live ≡ false }
+        // A caller that has announced no call keeps its stance.
+        ensures stance { ¬ HasAnnounced self
+            → stance_of result ≡ stance_of (caller_in (stage_of self)) }
     {
         let CallerHandle { kept: _, stage } = self;
         match stage {

@@ -9,3 +9,6 @@ returns-in-Announced-clause-caller c =
     let stands = subst (λ (s : Stage). IsSoundAt (rows_of self) self.kept.kind self.kept.gathered s)
     c.in-Announced.is c.requires.sound.0 in
     c.stop.ensures.same.rows every_reply (rows_of self) stands.0
+
+pub returns-in-Announced-clause-stance : goal.returns-in-Announced-clause-stance
+returns-in-Announced-clause-stance c = λ none. absurd (none (c.in-Announced.call, c.in-Announced.is))
