@@ -1,4 +1,4 @@
-ghost use Rattle.std.specs.Prelude.{◌≡◌, ◌↔◌, ◌⊎◌, ℕ, ◌<◌, ◌≤◌, List, None, IsTrue, is_some, length, take};
+ghost use Rattle.std.specs.Prelude.{◌≡◌, ◌↔◌, ◌⊎◌, ℕ, ◌<◌, ◌≤◌, List, None, IsTrue, is_some, drop, length, take};
 ghost use Rattle.book_base.specs.OperationWord.{joined};
 ghost use Rattle.call_handles.specs.Callers.{MayAnnounce, HasAnnounced};
 ghost use Rattle.call_handles.specs.Monitors.{MayJudge};
@@ -218,6 +218,8 @@ pub extern "C" fn selfcheck_witness(
     // With `DONE` the first `written` bytes of the buffer are the text of the book of the error,
     // which has no legal order.
     ensures text { result ≡ DONE → Witnesses (handle_in slot.old) (take written.new buffer.new) }
+    // With `DONE` the bytes of the buffer after the first `written` are as they were.
+    ensures rest { result ≡ DONE → drop written.new buffer.new ≡ drop written.new buffer.old }
     // With `NO_ROOM` the length written is greater than the buffer's.
     ensures no_room { result ≡ NO_ROOM → length buffer.old < written.new }
     // With `NO_ROOM` there is a text of the book of the error that has the length written.

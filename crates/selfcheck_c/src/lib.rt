@@ -3,7 +3,7 @@
 //! handles.
 #![tactic(auto)]
 
-ghost use Rattle.std.specs.Prelude.{◌≡◌, ◌⊎◌, ℕ, ◌<◌, ◌≤◌, List, length, take};
+ghost use Rattle.std.specs.Prelude.{◌≡◌, ◌⊎◌, ℕ, ◌<◌, ◌≤◌, List, drop, length, take};
 ghost use Rattle.book_base.specs.declared.fault.TextFault.{TextFault};
 ghost use Rattle.book_text.specs.BookRules.{IsFirstBookFault};
 ghost use Rattle.certificate_text.specs.CertificateRules.{IsFirstCertificateFault};
@@ -124,6 +124,8 @@ pub extern "C" fn selfcheck_certify(
     // With `LEGAL` the first `written` bytes of the buffer are the text of the book with a legal
     // order of it.
     ensures legal { result ≡ LEGAL → Certifies text.now (take written.new buffer.new) }
+    // With `LEGAL` the bytes of the buffer after the first `written` are as they were.
+    ensures rest { result ≡ LEGAL → drop written.new buffer.new ≡ drop written.new buffer.old }
     // With `ILLEGAL` the bytes are the text of a book that has no legal order.
     ensures illegal { result ≡ ILLEGAL → IsIllegalBook text.now }
     // With `REFUSED` the bytes are no book's text, and the refusal has the line and the number of

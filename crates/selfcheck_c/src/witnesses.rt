@@ -1,4 +1,4 @@
-ghost use Rattle.std.specs.Prelude.{◌≡◌, ◌⊎◌, ℕ, ◌<◌, ◌≤◌, List, length, take};
+ghost use Rattle.std.specs.Prelude.{◌≡◌, ◌⊎◌, ℕ, ◌<◌, ◌≤◌, List, drop, length, take};
 ghost use Rattle.book_base.specs.declared.fault.TextFault.{TextFault};
 ghost use Rattle.book_base.specs.Book.{Page};
 ghost use Rattle.seq_objects.specs.declared.kind.Kind.{Kind};
@@ -35,6 +35,8 @@ pub extern "C" fn selfcheck_smaller(
     // With `ILLEGAL` the first `written` bytes of the buffer are the text of a part of the book
     // that has no legal order and that no rule makes smaller.
     ensures smaller { result ≡ ILLEGAL → IsSmallerWitness text.now (take written.new buffer.new) }
+    // With `ILLEGAL` the bytes of the buffer after the first `written` are as they were.
+    ensures rest { result ≡ ILLEGAL → drop written.new buffer.new ≡ drop written.new buffer.old }
     // With `REFUSED` the bytes give no book, and the refusal has the line and the number of their
     // first fault.
     ensures refused { result ≡ REFUSED → IsGivenRefusal text.now refusal.new }
@@ -96,6 +98,8 @@ pub extern "C" fn selfcheck_picture(
     // With `DONE` the first `written` bytes of the buffer are a picture of the book that the bytes
     // give.
     ensures shown { result ≡ DONE → IsPictureOf text.now (take written.new buffer.new) }
+    // With `DONE` the bytes of the buffer after the first `written` are as they were.
+    ensures rest { result ≡ DONE → drop written.new buffer.new ≡ drop written.new buffer.old }
     // With `REFUSED` the bytes give no book, and the refusal has the line and the number of their
     // first fault.
     ensures refused { result ≡ REFUSED → IsGivenRefusal text.now refusal.new }
