@@ -1,5 +1,5 @@
 -- What is written of a hunt, and of what it caught.
-use Rattle.std.specs.Prelude.{◌≡◌, ℕ, ◌++◌, List, Option, None, codes, false}
+use Rattle.std.specs.Prelude.{◌≡◌, ℕ, ◌≤◌, ◌++◌, List, Option, None, codes, false}
 use Rattle.book_base.specs.Book.{Page}
 use Rattle.book_base.specs.Order.{HasLegalOrder}
 use Rattle.seq_objects.specs.declared.kind.Kind.{Kind}
@@ -14,10 +14,12 @@ use Rattle.book_picture.specs.Elements.{ShowsEachCall}
 use Rattle.book_picture.specs.Titles.{first_lines, SaysFirst}
 use Rattle.book_picture.specs.declared.marks.Marks.TheVariants.{Unasked}
 use Rattle.byte_streams.specs.declared.status.Status.{Status}
-use Rattle.byte_streams.specs.declared.status.Status.TheVariants.{Fine, Found}
+use Rattle.byte_streams.specs.declared.status.Status.TheVariants.{Fine, Found, NoMemory}
+use Rattle.byte_streams.specs.Writing.{EndsWriting}
 use Rattle.hunts.specs.declared.trial.Catch.{Catch}
 use Rattle.hunts.specs.declared.runs.Settings.{Settings}
-use Rattle.hunts.specs.Hunting.{AreQuietBefore, IsCaughtLast}
+use Rattle.hunts.specs.Hunting.{first_seeds, AreQuietBefore, IsCaughtLast}
+use Rattle.hunts.specs.Watching.{Hears}
 use Rattle.hunt_program.specs.declared.shown.Shown.{Shown}
 use Rattle.hunt_program.specs.declared.shown.Shown.TheVariants.{Smaller, Report, Picture}
 
@@ -53,13 +55,25 @@ IsShown kind catch Smaller text = IsSmallerText kind catch.witness text
 IsShown kind catch Report text = IsReportShown kind catch text
 IsShown kind catch Picture text = IsSmallerPicture kind catch.witness text
 
--- The output of a hunt, with its status: what is shown of the catch of the last run that was made,
--- or, where all its runs were made and were quiet, that no run had an error.
+-- The output of a hunt that made this many runs, with its status: what is shown of the catch of the
+-- last one, or, where all the runs that it may make were made and were quiet, that no run had an
+-- error.
 abbrev pub IsHuntOutput : {T : Type 0} → (T → ℕ) → (T → Option (List (ℕ × ℕ))) → Settings → Shown
-    → Status → List ℕ → Type 0
-IsHuntOutput made told settings shown Found text =
-    (runs : ℕ) × (catch : Catch) × IsCaughtLast made told settings runs catch
+    → ℕ → Status → List ℕ → Type 0
+IsHuntOutput made told settings shown runs Found text =
+    (catch : Catch) × (runs ≤ settings.runs) × IsCaughtLast made told settings runs catch
     × IsShown settings.workload.kind catch shown text
-IsHuntOutput made told settings shown Fine text = AreQuietBefore made told settings settings.runs
+IsHuntOutput made told settings shown runs Fine text =
+    (runs ≡ settings.runs) × AreQuietBefore made told settings settings.runs
     × (text ≡ codes "no run had an error\n")
-IsHuntOutput made told settings shown status text = ⊥
+IsHuntOutput made told settings shown runs status text = ⊥
+
+-- A hunt that made this many runs has ended with a status: what it wrote, after the bytes that the
+-- sink had taken, and that whoever looks on was told of each run, in order, unless memory was
+-- wanted.
+pub record EndsHunt {T : Type 0} (made : T → ℕ) (told : T → Option (List (ℕ × ℕ)))
+    (settings : Settings) (shown : Shown) (status : Status) (taken taken' : Option (List ℕ))
+    (heard heard' : Option (List ℕ)) : Type 0 where
+  pub runs : ℕ
+  pub wrote : EndsWriting (IsHuntOutput made told settings shown runs) status taken taken'
+  pub heard_of : ¬ (status ≡ NoMemory) → Hears heard (first_seeds settings runs) heard'

@@ -1,10 +1,11 @@
 //! A hunt, and what is written of it.
 
-ghost use Rattle.std.specs.Prelude.{◌≡◌, IfOk};
+ghost use Rattle.std.specs.Prelude.{ℕ, IfOk};
 ghost use Rattle.random_scripts.specs.Drawn.{IsWorkload};
 ghost use Rattle.byte_streams.specs.Fault.{LeavesSink};
-ghost use Rattle.byte_streams.specs.Writing.{EndsWriting};
-ghost use Rattle.hunt_program.specs.Caught.{IsHuntOutput};
+ghost use Rattle.hunts.specs.Hunting.{first_seeds};
+ghost use Rattle.hunts.specs.Watching.{Hears};
+ghost use Rattle.hunt_program.specs.Caught.{IsHuntOutput, EndsHunt};
 
 use crate::caught::caught_text;
 use crate::shown::Shown;
@@ -43,9 +44,11 @@ where
     requires { IsWorkload settings.now.workload }
 
     // What was written, by the status: what is shown of the catch of the last run that was made, of
-    // which the witness has no legal order, or that no run had an error.
-    ensures ends { EndsWriting (IsHuntOutput B.Pass.made B.Pass.told settings.now shown)
-        result (K.taken sink.old) (K.taken sink.new) }
+    // which the witness has no legal order, or that no run had an error, where all were made. At
+    // most as many runs were made as the settings say, and whoever looks on was told of each, in
+    // order, unless memory was wanted.
+    ensures ends { EndsHunt B.Pass.made B.Pass.told settings.now shown result
+        (K.taken sink.old) (K.taken sink.new) (W.heard watch.old) (W.heard watch.new) }
 
     // A fault has its cause in a count that rose in this call, and every other answer comes where
     // none rose.
@@ -69,8 +72,10 @@ fn hunted_output<R: Threads + Sync, B: BlackBox + Sync + Drop, M: Maker<B>, W: W
 where
     B::Pass: Send + Drop,
     requires { IsWorkload settings.now.workload }
-    ensures { IfOk result (λ output. IsHuntOutput B.Pass.made B.Pass.told settings.now shown
-        output.status output.text.items) }
+    ensures { IfOk result (λ output. (runs : ℕ)
+        × IsHuntOutput B.Pass.made B.Pass.told settings.now shown runs
+        output.status output.text.items
+        × Hears (W.heard watch.old) (first_seeds settings.now runs) (W.heard watch.new)) }
 {
     match hunt(rt, alloc, maker, settings, watch)?.caught {
         Some(catch) => Ok(Output {
