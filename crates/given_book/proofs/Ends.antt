@@ -7,25 +7,25 @@ use Rattle.std.proofs.lemmas.Bool.{cases_order}
 use Rattle.std.proofs.lemmas.List.{drop-drop}
 use Rattle.given_book.specs.Given.{HasEndAt}
 
--- no end stands where the bytes are over
+-- no line `end` begins where the bytes are over
 pub none_past : (bytes : List ℕ) (i : ℕ) (rest : List ℕ) → length bytes ≤ i
     → ¬ (HasEndAt bytes i rest)
 none_past bytes i rest past has =
     let e : [] ≡ codes "\nend\n" ++ rest = sym (drop_of_length-le bytes past) ∙ has in
     cc
 
--- what stands after an end is what is left of the bytes there
+-- the text after a line `end` is the rest of the bytes
 pub end_rest : (bytes : List ℕ) (at : ℕ) (rest : List ℕ) → HasEndAt bytes at rest
     → HasEndAt bytes at (drop (at + 5) bytes)
 end_rest bytes at rest has =
     let left : drop (at + 5) bytes ≡ rest = sym (drop-drop 5 at bytes) ∙ ap (λ xs. drop 5 xs) has in
     has ∙ ap (λ xs. codes "\nend\n" ++ xs) (sym left)
 
--- no test answers both
+-- no test has both answers
 pub never_both : {A : Type 0} → false ≡ true → A
 never_both e = absurd cc
 
--- where none stands before a place and none at it, none stands at or before it
+-- where no line `end` comes before a place and none at it, none comes at or before it
 none_up_to : (bytes : List ℕ) (at : ℕ)
     → ((i : ℕ) (rest : List ℕ) → i < at → ¬ (HasEndAt bytes i rest))
     → ((rest : List ℕ) → ¬ (HasEndAt bytes at rest)) → (i : ℕ) (rest : List ℕ) → (i ≡ at) ⊎ (i < at)
@@ -34,7 +34,7 @@ none_up_to bytes at before here i rest (inl is) has =
     here rest (subst (λ k. HasEndAt bytes k rest) is has)
 none_up_to bytes at before here i rest (inr lt) has = before i rest lt has
 
--- where none stands before a place and none at it, none stands before the next place
+-- where no line `end` comes before a place and none at it, none comes before the next place
 pub none_before : (bytes : List ℕ) (at : ℕ)
     → ((i : ℕ) (rest : List ℕ) → i < at → ¬ (HasEndAt bytes i rest))
     → ((rest : List ℕ) → ¬ (HasEndAt bytes at rest)) → (i : ℕ) (rest : List ℕ) → i < at + 1
@@ -53,7 +53,7 @@ none_around bytes at before over i rest (inr (inl lt)) has = before i rest lt ha
 none_around bytes at before over i rest (inr (inr gt)) has = let past : length bytes ≤ i =
     omega arith in none_past bytes i rest past has
 
--- where none stands before the bytes are over, none stands at all
+-- where no line `end` comes before the bytes are over, there is none
 pub none_at_all : (bytes : List ℕ) (at : ℕ)
     → ((i : ℕ) (rest : List ℕ) → i < at → ¬ (HasEndAt bytes i rest))
     → length bytes ≤ at → (i : ℕ) (rest : List ℕ) → ¬ (HasEndAt bytes i rest)

@@ -18,13 +18,13 @@ pub error_by_line : (lines : List (List Line)) (call : Call) (line : Line)
     → line_at lines call ≡ Some line → error_at lines call ≡ error_in line.end
 error_by_line lines call line at = ap (option_and_then (λ (l : Line). error_in l.end)) at
 
--- a line that is no error has none
+-- the call of a line that is no error has no error
 pub no_error : (lines : List (List Line)) (call : Call) (line : Line)
     → line_at lines call ≡ Some line → is_error line ≡ false → error_at lines call ≡ None
 no_error lines call line at not_error =
     error_by_line lines call line at ∙ none_from_is_some (error_in line.end) not_error
 
--- and so has a call without a line
+-- a call without a line has no error
 no_line : (lines : List (List Line)) (call : Call)
     → length (lines_at lines call.caller) ≤ call.number → error_at lines call ≡ None
 no_line lines call past = ap (option_and_then (λ (l : Line). error_in l.end))
@@ -46,7 +46,7 @@ at_caller lines other i same none =
     subst (λ (j : ℕ). error_at lines (record { caller = j; number = other.number }) ≡ None)
     (sym same) none
 
--- one more caller without an error
+-- the callers below one without an error, and this one, have no error
 pub none_more : (lines : List (List Line)) (i : ℕ)
     → ((other : Call) → other.caller < i → error_at lines other ≡ None)
     → ((k : ℕ) → error_at lines (record { caller = i; number = k }) ≡ None) → (other : Call)

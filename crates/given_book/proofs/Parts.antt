@@ -37,7 +37,7 @@ old_or_verdict bytes rest old (inr is) =
     first_bytes (codes "book 1\n" ++ old.0) (codes "illegal\n" ++ rest) (sym old.1 ∙ is)
     (λ (e : 98 ≡ 105). omega (arith, e))
 
--- one text stands after a verdict
+-- one text comes after a verdict
 one_after_verdict : (bytes p q : List ℕ) → IsAfterVerdict bytes p → IsAfterVerdict bytes q → p ≡ q
 one_after_verdict bytes p q (inl is) (inl also) = ap (λ xs. drop 6 xs) (sym is ∙ also)
 one_after_verdict bytes p q (inr is) (inr also) = ap (λ xs. drop 8 xs) (sym is ∙ also)
@@ -48,7 +48,7 @@ one_after_verdict bytes p q (inr is) (inl also) =
     first_bytes (codes "illegal\n" ++ p) (codes "legal\n" ++ q) (sym is ∙ also)
     (λ (e : 105 ≡ 108). omega (arith, e))
 
--- one text stands after the first end
+-- one text comes after the first line `end`
 one_by_order : (bytes p q : List ℕ) (a : IsAfterEnd bytes p) (b : IsAfterEnd bytes q)
     → (a.at ≡ b.at) ⊎ ((a.at < b.at) ⊎ (b.at < a.at)) → p ≡ q
 one_by_order bytes p q a b (inl is) =
@@ -83,7 +83,7 @@ one_part bytes v w p q (inr (inr (inr a))) (inr (inl b)) = absurd (a.0.verdict (
 one_part bytes v w p q (inr (inr (inr a))) (inr (inr (inl b))) = absurd (a.0.old b.0)
 one_part bytes v w p q (inr (inr (inr a))) (inr (inr (inr b))) = (a.1 ∙ sym b.1, a.2 ∙ sym b.2)
 
--- what an input gives is what that part is the text of
+-- what an input gives is what its one part is the text of
 pub told_by : (bytes : List ℕ) (version : Version) (part : List ℕ) (kind : Kind) (book : List Page)
     → IsBookPart bytes version part → IsGiven bytes kind book → IsBookText version part kind book
 told_by bytes version part kind book is given =
@@ -91,7 +91,7 @@ told_by bytes version part kind book is given =
     subst (λ v. IsBookText v part kind book) one.0
     (subst (λ p. IsBookText given.version p kind book) one.1 given.told)
 
--- and the first fault of an input is that of this part
+-- the first fault of an input is that of its one part
 pub stopped_by : (bytes : List ℕ) (version : Version) (part : List ℕ) (fault : TextFault)
     → IsBookPart bytes version part → IsFirstGivenFault bytes fault
     → IsFirstBookFault version part fault

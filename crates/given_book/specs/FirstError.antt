@@ -5,7 +5,8 @@ use Rattle.reports.specs.Findings.{Findings, IsFirstError}
 use Rattle.report_text.specs.ReportRules.{IsReportText}
 use Rattle.given_book.specs.Given.{HasEndAt, HasNoEnd}
 
--- The part is what the bytes have up to the first line `end` after another line, with that line.
+-- The part is the bytes up to the first line `end` that comes after another line, with this line
+-- `end`.
 pub record IsUpToEnd (bytes part : List ℕ) : Type 0 where
   pub at : ℕ
   pub rest : List ℕ

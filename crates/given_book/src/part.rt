@@ -40,7 +40,7 @@ pub(crate) fn book_part(bytes: &[u8]) -> Part
     }
 }
 
-// What stands after the first line, where that is a verdict.
+// The bytes after the first line, where that is a verdict.
 fn after_verdict(bytes: &[u8]) -> Option<&[u8]>
     ensures found { IfSome result (λ rest. IsAfterVerdict bytes.now rest.now) }
     ensures none { IsNone result → ¬ (BeginsAsVerdict bytes.now) }
@@ -63,7 +63,7 @@ fn begins_as_old_book(bytes: &[u8]) -> bool
     bytes.starts_with(b"book 1\n")
 }
 
-// What stands after the first line `end`, and nothing where no line is `end`.
+// The bytes after the first line `end`, and none where no line is `end`.
 fn after_end(bytes: &[u8]) -> &[u8]
     ensures { IsWitnessPart bytes.now result.now }
 {

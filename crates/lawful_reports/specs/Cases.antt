@@ -9,15 +9,15 @@ use Rattle.report_lines.specs.Lawful.{IsLawful}
 use Rattle.report_laws.specs.Cases.{fifty, sixty}
 use Rattle.lawful_reports.specs.Orders.{DeliveredLinesStandIn, delivered_book}
 
--- The first caller's line of that run, and these lines of the second; the second caller's line, and
--- these of the first.
+-- The first caller's line of that run, and these lines of the second caller.
 abbrev pub with_second : List Line → List (List Line)
 with_second own = (delivered 5 fifty (1 ∷ 0 ∷ []) ∷ []) ∷ own ∷ []
 
+-- These lines of the first caller, and the second caller's line of that run.
 abbrev pub with_first : List Line → List (List Line)
 with_first own = own ∷ (delivered 6 sixty (1 ∷ 1 ∷ []) ∷ []) ∷ []
 
--- The first caller went on after an error.
+-- The first caller announced a further call after an error.
 abbrev pub after_an_error : List (List Line)
 after_an_error =
     (failed 5 fifty (1 ∷ 0 ∷ []) ∷ pending 7 ∷ []) ∷ (failed 6 sixty (1 ∷ 1 ∷ []) ∷ []) ∷ []

@@ -38,8 +38,9 @@ NoRunLeavesAnError =
     → IsLawful init next s operations allotments lines → list_any any_error lines ≡ true
     → NoLinearizableRunHasTheseCalls init next lines
 
--- It is less to say so of the runs for which the verdicts are right: a false error is in the lines
--- of no run, so that none has them.
+-- No run that ends with these lines, each with the right verdict, has a linearizable object
+-- history. This says less than that no run with their calls has one: the lines of no run have a
+-- false error.
 abbrev pub NoLinearizableRunHasTheseLines : (init : List ℕ) → (next : List ℕ → ℕ → List ℕ × ℕ)
     → List (List Line) → Type 0
 NoLinearizableRunHasTheseLines init next lines =

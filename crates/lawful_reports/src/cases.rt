@@ -1,4 +1,5 @@
-//! Worked reports of a run of two whole calls: what the laws say of it, and wrong reports.
+//! Worked reports of a run of two whole calls: what the laws say of them, and which reports of the
+//! run are wrong.
 
 ghost use Rattle.std.specs.Prelude.{◌≡◌, true, [], ◌∷◌, map, take};
 ghost use Rattle.std.specs.List.{list_any};
@@ -14,8 +15,8 @@ ghost use Rattle.report_laws.specs.Cases.{five_and_six, fifty, sixty, both_deliv
 ghost use Rattle.lawful_reports.specs.Errors.{NoLinearizableRunHasTheseCalls, NoLinearizableRunHasTheseLines};
 ghost use Rattle.lawful_reports.specs.Cases.{with_second, with_first, after_an_error, AreNoReport, StandInOrder, first_place};
 
-/// The delivered lines of the run stand in the order of their calls, and in none that leaves one
-/// out or has another reply. Lines of which none is delivered stand in the empty order.
+/// The delivered lines of the run stand in the order of their calls, and in no order that leaves
+/// one of them out or has another reply. Lines of which none is delivered stand in the empty order.
 pub fn delivered_lines_stand_in_an_order()
     // Both delivered lines stand in the order of the two calls, each with its reply.
     ensures both { StandInOrder both_delivered (first_place 0 50 ∷ first_place 1 60 ∷ []) }
@@ -28,10 +29,10 @@ pub fn delivered_lines_stand_in_an_order()
         (first_place 0 50 ∷ first_place 1 61 ∷ []) }
 {}
 
-/// False errors. The run is one over linearizable calls of an object that gives ten times the
-/// operation, and its lines as errors are no lawful report. That no such run ends with these lines,
-/// verdicts included, doesn't refuse them: it is so of every false error. That none ends with their
-/// calls does.
+/// The lines of a run over linearizable calls of an object that gives ten times the operation are
+/// no lawful report where they are errors. What refuses such false errors is that runs over
+/// linearizable calls do end with their calls. That no such run ends with their lines, verdicts
+/// included, wouldn't refuse them, since this holds of every false error.
 pub fn false_errors_are_refused()
     // One of the lines is an error.
     ensures errors { list_any any_error both_failed ≡ true }
@@ -48,16 +49,16 @@ pub fn false_errors_are_refused()
     ensures of_the_lines { NoLinearizableRunHasTheseLines [] tenfold both_failed }
     // Some run with a linearizable history has the calls of these lines.
     ensures of_the_calls { ¬ NoLinearizableRunHasTheseCalls [] tenfold both_failed }
-    // They are true errors of an object that gives 0.
+    // The lines as errors are a lawful report for the object that always gives 0.
     ensures lawful { IsLawful [] silent pair five_and_six (5 ∷ 5 ∷ []) both_failed }
     // No run with a linearizable history has these calls for the object that always gives 0.
     ensures of_lawful_calls { NoLinearizableRunHasTheseCalls [] silent both_failed }
 {}
 
-/// Lines that are not those of the run's locals, nor of the locals of its first part, in which the
-/// first caller has its record and the second has announced its call.
+/// Lines that aren't those of the run's locals, nor of the locals after the run's first part, in
+/// which the first caller has its record and the second has announced its call.
 pub fn other_lines_are_refused()
-    // A call left out, a record left out, all calls left out.
+    // Lines that leave out a call aren't those of the locals.
     ensures call_left_out { ¬ AreLinesOf [] silent (locals_after (take 24 two_calls))
         ((unchecked 5 fifty ∷ []) ∷ [] ∷ []) }
     // Lines that leave out a record aren't those of the locals.
@@ -65,7 +66,7 @@ pub fn other_lines_are_refused()
         ((pending 5 ∷ []) ∷ (pending 6 ∷ []) ∷ []) }
     // Lines that leave out all calls aren't those of the locals.
     ensures all_left_out { ¬ AreLinesOf [] tenfold (locals_after two_calls) nothing }
-    // Another operation, reply, view or seen cut, no seen cut, and a call more.
+    // Lines with another operation aren't those of the locals.
     ensures operation { ¬ AreLinesOf [] tenfold (locals_after two_calls)
         (with_second (delivered 7 sixty (1 ∷ 1 ∷ []) ∷ [])) }
     // Lines with another reply aren't those of the locals.
@@ -83,32 +84,32 @@ pub fn other_lines_are_refused()
     // Lines with a call more aren't those of the locals.
     ensures call_more { ¬ AreLinesOf [] tenfold (locals_after two_calls)
         (with_second (delivered 6 sixty (1 ∷ 1 ∷ []) ∷ pending 7 ∷ [])) }
-    // Another verdict, though all calls are right.
+    // Lines with a false error aren't those of the locals, though all their calls are right.
     ensures false_error { ¬ AreLinesOf [] tenfold (locals_after two_calls) first_failed }
     // Lines that miss an error aren't those of the locals.
     ensures missed_error { ¬ AreLinesOf [] silent (locals_after two_calls) both_delivered }
 {}
 
-/// Reports that are not lawful, each by one part: `report_laws` has such a case for each part that
-/// has none here and doesn't follow from the others.
+/// Reports that aren't lawful, each by one part of what makes a report lawful: `report_laws` has
+/// such a case for each part that has none here and doesn't follow from the others.
 pub fn wrong_reports_are_refused()
-    // The lines have other operations than the callers were given, or more.
+    // A report with an operation other than its caller was given isn't lawful.
     ensures operations { ¬ IsLawful [] tenfold pair ((5 ∷ []) ∷ (7 ∷ []) ∷ []) (5 ∷ 5 ∷ [])
         both_delivered }
     // A report with a line beyond the operations isn't lawful.
     ensures beyond_operations { ¬ IsLawful [] tenfold pair five_and_six (6 ∷ 5 ∷ [])
         (with_first (delivered 5 fifty (1 ∷ 0 ∷ []) ∷ pending 0 ∷ [])) }
-    // A call is judged that its caller's stop leaves unjudged; a caller goes on after an error.
+    // A report with a call that is judged beyond its caller's stop isn't lawful.
     ensures beyond_stop { ¬ IsLawful [] tenfold pair five_and_six (4 ∷ 5 ∷ []) both_delivered }
     // A report with an error beyond a stop isn't lawful.
     ensures error_beyond_stop { ¬ IsLawful [] silent pair five_and_six (4 ∷ 5 ∷ []) both_failed }
     // A report with a line after an error isn't lawful.
     ensures after_error { ¬ IsLawful [] silent pair ((5 ∷ 7 ∷ []) ∷ (6 ∷ []) ∷ []) (10 ∷ 5 ∷ [])
         after_an_error }
-    // A view doesn't hold its own call.
+    // Lines with a view that lacks its own call are no lawful report.
     ensures view_without_call { AreNoReport [] tenfold
         (with_first (delivered 5 (answer 50 (0 ∷ 1 ∷ [])) (1 ∷ 0 ∷ []) ∷ [])) }
-    // A seen cut has no count for a caller, or doesn't hold its own call.
+    // Lines with a seen cut that lacks a caller's count are no lawful report.
     ensures narrow_cut { AreNoReport [] tenfold (with_first (delivered 5 fifty (1 ∷ []) ∷ [])) }
     // Lines with a seen cut that lacks its own call are no lawful report.
     ensures cut_without_call { AreNoReport [] tenfold

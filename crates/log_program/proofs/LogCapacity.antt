@@ -37,7 +37,7 @@ module _ (init : List ℕ) (next : List ℕ → ℕ → List ℕ × ℕ) (n cap 
   ticket p = ticket_at s w p
 
   -- A place stands for the number of the call whose ticket it has, and the number after the last
-  -- place for that of one call more.
+  -- place stands for that of one call more.
   abbrev StandsFor : ℕ → ℕ → ℕ → Type 0
   StandsFor own p number = ((p < total) × (ticket p ≡ ticket_of number))
       ⊎ ((p ≡ total) × (number ≡ own))

@@ -62,7 +62,7 @@ module _ (init : List ℕ) (next : List ℕ → ℕ → List ℕ × ℕ) (n cap 
     abbrev g : ℕ → ℕ
     g = object_word s u
 
-    -- the words of a call whose ticket stands
+    -- the words of a call whose ticket is in the log
     module _ (q : ℕ) (low : q < total) (filled : ticket w q ≢ 0) (number : ℕ)
         (is : ticket w q ≡ ticket_of number) where
       words_stay : (f (low_place number) ≡ g (low_place number))
@@ -100,7 +100,7 @@ module _ (init : List ℕ) (next : List ℕ → ℕ → List ℕ × ℕ) (n cap 
     below_stays m le same = operations_same f g total m
         (λ q low. named_operation_stays q (omega (arith, low, le)) (same q low))
 
-    -- the reply of a call whose ticket stands, where the tickets below it stay
+    -- the reply of a call whose ticket is in the log stays where the tickets below it stay
     reply_stays : (number : ℕ) (o : Option ℕ) → ((p : ℕ) → o ≡ Some p → (p < total)
         × (ticket w p ≡ ticket_of number) × ((q : ℕ) → q < p → ticket w q ≡ ticket u q))
         → reply_there next init f total number o ≡ reply_there next init g total number o
@@ -135,7 +135,7 @@ module _ (init : List ℕ) (next : List ℕ → ℕ → List ℕ × ℕ) (n cap 
               ap (λ (o : Option ℕ). if nat_lt call.number cap then o else None) (sym replies);
         }
 
-  -- A step that places a ticket.
+  -- A step that places a ticket: no other call takes effect.
   module _ (w : World) (who : ℕ) (kept : Kept s w) (log : IsLog s w) (step : Object_step)
       (may : IsTrue (is_possible s w (record { who = who; event = Object step })))
       (added : Adds (local_of w who)
@@ -403,7 +403,7 @@ module _ (init : List ℕ) (next : List ℕ → ℕ → List ℕ × ℕ) (n cap 
       by_log (Some operations) is h =
           (p, operations, refl, is, same_Some (next (list_of next init operations) op).1 reply h)
 
-  -- The reply of a call whose ticket stands at a place of the log.
+  -- The reply of a call whose ticket is at a place of the log.
   reply_of_ticket : (w : World) (i k p op reply : ℕ) (operations : List ℕ) → IsLog s w → k < cap
       → slice_get (local_of w i).operations k ≡ Some op
       → p < total → ticket w p ≡ ticket_of (number_of cap i k)
@@ -435,7 +435,7 @@ module _ (init : List ℕ) (next : List ℕ → ℕ → List ℕ × ℕ) (n cap 
       ∙ ap (λ (xs : List ℕ). Some (next (list_of next init xs) op).1) below
       ∙ ap Some is
 
-  -- A step that left a ticket stands at a place of the log.
+  -- A ticket that a step left at a place is still at that place.
   pub placed_stands : (w : World) (t p : ℕ) (steps : List Object_step) → Each (IsLasting s w) steps
       → placed_at total t steps ≡ Some p → (p < total) × (ticket w p ≡ t)
   placed_stands w t p steps lasting is =
@@ -470,7 +470,7 @@ module _ (init : List ℕ) (next : List ℕ → ℕ → List ℕ × ℕ) (n cap 
       (known_log_is w (all_steps_of me)
       (each_of_all (IsLasting s w) me.object_steps lasting) parts.0 parts.1 parts.3) parts.4)
 
-  -- Each step.
+  -- What each step does to the effects of a log.
   same_words : (w u : World) → IsLog s w
       → ((place : ℕ) → object_word s u place ≡ object_word s w place)
       → IsQuiet (log_effects init next n cap) w u

@@ -53,7 +53,7 @@ module _ (init : List ℕ) (next : List ℕ → ℕ → List ℕ × ℕ) (n cap 
             (object_word s w) total (number_of cap call.caller call.number)) None many) ∙ is))
       ]
 
-  -- and its ticket stands
+  -- the ticket of a call with a reply is at a place of the log
   place_of_reply : (w : World) (number x : ℕ) (o : Option ℕ)
       → reply_there next init (object_word s w) total number o ≡ Some x → (p : ℕ) × (o ≡ Some p)
   place_of_reply w number x None is = absurd (none-some x is)
@@ -106,7 +106,7 @@ module _ (init : List ℕ) (next : List ℕ → ℕ → List ℕ × ℕ) (n cap 
       none-some t.placed.step
       (subst (λ (own : List Object_step). slice_get own t.placed.j ≡ Some t.placed.step) none made))
 
-  -- the call under way has one, where its program allows it a reply
+  -- the call under way has a reply where its program allows it one
   pub reply_where_allowed : (w : World) → IsReachable s w → (i answer : ℕ) → i < n
       → (local_of w i).published < length (local_of w i).operations
       → IsTrue (log_may_reply next init n cap i (local_of w i) answer) → (x : ℕ)

@@ -22,7 +22,7 @@ use Rattle.log_program.specs.LogProgram.{is_low_store, is_high_store, is_exchang
 use Rattle.log_program.specs.LogRules.{ticket_at, half_of, IsCallOf, HoldsOperation, NamesCall, IsLasting, IsLog, LogRulesHold, TicketsStay}
 use Rattle.log_program.proofs.LogWords.{each_of_all, known_step, known_is, unknown_is, filled_is, is_ticket, unplaced_step, IsNamed, named_is}
 
--- The operations and the object steps of a local stand in another one.
+-- The operations and the object steps of a local are those of a later one, at the same places.
 pub record Carries (l m : Local) : Type 0 where
   pub operations : (k operation : ℕ) → slice_get l.operations k ≡ Some operation
       → slice_get m.operations k ≡ Some operation
@@ -121,7 +121,7 @@ module _ (init : List ℕ) (next : List ℕ → ℕ → List ℕ × ℕ) (n cap 
       → HoldsOperation s w place
   held_at w place at same h = subst (HoldsOperation s w) (sym same) h
 
-  -- a ticket stands nowhere while no step of its call has placed it
+  -- a ticket is at no place while no step of its call has placed it
   pub unplaced_nowhere : (w : World) (who k : ℕ) → IsLog s w → k < cap
       → placed_at total (ticket_of (number_of cap who k))
       (slice_index_or (local_of w who).object_steps k []) ≡ None
@@ -139,8 +139,8 @@ module _ (init : List ℕ) (next : List ℕ → ℕ → List ℕ × ℕ) (n cap 
       (slice_index_or (local_of w who).object_steps k []) t.placed.step none placed t.placed.high
       (t.placed.left ∙ ap ticket_of same)
 
-  -- From one world to another, what stands for ever stays: the words of operations, the tickets,
-  -- and what locals have.
+  -- From one world to another, what never changes stays: the words of operations, the tickets, and
+  -- what locals have.
   pub record Keeps (w v : World) : Type 0 where
     pub locals : (i : ℕ) → Carries (local_of w i) (local_of v i)
     pub held : (place : ℕ) → HoldsOperation s w place
@@ -211,7 +211,7 @@ module _ (init : List ℕ) (next : List ℕ → ℕ → List ℕ × ℕ) (n cap 
               };
         }
 
-    -- without a new ticket the rules go on to hold
+    -- without a new ticket the rules of a log still hold
     without_new_ticket : IsLog s w → ((p : ℕ) → p < total → ticket v p ≢ 0 → ticket w p ≢ 0)
         → ((i : ℕ) → i < n → Each (Each (IsLasting s v)) (local_of v i).object_steps) → IsLog s v
     without_new_ticket log old all_lasting =
@@ -228,7 +228,7 @@ module _ (init : List ℕ) (next : List ℕ → ℕ → List ℕ × ℕ) (n cap 
           lasting = all_lasting;
         }
 
-  -- A step leads from a world to one where what stood for ever stands, and the rules hold.
+  -- A step leads from a world to one in which what never changes stays, and the rules hold.
   pub record LeadsOn (w v : World) : Type 0 where
     pub keeps : Keeps w v
     pub log : IsLog s v
@@ -352,7 +352,7 @@ module _ (init : List ℕ) (next : List ℕ → ℕ → List ℕ × ℕ) (n cap 
     now_lasting =
         each_at (Each (IsLasting s w)) me.object_steps k [] own_lasting made.call.has_steps
 
-    -- the steps of all callers last, if the new one does
+    -- the words that the steps of all callers left last, if that of the new step does
     lasting_after : Keeps w u → IsLasting s u step → (i : ℕ) → i < n
         → Each (Each (IsLasting s u)) (local_of u i).object_steps
     lasting_after m new =
@@ -363,7 +363,7 @@ module _ (init : List ℕ) (next : List ℕ → ℕ → List ℕ × ℕ) (n cap 
         (each_push (IsLasting s u) (steps_now me) step
         (each_at (Each (IsLasting s u)) me.object_steps k [] old made.call.has_steps) new)))
 
-    -- A step that leaves the word that it finds, where this one lasts.
+    -- A step that leaves the word that it finds, where this word lasts.
     module _ (same : step.new ≡ step.old) (lasting : IsLasting s w step) where
       pub words_same : (place : ℕ) → object_word s u place ≡ object_word s w place
       words_same place =
@@ -458,7 +458,7 @@ module _ (init : List ℕ) (next : List ℕ → ℕ → List ℕ × ℕ) (n cap 
       pub p_low : p < total
       p_low = omega (arith, high, made.place)
 
-      -- an own word that this call has stored stands
+      -- an own word that this call has stored is still at its place
       own_word : (half x : ℕ) → half < 2 → known (2 * number + half) (steps_now me) ≡ Some x
           → object_word s w (2 * number + half) ≡ half_of half operation
       own_word half x low e =
@@ -624,7 +624,7 @@ module _ (init : List ℕ) (next : List ℕ → ℕ → List ℕ × ℕ) (n cap 
     all_last : Each (IsLasting s w) (all_steps_of mine)
     all_last = each_of_all (IsLasting s w) mine.object_steps (log.lasting who made_here.caller)
 
-    -- a word of a call whose ticket stands lasts
+    -- a word of a call whose ticket is in the log lasts
     lasting_at : (q named : ℕ) (t : NamesCall s w q) → named ≡ number_of cap t.i t.k
         → step.new ≡ step.old
         → (step.place ≡ low_place named) ⊎ (step.place ≡ high_place named) → IsLasting s w step
@@ -645,7 +645,7 @@ module _ (init : List ℕ) (next : List ℕ → ℕ → List ℕ × ℕ) (n cap 
               }
         ]
 
-    -- and a load is of such a word
+    -- a load is of a word of a call whose ticket is in the log
     loads_lasting : (p : ℕ) → step.new ≡ step.old → IsNamed total (all_steps_of mine) p step.place
         → IsLasting s w step
     loads_lasting p same named =

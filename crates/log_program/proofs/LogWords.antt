@@ -8,7 +8,7 @@ use Rattle.world_laws.proofs.Each.{Each}
 use Rattle.log_program.specs.LogWords.{low_place, high_place, ticket_place, known, is_known, is_filled, placed_at, names, is_named_below}
 use Rattle.log_program.specs.LogEffects.{operation_at, operations_below, place_with}
 
--- the operations below a place, by other words that say the same of each place
+-- the operations below a place, by other words that have the same operation at each place
 pub operations_same : (f g : ℕ → ℕ) (total m : ℕ)
     → ((p : ℕ) → p < m
     → operation_at f (f (ticket_place total p)) ≡ operation_at g (g (ticket_place total p)))
@@ -19,7 +19,7 @@ operations_same f g total (suc m) same =
     (operations_same f g total m (λ p low. same p (omega (arith, low))))
     ∙ ap (λ (xs : List ℕ). operations_below g total m ++ xs) (same m (omega arith))
 
--- free places add none
+-- free places add no operations
 pub operations_end : (f : ℕ → ℕ) (total p m : ℕ) → p ≤ m
     → ((q : ℕ) → p ≤ q → q < m → f (ticket_place total q) ≡ 0)
     → operations_below f total m ≡ operations_below f total p
@@ -36,7 +36,7 @@ operations_end f total p (suc m) le free =
           (λ q from low. free q from (omega (arith, low)))
     ]
 
--- the place of a ticket that stands once
+-- the place of a ticket that is at one place alone
 pub place_found : (f : ℕ → ℕ) (total t m p : ℕ) → p < m → f (ticket_place total p) ≡ t
     → ((q : ℕ) → q < m → f (ticket_place total q) ≡ t → q ≡ p) → place_with f total t m ≡ Some p
 place_found f total t zero p low at one = absurd (omega arith)
@@ -54,7 +54,7 @@ place_found f total t (suc m) p low at one =
           (λ q below is. one q (omega (arith, below)) is)
     ]
 
--- a ticket that stands nowhere has none
+-- a ticket that is at no place has no place
 pub no_place : (f : ℕ → ℕ) (total t m : ℕ) → ((q : ℕ) → q < m → f (ticket_place total q) ≢ t)
     → place_with f total t m ≡ None
 no_place f total t zero none = refl
@@ -65,7 +65,7 @@ no_place f total t (suc m) none =
           ∙ no_place f total t m (λ q low. none q (omega (arith, low)))
     ]
 
--- and the other way round
+-- a ticket that has no place is at no place
 pub no_place_is : (f : ℕ → ℕ) (total t m : ℕ) → place_with f total t m ≡ None → (q : ℕ) → q < m
     → f (ticket_place total q) ≢ t
 no_place_is f total t zero none q low at = omega (arith, low)
@@ -125,7 +125,7 @@ each_of_all P [] h = tt
 each_of_all P (x ∷ xs) h =
     each_append P x (flat_map (λ (steps : List Object_step). steps) xs) h.0 (each_of_all P xs h.1)
 
--- A step that was found: this holds of it, it was made at this place, and it left this word there.
+-- A step with this property was found: it was made at this place, and left this word there.
 pub record Finds (P : Object_step → Type 0) (place word : ℕ) : Type 0 where
   pub step : Object_step
   pub holds : P step
@@ -195,7 +195,7 @@ placed_step P total t p (step ∷ more) h e =
           (Some (step.place - 2 * total)) (placed_at total t more) away) ∙ e)
     ]
 
--- where no step left the ticket, none of them is one that did
+-- where no step left the ticket at a place, none of the steps is one that did
 pub unplaced_step : (total t j : ℕ) (steps : List Object_step) (step : Object_step)
     → placed_at total t steps ≡ None → slice_get steps j ≡ Some step
     → 2 * total ≤ step.place → step.new ≡ t → ⊥
@@ -222,8 +222,8 @@ unplaced_step total t (suc j) (first ∷ more) step none at high left =
           (Some (first.place - 2 * total)) (placed_at total t more) away) ∙ none) at high left
     ]
 
--- A ticket below a place of the log that is known to name a call, of whose words one lies at this
--- place.
+-- A ticket below a place of the log is known, and the call that it names has a word of its
+-- operation at this place.
 pub record IsNamed (total : ℕ) (steps : List Object_step) (p place : ℕ) : Type 0 where
   pub q : ℕ
   pub low : q < p

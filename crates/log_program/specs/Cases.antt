@@ -16,8 +16,8 @@ use Rattle.log_program.specs.LogProgram.{log_shape}
 abbrev pub log_pair : Shape
 log_pair = log_shape [] numbering 2 1
 
--- One caller with two calls over such a log, with the words of its calls and the log at the same
--- places.
+-- One caller with two calls over the log of an object whose reply is the number of operations
+-- before, with the words of its calls and the log at the same places.
 abbrev pub log_alone : Shape
 log_alone = log_shape [] numbering 1 2
 
@@ -37,8 +37,8 @@ first_operation = joined 5 8
 abbrev pub second_operation : ℕ
 second_operation = joined 6 9
 
--- Both callers have announced; caller 0 has stored the low word of its operation, and then the high
--- one too; and so has caller 1.
+-- Both callers have announced; then caller 0 has stored the low word of its operation, and then the
+-- high one; and then caller 1 has stored both words of its own.
 abbrev pub announced : List Step
 announced = announces 0 5 8 (0 ∷ 0 ∷ []) ++ announces 1 6 9 (1 ∷ 0 ∷ [])
 
@@ -89,7 +89,7 @@ refused_as_announced =
     ∷ gets 0 1 0
     ∷ []
 
--- Once it has stored its low word alone.
+-- What the program refuses to caller 0 once it has stored its low word alone.
 abbrev pub refused_as_stored_low : List Step
 refused_as_stored_low =
     -- the low word again
@@ -100,7 +100,7 @@ refused_as_stored_low =
     ∷ steps_at 0 4 0 1
     ∷ []
 
--- Once it has stored both.
+-- What the program refuses to caller 0 once it has stored both words.
 abbrev pub refused_as_stored : List Step
 refused_as_stored =
     -- the high word again
@@ -117,40 +117,42 @@ refused_as_stored =
     ∷ gets 0 1 0
     ∷ []
 
--- Once caller 1 has placed its ticket: its own ticket instead of that one.
+-- What the program refuses to caller 0 once caller 1 has placed its ticket: to put its own ticket
+-- over that one, or after it before it has found it.
 abbrev pub refused_as_placed_one : List Step
 refused_as_placed_one = steps_at 0 4 2 1 ∷ steps_at 0 5 0 1 ∷ []
 
--- Once it has found the ticket of caller 1.
+-- What the program refuses to caller 0 once it has found the ticket of caller 1.
 abbrev pub refused_as_found_one : List Step
 refused_as_found_one =
     -- the place that it knows to be filled
     steps_at 0 4 2 2
     -- a load before its own ticket is placed
     ∷ steps_at 0 2 6 6
-    -- a reply before it
+    -- a reply before its own ticket is placed
     ∷ gets 0 1 1
     ∷ []
 
--- Once it has placed its own ticket.
+-- What the program refuses to caller 0 once it has placed its own ticket.
 abbrev pub refused_as_placed_both : List Step
 refused_as_placed_both =
     -- a load that changes the word
     steps_at 0 2 6 7
     -- a load of a word of its own
     ∷ steps_at 0 0 5 5
-    -- its place again
+    -- an exchange at its own place again
     ∷ steps_at 0 5 1 1
     -- a reply before it has loaded the operation before its own
     ∷ gets 0 1 1
     ∷ gets 0 1 0
     ∷ []
 
--- Once it has loaded the low word alone: a reply with the high word forgotten.
+-- What the program refuses to caller 0 once it has loaded the low word alone: a reply with the high
+-- word forgotten.
 abbrev pub refused_as_loaded_low : List Step
 refused_as_loaded_low = gets 0 1 1 ∷ []
 
--- Once it has loaded both: another reply.
+-- What the program refuses to caller 0 once it has loaded both words: another reply.
 abbrev pub refused_as_loaded : List Step
 refused_as_loaded = gets 0 1 0 ∷ gets 0 1 2 ∷ []
 
@@ -172,6 +174,7 @@ first_call =
 abbrev pub second_stored : List Step
 second_stored = first_call ++ announces 0 6 9 (1 ∷ []) ++ steps_at 0 2 0 6 ∷ steps_at 0 3 0 9 ∷ []
 
--- It places its second ticket after the first, which it knows, and replies without a load.
+-- The caller alone places its second ticket after its first one, which it knows, and replies
+-- without a load.
 abbrev pub two_calls_alone : List Step
 two_calls_alone = second_stored ++ steps_at 0 5 0 2 ∷ gets 0 2 1 ∷ []

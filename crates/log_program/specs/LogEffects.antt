@@ -21,7 +21,7 @@ operations_below word total zero = []
 operations_below word total (suc p) =
     operations_below word total p ++ operation_at word (word (ticket_place total p))
 
--- The last place of the log below this one that has a ticket.
+-- The last place of the log, of those below the given one, that has this ticket.
 abbrev pub place_with : (ℕ → ℕ) → ℕ → ℕ → ℕ → Option ℕ
 place_with word total ticket zero = None
 place_with word total ticket (suc p) =
@@ -34,6 +34,7 @@ reply_there next init word total number (Some p) =
     Some (next (list_of next init (operations_below word total p))
     (joined (word (low_place number)) (word (high_place number)))).1
 
+-- The reply of the call with this number, where its ticket is placed.
 abbrev pub reply_of_number : (List ℕ → ℕ → List ℕ × ℕ) → List ℕ → (ℕ → ℕ) → ℕ → ℕ → Option ℕ
 reply_of_number next init word total number =
     reply_there next init word total number (place_with word total (ticket_of number) total)

@@ -40,7 +40,8 @@ abbrev pub is_named_before : Option ℕ → ℕ → List Object_step → ℕ →
 is_named_before None total steps place = false
 is_named_before (Some p) total steps place = is_named_below total steps place p
 
--- A step loads a word of the operation of such a call, once the own ticket is placed.
+-- A step loads a word of the operation of a call whose ticket is known to be below the call's own,
+-- once the own ticket is placed.
 abbrev pub is_load : ℕ → ℕ → Local → Object_step → Bool
 is_load total number l step =
     step.new == step.old && is_named_before (placed_at total (ticket_of number) (steps_now l)) total
@@ -72,8 +73,8 @@ log_may_step n cap i l step =
     || (is_exchange (n * cap) (number_of cap i l.published) l step
     || is_load (n * cap) (number_of cap i l.published) l step))
 
--- The reply that it may get: that of the sequential object after the operations of the tickets
--- below its own.
+-- The reply that a call may get: that of the sequential object after the operations of the tickets
+-- below the call's own.
 abbrev pub log_may_reply : (List ℕ → ℕ → List ℕ × ℕ) → List ℕ → ℕ → ℕ → ℕ → Local → ℕ → Bool
 log_may_reply next init n cap i l reply =
     is_reply

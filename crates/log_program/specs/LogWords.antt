@@ -29,11 +29,12 @@ abbrev pub known : ℕ → List Object_step → Option ℕ
 known place [] = None
 known place (step ∷ more) = if step.place == place then Some step.new else known place more
 
--- A word is known; and it is known and isn't 0.
+-- A word is known.
 abbrev pub is_known : Option ℕ → Bool
 is_known None = false
 is_known (Some x) = true
 
+-- A word is known and isn't 0.
 abbrev pub is_filled : Option ℕ → Bool
 is_filled None = false
 is_filled (Some x) = nat_lt 0 x
@@ -44,7 +45,7 @@ are_filled_below total steps zero = true
 are_filled_below total steps (suc p) =
     is_filled (known (ticket_place total p) steps) && are_filled_below total steps p
 
--- The first place of the log that isn't known to be filled.
+-- Place p is the first place of the log that isn't known to be filled.
 abbrev pub is_first_unfilled : ℕ → List Object_step → ℕ → Bool
 is_first_unfilled total steps p =
     are_filled_below total steps p && not (is_filled (known (ticket_place total p) steps))
@@ -56,13 +57,14 @@ placed_at total ticket (step ∷ more) =
     if not (nat_lt step.place (2 * total)) && step.new == ticket then Some (step.place - 2 * total)
     else placed_at total ticket more
 
--- A known ticket names a call one of whose operation's words lies at this place.
+-- The call that a known ticket names has a word of its operation at this place.
 abbrev pub names : Option ℕ → ℕ → Bool
 names None place = false
 names (Some zero) place = false
 names (Some (suc number)) place = place == low_place number || place == high_place number
 
--- A ticket that is known below place p of the log names such a call.
+-- A ticket that is known below place p of the log names a call that has a word of its operation at
+-- this place.
 abbrev pub is_named_below : ℕ → List Object_step → ℕ → ℕ → Bool
 is_named_below total steps place zero = false
 is_named_below total steps place (suc p) =

@@ -18,7 +18,7 @@ pub reachable_kept : (s : Shape) (w : World) → IsReachable s w → Kept s w
 reachable_kept s w (steps, run, at) =
     subst (Kept s) at (steps_kept s (start s) steps (start_kept s) run)
 
--- What a caller has in the phase ask: its call is the one of the next record, and is announced,
+-- What a caller has in the phase ask: its call is that of the next record, and is announced,
 -- without a reply.
 pub record IsAsked (s : Shape) (l : Local) : Type 0 where
   pub few : l.published < s.cap
@@ -44,7 +44,7 @@ asked s w i kept low asking =
       replies = omega (arith, replies);
     }
 
--- What an object step has that is enabled.
+-- What an enabled object step has.
 pub record IsObjectStep (s : Shape) (w : World) (who : ℕ) (step : Object_step) : Type 0 where
   pub caller : who < s.callers
   pub call : IsAsked s (local_of w who)
@@ -71,7 +71,7 @@ object_step s w who step kept may =
       found = eqb-true step.old (object_word s w step.place) p.loaded;
     }
 
--- What a return has that is enabled.
+-- What an enabled return has.
 pub record IsReturn (s : Shape) (w : World) (i reply : ℕ) : Type 0 where
   pub caller : i < s.callers
   pub call : IsAsked s (local_of w i)

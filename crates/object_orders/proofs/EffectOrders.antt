@@ -1,4 +1,4 @@
--- Calls that take effect one at a time linearize, in the order in which they do.
+-- Calls that take effect one at a time linearize, in the order of their effects.
 use Rattle.std.proofs.Common.{◌≡◌, ◌≢◌, ℕ, ◌<◌, true, List, [], ◌∷◌, ◌++◌, length, Some, slice_get, refl, sym, ap, ◌∙◌, subst, arith, IsTrue, inl, inr, append_assoc, append-nil}
 use Rattle.std.specs.Prelude.{Contains, ◌⊎◌}
 use Rattle.std.proofs.lemmas.Bool.{and_parts, and_from, cases_eq}
@@ -81,7 +81,7 @@ module _ (s : Shape) (steps : List Step) (w : World) (history : List Happening)
       same_Some found.0 operation (sym (invoked_announced call found.0 here).is ∙ a.is) in
       subst (λ (x : ℕ). Contains history (Invoked call x)) same here
 
--- two calls are one or they aren't
+-- two calls are one call or two
 cases_call : (a b : Call) → (a ≡ b) ⊎ (a ≢ b)
 cases_call a b =
     elim (cases_eq a.caller b.caller) [
@@ -93,7 +93,7 @@ cases_call a b =
       | inr away ↦ inr (λ same. away (ap (λ (c : Call). c.caller) same))
     ]
 
--- what took effect before another in a run, did so in each longer run
+-- a call that took effect before another in a run did so in each longer run
 before_on : (s : Shape) (e : Effects) (steps : List Step) (step : Step) (a b : Call)
     → TakesEffectBefore s e steps a b → TakesEffectBefore s e (steps ++ step ∷ []) a b
 before_on s e steps step a b t =
@@ -120,7 +120,7 @@ record Orders (init : List ℕ) (next : List ℕ → ℕ → List ℕ × ℕ) (s
 
 module _ (init : List ℕ) (next : List ℕ → ℕ → List ℕ × ℕ) (s : Shape) (e : Effects)
     (has : HasEffects init next s e) where
-  -- A step, with what it tells.
+  -- A step, with its happenings.
   module _ (steps : List Step) (w : World) (history : List Happening) (order : List Done)
       (step : Step) (l : Leads s steps w history)
       (o : Orders init next s e steps w history order) (may : IsTrue (is_possible s w step)) where
@@ -133,7 +133,7 @@ module _ (init : List ℕ) (next : List ℕ → ℕ → List ℕ × ℕ) (s : Sh
     abbrev here : List Happening
     here = happenings step.who me step.event
 
-    -- the order linearizes what the step tells
+    -- the order linearizes the history with the step's happenings
     linearizes : Told step.who me (local_of v step.who) step.event here
         → IsLinearization init next (history ++ here) order
     linearizes (Nothing is operations replies) =

@@ -28,12 +28,12 @@ is_run-push next list [] d run is = (is, tt)
 is_run-push next list (x ∷ xs) d run is =
     (run.0, is_run-push next (next list x.operation).0 xs d run.1 is)
 
--- what stands at a place of a list is in it
+-- a list contains the element at a place of it
 pub contained : {X : Type 0} (xs : List X) (k : ℕ) (x : X) → slice_get xs k ≡ Some x → Contains xs x
 contained xs k x e = (k, slice_get_within xs k x e, get_or_from_slice_get xs k x x e)
 
--- a call that returned before another was invoked, did so in the history before the last happening,
--- unless this is the invocation
+-- a call that returned before another was invoked did so in the history before the last happening,
+-- unless this happening is the invocation
 before_push : (history : List Happening) (h : Happening) (a b : Call)
     → ReturnsBefore (history ++ h ∷ []) a b
     → ReturnsBefore history a b ⊎ ((operation : ℕ) × (h ≡ Invoked b operation))
@@ -65,7 +65,7 @@ module _ (init : List ℕ) (next : List ℕ → ℕ → List ℕ × ℕ) (histor
       (All-contains (λ (e : Done). Contains history (Invoked e.call e.operation)) order d
       lin.invoked (contained order q d at)))
 
-  -- a call is invoked that wasn't before
+  -- after the invocation of a call that wasn't invoked before
   pub after_invocation : (call : Call) (operation : ℕ)
       → ((x : ℕ) → Contains history (Invoked call x) → ⊥)
       → IsLinearization init next (history ++ Invoked call operation ∷ []) order
@@ -86,7 +86,7 @@ module _ (init : List ℕ) (next : List ℕ → ℕ → List ℕ × ℕ) (histor
         ];
       }
 
-  -- a call returns with the reply that it has in the order
+  -- after the return of a call with the reply that it has in the order
   pub after_return : (call : Call) (operation reply : ℕ)
       → Contains order (record { call = call; operation = operation; reply = reply })
       → IsLinearization init next (history ++ Returned call reply ∷ []) order
@@ -114,8 +114,8 @@ module _ (init : List ℕ) (next : List ℕ → ℕ → List ℕ × ℕ) (histor
         ];
       }
 
-  -- a call joins the order at its end that was invoked and doesn't stand in it, with the reply of
-  -- the sequential object
+  -- a call that was invoked and isn't in the order is added to its end, with the reply of the
+  -- sequential object
   module _ (d : Done) (invoked : Contains history (Invoked d.call d.operation))
       (new : (e : Done) → Contains order e → e.call ≡ d.call → ⊥)
       (is : (next (list_after next init order) d.operation).1 ≡ d.reply) where

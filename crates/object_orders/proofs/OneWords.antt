@@ -21,7 +21,7 @@ use Rattle.object_orders.specs.OneWord.{OneWord, one_word_shape, reply_by_step, 
 use Rattle.object_orders.proofs.AskedCalls.{reachable_kept, object_step, return}
 use Rattle.object_orders.proofs.EffectOrders.{effects_linearize, the_order_is_of_effects}
 
--- a list with one more item, away from it
+-- a list with one more item has the same items at the other places
 slice_get-push_other : (xs : List ℕ) (y k : ℕ) → k ≢ length xs
     → slice_get (xs ++ y ∷ []) k ≡ slice_get xs k
 slice_get-push_other [] y zero away = absurd (away refl)
@@ -30,7 +30,7 @@ slice_get-push_other (x ∷ xs) y zero away = refl
 slice_get-push_other (x ∷ xs) y (suc k) away =
     slice_get-push_other xs y k (λ same. away (ap suc same))
 
--- a new call has no steps, and the others have theirs
+-- a new call has no steps, and the earlier calls have the steps that they had
 pub steps_of-push : (xs : List (List Object_step)) (k : ℕ)
     → slice_index_or (xs ++ [] ∷ []) k [] ≡ slice_index_or xs k []
 steps_of-push [] zero = refl

@@ -15,7 +15,7 @@ use Rattle.object_orders.specs.OneWord.{one_word_shape}
 use Rattle.object_orders.specs.TallyAndCell.{tally, count_in, cell, value_in, TallyServesCounter, CellServesRegister, TalliesLinearize, CellsLinearize}
 use Rattle.object_orders.proofs.OneWords.{one_words_linearize}
 
--- a count modulo 2 ^ 64 is one modulo 2 ^ 32
+-- a count modulo 2 ^ 64 agrees with one modulo 2 ^ 32
 counts_agree : (x : ℕ) → (x % 2 ^ 32 + 1) % 2 ^ 32 ≡ (x + 1) % 2 ^ 64 % 2 ^ 32
 counts_agree x = omega arith
 
@@ -44,7 +44,7 @@ tallies_linearize n cap steps run =
     one_words_linearize tally count_in (kind_init Counter)
     (kind_next Counter) tally_serves_counter n cap steps run
 
--- the law by what the counter does, as its sequential object has it
+-- the law of tallies, for the counter as its sequential object has it
 pub tallies_linearize_counters : (n cap : ℕ) (steps : List Step)
     → IsRun (one_word_shape n cap tally) steps
     → IsLinearizable (0 ∷ []) (λ list op. counter_after list (counter_operation op))
@@ -95,7 +95,7 @@ cells_linearize n cap steps run =
     one_words_linearize cell value_in (kind_init Register)
     (kind_next Register) cell_serves_register n cap steps run
 
--- the law by what the register does, as its sequential object has it
+-- the law of cells, for the register as its sequential object has it
 pub cells_linearize_registers : (n cap : ℕ) (steps : List Step)
     → IsRun (one_word_shape n cap cell) steps
     → IsLinearizable (0 ∷ []) (λ list op. register_after list (register_operation op))

@@ -52,7 +52,7 @@ one_word_shape n cap o = record { callers = n; cap = cap; program = one_word_pro
 
 -- An object of one word serves a sequential object, whose list is read off the word: the word 0 has
 -- the first list, a step makes the operation, and an operation without a step leaves each such list
--- and replies bad.
+-- unchanged and replies bad.
 pub record Serves (o : OneWord) (list : ℕ → List ℕ) (init : List ℕ)
     (next : List ℕ → ℕ → List ℕ × ℕ) : Type 0 where
   pub first : list 0 ≡ init
@@ -61,7 +61,8 @@ pub record Serves (o : OneWord) (list : ℕ → List ℕ) (init : List ℕ)
   pub no_step : (operation x : ℕ) → o.makes_step operation ≡ false
       → next (list x) operation ≡ (list x, BAD)
 
--- The reply of a call of this operation, where it has been announced, by its steps.
+-- The reply of a call by its operation and its steps; a call that isn't announced has no operation,
+-- and no reply.
 abbrev pub reply_if_announced : OneWord → Option ℕ → List Object_step → Option ℕ
 reply_if_announced o None steps = None
 reply_if_announced o (Some operation) steps = reply_of o operation steps

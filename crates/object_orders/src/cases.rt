@@ -7,7 +7,8 @@ ghost use Rattle.world_core.specs.World.{IsRun, end_of, object_word};
 ghost use Rattle.object_orders.specs.Cases.{tally_pair, tally_alone, cell_pair, increment, write_nine, read, done, value, bad, finds_and_leaves, gets, both_increments, counted_by_second, counted_by_both, counted_alone, refused_before_adding, refused_after_adding, unknown_announced, refused_to_unknown, write_and_read, written, written_and_read, refused_before_writing, refused_after_writing};
 
 /// Two callers increment at once, and one alone. An increment adds 1 once and then replies the word
-/// that it found: not before, not twice, no other sum, and not the word that it left.
+/// that it found. It can't reply before it has added, add twice, leave another sum, or reply the
+/// word that it left.
 pub fn increments_are_counted()
     // The steps of two callers that increment at once are a run.
     ensures run { IsRun tally_pair counted_by_both }

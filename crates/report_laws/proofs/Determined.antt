@@ -10,7 +10,7 @@ use Rattle.report_lines.specs.Lines.{reached_of, made_of, calls_of, book_of_line
 use Rattle.report_laws.specs.Reporting.{LocalsDetermineLines}
 
 module _ (init : List ℕ) (next : List ℕ → ℕ → List ℕ × ℕ) (book : List Page) where
-  -- ends that say the same of a call and are judged by one book are the same
+  -- ends that say the same of a call, and are judged by one book, are the same end
   same_end : (a b : LineEnd) → reached_of a ≡ reached_of b → IsJudged init next book a
       → IsJudged init next book b → a ≡ b
   same_end Pending Pending e h g = refl

@@ -1,4 +1,4 @@
--- Lines fit a report: what they saw is in their book, and each but the last of a caller is
+-- Lines fit a report: their seen cuts are in their book, and each but the last of a caller is
 -- delivered.
 use Rattle.std.proofs.Common.{◌≡◌, ℕ, ◌+◌, ◌/◌, ◌%◌, ◌<◌, List, length, map, replicate, Option, Some, slice_get, sym, ap, ◌∙◌, subst, arith, refl}
 use Rattle.std.specs.Option.{option_map}

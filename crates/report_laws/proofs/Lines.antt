@@ -1,4 +1,4 @@
--- What stands at a line: its call among all calls, its cut, its verdict.
+-- What a line determines: its call among all calls, its cut, its verdict.
 use Rattle.std.proofs.Common.{◌≡◌, ℕ, zero, suc, ◌<◌, List, [], ◌∷◌, length, map, Option, Some, slice_get, slice_index_or, refl, ap, ◌∙◌, arith}
 use Rattle.std.specs.Option.{option_and_then, option_map}
 use Rattle.std.specs.List.{filter_map}
@@ -39,7 +39,7 @@ answer_of (Unchecked r) cut e = absurd (none-some cut e)
 answer_of (Delivered r own) cut e = (r, ap (λ (c : List ℕ). Has_seen r c) (same_Some own cut e))
 answer_of (Error r own) cut e = (r, ap (λ (c : List ℕ). Has_seen r c) (same_Some own cut e))
 
--- what a line saw its call has seen
+-- the seen cut of a line is one that its call has seen
 pub has_seen_cut : (lines : List (List Line)) (call : Call) (cut : List ℕ)
     → seen_at lines call ≡ Some cut → HasSeenCut (calls_of lines) call cut
 has_seen_cut lines call cut e =
@@ -52,7 +52,7 @@ has_seen_cut lines call cut e =
           ∙ ap (λ v. Some (record { operation = found.0.op; reached = v })) said.1;
     }
 
--- The line of a delivered call, and of an error.
+-- The line of a delivered call, or of an error, with its record and its cut.
 pub record IsVerdict (of : Record → List ℕ → LineEnd) (lines : List (List Line)) (call : Call)
     (cut : List ℕ) : Type 0 where
   pub line : Line
@@ -89,7 +89,7 @@ error_line lines call cut e =
     let said = error_end found.0.end cut found.2 in
     record { line = found.0; answer = said.0; there = found.1; end = said.1 }
 
--- both saw a cut
+-- a delivered line and an error line have a seen cut
 seen_from : (lines : List (List Line)) (call : Call) (cut : List ℕ) (line : Line)
     → line_at lines call ≡ Some line → seen_in line.end ≡ Some cut
     → seen_at lines call ≡ Some cut
@@ -108,7 +108,7 @@ seen_from_error lines call cut e =
     let v = error_line lines call cut e in
     seen_from lines call cut v.line v.there (ap seen_in v.end)
 
--- who has a line is one of those with lines
+-- the caller of a line is one of those with lines
 pub caller_within : (lines : List (List Line)) (call : Call) (line : Line)
     → line_at lines call ≡ Some line → call.caller < length lines
 caller_within lines call line e = within lines call.caller e
@@ -124,7 +124,7 @@ place_of_lines : (lines : List (List Line)) (i : ℕ) → i < length lines
     → slice_get lines i ≡ Some (lines_at lines i)
 place_of_lines lines i low = slice_get-get_or lines i [] low
 
--- the cuts of the delivered lines are what delivered calls saw
+-- the cuts of the delivered lines are those that delivered calls have seen
 pub from_delivered_cuts : (lines : List (List Line)) (k : ℕ) (cut : List ℕ)
     → slice_get (delivered_cuts lines) k ≡ Some cut
     → (call : Call) × (delivered_at lines call ≡ Some cut)

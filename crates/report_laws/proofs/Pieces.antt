@@ -4,7 +4,7 @@ use Rattle.std.proofs.Common.{◌≡◌, ℕ, zero, suc, List, [], ◌∷◌, �
 use Rattle.std.specs.List.{cons_option, filter_map, flat_map}
 use Rattle.std.proofs.lemmas.Option.{none-some, same_Some}
 
--- what stands in two lists in a row stands in one of them
+-- an element of two lists in a row is one of either
 append_from : {X : Type 0} (xs ys : List X) (k : ℕ) (z : X) → slice_get (xs ++ ys) k ≡ Some z
     → (slice_get xs k ≡ Some z) ⊎ ((j : ℕ) × (slice_get ys j ≡ Some z))
 append_from [] ys k z e = inr (k, e)
@@ -45,7 +45,7 @@ in_flat_map f (first ∷ xs) (suc i) j x y e own =
     let later = in_flat_map f xs i j x y e own in
     append_right (f first) (flat_map f xs) later.0 y later.1
 
--- what stands after the first element's item, or is it
+-- an element of a list is one of the list with or without an item in front
 suffix : {Y : Type 0} (o : Option Y) (ys : List Y) (k : ℕ) (y : Y) → slice_get ys k ≡ Some y
     → (j : ℕ) × (slice_get (cons_option o ys) j ≡ Some y)
 suffix None ys k y e = (k, e)

@@ -1,4 +1,4 @@
--- What a phase leaves of a caller's marks.
+-- How a phase changes a caller's marks.
 use Rattle.std.proofs.Common.{◌≡◌, ℕ, zero, suc, ◌+◌, ◌*◌, ◌/◌, ◌%◌, Bool, true, false, cond, eqb, nat_lt, List, [], ◌∷◌, ◌++◌, length, take, replicate, refl, sym, ap, ◌∙◌, arith}
 use Rattle.std.proofs.lemmas.Bool.{ne_eqb}
 use Rattle.std.proofs.lemmas.List.{length-append, length-replicate, append-nil, replicate-append-replicate}
@@ -7,7 +7,7 @@ use Rattle.report_lines.specs.Phases.{Mark, Announced, Recorded, Seen, begun, ma
 use Rattle.report_lines.specs.Progress.{with_last, with_seen}
 use Rattle.report_laws.specs.Steps.{ViewingIsAPhase, SeeingIsAPhase}
 
--- the operations stay
+-- the operations stay where the last call changes
 pub operations_of-with_last : (further : Reached → Reached) (calls : List Made)
     → operations_of (with_last further calls) ≡ operations_of calls
 operations_of-with_last further [] = refl
@@ -15,7 +15,7 @@ operations_of-with_last further (c ∷ []) = refl
 operations_of-with_last further (c ∷ d ∷ calls) =
     ap (λ (ops : List ℕ). c.operation ∷ ops) (operations_of-with_last further (d ∷ calls))
 
--- where a step on the last call turns its mark, it turns that of the last one of all, and the
+-- where a change of the last call changes its mark, it changes the last of all marks, and the
 -- others stay
 marks_of-with_last : (further : Reached → Reached) (before after : Mark)
     → ((reached : Reached) → mark_of reached ≡ before → mark_of (further reached) ≡ after)

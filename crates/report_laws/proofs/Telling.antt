@@ -198,7 +198,7 @@ told_as_published k progress pairs told =
       replies = ap (λ (n : ℕ). take n pairs) (omega arith) ∙ told.replies;
     }
 
--- a seen cut leaves the answers
+-- seeing a cut changes no answer
 answers_seen : (cut : List ℕ) (operation : ℕ) (reached : Reached)
     → answers_at operation (with_seen cut reached) ≡ answers_at operation reached
 answers_seen cut operation Is_announced = refl

@@ -30,7 +30,7 @@ no_line P zero k line e = absurd (none-some line e)
 no_line P (suc zero) k line e = absurd (none-some line e)
 no_line P (suc (suc i)) k line e = absurd (none-some line e)
 
--- with the object that gives ten times the operation
+-- the book at the first seen cut is legal for the object that gives ten times the operation
 pub first_is_legal : HasLegalOrder [] tenfold (book_at (1 ∷ 0 ∷ []) both_answered)
 first_is_legal = (delivered 0 (1 ∷ 0 ∷ []) refl).2
 
@@ -45,7 +45,7 @@ delivered_lines = record {
       first_is_legal second_is_legal call.caller call.number line e;
 }
 
--- with the one that gives 0
+-- the book at the first seen cut is illegal for the object that always gives 0
 pub first_is_illegal : HasLegalOrder [] silent (book_at (1 ∷ 0 ∷ []) both_answered) → ⊥
 first_is_illegal = silent_error
 
@@ -67,7 +67,7 @@ failed_lines = record {
       first_is_illegal second_is_illegal call.caller call.number line e;
 }
 
--- with stopped callers
+-- the locals of the stopped callers are those of one reachable world
 pub stopped_together : AreTogether pair (locals_after (take 24 two_calls))
 stopped_together = (end_of pair (take 24 two_calls), (take 24 two_calls, refl, refl), refl)
 

@@ -41,7 +41,7 @@ module _ (init : List ℕ) (next : List ℕ → ℕ → List ℕ × ℕ) (locals
       let v = error_line lines call cut e in
       subst (IsJudged init next (book_of_lines lines)) v.end (are.judged call v.line v.there)
 
-  -- what a call of these lines saw its local has seen
+  -- the seen cut of a line is one that the line's call has seen, by the locals
   pub sees : (call : Call) (cut : List ℕ) → seen_at lines call ≡ Some cut
       → HasSeenCut (map calls_in locals) call cut
   sees call cut e = subst (λ (calls : List (List Made)). HasSeenCut calls call cut) are.calls
@@ -70,7 +70,7 @@ module _ (init : List ℕ) (next : List ℕ → ℕ → List ℕ × ℕ) (locals
     fit : AreSeenCuts locals
     fit = seen_cuts_fit s locals t
 
-    -- the delivered calls
+    -- each cut of a delivered line is one that a delivered call has seen
     all_delivered : AreDelivered init next locals (delivered_cuts lines)
     all_delivered k cut e =
         let found = from_delivered_cuts lines k cut e in (
@@ -92,7 +92,7 @@ module _ (init : List ℕ) (next : List ℕ → ℕ → List ℕ × ℕ) (locals
     compared j k a b x y = let d = all_delivered j a x in let e = all_delivered k b y in
         fit.comparable d.0 e.0 a b d.1 e.1
 
-    -- where there is a delivered call, the greatest counts are one of the cuts
+    -- where some call is delivered, the greatest counts of the delivered cuts are one of these cuts
     top_of : (cuts : List (List ℕ)) (k : ℕ) (cut : List ℕ) → slice_get cuts k ≡ Some cut
         → AreCutsOf s.callers cuts → ArePairwiseComparable cuts
         → (j : ℕ) × (slice_get cuts j ≡ Some (greatest_counts s.callers cuts))

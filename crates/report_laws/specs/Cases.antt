@@ -11,24 +11,26 @@ use Rattle.report_lines.specs.Cases.{answer, pending, unchecked, delivered, fail
 abbrev pub five_and_six : List (List ℕ)
 five_and_six = (5 ∷ []) ∷ (6 ∷ []) ∷ []
 
--- What they were answered: both views hold both calls.
+-- The records of the two calls: both views hold both calls.
 abbrev pub fifty : Record
 fifty = answer 50 (1 ∷ 1 ∷ [])
 
 abbrev pub sixty : Record
 sixty = answer 60 (1 ∷ 1 ∷ [])
 
--- Both are delivered; both are errors; and the first alone is one.
+-- Both calls are delivered.
 abbrev pub both_delivered : List (List Line)
 both_delivered = (delivered 5 fifty (1 ∷ 0 ∷ []) ∷ []) ∷ (delivered 6 sixty (1 ∷ 1 ∷ []) ∷ []) ∷ []
 
+-- Both calls are errors.
 abbrev pub both_failed : List (List Line)
 both_failed = (failed 5 fifty (1 ∷ 0 ∷ []) ∷ []) ∷ (failed 6 sixty (1 ∷ 1 ∷ []) ∷ []) ∷ []
 
+-- The first call is an error, and the second is delivered.
 abbrev pub first_failed : List (List Line)
 first_failed = (failed 5 fifty (1 ∷ 0 ∷ []) ∷ []) ∷ (delivered 6 sixty (1 ∷ 1 ∷ []) ∷ []) ∷ []
 
--- The second call saw another cut.
+-- Both calls are delivered, and the second saw a cut that lacks the first.
 abbrev pub seen_otherwise : List (List Line)
 seen_otherwise = (delivered 5 fifty (1 ∷ 0 ∷ []) ∷ []) ∷ (delivered 6 sixty (0 ∷ 1 ∷ []) ∷ []) ∷ []
 
@@ -36,15 +38,16 @@ seen_otherwise = (delivered 5 fifty (1 ∷ 0 ∷ []) ∷ []) ∷ (delivered 6 si
 abbrev pub stopped : List (List Line)
 stopped = (unchecked 5 fifty ∷ []) ∷ (pending 6 ∷ []) ∷ []
 
--- Neither has made a call.
+-- Neither caller has made a call.
 abbrev pub nothing : List (List Line)
 nothing = [] ∷ [] ∷ []
 
--- The first caller stops before it judges, and the second is delivered.
+-- The first caller stops before it judges its call, and the second caller's call is delivered.
 abbrev pub one_unchecked : List (List Line)
 one_unchecked = (unchecked 5 fifty ∷ []) ∷ (delivered 6 sixty (1 ∷ 1 ∷ []) ∷ []) ∷ []
 
--- A run that leaves these lines: the second caller peeks each word of the book at its seen cut.
+-- A run that leaves the first call unchecked and the second delivered: the second caller peeks each
+-- word of the book at its seen cut.
 abbrev pub one_judging : List Step
 one_judging =
     ((announced_both ++ published_one) ++ judged_both) ++ drop (length two_calls) gathering

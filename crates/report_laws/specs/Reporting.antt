@@ -19,7 +19,8 @@ use Rattle.report_lines.specs.Phases.{HasMade}
 use Rattle.report_lines.specs.Allotments.{operations_at, phases_of}
 use Rattle.report_lines.specs.Lawful.{IsAllotted, IsLawful}
 
--- Each caller has the lines of its allotment, and its local has made the phases that these tell of.
+-- Each caller has the lines of its allotment, and its local has made the phases that these lines
+-- show.
 pub record HaveMade (s : Shape) (operations : List (List ℕ)) (allotments : List ℕ)
     (locals : List Local) (lines : List (List Line)) : Type 0 where
   pub allotted : (i : ℕ) → i < s.callers
@@ -44,8 +45,8 @@ LocalsDetermineLines =
     (lines others : List (List Line))
     → AreLinesOf init next locals lines → AreLinesOf init next locals others → lines ≡ others
 
--- In a lawful report what a delivered line saw is within what each error line saw, and never
--- contains it.
+-- In a lawful report the seen cut of a delivered line is within that of each error line, and
+-- doesn't contain it.
 abbrev pub ErrorsAreFinal : Type 0
 ErrorsAreFinal =
     (init : List ℕ) (next : List ℕ → ℕ → List ℕ × ℕ) (s : Shape) (operations : List (List ℕ))
@@ -54,7 +55,8 @@ ErrorsAreFinal =
     → error_at lines b ≡ Some y
     → IsWithin x y × ¬ IsWithin y x
 
--- What a line saw is in the book of the lines: no count is above its caller's records.
+-- The seen cut of a line is in the book of the lines: none of its counts is above its caller's
+-- number of records.
 abbrev pub SeenCutsAreInTheBook : Type 0
 SeenCutsAreInTheBook =
     (init : List ℕ) (next : List ℕ → ℕ → List ℕ × ℕ) (s : Shape) (locals : List Local)
@@ -69,8 +71,8 @@ LinesBeforeTheLastAreDelivered =
     → IsAllotted operations allotment own → slice_get own k ≡ Some line
     → k + 1 < length own → (r : Record) × (cut : List ℕ) × (line.end ≡ Delivered r cut)
 
--- What a line saw was published: at one moment of a run that ends with these locals the callers'
--- published records were exactly those.
+-- The seen cut of a line was published: at one moment of a run that ends with these locals the
+-- callers' published records were exactly those that the cut counts.
 abbrev pub SeenCutsWerePublished : Type 0
 SeenCutsWerePublished =
     (init : List ℕ) (next : List ℕ → ℕ → List ℕ × ℕ) (s : Shape) (locals : List Local)

@@ -4,7 +4,7 @@ use Rattle.book_base.specs.declared.call.Record.{Record}
 use Rattle.report_lines.specs.Phases.{Progress, no_progress, IsProgressAfter}
 use Rattle.report_lines.specs.Progress.{after_announcing, after_viewing, after_publishing, after_seeing}
 
--- Before its first phase a caller has no calls.
+-- A caller has no progress before its first phase.
 abbrev pub NoPhaseIsMade : Type 0
 NoPhaseIsMade = (operations : List ℕ) → IsProgressAfter operations 0 no_progress
 
@@ -15,28 +15,28 @@ AnnouncingIsAPhase =
     → IsProgressAfter operations (5 * k) progress
     → IsProgressAfter operations (5 * k + 1) (after_announcing (slice_index operations k) progress)
 
--- To ask the object changes nothing here.
+-- Asking the object is a phase that changes no progress.
 abbrev pub AskingIsAPhase : Type 0
 AskingIsAPhase =
     (operations : List ℕ) (k : ℕ) (progress : Progress)
     → IsProgressAfter operations (5 * k + 1) progress
     → IsProgressAfter operations (5 * k + 2) progress
 
--- The view gives the call its record.
+-- Taking the view is a phase that gives the call its record.
 abbrev pub ViewingIsAPhase : Type 0
 ViewingIsAPhase =
     (operations : List ℕ) (k : ℕ) (progress : Progress) (r : Record)
     → IsProgressAfter operations (5 * k + 2) progress
     → IsProgressAfter operations (5 * k + 3) (after_viewing r progress)
 
--- The record is published.
+-- Publishing the record of the call is a phase.
 abbrev pub PublishingIsAPhase : Type 0
 PublishingIsAPhase =
     (operations : List ℕ) (k : ℕ) (progress : Progress)
     → IsProgressAfter operations (5 * k + 3) progress
     → IsProgressAfter operations (5 * k + 4) (after_publishing progress)
 
--- The call gets its seen cut, and is judged.
+-- Seeing a cut is the last phase of a call, in which the call is judged.
 abbrev pub SeeingIsAPhase : Type 0
 SeeingIsAPhase =
     (operations : List ℕ) (k : ℕ) (progress : Progress) (cut : List ℕ)

@@ -4,11 +4,11 @@ use Rattle.book_base.specs.declared.call.Record.{Record}
 use Rattle.report_lines.specs.Phases.{Progress, IsProgressAfter, IsTold}
 use Rattle.report_lines.specs.Progress.{after_announcing, after_viewing, after_seeing}
 
--- Before the first phase it tells nothing.
+-- The object has told nothing of a caller before the caller's first phase.
 abbrev pub NothingIsTold : Type 0
 NothingIsTold = IsTold 0 [] []
 
--- An announcement tells it nothing.
+-- An announcement adds nothing to what the object has told of its caller.
 abbrev pub ToldAsAnnounced : Type 0
 ToldAsAnnounced =
     (operations : List ℕ) (k : ℕ) (progress : Progress) (operation : ℕ) (pairs : List (ℕ × ℕ))
@@ -16,7 +16,7 @@ ToldAsAnnounced =
     → IsTold (5 * k) progress.calls pairs
     → IsTold (5 * k + 1) (after_announcing operation progress).calls pairs
 
--- Where it is asked it tells one pair more: the operation of the last call, and its reply.
+-- Asking the object adds one told pair: the operation of the last call, and its reply.
 abbrev pub ToldAsAsked : Type 0
 ToldAsAsked =
     (operations : List ℕ) (k : ℕ) (progress : Progress) (reply : ℕ) (pairs : List (ℕ × ℕ))
@@ -24,7 +24,8 @@ ToldAsAsked =
     → IsTold (5 * k + 1) progress.calls pairs
     → IsTold (5 * k + 2) progress.calls (pairs ++ (slice_index operations k, reply) ∷ [])
 
--- The record of the last call has the reply of the last pair.
+-- Taking the view adds nothing to what is told: the record of the last call has the reply of the
+-- last pair.
 abbrev pub ToldAsViewed : Type 0
 ToldAsViewed =
     (operations : List ℕ) (k : ℕ) (progress : Progress) (operation : ℕ) (r : Record)
@@ -32,7 +33,7 @@ ToldAsViewed =
     → IsTold (5 * k + 2) progress.calls (pairs ++ (operation, r.reply) ∷ [])
     → IsTold (5 * k + 3) (after_viewing r progress).calls (pairs ++ (operation, r.reply) ∷ [])
 
--- A publication and a seen cut change nothing.
+-- A publication and a seen cut add nothing to what the object has told.
 abbrev pub ToldAsPublished : Type 0
 ToldAsPublished =
     (k : ℕ) (progress : Progress) (pairs : List (ℕ × ℕ)) → IsTold (5 * k + 3) progress.calls pairs

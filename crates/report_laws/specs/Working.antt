@@ -13,13 +13,13 @@ use Rattle.report_lines.specs.Allotments.{operations_at}
 use Rattle.report_lines.specs.Lawful.{IsAllotted, IsLawful}
 use Rattle.report_lines.specs.Workers.{IsJudgedBy, HasWorked}
 
--- A verdict by a gathered book stays one while its caller goes on.
+-- A verdict by a gathered book stays one as the book's caller makes further steps.
 abbrev pub VerdictsStay : Type 0
 VerdictsStay =
     (init : List ℕ) (next : List ℕ → ℕ → List ℕ × ℕ) (n : ℕ) (l m : Local) (end : LineEnd)
     → HasPeekedAll l m → IsJudgedBy init next n l end → IsJudgedBy init next n m end
 
--- What a worker leaves that made all phases of its allotment, and met no error.
+-- A worker that made all phases of its allotment, and met no error, has worked.
 abbrev pub WorkersGoThrough : Type 0
 WorkersGoThrough =
     (init : List ℕ) (next : List ℕ → ℕ → List ℕ × ℕ) (n : ℕ) (operations : List ℕ) (allotment : ℕ)
@@ -28,7 +28,7 @@ WorkersGoThrough =
     → All (λ (line : Line). IsJudgedBy init next n l line.end) own
     → HasWorked init next n operations allotment l own
 
--- And what it leaves that halted at an error, after lines without one.
+-- A worker that halted at an error, after lines without one, has worked.
 abbrev pub WorkersHalt : Type 0
 WorkersHalt =
     (init : List ℕ) (next : List ℕ → ℕ → List ℕ × ℕ) (n : ℕ) (operations : List ℕ) (allotment : ℕ)
@@ -62,7 +62,7 @@ WorkersLeaveTheLines =
     → AreTogether s locals → HaveWorked init next s operations allotments locals lines
     → AreLinesOf init next locals lines
 
--- And they are lawful.
+-- The lines that all workers leave are a lawful report.
 abbrev pub WorkersAreLawful : Type 0
 WorkersAreLawful =
     (init : List ℕ) (next : List ℕ → ℕ → List ℕ × ℕ) (s : Shape) (operations : List (List ℕ))

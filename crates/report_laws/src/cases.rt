@@ -1,5 +1,5 @@
-//! Worked reports: each law's premises are met by runs that are written out, and what isn't lawful
-//! of them.
+//! Worked reports: each law's premises are met by runs that are written out; and which reports of
+//! these runs aren't lawful.
 
 ghost use Rattle.std.specs.Prelude.{[], ◌∷◌, take};
 ghost use Rattle.world_core.specs.Schedules.{pair, two_calls, tenfold, silent, local_at as local_after};
@@ -14,9 +14,9 @@ ghost use Rattle.report_laws.specs.Reporting.{HaveMade};
 ghost use Rattle.report_laws.specs.Working.{HaveWorked};
 ghost use Rattle.report_laws.specs.Cases.{five_and_six, both_delivered, both_failed, first_failed, seen_otherwise, sixty, stopped, nothing, one_unchecked, second_begun, one_judging};
 
-/// A run of two whole calls: where the object should give ten times the operation, both are
-/// delivered, and the report is lawful; where it should give 0, both are errors, and that report is
-/// lawful. Every other verdict is wrong.
+/// A run of two whole calls has two lawful reports: where the object should give ten times the
+/// operation, both calls are delivered; where it should always give 0, both are errors. Every other
+/// verdict makes an unlawful report.
 pub fn a_run_is_reported()
     // The steps of the two whole calls are a run.
     ensures run { IsRun pair two_calls }
@@ -44,7 +44,8 @@ pub fn a_run_is_reported()
     ensures other_cuts { ¬ IsLawful [] tenfold pair five_and_six (5 ∷ 5 ∷ []) seen_otherwise }
 {}
 
-/// An error ends its caller's lines: two calls of five phases each were to be made.
+/// An error ends its caller's lines, also where the caller was to make two calls of five phases
+/// each.
 pub fn an_error_ends_the_lines()
     // Lines that end with errors are a lawful report also where each caller had a second call to
     // make.
@@ -75,8 +76,8 @@ pub fn stopped_callers_are_reported()
     ensures a_caller_left_out { ¬ IsLawful [] silent pair five_and_six (0 ∷ 0 ∷ []) ([] ∷ []) }
 {}
 
-/// Where a caller has one row, the lines of a second call are those of no reachable world. Else
-/// nothing is wrong with these lines.
+/// Where a caller has one row, the lines of a second call are those of no reachable world, though
+/// nothing else is wrong with these lines.
 pub fn calls_beyond_the_rows_are_of_no_world()
     // The lines of the caller are those of six phases.
     ensures allotted { IsAllotted (5 ∷ 7 ∷ []) 6 (lines_at second_begun 0) }
@@ -87,8 +88,9 @@ pub fn calls_beyond_the_rows_are_of_no_world()
         (6 ∷ 0 ∷ []) second_begun }
 {}
 
-/// What workers leave where one is stopped before it judges: the other has judged by words that it
-/// peeked. What it saw is no cut of a report where the first one is stopped before it published.
+/// What workers leave where one is stopped before it judges: the other one has judged by words that
+/// it peeked. Its seen cut is that of no report in which the first one is stopped before it
+/// published.
 pub fn workers_leave_a_report()
     // The steps after which caller 1 has judged and caller 0 hasn't are a run.
     ensures run { IsRun pair one_judging }
@@ -99,7 +101,7 @@ pub fn workers_leave_a_report()
     ensures lawful { IsLawful [] tenfold pair five_and_six (4 ∷ 5 ∷ []) one_unchecked }
     // These lines are no lawful report where the first caller was stopped before it published.
     ensures unpublished { ¬ IsLawful [] tenfold pair five_and_six (3 ∷ 5 ∷ []) one_unchecked }
-    // The same caller before it peeked a word: no book is one that it gathered at its seen cut.
+    // Before caller 1 peeked a word, it had gathered no book at its seen cut.
     ensures unread { ¬ IsJudgedBy [] tenfold 2 (local_after two_calls 1)
         (Delivered sixty (1 ∷ 1 ∷ [])) }
     // Caller 1 found its verdict by words that it had peeked.

@@ -5,7 +5,7 @@ ghost use Rattle.report_laws.specs.Steps.{NoPhaseIsMade, AnnouncingIsAPhase, Ask
 ghost use Rattle.report_laws.specs.Telling.{NothingIsTold, ToldAsAnnounced, ToldAsAsked, ToldAsViewed, ToldAsPublished, ToldAsSeen};
 ghost use Rattle.report_laws.specs.Working.{VerdictsStay, WorkersGoThrough, WorkersHalt, WorkersKeepToTheirAllotments, WorkersLeaveTheLines, WorkersAreLawful};
 
-/// Phase by phase, a caller comes exactly as far as its phases go.
+/// Phase by phase, a caller's progress is exactly that of its phases.
 pub fn phases_are_made_one_by_one()
     // Before its first phase a caller has no call.
     ensures none { NoPhaseIsMade }
@@ -40,16 +40,16 @@ pub fn objects_tell_phase_by_phase()
     ensures seeing { ToldAsSeen }
 {}
 
-/// A verdict by a book that a caller gathered stays one while that caller goes on.
+/// A verdict by a book that a caller gathered stays one as that caller makes further steps.
 pub fn verdicts_stay()
     ensures { VerdictsStay }
 {}
 
-/// Where a worker went through its allotment, or halted at an error, it has worked.
+/// A worker that made its whole allotment, or halted at an error, has worked.
 pub fn workers_go_through_or_halt()
-    // What a worker leaves that made all phases of its allotment, and met no error, is worked.
+    // A worker that made all phases of its allotment, and met no error, has worked.
     ensures through { WorkersGoThrough }
-    // What a worker leaves that halted at an error, after lines without one, is worked.
+    // A worker that halted at an error, after lines without one, has worked.
     ensures halted { WorkersHalt }
 {}
 
@@ -59,8 +59,8 @@ pub fn lawful_from_worlds()
     ensures { WorldsAreLawful }
 {}
 
-/// What the workers of all callers leave, each said of its own caller alone, are the lines of the
-/// locals that they leave, and lawful.
+/// What the workers of all callers leave, said of each by its own caller alone, are the lines of
+/// the locals that they leave, and a lawful report.
 pub fn lawful_from_workers()
     // The lines that a worker leaves are those of its allotment.
     ensures allotted { WorkersKeepToTheirAllotments }
@@ -70,26 +70,28 @@ pub fn lawful_from_workers()
     ensures lawful { WorkersAreLawful }
 {}
 
-/// Locals have one report: the same calls, and on each the same verdict.
+/// Locals have one report: their calls, and on each call one verdict.
 pub fn locals_determine_lines()
     ensures { LocalsDetermineLines }
 {}
 
-/// In a lawful report no delivered line saw what an error line saw (Castañeda and Rodríguez 2023).
+/// In a lawful report the seen cut of a delivered line is within that of each error line, and
+/// doesn't contain it (Castañeda and Rodríguez 2023).
 pub fn errors_are_final()
     ensures { ErrorsAreFinal }
 {}
 
-/// What a line saw is in the book of the lines, and each line but a caller's last is delivered.
+/// The seen cut of a line is in the book of the lines, and each line but a caller's last is
+/// delivered.
 pub fn lines_fit_a_report()
-    // What a line saw is in the book of the lines: no count is above its caller's records.
+    // The seen cut of a line is in the book of the lines: no count is above its caller's records.
     ensures seen { SeenCutsAreInTheBook }
     // Each line of an allotment but the last is delivered.
     ensures delivered { LinesBeforeTheLastAreDelivered }
 {}
 
-/// The book that a verdict speaks of was the table's at one moment: what a line saw was exactly
-/// what was published then (Afek and others 1993).
+/// The book at a line's seen cut was the table's at one moment: the cut counts exactly what was
+/// published then (Afek and others 1993).
 pub fn seen_cuts_were_published()
     ensures { SeenCutsWerePublished }
 {}

@@ -15,7 +15,7 @@ use Rattle.report_lines.specs.Phases.{Progress, progress_of}
 use Rattle.report_lines.specs.Progress.{with_last, TheLastCallGoesOn, with_seen, after_viewing}
 use Rattle.report_lines.specs.Account.{Account, account_of, NothingGrows, OperationsAreCalls, ObjectStepsAreOfTheLastCall, RepliesAreNoRecords, ViewsMakeRecords, PublicationsCount, SeenCutsAreOfTheLastCall, AnnouncementsAreCalls, ObjectStepsCount, PublishesCount}
 
--- How far call k has come, and the calls, by an account.
+-- The record of call k, how far the call has come, and the calls of a caller, by an account.
 abbrev record_by : Account → ℕ → Record
 record_by a k = record { reply = slice_index a.replies k; view = slice_index_or a.views k [] }
 
@@ -54,7 +54,7 @@ the_last_call_goes_on further (d ∷ []) c = refl
 the_last_call_goes_on further (d ∷ e ∷ calls) c =
     ap (λ (cs : List Made). d ∷ cs) (the_last_call_goes_on further (e ∷ calls) c)
 
--- calls of which the last one has gone on
+-- calls of which the last one has changed
 grown : (f g : ℕ → Made) (further : Reached → Reached) (n p : ℕ) → n ≡ p + 1
     → ((k : ℕ) → k < p → g k ≡ f k)
     → g p ≡ record { operation = (f p).operation; reached = further (f p).reached }
@@ -118,7 +118,7 @@ operations_are_calls l m op phase at e =
     (λ (cs : List Made). record { calls = cs; published = l.published; steps = all_steps_of l })
     (announced (account_of l) op few fewer)
 
--- one more reply than there are records
+-- one more reply changes no call, since it is no record yet
 replied_at : (a : Account) (reply k : ℕ) → length a.views ≤ length a.replies
     → length a.seen ≤ length a.views
     → reached_by (record a { replies = a.replies ++ reply ∷ [] }) k ≡ reached_by a k
@@ -301,7 +301,8 @@ empty_adds_none steps =
     flat_map-append (λ (own : List Object_step). own) steps ([] ∷ [])
     ∙ append-nil (flat_map (λ (own : List Object_step). own) steps)
 
--- so one more operation, whose call has no object step yet, is all that an account gains
+-- one more operation, whose call has no object step yet, is all that an account gains at an
+-- announcement
 pub announced_account : (l m : Local) (op : ℕ) → m.object_steps ≡ l.object_steps ++ [] ∷ []
     → account_of (record m { object_steps = l.object_steps })
     ≡ record (account_of l) { operations = l.operations ++ op ∷ [] }

@@ -1,5 +1,5 @@
--- The parts of a local that tell of its calls; and how far the caller has come as one of them
--- grows.
+-- The parts of a local that determine its caller's progress; and what becomes of the progress as
+-- one of these parts grows.
 use Rattle.std.specs.Prelude.{◌≡◌, ℕ, ◌+◌, List, [], ◌∷◌, ◌++◌, slice_index}
 use Rattle.world_core.specs.Local.{Local, Object_step, Announcing, Asking, Viewing, Judging}
 use Rattle.world_core.specs.CallSteps.{all_steps_of}
@@ -30,32 +30,33 @@ account_of l =
       steps = all_steps_of l;
     }
 
--- Where all of it stays, a caller has come as far as before.
+-- Where a caller's account stays as it was, so does its progress.
 abbrev pub NothingGrows : Type 0
 NothingGrows = (l m : Local) → account_of m ≡ account_of l → progress_of m ≡ progress_of l
 
--- One more operation is one more call.
+-- One more operation in an account is one more call in the progress.
 abbrev pub OperationsAreCalls : Type 0
 OperationsAreCalls =
     (l m : Local) (operation : ℕ) → HasPhase l → l.phase ≡ Announcing
     → account_of m ≡ record (account_of l) { operations = l.operations ++ operation ∷ [] }
     → progress_of m ≡ after_announcing operation (progress_of l)
 
--- One more object step is one of the call under way.
+-- One more object step in an account is one more in the progress, made by the call under way.
 abbrev pub ObjectStepsAreOfTheLastCall : Type 0
 ObjectStepsAreOfTheLastCall =
     (l m : Local) (step : Object_step)
     → account_of m ≡ record (account_of l) { steps = all_steps_of l ++ step ∷ [] }
     → progress_of m ≡ after_stepping step (progress_of l)
 
--- A reply is no record yet.
+-- One more reply in an account doesn't change the progress, since a reply without its view is no
+-- record.
 abbrev pub RepliesAreNoRecords : Type 0
 RepliesAreNoRecords =
     (l m : Local) (reply : ℕ) → HasPhase l → l.phase ≡ Asking
     → account_of m ≡ record (account_of l) { replies = l.replies ++ reply ∷ [] }
     → progress_of m ≡ progress_of l
 
--- With its view it is one: that of the last call.
+-- One more view in an account makes a record in the progress: that of the last call.
 abbrev pub ViewsMakeRecords : Type 0
 ViewsMakeRecords =
     (l m : Local) (view : List ℕ) → HasPhase l → l.phase ≡ Viewing
@@ -63,13 +64,13 @@ ViewsMakeRecords =
     → progress_of m ≡ after_viewing
     (record { reply = slice_index l.replies l.published; view = view }) (progress_of l)
 
--- One more record is published.
+-- One more published record in an account is one more in the progress.
 abbrev pub PublicationsCount : Type 0
 PublicationsCount =
     (l m : Local) → account_of m ≡ record (account_of l) { published = l.published + 1 }
     → progress_of m ≡ after_publishing (progress_of l)
 
--- One more seen cut is that of the last call.
+-- One more seen cut in an account is the seen cut of the last call in the progress.
 abbrev pub SeenCutsAreOfTheLastCall : Type 0
 SeenCutsAreOfTheLastCall =
     (l m : Local) (cut : List ℕ) → HasPhase l → l.phase ≡ Judging

@@ -23,7 +23,8 @@ stop_at stops i = slice_index_or stops i None
 abbrev pub turns_of : List ℕ → ℕ → ℕ
 turns_of turns i = count_by (λ turn. turn == i) turns
 
--- The allotments of callers that each go on by themselves: for each of them its phases.
+-- The allotments of callers that each work by themselves: each caller's allotment is all its
+-- phases.
 abbrev pub allotments_of : List (List ℕ) → List (Option ℕ) → List ℕ
 allotments_of operations stops =
     map (λ i. phases_for (stop_at stops i) (length (operations_at operations i)))
@@ -47,7 +48,8 @@ pub record KeepsTo (allotment : ℕ) (own : List Line) : Type 0 where
   pub last : (k : ℕ) (line : Line) → slice_get own k ≡ Some line → IsTrue (is_error line)
       → k + 1 ≡ length own
 
--- How many records each caller has published by then.
+-- How many records each caller has published, after the phases that its allotment and its lines
+-- determine.
 abbrev pub published_in : List ℕ → List (List Line) → List ℕ
 published_in allotments lines =
     map (λ i. published_by (phases_of (slice_index allotments i) (lines_at lines i)))

@@ -45,8 +45,8 @@ abbrev pub delivered_cut : ℕ → List (List Line) → List ℕ
 delivered_cut n lines = map (greatest_count (delivered_cuts lines)) (range_with_len 0 n)
 
 -- A report of the callers of a world is lawful: for the sequential object that begins with init and
--- goes on by next, for each caller's operations, and for how many phases each was given (Herlihy
--- and Wing 1990, Castañeda and Rodríguez 2023).
+-- has the transition function next, for each caller's operations, and for how many phases each was
+-- given (Herlihy and Wing 1990, Castañeda and Rodríguez 2023).
 pub record IsLawful (init : List ℕ) (next : List ℕ → ℕ → List ℕ × ℕ) (s : Shape)
     (operations : List (List ℕ)) (allotments : List ℕ) (lines : List (List Line)) : Type 0 where
   -- there is a list of lines for each caller
@@ -58,16 +58,16 @@ pub record IsLawful (init : List ℕ) (next : List ℕ → ℕ → List ℕ × �
   pub valid : IsValid (book_of_lines lines)
   -- the seen cuts fit one another, and what was published
   pub seen : AreSeen (published_in allotments lines) lines
-  -- where a line is delivered, the greatest seen cut of a delivered line is that of one of them
+  -- where a line is delivered, one of the delivered lines has the greatest seen cut of all of them
   pub greatest : (call : Call) (cut : List ℕ) → delivered_at lines call ≡ Some cut → (top : Call)
       × (delivered_at lines top ≡ Some (delivered_cut s.callers lines))
-  -- it contains the seen cut of each delivered line
+  -- that greatest cut contains the seen cut of each delivered line
   pub contains : (call : Call) (cut : List ℕ) → delivered_at lines call ≡ Some cut
       → IsWithin cut (delivered_cut s.callers lines)
-  -- it holds each delivered line
+  -- that greatest cut holds the call of each delivered line
   pub holds : (call : Call) (cut : List ℕ) → delivered_at lines call ≡ Some cut
       → Holds (delivered_cut s.callers lines) call
-  -- so all delivered replies stand in one legal order: the book at this cut has one
+  -- all delivered replies stand in one legal order: the book at that greatest cut has one
   pub one_order : HasLegalOrder init next
       (book_at (delivered_cut s.callers lines) (book_of_lines lines))
   -- at the seen cut of an error line the book has no legal order

@@ -18,7 +18,7 @@ reached_of (Unchecked r) = Has_record r
 reached_of (Delivered r cut) = Has_seen r cut
 reached_of (Error r cut) = Has_seen r cut
 
--- The call of a line; and the calls of all callers' lines.
+-- The call of a line.
 abbrev pub made_of : Line → Made
 made_of line = record { operation = line.op; reached = reached_of line.end }
 

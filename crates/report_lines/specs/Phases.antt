@@ -1,5 +1,5 @@
--- The phases of a caller, counted over all its calls, five for each: what a caller has made that
--- has gone so far.
+-- The phases of a caller, counted over all its calls, five for each; and what a caller has done
+-- after p phases.
 use Rattle.std.specs.Prelude.{◌≡◌, ℕ, ◌+◌, ◌/◌, ◌%◌, ◌==◌, nat_lt, if◌then◌else◌, List, [], ◌∷◌, ◌++◌, map, take, replicate}
 use Rattle.std.specs.List.{flat_map}
 use Rattle.book_base.specs.declared.call.Record.{Record}
@@ -27,8 +27,8 @@ published_by p = (p + 1) / 5
 abbrev pub judged : ℕ → ℕ
 judged p = p / 5
 
--- How far a call has come, without what it was told: it is announced, has its record, or has its
--- seen cut too.
+-- How far a call has come, without its reply and its cuts: it is announced, has its record, or has
+-- its seen cut too.
 pub data Mark : Type 0 where
   Announced : Mark
   Recorded : Mark

@@ -6,7 +6,7 @@ use Rattle.world_core.specs.Calls.{Reached, Is_announced, Has_record, Has_seen, 
 use Rattle.report_lines.specs.Phases.{Progress}
 
 -- Announcing puts one more call at the end, which has no object step yet. Asking an object outside
--- the world leaves all as it is.
+-- the world changes no progress.
 abbrev pub after_announcing : ℕ → Progress → Progress
 after_announcing operation progress = record progress {
   calls = progress.calls ++ record { operation = operation; reached = Is_announced } ∷ [];
@@ -17,13 +17,13 @@ after_announcing operation progress = record progress {
 abbrev pub after_stepping : Object_step → Progress → Progress
 after_stepping step progress = record progress { steps = progress.steps ++ step ∷ [] }
 
--- The calls, the last of which has come so far.
+-- The calls, with the function further applied to how far the last one has come.
 abbrev pub with_last : (Reached → Reached) → List Made → List Made
 with_last further [] = []
 with_last further (c ∷ []) = record { operation = c.operation; reached = further c.reached } ∷ []
 with_last further (c ∷ d ∷ calls) = c ∷ with_last further (d ∷ calls)
 
--- The last call goes on, and those before it stay.
+-- A list of calls whose last call changes keeps the calls before it.
 abbrev pub TheLastCallGoesOn : Type 0
 TheLastCallGoesOn =
     (further : Reached → Reached) (calls : List Made) (last : Made)

@@ -1,4 +1,5 @@
--- What a worker leaves, said of its own caller alone. It stays so while that caller goes on.
+-- What a worker leaves, said of its own caller alone; this stays true as that caller makes further
+-- steps.
 use Rattle.std.specs.Prelude.{◌≡◌, ℕ, List, map}
 use Rattle.std.specs.List.{All}
 use Rattle.book_base.specs.Book.{Page}

@@ -12,31 +12,29 @@ ghost use Rattle.world_core.specs.Local.{fresh};
 ghost use Rattle.world_core.specs.CallSteps.{operation_now, steps_now, all_steps_of};
 ghost use Rattle.world_core.specs.Event.{Announce, Object, local_after};
 
-/// How many calls have come how far, after no phase up to eleven of them: the announcement is the
-/// first of five phases, then come the object's answer, the view, the publication and the verdict.
+/// How many calls are announced, asked, recorded, published and judged after each of 0 to 11
+/// phases: the announcement is the first of a call's five phases, then come the object's answer,
+/// the view, the publication and the verdict.
 pub fn phases_are_five_for_each_call()
-    // After no phase up to eleven of them 0, 1, 1, 1, 1, 1, 2, 2, 2, 2, 2 and 3 calls are
-    // announced.
+    // After each of 0 to 11 phases 0, 1, 1, 1, 1, 1, 2, 2, 2, 2, 2 and 3 calls are announced.
     ensures begun { map begun (range_with_len 0 12)
         ≡ 0 ∷ 1 ∷ 1 ∷ 1 ∷ 1 ∷ 1 ∷ 2 ∷ 2 ∷ 2 ∷ 2 ∷ 2 ∷ 3 ∷ [] }
-    // After no phase up to eleven of them 0, 0, 1, 1, 1, 1, 1, 2, 2, 2, 2 and 2 calls were asked of
-    // the object.
+    // After each of 0 to 11 phases 0, 0, 1, 1, 1, 1, 1, 2, 2, 2, 2 and 2 calls were asked of the
+    // object.
     ensures asked { map asked (range_with_len 0 12)
         ≡ 0 ∷ 0 ∷ 1 ∷ 1 ∷ 1 ∷ 1 ∷ 1 ∷ 2 ∷ 2 ∷ 2 ∷ 2 ∷ 2 ∷ [] }
-    // After no phase up to eleven of them 0, 0, 0, 1, 1, 1, 1, 1, 2, 2, 2 and 2 calls have their
-    // record.
+    // After each of 0 to 11 phases 0, 0, 0, 1, 1, 1, 1, 1, 2, 2, 2 and 2 calls have their record.
     ensures answered { map answered (range_with_len 0 12)
         ≡ 0 ∷ 0 ∷ 0 ∷ 1 ∷ 1 ∷ 1 ∷ 1 ∷ 1 ∷ 2 ∷ 2 ∷ 2 ∷ 2 ∷ [] }
-    // After no phase up to eleven of them 0, 0, 0, 0, 1, 1, 1, 1, 1, 2, 2 and 2 records are
-    // published.
+    // After each of 0 to 11 phases 0, 0, 0, 0, 1, 1, 1, 1, 1, 2, 2 and 2 records are published.
     ensures published { map published_by (range_with_len 0 12)
         ≡ 0 ∷ 0 ∷ 0 ∷ 0 ∷ 1 ∷ 1 ∷ 1 ∷ 1 ∷ 1 ∷ 2 ∷ 2 ∷ 2 ∷ [] }
-    // After no phase up to eleven of them 0, 0, 0, 0, 0, 1, 1, 1, 1, 1, 2 and 2 calls are judged.
+    // After each of 0 to 11 phases 0, 0, 0, 0, 0, 1, 1, 1, 1, 1, 2 and 2 calls are judged.
     ensures judged { map judged_by (range_with_len 0 12)
         ≡ 0 ∷ 0 ∷ 0 ∷ 0 ∷ 0 ∷ 1 ∷ 1 ∷ 1 ∷ 1 ∷ 1 ∷ 2 ∷ 2 ∷ [] }
 {}
 
-/// The marks of a caller's calls, after no phase up to eleven of them.
+/// The marks of a caller's calls, after each of 0 to 11 phases.
 pub fn marks_tell_how_far_calls_are()
     // After no phase there is no mark.
     ensures none { marks_after 0 ≡ [] }
@@ -60,8 +58,8 @@ pub fn marks_tell_how_far_calls_are()
     ensures eleven { marks_after 11 ≡ Seen ∷ Seen ∷ Announced ∷ [] }
 {}
 
-/// The second call of a caller, phase by phase: after the first call, and as the fourth phase has
-/// and hasn't published its record.
+/// The progress of a caller with its second call, phase by phase: after the first call, and before
+/// and after the fourth phase, which publishes the second record.
 pub fn a_second_call_goes_on()
     // Announcing the operation 7 puts a second call after the judged one.
     ensures announced { after_announcing 7 (progress (judged 5 first [] ∷ []) 1)
@@ -69,37 +67,38 @@ pub fn a_second_call_goes_on()
     // Taking the view gives the second call its record, and none is published by it.
     ensures viewed { after_viewing second (progress (judged 5 first [] ∷ made 7 ∷ []) 1)
         ≡ progress (judged 5 first [] ∷ recorded 7 second ∷ []) 1 }
-    // Publishing raises the count of published records to 2, and leaves the calls.
+    // Publishing raises the count of published records to 2, and changes no call.
     ensures published { after_publishing (progress (judged 5 first [] ∷ recorded 7 second ∷ []) 1)
         ≡ progress (judged 5 first [] ∷ recorded 7 second ∷ []) 2 }
     // Judging gives the second call its seen cut.
     ensures seen { after_seeing (2 ∷ []) (progress (judged 5 first [] ∷ recorded 7 second ∷ []) 2)
         ≡ progress (judged 5 first [] ∷ judged 7 second (2 ∷ []) ∷ []) 2 }
-    // Progress with one judged and one announced call is what six phases make.
+    // Six phases make the progress with one judged and one announced call.
     ensures after_six { IsProgressAfter (5 ∷ 7 ∷ []) 6
         (progress (judged 5 first [] ∷ made 7 ∷ []) 1) }
-    // Progress with one judged and one recorded call, and one published record, is what eight
-    // phases make.
+    // Eight phases make the progress with one judged and one recorded call, and one published
+    // record.
     ensures after_eight { IsProgressAfter (5 ∷ 7 ∷ []) 8
         (progress (judged 5 first [] ∷ recorded 7 second ∷ []) 1) }
-    // Progress with one judged and one recorded call, and two published records, is what nine
-    // phases make.
+    // Nine phases make the progress with one judged and one recorded call, and two published
+    // records.
     ensures after_nine { IsProgressAfter (5 ∷ 7 ∷ []) 9
         (progress (judged 5 first [] ∷ recorded 7 second ∷ []) 2) }
-    // Progress with one published record isn't what nine phases make.
+    // Nine phases don't make a progress with one published record.
     ensures not_after_nine { ¬ IsProgressAfter (5 ∷ 7 ∷ []) 9
         (progress (judged 5 first [] ∷ recorded 7 second ∷ []) 1) }
-    // Progress whose second call has an operation other than the caller's isn't what eight phases
-    // make.
+    // Eight phases don't make a progress whose second call has an operation other than the
+    // caller's.
     ensures another_operation { ¬ IsProgressAfter (5 ∷ 6 ∷ []) 8
         (progress (judged 5 first [] ∷ recorded 7 second ∷ []) 1) }
-    // Progress without the second call isn't what six phases make.
+    // Six phases don't make a progress without the second call.
     ensures a_call_left_out { ¬ IsProgressAfter (5 ∷ 7 ∷ []) 6
         (progress (judged 5 first [] ∷ []) 1) }
 {}
 
-/// The object steps of a caller's calls: a caller has none before its first call, none in a call
-/// that it has just announced, and each further one is the last of the call under way and of all.
+/// The object steps of a caller's calls: a caller has none before its first call, and none in a
+/// call that it has just announced; each further one is the last of the call under way, and the
+/// last of all.
 pub fn object_steps_are_of_calls()
     // A local at the start has no progress.
     ensures none { progress_of fresh ≡ no_progress }
@@ -122,11 +121,11 @@ pub fn object_steps_are_of_calls()
         ≡ object_step 0 3 ∷ object_step 3 6 ∷ object_step 6 9 ∷ object_step 9 2 ∷ [] }
     // A call that has just been announced has no object step.
     ensures announced { steps_now (local_after 3 fresh Announce) ≡ [] }
-    // Progress with object steps of both calls is what six phases make.
+    // Six phases make a progress with object steps of both calls.
     ensures any_steps { IsProgressAfter (5 ∷ 7 ∷ []) 6 (progress_of stepped) }
 {}
 
-/// What an object tells: a pair for each call that it was asked, of which the last may have no
+/// What an object tells: a pair for each call that it was asked for, of which the last may have no
 /// record yet.
 pub fn objects_tell_of_what_they_were_asked()
     // The answers of calls are the operation and the reply of each call that has its record.
@@ -206,9 +205,9 @@ pub fn callers_are_given_phases()
     ensures published_later { published_in (6 ∷ 10 ∷ 4 ∷ []) worked_lines ≡ 1 ∷ 1 ∷ 1 ∷ [] }
 {}
 
-/// The lines of one caller with the operations 5 and 7, for allotments of no phase up to ten: one
-/// line for each call that was made, none left out, none beyond an error or the allotment, and in
-/// order.
+/// The lines of one caller with the operations 5 and 7, for allotments of 0 to 10 phases: one line
+/// for each call that was made, in order, with none left out, and none beyond an error or the
+/// allotment.
 pub fn lines_are_those_of_the_allotment()
     // Without a phase a caller has no line.
     ensures none { IsAllotted (5 ∷ 7 ∷ []) 0 [] }
@@ -256,8 +255,9 @@ pub fn lines_are_those_of_the_allotment()
         (delivered 5 first [] ∷ delivered 7 first [] ∷ pending 0 ∷ []) }
 {}
 
-/// The seen cuts of the worked lines fit: and others don't, which are narrow, lack their own line,
-/// hold an own line more, hold a record that wasn't published, or aren't comparable.
+/// The seen cuts of the worked lines fit. A seen cut doesn't fit that is too narrow, lacks its own
+/// line, holds a later line of its caller or a record that wasn't published, or isn't comparable
+/// with another one.
 pub fn seen_cuts_fit()
     // The seen cuts of the worked lines fit.
     ensures worked { AreSeen (published_in (6 ∷ 10 ∷ 3 ∷ []) worked_lines) worked_lines }
@@ -280,9 +280,9 @@ pub fn seen_cuts_fit()
     ensures crossing { ¬ AreSeen (1 ∷ 1 ∷ 1 ∷ []) (seen_by_second (0 ∷ 1 ∷ 0 ∷ [])) }
 {}
 
-/// The seen cut of an error line fits as a delivered line's does: others don't, which hold a record
-/// that wasn't published, are narrow, lack their own line, hold an own line more, or aren't
-/// comparable.
+/// The seen cut of an error line fits as a delivered line's does. One doesn't fit that is too
+/// narrow, lacks its own line, holds a later line of its caller or a record that wasn't published,
+/// or isn't comparable with another one.
 pub fn seen_cuts_of_errors_fit()
     // An error's seen cut with a record of caller 2 doesn't fit where that caller wasn't given the
     // phase that publishes it.
@@ -303,7 +303,7 @@ pub fn seen_cuts_of_errors_fit()
     ensures crossing { ¬ AreSeen (1 ∷ 1 ∷ 1 ∷ []) (failed_by_second (0 ∷ 1 ∷ 0 ∷ [])) }
 {}
 
-/// The greatest seen cut of a delivered line: whichever line saw it, and no error line's.
+/// The greatest seen cut is that of a delivered line, in whatever place, and never an error line's.
 pub fn greatest_delivered_cuts()
     // The delivered cuts of the three delivered lines and the error are those of the three
     // delivered ones.

@@ -1,12 +1,12 @@
-//! How far a caller has come, by the parts of its local that tell of its calls. Each law is the
-//! contract of a function with nothing in it.
+//! The progress of a caller, as the parts of its local determine it. Each law is the contract of a
+//! function with nothing in it.
 
 ghost use Rattle.report_lines.specs.Progress.{TheLastCallGoesOn};
 ghost use Rattle.report_lines.specs.Account.{NothingGrows, OperationsAreCalls, ObjectStepsAreOfTheLastCall, RepliesAreNoRecords, ViewsMakeRecords, PublicationsCount, SeenCutsAreOfTheLastCall, AnnouncementsAreCalls, ObjectStepsCount, PublishesCount};
 
-/// As an operation, a view, a seen cut or the count of published records is one more, the caller
-/// has come one phase further; with one more reply, or where nothing of them changes, it hasn't.
-/// One more object step is the last of all its steps.
+/// Where a local has one operation, one view, one seen cut or one published record more, its
+/// caller's progress is one phase further; where it has one reply more, or none of these changes,
+/// the progress stays. One more object step is the last of all object steps of the caller.
 pub fn locals_tell_how_far_callers_are()
     // Where a caller's account of its calls stays, its progress stays.
     ensures nothing { NothingGrows }
@@ -21,14 +21,15 @@ pub fn locals_tell_how_far_callers_are()
     // Where a viewing caller's account has one view more, the last call of its progress has its
     // record, with this view.
     ensures views { ViewsMakeRecords }
-    // Where a caller's account has one published record more, its progress has too.
+    // Where a caller's account has one published record more, its progress has one more.
     ensures publications { PublicationsCount }
-    // Where a judging caller's account has one seen cut more, the last call of its progress has it.
+    // Where a judging caller's account has one seen cut more, the last call of its progress has
+    // this seen cut.
     ensures seen { SeenCutsAreOfTheLastCall }
 {}
 
-/// An announcement is one more call, which has no object step; an object step is the last of all;
-/// and a publication is one more published record.
+/// An announcement is one more call, which has no object step; an object step is the last of all
+/// object steps of its caller; and a publication is one more published record.
 pub fn events_take_callers_on()
     // An announcement adds a call, with the staged operation, to its caller's progress.
     ensures announcements { AnnouncementsAreCalls }
@@ -38,7 +39,7 @@ pub fn events_take_callers_on()
     ensures publications { PublishesCount }
 {}
 
-/// Where the last of some calls goes on, those before it stay.
+/// A list of calls whose last call changes keeps the calls before it.
 pub fn the_last_call_goes_on()
     ensures { TheLastCallGoesOn }
 {}

@@ -1,5 +1,5 @@
-//! What a report says: a line for each call of each caller, how far a caller comes by phases, and
-//! when the lines are lawful.
+//! What a report says: a line for each call of each caller, how far a caller has come after a
+//! number of phases, and when the lines are lawful.
 #![tactic(auto)]
 
 pub mod cases;

@@ -1,7 +1,7 @@
 use book_base::{Cut, OpWord, Record};
 
 /// How the line of a call ends. The cut is the seen cut: what its caller saw published after its
-/// own record was.
+/// own record was published.
 #[derive(Clone, Copy, Debug)]
 pub enum LineEnd {
     /// The call was announced, and its caller stopped before it had the view.
@@ -10,7 +10,7 @@ pub enum LineEnd {
     Unchecked(Record),
     /// The reply was delivered: the book at the seen cut has a legal order.
     Delivered(Record, Cut),
-    /// The error: the book at the seen cut has no legal order.
+    /// The call is an error: the book at the seen cut has no legal order.
     Error(Record, Cut),
 }
 

@@ -32,7 +32,7 @@ module _ (counts : List ℕ) (told : List Line) (op : ℕ) (call : Call)
 
   -- ---- limits
 
-  -- a line that isn't pending leaves them
+  -- a line that isn't pending leaves the limits
   limits-same : (end : LineEnd) (limits : List ℕ) → (end ≡ Pending → ⊥)
       → AreLimits counts lines limits → AreLimits counts (after end) limits
   limits-same end limits other h = record {

@@ -20,7 +20,7 @@ after_answer old middle new suffix answer more h k is =
     ∙ ap (λ (x : List ℕ). old ++ x)
     (ap (λ (x : List ℕ). spaced answer ++ x) is ∙ sym (spaced-append answer more))
 
--- after an answer comes a verdict, and what was seen
+-- after an answer comes a verdict, and the seen cut
 pub verdict_written : (old m1 m2 new mark : List ℕ) (answer pairs : List (List ℕ))
     → m1 ≡ old ++ spaced answer → m2 ≡ m1 ++ 32 ∷ (mark ++ codes " seen") → new ≡ m2 ++ spaced pairs
     → new ≡ old ++ spaced (answer ++ mark ∷ codes "seen" ∷ pairs)

@@ -1,4 +1,4 @@
--- The first fault stands where bytes leave the texts of reports.
+-- The first fault is where the bytes can no longer be the beginning of a report's text.
 use Rattle.std.proofs.Common.{◌≡◌, ◌≢◌, ℕ, zero, suc, ◌+◌, ◌<◌, ◌≤◌, ◌⊎◌, List, [], ◌∷◌, ◌++◌, length, get_or, set, replicate, slice_get, Some, None, refl, sym, ap, subst, ◌∙◌, append_assoc, arith, inl, inr}
 use Rattle.std.specs.Prelude.{codes, IsSome}
 use Rattle.std.proofs.lemmas.Bool.{cases_eq}
@@ -381,7 +381,7 @@ line_or_end (InHead due) can = inl refl
 line_or_end (InLines kind counts told calls) can = inl refl
 line_or_end (AtEnd findings) can = inr (findings, refl)
 
--- the first fault stands where the bytes leave the texts
+-- the first fault is where the bytes can no longer be the beginning of a report's text
 pub report_leaves_texts : (bytes : List ℕ) (fault : TextFault) → IsFirstReportFault bytes fault
     → LeavesAt IsReportText bytes fault
 report_leaves_texts = leaves_texts report_rules report_sharp (InHead TitleDue) AtEnd same_end

@@ -247,7 +247,7 @@ answer_text kind n call words op r suffix v h e =
     (h.answered.2 ∙ ap
     (λ (ws : List (List ℕ)). reply_word r.reply ∷ codes "view" ∷ (pair_words 0 r.view ++ ws)) e)
 
--- and with one
+-- what the words of a line say with an answer
 pub says_answer : (kind : Kind) (n : ℕ) (call : Call) (words : List (List ℕ)) (op : ℕ) (r : Record)
     (suffix : List (List ℕ)) (end : LineEnd) → n ≤ MAX_CALLERS → IsNamedCall call
     → IsPrefix kind n call words op (Some r) suffix
@@ -284,7 +284,7 @@ says_answer kind n call words op r suffix (Error s cut) few named h v =
       text = answer_text kind n call words op r suffix _ h v.1;
     })
 
--- its record is that answer
+-- the record of the end that the words say is the answer
 pub answer_is : (n : ℕ) (r : Record) (suffix : List (List ℕ)) (end : LineEnd)
     → SayVerdict n r suffix end → answer_in end ≡ Some r
 answer_is n r suffix Pending v = absurd v.0

@@ -17,7 +17,7 @@ pub length-grouped : {X : Type 0} (counts : List ℕ) (xs : List X)
 length-grouped [] xs = refl
 length-grouped (c ∷ counts) xs = ap suc (length-grouped counts (drop c xs))
 
--- this many items stand before those of a caller
+-- how many items come before those of a caller
 abbrev pub before : List ℕ → ℕ → ℕ
 before counts i = sum (take i counts)
 
@@ -25,7 +25,7 @@ pub before-suc : (c : ℕ) (counts : List ℕ) (i : ℕ)
     → before (c ∷ counts) (suc i) ≡ c + before counts i
 before-suc c counts i = sum_by-cons (λ (x : ℕ). x) c (take i counts)
 
--- after the items of one caller more
+-- how many items come before those of the next caller
 pub before-more : (counts : List ℕ) (i : ℕ)
     → before counts (i + 1) ≡ before counts i + get_or counts i 0
 before-more [] zero = refl
@@ -69,7 +69,7 @@ grouped-push {X} (c ∷ counts) xs x (suc i) k e lt =
     ∙ ap (λ (yss : List (List X)). take c xs ∷ yss) (grouped-push counts (drop c xs) x i k
     (omega (arith, length-drop c xs, e, before-suc c counts i)) lt)
 
--- ---- what stands where
+-- ---- which item is at a place
 
 abbrev pub place : {X : Type 0} → List (List X) → ℕ → ℕ → Option X
 place xss j m = slice_get (get_or xss j []) m

@@ -1,4 +1,4 @@
--- What stands among the first lines stands among all.
+-- An element of a prefix of a list is one of the list.
 use Rattle.std.proofs.Common.{◌≡◌, ℕ, zero, suc, List, [], ◌∷◌, ◌++◌, get_or, take, drop, slice_get, Some, refl, ap, ◌∙◌}
 use Rattle.std.specs.List.{flat_map}
 use Rattle.std.proofs.lemmas.List.Concat.{flat_map-append}

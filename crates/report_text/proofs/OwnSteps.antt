@@ -29,7 +29,7 @@ use Rattle.report_text.specs.Parts.{joined, LineIsRead, LineIsStopped, AreOwnRea
 
 -- ---- one caller
 
--- of this many calls of a caller the lines of the first are read, and say these
+-- of this many calls of a caller the lines of the first ones are read, and say these lines
 pub record AreReadTo (kind : Kind) (counts : List ℕ) (told : List Line) (i count number : ℕ)
     (more : List Call) (text : Unread) (own : List Line) (after : Draft)
     (left : Unread) : Type 0 where
@@ -157,7 +157,7 @@ no_line counts call line e =
     ap (λ (ls : List Line). slice_get ls call.number) (sym (grouped-none counts call.caller)) ∙ e in
     absurd cc
 
--- before all lines
+-- the draft before any line
 pub draft-none : (counts : List ℕ) (draft : Draft) → draft.book ≡ unanswered_book counts
     → draft.limits ≡ counts → draft.seen ≡ replicate (length counts) 0 → IsDraft counts [] draft
 draft-none counts draft book limits seen = record {

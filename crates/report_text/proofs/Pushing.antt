@@ -1,4 +1,4 @@
--- What lines come to with one line more.
+-- What is kept of lines with one line more.
 use Rattle.std.proofs.Common.{◌≡◌, ℕ, zero, suc, ◌+◌, ◌-◌, ◌<◌, ◌≤◌, ◌⊎◌, List, [], ◌∷◌, ◌++◌, length, map, get_or, set, take, drop, replicate, Option, Some, None, refl, sym, ap, ◌∙◌, arith, inl, inr}
 use Rattle.std.specs.List.{flat_map}
 use Rattle.std.proofs.lemmas.Bool.{cases_lt}
@@ -194,7 +194,7 @@ module _ (counts : List ℕ) (told : List Line) (line : Line) (call : Call)
       ∙ sym (with_line-set (book_so_far counts told) call line.op (answer_in line.end)
       (omega (arith, inside, length-book_so_far counts told)))
 
-  -- ---- what stands where
+  -- ---- which line is at a place
 
   pub line-here : line_at after call ≡ Some line
   line-here =

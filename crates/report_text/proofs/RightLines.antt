@@ -1,4 +1,4 @@
--- What a line says is one thing, and which tests it passes by that.
+-- A line says one thing, and passes certain tests by what it says.
 use Rattle.std.proofs.Common.{◌≡◌, ℕ, ◌<◌, ◌^◌, ◌⊎◌, List, [], ◌∷◌, ◌++◌, length, Some, None, refl, sym, ap, subst, ◌∙◌, arith, inl, inr}
 use Rattle.std.specs.Prelude.{codes}
 use Rattle.book_base.specs.declared.call.Call.{Call}
@@ -106,7 +106,7 @@ one_line kind n call words a b h k =
     let made : ℕ → LineEnd → Line = λ o x. record { op = o; end = x } in
     ap (λ (o : ℕ). made o a.end) op ∙ ap (made b.op) end
 
--- ---- the tests that a line passes which says something
+-- ---- the tests that a line passes by what it says
 
 module _ (kind : Kind) (counts : List ℕ) (told : List Line) (call : Call)
     (words : List (List ℕ)) where

@@ -190,6 +190,6 @@ wanted (InHead due) after words h = refl
 wanted (InLines kind counts told calls) after words h = refl
 wanted (AtEnd findings) after words h = absurd h
 
--- the rules of a report's text are sharp
+-- the rules of a report's text are sharp: a line has one reading or one fault
 pub report_sharp : AreSharp report_rules
 report_sharp = record { one_way = one_way; apart = apart; solid = solid; lines = wanted }

@@ -33,7 +33,7 @@ use Rattle.report_text.proofs.OwnSteps.{so_far-none, no_line}
 
 -- ---- the book
 
--- a book with one line more is valid still
+-- a valid book is still valid with one line more
 valid-line : (book : List Page) (call : Call) (op : ℕ) (answer : Option Record)
     → call.caller < length book → ((r : Record) → answer ≡ Some r → length r.view ≡ length book)
     → MayTell book call answer → IsValid book
@@ -46,7 +46,7 @@ valid-line book call op (Some r) lt wide may h =
     (omega (arith, length-set book call.caller p))
     (IsValid-with_answer book call.caller r lt (wide r refl) may h)
 
--- its replies can be written
+-- the replies of a book can be written
 abbrev AreWritable : List Page → Type 0
 AreWritable book = (call : Call) (r : Record) → record_of book call ≡ Some r → r.reply < 2 ^ 64
 
@@ -261,8 +261,8 @@ operations-joined (own ∷ lines) h =
       split [] ys h = (tt, h)
       split (x ∷ xs) ys h = let more = split xs ys h.1 in ((h.0, more.0), more.1)
 
--- how many lines of a caller have a record, where each but the last is delivered, and a count goes
--- no further than a pending one
+-- how many lines of a caller have a record, where each but the last is delivered, and a count isn't
+-- beyond a pending line
 pub count_records : (own : List Line) (c : ℕ) → c ≤ length own → ((m : ℕ) (l : Line)
     → slice_get own m ≡ Some l → delivered_in l.end ≡ None → m + 1 < length own → ⊥)
     → ((m : ℕ) (l : Line) → slice_get own m ≡ Some l → l.end ≡ Pending → c ≤ m)

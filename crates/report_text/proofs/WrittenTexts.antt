@@ -69,7 +69,7 @@ few_records l = of_end l.end where
   of_end (Delivered r cut) = omega arith
   of_end (Error r cut) = omega arith
 
--- no record stands after a pending line
+-- no record comes after a pending line
 before_pending : (own : List Line) (m : ℕ) (l : Line) → slice_get own m ≡ Some l → l.end ≡ Pending
     → length own ≤ m + 1 → length (flat_map records_in own) ≤ m
 before_pending [] m l e p le = omega arith
@@ -113,7 +113,7 @@ operation_in [] i m l h e = absurd cc
 operation_in (own ∷ lines) zero m l h e = operation_at own m l h.0 e
 operation_in (own ∷ lines) (suc i) m l h e = operation_in lines i m l h.1 e
 
--- ---- where a line stands
+-- ---- the place of a line
 
 joined-middle : (done : List (List Line)) (own : List Line) (later : List (List Line))
     → joined (done ++ own ∷ later) ≡ joined done ++ (own ++ joined later)
@@ -217,7 +217,7 @@ module _ (findings : Findings) (w : IsReport findings) where
     abbrev so_far : List Page
     so_far = book_so_far counts told
 
-    -- what stands so far stands in the report
+    -- the lines so far are lines of the report
     line_kept : (other : Call) (l : Line) → line_at (grouped counts told) other ≡ Some l
         → line_at lines other ≡ Some l
     line_kept other l e = ap (λ (ls : List (List Line)). line_at ls other) (sym groups)
@@ -438,7 +438,7 @@ module _ (findings : Findings) (w : IsReport findings) where
         moved,
       )
 
-  -- so are the lines of all callers from one on
+  -- the lines of all callers from one on are right
   callers_pass : (done later : List (List Line)) → lines ≡ done ++ later
       → AllPass ReportPasses
       (InLines kind counts (joined done) (all_calls (length done) (sizes later)))

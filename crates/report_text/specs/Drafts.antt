@@ -1,4 +1,4 @@
--- What the lines so far come to, as a reader keeps it beside them.
+-- What a reader keeps of the lines that it has read so far: a draft.
 use Rattle.std.specs.Prelude.{◌≡◌, ◌⊎◌, ℕ, ◌+◌, ◌≤◌, List, length, take, sum, min, max, slice_index, slice_set}
 use Rattle.book_base.specs.declared.call.Call.{Call}
 use Rattle.book_base.specs.Cut.{Holds, IsWithin}
@@ -9,12 +9,12 @@ use Rattle.client_scripts.specs.ScriptRules.{grouped}
 use Rattle.report_text.specs.declared.draft.Draft.{Draft}
 use Rattle.report_text.specs.ReportRules.{book_so_far, IsPendingAt, IsSeenBefore}
 
--- The lines so far are those of the callers before this one, and this many of its own.
+-- The lines so far are those of the callers before caller i, and k lines of caller i.
 abbrev pub StandBefore : List ℕ → List Line → ℕ → ℕ → Type 0
 StandBefore counts told i k = length told ≡ sum (take i counts) + k
 
--- How far seen cuts may go, beside these lines of callers with these numbers of calls: to the
--- number of each caller's calls, or to the number of its pending call.
+-- The limits of seen cuts, after these lines of callers with these numbers of calls: for each
+-- caller the number of its calls, or the number of its pending call.
 pub record AreLimits (counts : List ℕ) (lines : List (List Line)) (limits : List ℕ) : Type 0 where
   pub wide : length limits ≡ length counts
   pub within : (j : ℕ) → slice_index limits j ≤ slice_index counts j
@@ -30,7 +30,7 @@ pub record AreSeenCounts (n : ℕ) (lines : List (List Line)) (seen : List ℕ) 
   pub holds : (call : Call) → IsSeenBefore lines call → Holds seen call
   pub held : (call : Call) → Holds seen call → IsSeenBefore lines call
 
--- The draft holds what these lines come to.
+-- The draft is that of these lines.
 pub record IsDraft (counts : List ℕ) (told : List Line) (draft : Draft) : Type 0 where
   pub book : draft.book ≡ book_so_far counts told
   pub limits : AreLimits counts (grouped counts told) draft.limits
@@ -43,12 +43,12 @@ pub record IsWide (draft : Draft) : Type 0 where
 
 -- ---- with one more line
 
--- the limits with this pending call
+-- the limits after the line of this pending call
 abbrev pub lowered : List ℕ → Call → List ℕ
 lowered limits call =
     slice_set limits call.caller (min (slice_index limits call.caller) call.number)
 
--- the limits with a line of this call that ends so
+-- the limits after the line of this call with this end
 abbrev pub limits_with : List ℕ → Call → LineEnd → List ℕ
 limits_with limits call Pending = lowered limits call
 limits_with limits call (Unchecked r) = limits
@@ -60,14 +60,14 @@ pub record AreJoined (a b both : List ℕ) : Type 0 where
   pub wide : length both ≡ length a
   pub greater : (j : ℕ) → slice_index both j ≡ max (slice_index a j) (slice_index b j)
 
--- the greatest counts with a line that ends so
+-- the greatest counts of the seen cuts after a line with this end
 abbrev pub AreSeenWith : List ℕ → LineEnd → List ℕ → Type 0
 AreSeenWith seen Pending after = after ≡ seen
 AreSeenWith seen (Unchecked r) after = after ≡ seen
 AreSeenWith seen (Delivered r cut) after = AreJoined seen cut after
 AreSeenWith seen (Error r cut) after = AreJoined seen cut after
 
--- a line of this call that ends so fits what is kept of the lines before it
+-- a line of this call with this end fits the limits and the greatest counts of the lines before it
 abbrev pub FitsKept : List ℕ → List ℕ → Call → LineEnd → Type 0
 FitsKept limits seen call Pending = ¬ (Holds seen call)
 FitsKept limits seen call (Unchecked r) = Unit {0}

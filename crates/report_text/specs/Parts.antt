@@ -1,4 +1,5 @@
--- What the parts of a report's text say, each after whatever stands before it, and where they stop.
+-- What the parts of a report's text say, each after whatever stands before it, and where a reader
+-- stops in them.
 use Rattle.std.specs.Prelude.{◌≡◌, ◌≢◌, ◌⊎◌, ℕ, ◌<◌, ◌^◌, List, [], ◌∷◌, ◌++◌, length, slice_index, codes, Option, Some, None}
 use Rattle.book_base.specs.declared.call.Call.{Call}
 use Rattle.book_base.specs.declared.call.Record.{Record}
@@ -35,7 +36,7 @@ SayAnswer n words None suffix = words ≡ codes "pending" ∷ []
 SayAnswer n words (Some r) suffix = IsAnswer n r × NoPairFirst suffix
     × (words ≡ reply_word r.reply ∷ codes "view" ∷ (pair_words 0 r.view ++ suffix))
 
--- why they don't
+-- why the words after the operation neither are 'pending' alone nor begin with an answer
 abbrev pub IsNoAnswer : ℕ → List (List ℕ) → What → Type 0
 IsNoAnswer n words what.Reply = (words ≢ codes "pending" ∷ [])
     × ((reply : ℕ) (others : List (List ℕ)) → reply < 2 ^ 64 → words ≢ reply_word reply ∷ others)
@@ -45,7 +46,8 @@ IsNoAnswer n words what.View = (reply : ℕ) × (suffix : List (List ℕ)) × (r
     ⊎ ((pairs : List (List ℕ)) × (suffix ≡ codes "view" ∷ pairs) × HasBadPair n 0 pairs))
 IsNoAnswer n words _ = ⊥
 
--- the line begins with its call, this operation and this answer, where it has one
+-- the line begins with its call, this operation and this answer, where it has one, and this suffix
+-- follows
 pub record IsPrefix (kind : Kind) (n : ℕ) (call : Call) (words : List (List ℕ)) (op : ℕ)
     (answer : Option Record) (suffix : List (List ℕ)) : Type 0 where
   pub has : IsOperationWord op
@@ -53,8 +55,8 @@ pub record IsPrefix (kind : Kind) (n : ℕ) (call : Call) (words : List (List �
   pub text : words ≡ place_words call ++ (operation_words kind op ++ rest)
   pub answered : SayAnswer n rest answer suffix
 
--- the first test that a line fails before the views of other lines are asked, whatever lines stand
--- before it
+-- the first test that a line fails, of those before any that ask for the views of other lines,
+-- whatever lines stand before it
 abbrev pub IsPrefixRefused : Kind → ℕ → Call → List (List ℕ) → What → Type 0
 IsPrefixRefused kind n call words name = (counts : List ℕ) (told : List Line) → length counts ≡ n
     → IsFirstTest (LineFails kind counts told call words) name
@@ -77,7 +79,7 @@ HasVerdict n r (Error s cut) = (s ≡ r) × IsCut n cut
 abbrev pub SayVerdict : ℕ → Record → List (List ℕ) → LineEnd → Type 0
 SayVerdict n r words end = HasVerdict n r end × (words ≡ verdict_words end)
 
--- why they say none
+-- why the words after the view say no end of a line
 abbrev pub IsNoVerdict : ℕ → List (List ℕ) → What → Type 0
 IsNoVerdict n words what.Mark = (words ≢ codes "unchecked" ∷ [])
     × ((others : List (List ℕ)) → ¬ (BeginAsVerdict words others))
@@ -135,7 +137,7 @@ pub record FitsOthers (counts : List ℕ) (lines : List (List Line)) (call : Cal
   pub cuts : FitsCuts counts lines call line
   pub last : ¬ (EndsTooEarly counts call line)
 
--- the first test that it fails, of those that tell of cuts and of its caller's further lines
+-- the first test that a line fails, of those on cuts and on its caller's further lines
 abbrev pub IsMisfit : List ℕ → List (List Line) → Call → Line → What → Type 0
 IsMisfit counts lines call line what.Seen =
     ((cut : List ℕ) × (seen_in line.end ≡ Some cut) × IsWrongCut counts lines call cut)
@@ -144,13 +146,14 @@ IsMisfit counts lines call line what.Last = FitsCuts counts lines call line
     × EndsTooEarly counts call line
 IsMisfit counts lines call line _ = ⊥
 
--- a line fits all lines that come to these cuts
+-- a line fits all lines that have these limits and these greatest counts
 abbrev pub AlwaysFits : List ℕ → List ℕ → Call → ℕ → Line → Type 0
 AlwaysFits limits seen call count line = (counts : List ℕ) (lines : List (List Line))
     → AreLimits counts lines limits → AreSeenCounts (length counts) lines seen
     → slice_index counts call.caller ≡ count → FitsOthers counts lines call line
 
--- this is the first test that a line fails, beside all lines that come to these cuts
+-- this is the first test that a line fails, after all lines that have these limits and these
+-- greatest counts
 abbrev pub IsAlwaysMisfit : List ℕ → List ℕ → Call → ℕ → Line → What → Type 0
 IsAlwaysMisfit limits seen call count line name = (counts : List ℕ) (lines : List (List Line))
     → AreLimits counts lines limits → AreSeenCounts (length counts) lines seen
@@ -158,8 +161,8 @@ IsAlwaysMisfit limits seen call count line name = (counts : List ℕ) (lines : L
 
 -- ---- lines
 
--- The next line is that of this call and says this: so it leads from one draft to another, whatever
--- stands before it and after.
+-- The next line is the one of this call that says this, and with it the lines so far have this
+-- draft.
 pub record IsLineRead (kind : Kind) (counts : List ℕ) (told : List Line) (call : Call)
     (more : List Call) (text : Unread) (line : Line) (after : Draft) (left : Unread) : Type 0 where
   pub goes : GoesTo report_rules (InLines kind counts told (call ∷ more)) text
@@ -180,7 +183,8 @@ LineIsStopped kind before call text e = (counts : List ℕ) (told : List Line) (
     → IsDraft counts told before → StandBefore counts told call.caller call.number
     → StopsFor report_rules (InLines kind counts told (call ∷ more)) text e
 
--- The next lines are those of this many calls of a caller, and say these.
+-- The next lines are those of the first calls of a caller, this many, and say these; and with them
+-- the lines so far have this draft.
 pub record AreOwnRead (kind : Kind) (counts : List ℕ) (told : List Line) (i count : ℕ)
     (more : List Call) (text : Unread) (own : List Line) (after : Draft)
     (left : Unread) : Type 0 where
@@ -206,12 +210,13 @@ LinesAreStopped kind before i count text e = (counts : List ℕ) (told : List Li
 abbrev pub joined : List (List Line) → List Line
 joined lines = flat_map (λ own. own) lines
 
--- The next lines are those of all calls of these numbers, and say these.
+-- The next lines are those of all calls of callers with these numbers of calls, and say these.
 abbrev pub AreAllRead : Kind → List ℕ → Unread → List (List Line) → Unread → Type 0
 AreAllRead kind counts text lines left = GoesTo report_rules
     (InLines kind counts [] (all_calls 0 counts)) text (InLines kind counts (joined lines) []) left
 
--- In the next lines, which are to be those of all calls of these numbers, a reader stops.
+-- In the next lines, which are to be those of all calls of callers with these numbers of calls, a
+-- reader stops.
 abbrev pub AreAllStopped : Kind → List ℕ → Unread → ReadFault → Type 0
 AreAllStopped kind counts text e =
     StopsFor report_rules (InLines kind counts [] (all_calls 0 counts)) text e

@@ -53,15 +53,15 @@ book_so_far (count ∷ counts) told =
 
 -- ---- what the words of a line say
 
--- a cut of this many callers, as texts can have it
+-- a cut of this many callers whose counts a text can have
 abbrev pub IsCut : ℕ → List ℕ → Type 0
 IsCut n cut = (length cut ≡ n) × AreNumbers cut
 
--- a record of this many callers, as texts can have it
+-- a record of this many callers whose reply and view a text can have
 abbrev pub IsAnswer : ℕ → Record → Type 0
 IsAnswer n r = (r.reply < 2 ^ 64) × IsCut n r.view
 
--- the end of a line, as texts of this many callers can have it
+-- the end of a line of this many callers whose record and seen cut a text can have
 abbrev pub IsFormed : ℕ → LineEnd → Type 0
 IsFormed n Pending = Unit {0}
 IsFormed n (Unchecked r) = IsAnswer n r
@@ -77,7 +77,7 @@ pub record SaysLine (kind : Kind) (n : ℕ) (call : Call) (words : List (List �
   pub formed : IsFormed n line.end
   pub text : words ≡ line_words kind call line
 
--- after the reply the line has this view, and after it these words, which begin with no pair
+-- after the reply the words are this view and this suffix, which begins with no pair
 pub record IsAfterView (kind : Kind) (n : ℕ) (call : Call) (words : List (List ℕ)) (view : List ℕ)
     (suffix : List (List ℕ)) : Type 0 where
   pub formed : IsCut n view
@@ -85,20 +85,19 @@ pub record IsAfterView (kind : Kind) (n : ℕ) (call : Call) (words : List (List
   pub text : IsAfterReply (kind_operations Second kind) call words
       (codes "view" ∷ (pair_words 0 view ++ suffix))
 
--- the words begin with a verdict, and these stand after it
+-- the words begin with a verdict, and this suffix follows it
 abbrev pub BeginAsVerdict : List (List ℕ) → List (List ℕ) → Type 0
 BeginAsVerdict words suffix = (words ≡ codes "ok" ∷ codes "seen" ∷ suffix)
     ⊎ (words ≡ codes "error" ∷ codes "seen" ∷ suffix)
 
 -- ---- how a line fits those before it
 
--- the call has a line among these, which is pending
+-- the line of the call, which is among these, is pending
 abbrev pub IsPendingAt : List (List Line) → Call → Type 0
 IsPendingAt lines call = (line : Line) × (line_at lines call ≡ Some line) × (line.end ≡ Pending)
 
--- A seen cut of a call goes too far, or not far enough: a count is above the calls of its caller,
--- or above the number of an earlier pending line of that caller, or the cut doesn't hold the call
--- itself.
+-- A seen cut of a call is wrong: a count is above the number of its caller's calls, or the cut
+-- holds a call whose line is pending, or it doesn't hold the call itself.
 abbrev pub IsWrongCut : List ℕ → List (List Line) → Call → List ℕ → Type 0
 IsWrongCut counts lines call cut =
     ((j : ℕ) × (slice_index counts j < slice_index cut j))
@@ -110,7 +109,7 @@ abbrev pub IsSeenBefore : List (List Line) → Call → Type 0
 IsSeenBefore lines call = (other : Call) × (cut : List ℕ) × (seen_at lines other ≡ Some cut)
     × Holds cut call
 
--- the line isn't delivered, and its caller has a further one
+-- the line isn't delivered, and isn't its caller's last
 abbrev pub EndsTooEarly : List ℕ → Call → Line → Type 0
 EndsTooEarly counts call line = (delivered_in line.end ≡ None)
     × (call.number + 1 < slice_index counts call.caller)
@@ -126,7 +125,7 @@ pub record Fits (counts : List ℕ) (told : List Line) (call : Call) (line : Lin
 
 -- ---- the tests of a line
 
--- A line for this call fails a test, after lines that say these.
+-- A line, which is to be that of this call, fails a test after these lines.
 abbrev pub LineFails : Kind → List ℕ → List Line → Call → List (List ℕ) → What → Type 0
 -- the line doesn't begin with the caller and the number that are due
 LineFails kind counts told call words what.Place = (suffix : List (List ℕ))
@@ -136,18 +135,18 @@ LineFails kind counts told call words what.Op = (suffix : List (List ℕ))
     × (words ≡ place_words call ++ suffix)
     × ((op : ℕ) (others : List (List ℕ)) → IsOperationWord op
     → suffix ≢ operation_words kind op ++ others)
--- the words after the operation begin with no reply, and aren't 'pending' alone
+-- the words after the operation neither begin with a reply nor are 'pending' alone
 LineFails kind counts told call words what.Reply = (suffix : List (List ℕ))
     × IsAfterOperation (kind_operations Second kind) call words suffix
     × (suffix ≢ codes "pending" ∷ [])
     × ((reply : ℕ) (others : List (List ℕ)) → reply < 2 ^ 64 → suffix ≢ reply_word reply ∷ others)
--- the next words are no view: the next isn't 'view', or of the pair words after it one is no pair,
--- or its caller doesn't rise
+-- the words after the reply begin with no view: the first isn't 'view', or one of the pair words
+-- after it is no pair, or has no greater caller than the pair before it
 LineFails kind counts told call words what.View = (suffix : List (List ℕ))
     × IsAfterReply (kind_operations Second kind) call words suffix
     × (LacksViewWord suffix ⊎ ((pairs : List (List ℕ)) × (suffix ≡ codes "view" ∷ pairs)
     × HasBadPair (length counts) 0 pairs))
--- the words after the view are none of the three forms
+-- the words after the view neither are 'unchecked' alone nor begin with a verdict
 LineFails kind counts told call words what.Mark = (view : List ℕ) × (suffix : List (List ℕ))
     × IsAfterView kind (length counts) call words view suffix
     × (suffix ≢ codes "unchecked" ∷ [])
@@ -162,7 +161,7 @@ LineFails kind counts told call words what.Seen =
     × (seen_in line.end ≡ Some cut) × IsWrongCut counts (grouped counts told) call cut)
     ⊎ ((line : Line) × SaysLine kind (length counts) call words line × (line.end ≡ Pending)
     × IsSeenBefore (grouped counts told) call))
--- the line isn't delivered, and its caller has a further one
+-- the line isn't delivered, and isn't its caller's last
 LineFails kind counts told call words what.Last = (line : Line)
     × SaysLine kind (length counts) call words line × EndsTooEarly counts call line
 -- the line has a view that the book of the lines before it refuses
@@ -207,7 +206,7 @@ ReportFails (InLines kind counts told (call ∷ calls)) words name =
     LineFails kind counts told call words name
 ReportFails (AtEnd findings) words name = ⊥
 
--- what is wanted in the text of a report
+-- whether a further line or the end is wanted in the text of a report
 abbrev pub report_wanted : ReportDue → Wanted
 report_wanted (InHead due) = ALine
 report_wanted (InLines kind counts told calls) = ALine

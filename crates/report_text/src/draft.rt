@@ -1,4 +1,4 @@
-//! What the lines so far come to.
+//! What is kept of the lines that are read so far.
 
 ghost use Rattle.std.specs.Prelude.{◌≡◌, ◌↔◌, ◌<◌, length, is_some, IsTrue, IfSome, IfNone};
 ghost use Rattle.book_base.specs.Cut.{Holds, IsWithin};
@@ -9,20 +9,20 @@ ghost use Rattle.report_text.specs.Parts.{AlwaysFits, IsAlwaysMisfit};
 use book_base::{Book, Call, Cut, What};
 use report_lines::{Line, LineEnd};
 
-/// What the lines so far come to, as far as further lines are tried by it.
+/// What is kept of the lines that are read so far, as far as further lines are tested by it.
 #[derive(Drop)]
 pub(crate) struct Draft {
     /// The calls and the records of the lines so far, and the calls whose lines are still due.
     pub(crate) book: Book,
-    /// How far seen cuts may go: to the number of each caller's calls, or to that of its pending
-    /// one.
+    /// The limits of seen cuts: for each caller the number of its calls, or the number of its
+    /// pending one.
     pub(crate) limits: Cut,
     /// For each caller the greatest count in the seen cuts so far.
     pub(crate) seen: Cut,
 }
 
 impl Draft {
-    /// Takes what the line of this call says of cuts.
+    /// Takes the line of this call into the limits and into the greatest counts.
     pub(crate) fn note(&mut self, call: Call, line: &Line)
         requires caller { call.caller < length self.old.limits }
         requires seen { IfSome (seen_in line.now.end) (λ cut. length cut ≡ length self.old.seen) }
@@ -39,7 +39,8 @@ impl Draft {
     }
 }
 
-/// Lowers the count of a call's caller to the number of the call, where it is above it.
+/// Lowers the count of a call's caller to the number of the call, where the count is above this
+/// number.
 fn lower(limits: &mut Cut, call: Call)
     requires { call.caller < length limits.old }
     ensures { limits.new ≡ lowered limits.old call }
@@ -48,7 +49,7 @@ fn lower(limits: &mut Cut, call: Call)
     limits.set(call.caller, count.min(call.number));
 }
 
-/// Raises each count to that of the other cut, where it is below it.
+/// Raises each count to that of the other cut, where it is below that.
 fn join(seen: &mut Cut, cut: &Cut)
     requires { length cut.now ≡ length seen.old }
     ensures { AreJoined seen.old cut.now seen.new }
@@ -59,8 +60,8 @@ fn join(seen: &mut Cut, cut: &Cut)
     }
 }
 
-/// The first test that the line of this call fails beside the lines before it, but for those of its
-/// view. Its caller has this many calls.
+/// The first test that the line of this call fails after the lines before it, of all tests but
+/// those of its view. The call's caller has this many calls.
 pub(crate) fn misfit(limits: &Cut, seen: &Cut, call: Call, count: u64, line: &Line) -> Option<What>
     requires caller { call.caller < length limits.now }
     requires wide { length seen.now ≡ length limits.now }
@@ -93,7 +94,7 @@ fn fits_cuts(limits: &Cut, seen: &Cut, call: Call, line: &Line) -> bool
     }
 }
 
-/// Whether a seen cut of this call goes far enough to hold it, and not too far.
+/// Whether a seen cut of this call holds the call, and is within the limits.
 fn goes_right(cut: &Cut, limits: &Cut, call: Call) -> bool
     requires caller { call.caller < length limits.now }
     requires wide { length cut.now ≡ length limits.now }

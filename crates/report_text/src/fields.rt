@@ -23,8 +23,8 @@ struct Prefix {
     answer: Option<Record>,
 }
 
-/// What the line of this call says, in a report about objects of this kind. The book, which has
-/// what the lines before it say, takes what it says. `number` is the line's.
+/// Reads the line of this call, in a report about objects of this kind, and takes what it says into
+/// the book of the lines before it. `number` is the line's.
 pub(crate) fn read_fields(
     kind: Kind,
     line: &[u8],
@@ -100,8 +100,8 @@ fn read_answer(words: &mut Words, n: u32) -> Result<Option<Record>, What>
     }
 }
 
-/// Takes this answer of the call into the book, and reads the verdict after it. `number`
-/// is the line's.
+/// Takes this answer of the call into the book, and reads the verdict after the answer. `number` is
+/// the line's.
 fn take_answer(
     book: &mut Book,
     call: Call,

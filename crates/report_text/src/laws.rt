@@ -7,7 +7,7 @@ ghost use Rattle.reports.specs.Findings.{Findings};
 ghost use Rattle.reports.specs.Grammar.{IsWrittenText};
 ghost use Rattle.report_text.specs.ReportRules.{IsReportText, IsFirstReportFault};
 
-/// Bytes are the text of one report at most.
+/// Bytes are the text of at most one report.
 pub fn one_report_per_text()
     ensures { (bytes : List ℕ) (a b : Findings)
         → IsReportText bytes a → IsReportText bytes b → a ≡ b }
@@ -19,7 +19,7 @@ pub fn one_text_per_report()
         → IsReportText a findings → IsReportText b findings → a ≡ b }
 {}
 
-/// Bytes have one first fault at most.
+/// Bytes have at most one first fault.
 pub fn one_first_fault()
     ensures { (bytes : List ℕ) (a b : TextFault)
         → IsFirstReportFault bytes a → IsFirstReportFault bytes b → a ≡ b }
@@ -43,9 +43,9 @@ pub fn no_report_text_begins_another()
         → IsReportText bytes a → IsReportText (bytes ++ more) b → more ≡ [] }
 {}
 
-/// A first fault stands where the bytes leave the texts of reports: some text begins with the lines
-/// before the fault's line, and none goes on with that line; or it isn't whole, or bytes follow a
-/// whole text.
+/// A first fault is in the first line with which the bytes can't be the beginning of a report's
+/// text: some text begins with the lines before it, and none with these lines and that line; or the
+/// text isn't whole, or bytes follow a whole text.
 pub fn first_faults_leave_texts()
     ensures { (bytes : List ℕ) (fault : TextFault)
         → IsFirstReportFault bytes fault → LeavesAt IsReportText bytes fault }

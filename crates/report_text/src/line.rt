@@ -13,8 +13,8 @@ use report_lines::Line;
 use seq_objects::Kind;
 use text_fields::Lines;
 
-/// What the line of this call says, in a report about objects of this kind. The draft, which has
-/// what the lines before it come to, takes it in.
+/// Reads the line of this call, in a report about objects of this kind, and takes it into the draft
+/// of the lines before it.
 pub(crate) fn read_line(
     lines: &mut Lines,
     kind: Kind,

@@ -14,7 +14,7 @@ use Rattle.report_lines.specs.declared.line.Line.{Line}
 use Rattle.report_lines.specs.Lines.{lines_at, seen_in, seen_at, error_in, error_at, is_error, any_error}
 use Rattle.reports.specs.Findings.{IsReport, Findings, IsInBook, HasFirstError, HasFirstErrorIn}
 
--- where none of some lines is an error, none of them saw a cut as one
+-- where none of some lines is an error, none has a seen cut as an error
 pub no_error_in : (own : List Line) (k : ℕ) → any_error own ≡ false
     → option_and_then (λ (line : Line). error_in line.end) (slice_get own k) ≡ None
 no_error_in [] k none = refl
@@ -60,7 +60,7 @@ first_of_all lines i cut none found =
       },
     )
 
--- what an error saw is a seen cut
+-- the cut of an error is a seen cut
 error_sees : (end : LineEnd) (cut : List ℕ) → error_in end ≡ Some cut → seen_in end ≡ Some cut
 error_sees Pending cut e = absurd (none-some cut e)
 error_sees (Unchecked r) cut e = absurd (none-some cut e)
@@ -75,7 +75,7 @@ error_is_seen lines call cut e =
     ap (λ (o : Option Line). option_and_then (λ (line : Line). seen_in line.end) o) found.1
     ∙ error_sees found.0.end cut found.2
 
--- and so it is in the book
+-- the cut of the first error is in the book
 pub first_is_in_book : (findings : Findings) (cut : List ℕ) → IsReport findings
     → HasFirstError findings.lines cut → IsInBook findings.lines cut
 first_is_in_book findings cut is first =

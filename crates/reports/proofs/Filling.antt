@@ -49,7 +49,7 @@ pub delivered_led : (own : List Line) → ((k : ℕ) (line : Line) → slice_get
     → k + 1 < length own → IsSome (delivered_in line.end)) → IsLed own
 delivered_led own led k line e low = delivered_answer line.end (led k line e low)
 
--- so the lines of a report are those of a book
+-- the lines of a report are those of a book
 pub report_of_a_book : (findings : Findings) → IsReport findings → AreOfABook findings.lines
 report_of_a_book findings h = record {
   some = h.some;
@@ -105,7 +105,7 @@ length-own_page own =
 
 -- ---- the book while the lines of a caller are put in
 
--- the first n callers' lines are in it, and the first k of caller n
+-- the book with the lines of the first n callers put in, and the first k lines of caller n
 abbrev pub filling : List (List Line) → ℕ → ℕ → List Page
 filling lines n k = book_of_lines (take n lines) ++ page_to k (own_page (lines_at lines n))
     ∷ unanswered_book (sizes (drop (n + 1) lines))
@@ -183,7 +183,7 @@ filled_all lines n all =
     ∙ append-nil (book_of_lines (take n lines))
     ∙ ap book_of_lines (take_all n lines all)
 
--- ---- such a book is a prefix of the whole one, so that it takes the next record
+-- ---- the book being filled is a prefix of the whole one, so it takes the next record
 
 -- A page has as many calls as another, and the first ones of its records.
 record IsPrefixPage (part whole : Page) : Type 0 where

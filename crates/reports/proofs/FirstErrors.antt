@@ -1,4 +1,4 @@
--- There is a first error where a line is one, and it is one line.
+-- Where a line is an error there is a first error, and it is one line.
 use Rattle.std.proofs.Common.{◌≡◌, ℕ, suc, true, false, List, [], ◌∷◌, take, None, refl, sym, ap, ◌∙◌, subst, inl, inr, arith}
 use Rattle.std.specs.List.{list_any}
 use Rattle.std.proofs.lemmas.Bool.{cases_Bool, or_cases, or_from, cases_lt}
@@ -72,7 +72,7 @@ first_errors_are_errors lines cut first = elim (cases_Bool (list_any any_error l
       absurd (none-some cut (sym none ∙ first.1.error))
 ]
 
--- no first error stands before another one
+-- no first error comes before another one
 not_before : (lines : List (List Line)) (a b : Call) (x y : List ℕ) → IsFirstError lines a x
     → IsFirstError lines b y → StandsBefore a b → ⊥
 not_before lines a b x y one other before = none-some x (sym (other.first a before) ∙ one.error)

@@ -1,4 +1,4 @@
--- The worked lines are a report, and what its error saw.
+-- The worked lines are a report, and the seen cut of its error.
 use Rattle.std.proofs.Common.{◌≡◌, ℕ, zero, suc, ◌+◌, ◌<◌, ◌≤◌, ◌^◌, List, [], ◌∷◌, length, get_or, slice_get, Some, None, IsSome, refl, subst, arith, inl, inr}
 use Rattle.std.proofs.lemmas.Option.{same_Some, none-some}
 use Rattle.book_base.specs.declared.call.Record.{Record}
@@ -17,7 +17,7 @@ within_three a b c d e f x y z (suc zero) = y
 within_three a b c d e f x y z (suc (suc zero)) = z
 within_three a b c d e f x y z (suc (suc (suc i))) = omega arith
 
--- what holds of each record
+-- what holds of the three records holds of each record
 each_record : (P : ℕ → ℕ → Record → Type 0) → P 0 0 first → P 1 0 second → P 2 0 third
     → (i k : ℕ) (r : Record)
     → record_of (book_of_lines worked_lines) (record { caller = i; number = k }) ≡ Some r → P i k r
@@ -29,7 +29,7 @@ each_record P x y z (suc (suc zero)) zero r e = subst (P 2 0) (same_Some third r
 each_record P x y z (suc (suc zero)) (suc k) r e = absurd (none-some r e)
 each_record P x y z (suc (suc (suc i))) k r e = absurd (none-some r e)
 
--- what holds of each seen cut
+-- what holds of the two seen cuts holds of each seen cut
 each_seen : (P : ℕ → ℕ → List ℕ → Type 0) → P 0 0 (1 ∷ 0 ∷ 0 ∷ []) → P 1 0 (1 ∷ 1 ∷ 0 ∷ [])
     → (i k : ℕ) (cut : List ℕ)
     → seen_at worked_lines (record { caller = i; number = k }) ≡ Some cut → P i k cut

@@ -7,11 +7,11 @@ use Rattle.report_lines.specs.declared.line.Line.{Line}
 use Rattle.report_lines.specs.Cases.{answer, pending, unchecked, delivered, failed, first, second, page, worked_lines}
 use Rattle.reports.specs.Findings.{Findings}
 
--- What a queue's callers found.
+-- What a report of a queue with these lines says.
 abbrev pub of_queue : List (List Line) → Findings
 of_queue lines = record { kind = Queue; lines = lines }
 
--- The worked lines, of a queue.
+-- What a report of a queue with the worked lines says.
 abbrev pub worked : Findings
 worked = of_queue worked_lines
 

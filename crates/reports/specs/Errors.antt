@@ -22,7 +22,7 @@ abbrev pub FirstErrorIsOne : Type 0
 FirstErrorIsOne = (lines : List (List Line)) (a b : Call) (x y : List ℕ) → IsFirstError lines a x
     → IsFirstError lines b y → (a ≡ b) × (x ≡ y)
 
--- The witness is one book.
+-- A report has at most one witness.
 abbrev pub WitnessIsOne : Type 0
 WitnessIsOne = (lines : List (List Line)) (a b : List Page) → IsWitness lines a
     → IsWitness lines b → a ≡ b

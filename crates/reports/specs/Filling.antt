@@ -13,7 +13,7 @@ use Rattle.report_lines.specs.declared.line.Line.{Line}
 use Rattle.report_lines.specs.Lines.{reached_of, book_of_lines, lines_at, line_at}
 use Rattle.reports.specs.Findings.{sizes}
 
--- the record that the end of a line tells, where it tells one
+-- the record that the end of a line has, where it has one
 abbrev pub answer_in : LineEnd → Option Record
 answer_in end = slice_get (records_of (reached_of end)) 0
 
@@ -31,7 +31,7 @@ pub record AreOfABook (lines : List (List Line)) : Type 0 where
   pub answered : HaveRecords lines
   pub valid : IsValid (book_of_lines lines)
 
--- the book with what the line of a call says
+-- the book after the line of a call is put in
 abbrev pub with_line_of : List Page → Call → Line → List Page
 with_line_of book call line = with_line book call line.op (answer_in line.end)
 
@@ -40,7 +40,7 @@ pub record MayTake (book : List Page) (call : Call) (line : Line) : Type 0 where
   pub wide : (r : Record) → answer_in line.end ≡ Some r → length r.view ≡ length book
   pub may : (r : Record) → answer_in line.end ≡ Some r → MayAnswer book call.caller r.view
 
--- The book of all lines, of which those of this many first callers are put in: each call of another
--- one has the operation word 0, and no answer.
+-- The book of all lines, of which those of the first n callers are put in: each call of another
+-- caller has the operation word 0, and no answer.
 abbrev pub filled_to : ℕ → List (List Line) → List Page
 filled_to n lines = book_of_lines (take n lines) ++ unanswered_book (sizes (drop n lines))

@@ -28,7 +28,7 @@ sizes lines = map (λ own. length own) lines
 abbrev pub HasLine : List (List Line) → Call → Type 0
 HasLine lines call = call.number < length (lines_at lines call.caller)
 
--- What the lines saw fits them: each seen cut has a count for each caller, none above the caller's
+-- The seen cuts of the lines fit them: each has a count for each caller, none above the caller's
 -- records, and holds its own call.
 pub record AreSeen (lines : List (List Line)) : Type 0 where
   pub wide : (call : Call) (cut : List ℕ) → seen_at lines call ≡ Some cut
@@ -82,7 +82,7 @@ abbrev pub HasFirstErrorIn : List Line → List ℕ → Type 0
 HasFirstErrorIn own cut = (k : ℕ) × (line : Line) × (slice_get own k ≡ Some line)
     × (error_in line.end ≡ Some cut) × (any_error (take k own) ≡ false)
 
--- The book is the one at what the first error line saw.
+-- The book is the one at the seen cut of the first error line.
 pub record IsWitness (lines : List (List Line)) (book : List Page) : Type 0 where
   pub call : Call
   pub cut : List ℕ

@@ -9,6 +9,6 @@ use Rattle.reports.specs.Findings.{Findings}
 abbrev pub lines_in : List Own → List (List Line)
 lines_in callers = map (λ own. own.lines.items) callers
 
--- what a report says that holds these
+-- what a report of this kind says, by the lines that it has in memory
 abbrev pub findings_in : Kind → List Own → Findings
 findings_in kind callers = record { kind = kind; lines = lines_in callers }

@@ -19,7 +19,7 @@ impl Report {
     pub fn sizes(&self) -> Cut
         // The answer is how many lines each caller has.
         ensures counts { result ≡ sizes self.now.lines }
-        // The value is a report.
+        // The report is one that texts of version 2 can have.
         ensures report { IsReport self.now }
     {
         sizes_of(self.all())
@@ -71,7 +71,7 @@ fn lines_of(callers: &[Own], i: u32) -> &[Line]
     &callers[i as usize].lines
 }
 
-/// Puts in the lines of a caller, after those of all callers before it.
+/// Puts the lines of a caller into the book, after those of all callers before it.
 fn put_caller(book: &mut Book, callers: &[Own], caller: u32) -> Result<(), NoMemory>
     requires lines { AreOfABook (lines_in callers.now) }
     requires caller { caller < length callers.now }
@@ -86,7 +86,7 @@ fn put_caller(book: &mut Book, callers: &[Own], caller: u32) -> Result<(), NoMem
     Ok(())
 }
 
-/// Puts in the line of a call.
+/// Puts the line of a call into the book.
 fn put_line(book: &mut Book, call: Call, line: &Line) -> Result<(), NoMemory>
     requires call { IsCall book.old call }
     requires may { MayTake book.old call line.now }
@@ -99,7 +99,7 @@ fn put_line(book: &mut Book, call: Call, line: &Line) -> Result<(), NoMemory>
     Ok(())
 }
 
-/// The record that the end of a line tells, where it tells one.
+/// The record that the end of a line has, where it has one.
 fn answer_of(end: LineEnd) -> Option<Record>
     ensures { result ≡ answer_in end }
 {

@@ -31,7 +31,7 @@ pub fn a_report_has_a_witness()
     ensures counts { counts_of worked_lines ≡ record { calls = 4; delivered = 1; errors = 1 } }
 {}
 
-/// Of two errors the earlier caller's is the first, whatever they saw.
+/// Of two errors the earlier caller's is the first, whatever their seen cuts are.
 pub fn the_earlier_callers_error_is_first()
     // Of the two errors that of caller 0 is the first.
     ensures first { IsFirstError two_errors (call 0 0) (1 ∷ 0 ∷ []) }
@@ -41,8 +41,8 @@ pub fn the_earlier_callers_error_is_first()
     ensures counts { counts_of two_errors ≡ record { calls = 2; delivered = 0; errors = 2 } }
 {}
 
-/// Lines after one that isn't delivered are no report, and neither are lines that saw what they
-/// can't have seen, or that no text can have.
+/// Lines after one that isn't delivered are no report, and neither are lines with seen cuts that
+/// their callers can't have seen, or with words that no text can have.
 pub fn lines_that_are_no_report()
     // Lines with one after a pending line are no report.
     ensures after_pending { ¬ IsReport (of_queue after_pending) }

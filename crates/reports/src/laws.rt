@@ -2,8 +2,7 @@
 
 ghost use Rattle.reports.specs.Errors.{SomeErrorIsFirst, FirstErrorsAreErrors, FirstErrorIsOne, WitnessIsOne};
 
-/// There is a first error exactly where a line is an error. It is one line, and its witness is one
-/// book.
+/// There is a first error exactly where a line is an error. It is one line, and has one witness.
 pub fn errors_have_one_witness()
     // Where a line is an error there is a first error.
     ensures some { SomeErrorIsFirst }
@@ -11,6 +10,6 @@ pub fn errors_have_one_witness()
     ensures only { FirstErrorsAreErrors }
     // The first error is one line, which saw one cut.
     ensures one { FirstErrorIsOne }
-    // The witness of lines is one book.
+    // Lines have at most one witness.
     ensures witness { WitnessIsOne }
 {}

@@ -1,4 +1,4 @@
-//! What a run of all callers found: a report of their lines, and the books that it tells of.
+//! What a run of all callers found: a report of their lines, and the books of the report.
 #![tactic(auto)]
 
 mod book;

@@ -17,8 +17,7 @@ pub struct Own {
 
 /// What a run found: for each caller a line for each of its calls.
 ///
-/// Clauses see it as its kind and its lines. At all times they are such as texts of version 2 can
-/// have.
+/// Clauses see it as its kind and its lines, which are always such as texts of version 2 can have.
 #[derive(Debug, Drop)]
 pub struct Report {
     kind: Kind,
@@ -58,7 +57,7 @@ impl Report {
     pub fn callers(&self) -> u32
         // The answer is how many callers the report has.
         ensures count { result ≡ length self.now.lines }
-        // The value is a report.
+        // The report is one that texts of version 2 can have.
         ensures report { IsReport self.now }
     {
         self.callers.len() as u32

@@ -1,4 +1,4 @@
-//! The witness of a report: the book that the first error saw.
+//! The witness of a report: the book at the seen cut of the first error line.
 
 ghost use Rattle.std.specs.Prelude.{◌≡◌, false, IfOk, IfSome, IfNone};
 ghost use Rattle.report_lines.specs.Lines.{error_in, any_error};
@@ -10,8 +10,8 @@ use report_lines::{Line, LineEnd};
 use std::alloc::Global;
 
 impl Report {
-    /// The book at what the first error line saw, by caller and then by number. There is none
-    /// exactly where no line is an error.
+    /// The book at the seen cut of the first error line, by caller and then by number. There is
+    /// none exactly where no line is an error.
     pub fn witness(&self, alloc: Global) -> Result<Option<Book>, NoMemory>
         // A book that is answered is the witness of the report's lines.
         ensures found { IfOk result (λ found. IfSome found (IsWitness self.now.lines)) }
@@ -25,7 +25,7 @@ impl Report {
         Ok(Some(book.at(alloc, &cut)?))
     }
 
-    /// What the first error line saw.
+    /// The seen cut of the first error line.
     fn first_error(&self) -> Option<Cut>
         ensures found { IfSome result (HasFirstError self.now.lines) }
         ensures fits { IfSome result (IsInBook self.now.lines) }
@@ -40,7 +40,7 @@ impl Report {
     }
 }
 
-/// What the first error among a caller's lines saw.
+/// The seen cut of the first error among a caller's lines.
 fn first_error_in(lines: &[Line]) -> Option<Cut>
     ensures found { IfSome result (HasFirstErrorIn lines.now) }
     ensures none { IfNone result (any_error lines.now ≡ false) }
@@ -53,7 +53,7 @@ fn first_error_in(lines: &[Line]) -> Option<Cut>
     None
 }
 
-/// What an error line saw.
+/// The seen cut of an error line.
 fn error_of(end: LineEnd) -> Option<Cut>
     ensures { result ≡ error_in end }
 {

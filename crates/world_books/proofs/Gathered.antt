@@ -1,4 +1,4 @@
--- A gathered book is the book at its cut: each of its words is the word of its owner's call.
+-- A gathered book is the book at its cut, since each of its words is the word of its owner's call.
 use Rattle.std.proofs.Common.{◌≡◌, ◌↔◌, ℕ, suc, ◌+◌, ◌-◌, ◌<◌, List, [], length, take, get_or, Some, slice_get, slice_index, slice_index_or, if◌then◌else◌, sym, ap, ◌∙◌, arith, inl, inr, length-take}
 use Rattle.std.proofs.lemmas.Bool.{cases_lt, lt-ltb}
 use Rattle.std.proofs.lemmas.List.{ext_get_or, take_all}

@@ -36,7 +36,7 @@ calls_at [] i = refl
 calls_at (l ∷ ls) zero = refl
 calls_at (l ∷ ls) (suc i) = calls_at ls i
 
--- A call that has seen a cut, by its local.
+-- The local of a call that has seen a cut.
 record SeesIn (l : Local) (k : ℕ) (cut : List ℕ) : Type 0 where
   below : k < length l.seen
   is : cut ≡ slice_index_or l.seen k []
@@ -154,7 +154,7 @@ no_run_has_this_error_seen init next calls call cut h none s steps run same line
     none (subst (λ (cs : List (List Made)). HasLegalOrder init next (book_at cut (book_of cs))) same
     (no_false_error init next s steps cut run linearizable (published s locals t call cut seen)))
 
--- The counts that are all 0.
+-- The greatest counts of no cuts are all 0.
 zeros_are : (n i : ℕ) → slice_index (greatest_counts n []) i ≡ 0
 zeros_are n i = elim (cases_lt i n) [
   | inl low ↦ get_or-map-range_with_len (greatest_count []) 0 n i i 0 low (omega arith)
@@ -162,11 +162,11 @@ zeros_are n i = elim (cases_lt i n) [
       (omega (arith, past, length-map-range_with_len (greatest_count []) 0 n))
 ]
 
--- nothing stands in the empty order
+-- the empty order has no place
 none_stands : (k : ℕ) (call : Call) → StandsAt [] k call → ⊥
 none_stands k call at = none-some at.0 at.1
 
--- at them nothing is answered, so the empty order is legal
+-- at a cut of zeros no call is answered, so the empty order is legal
 empty_is_legal : (init : List ℕ) (next : List ℕ → ℕ → List ℕ × ℕ) (book : List Page) (n : ℕ)
     → IsValid book
     → IsLegalOrder init next (book_at (greatest_counts n []) book) []

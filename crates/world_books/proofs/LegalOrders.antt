@@ -11,7 +11,7 @@ use Rattle.book_base.specs.Sequential.{IsLegalRun}
 use Rattle.world_core.specs.History.{Happening, Invoked, Returned, Done, step_of, ReturnsBefore, IsLinearization}
 use Rattle.world_books.specs.Linearizing.{IsHistoryOf, place_of, LinearizationsAreLegalOrders}
 
--- what a list contains stands at a place, and what stands at a place it contains
+-- what a list contains is at a place of it, and what is at a place the list contains
 pub stands : {X : Type 0} (xs : List X) (x : X) → (h : Contains xs x) → slice_get xs h.0 ≡ Some x
 stands xs x h = slice_get_read xs (length xs) h.0 x refl h.1 (sym h.2)
 
@@ -34,7 +34,7 @@ map-same f g (x ∷ xs) h =
     cc
 
 module _ (order : List Done) where
-  -- what stands in the order of places
+  -- what is at a place of the order of places
   done_at : (k : ℕ) (call : Call) → StandsAt (map place_of order) k call → (d : Done)
       × (slice_get order k ≡ Some d) × (d.call ≡ call)
   done_at k call (place, at, is) =
@@ -64,7 +64,7 @@ module _ (init : List ℕ) (next : List ℕ → ℕ → List ℕ × ℕ) (histor
       let d = done_at order k call at in
       subst (IsCall book) d.2 (slice_get_within _ d.0.call.number d.0.operation (known k d.0 d.1))
 
-  -- no call stands twice
+  -- no call has two places
   apart : (j k : ℕ) (d e : Done) → slice_get order j ≡ Some d → slice_get order k ≡ Some e
       → d.call ≡ e.call → j < k → ⊥
   apart j k d e at bt same less =
@@ -86,7 +86,7 @@ module _ (init : List ℕ) (next : List ℕ → ℕ → List ℕ × ℕ) (histor
         ]
       ]
 
-  -- what returned before a call that stands, stands before it
+  -- a call that returned before a call of the order has an earlier place
   first_stands : (k : ℕ) (a b : Call) → StandsAt (map place_of order) k b
       → ReturnsBefore history a b → (j : ℕ) × (j < k) × StandsAt (map place_of order) j a
   first_stands k a b bt before =

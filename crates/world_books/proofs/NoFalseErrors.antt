@@ -27,7 +27,7 @@ use Rattle.world_books.proofs.Validity.{all_lengths, book_long, books_are_valid,
 use Rattle.world_books.proofs.LegalOrders.{stands, contained, linearizations_are_legal_orders}
 use Rattle.world_books.proofs.Recording.{steps_carry, invoked_is_announced, invoked_since, ReturnStep, returned_since, history_from-append, reply_stands}
 
--- what stands after a list
+-- the element at a place of a second list, after a first one
 slice_get-append_add : {X : Type 0} (xs ys : List X) (k : ℕ)
     → slice_get (xs ++ ys) (length xs + k) ≡ slice_get ys k
 slice_get-append_add [] ys k = let none : 0 + k ≡ k = omega arith in ap (slice_get ys) none
@@ -64,7 +64,7 @@ module _ (s : Shape) (before later : List Step) (i x reply : ℕ)
   return_at = ap (λ (hs : List Happening). slice_get hs (length prefix + 0)) split
       ∙ slice_get-append_add prefix (Returned (call_of i number) reply ∷ rest) 0
 
-  -- the call returned with this reply, which stands to the end
+  -- the call returned with this reply, which the history has to its end
   returns : Contains (history_of s whole) (Returned (call_of i number) reply)
   returns = contained (history_of s whole) (length prefix + 0)
       (Returned (call_of i number) reply) return_at
@@ -143,7 +143,7 @@ module _ (s : Shape) (steps : List Step) (run : IsRun s steps) where
       (history_of s (r.before ++ return_of a.caller r.x r.reply ∷ r.later)) (call_of a.caller k) b)
       r.number found)
 
-  -- where the caller stood at its return
+  -- where the caller was at its call's return
   record Stood (a : Call) (w : World) : Type 0 where
     calls : length (local_of w a.caller).operations ≡ a.number + 1
     views : length (local_of w a.caller).views ≡ a.number

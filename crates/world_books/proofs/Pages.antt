@@ -14,7 +14,7 @@ use Rattle.world_core.specs.Local.{Phase, Announcing, Asking, Viewing, Publishin
 use Rattle.world_core.specs.Agreement.{HasPhase, unpublished_calls, unpublished_replies, unpublished_views}
 use Rattle.world_core.specs.Calls.{Made, Is_announced, Has_record, Has_seen, record_in, reached_in, call_in, calls_in, records_of, page_with, book_in, local_at}
 
--- what is made for a number below another stands at that number
+-- the item that is made for a number below another is at that number's place
 pub slice_get-made : {X : Type 0} (f : ℕ → X) (n k : ℕ) → k < n
     → slice_get (map f (range_with_len 0 n)) k ≡ Some (f k)
 slice_get-made f n k low =

@@ -60,7 +60,7 @@ told_by s me l (Look q j x Begins_scan) may = let h = looked_calls s.callers l q
 told_by s me l (Look q j x (Begins_view reply)) may = told_view s me l q j x reply
     (and_parts (nat_lt j s.callers) (may_begin s me l q j (Begins_view reply)) may).1
 
--- The operations and replies of a local stand in another one.
+-- The operations and replies of a local are those of a later one, at the same places.
 pub record Carries (l m : Local) : Type 0 where
   pub operations : (k x : ℕ) → slice_get l.operations k ≡ Some x → slice_get m.operations k ≡ Some x
   pub replies : (k x : ℕ) → slice_get l.replies k ≡ Some x → slice_get m.replies k ≡ Some x
@@ -188,7 +188,8 @@ invoked_is_announced s w (step ∷ steps) call op kept may h =
       | inr later ↦ invoked_is_announced s (after s w step) steps call op next parts.1 later
     ]
 
--- A call that is announced at the end and wasn't at a moment was invoked since.
+-- A call that is announced at the end of some steps, and wasn't at their beginning, was invoked in
+-- them.
 abbrev pub IsInvokedIn : List Happening → Call → Type 0
 IsInvokedIn history call = (op : ℕ) × Contains history (Invoked call op)
 
@@ -337,7 +338,7 @@ returned_since s w (step ∷ steps) i k kept may before now =
           }
     ]
 
--- the history goes on
+-- the history of two lists of steps in a row
 pub history_from-append : (s : Shape) (w : World) (xs ys : List Step)
     → history_from s w (xs ++ ys) ≡ history_from s w xs ++ history_from s (after_all s w xs) ys
 history_from-append s w [] ys = refl
@@ -347,7 +348,7 @@ history_from-append s w (x ∷ xs) ys =
     ∙ sym (append_assoc here (history_from s (after s w x) xs)
     (history_from s (after_all s (after s w x) xs) ys))
 
--- the reply stands after the step
+-- the reply is in the local after the step
 pub reply_stands : (s : Shape) (w : World) (i x reply : ℕ) → Kept s w
     → IsTrue (is_possible s w (return_of i x reply))
     → slice_get (local_of (after s w (return_of i x reply)) i).replies

@@ -34,7 +34,8 @@ fresh_lengths = record {
   one = omega arith;
 }
 
--- Each local of a reachable world has its lengths, and so has one that isn't there.
+-- Each local of a reachable world has its lengths, and so has the empty local of a caller that
+-- isn't there.
 pub all_lengths : (s : Shape) (locals : List Local) → AreTogether s locals → (i : ℕ)
     → HasLengths (local_at locals i)
 all_lengths s locals t i =

@@ -49,8 +49,8 @@ gathering =
     ∷ by 1 (Peek M 1 0 2 1)
     ∷ []
 
--- What happens to calls at a step where a call returns as its view is there, at the last look of
--- the view's scan.
+-- What happens to calls at a step, where a call returns only once it has its view, at the last look
+-- of the view's scan.
 abbrev pub late_happenings : ℕ → Local → Local → Event → List Happening
 late_happenings who l m Announce =
     Invoked (call_of who l.announced) (staged_operation l.staged) ∷ []
@@ -58,16 +58,18 @@ late_happenings who l m _ =
     if nat_lt (length l.views) (length m.views) then Returned (call_of who (length l.views))
     (slice_index l.replies (length l.views)) ∷ [] else []
 
+-- The history of some steps from a world on, where each call returns only once it has its view.
 abbrev pub late_history_from : Shape → World → List Step → List Happening
 late_history_from s w [] = []
 late_history_from s w (step ∷ steps) =
     late_happenings step.who (local_of w step.who) (local_of (after s w step) step.who) step.event
     ++ late_history_from s (after s w step) steps
 
+-- The history of some steps from the start, where each call returns only once it has its view.
 abbrev pub late_history_of : Shape → List Step → List Happening
 late_history_of s steps = late_history_from s (start s) steps
 
--- No error would be false where calls returned so late.
+-- No error would be false even if each call returned only once it has its view.
 abbrev pub ReturnsMayBeLate : Type 0
 ReturnsMayBeLate =
     (init : List ℕ) (next : List ℕ → ℕ → List ℕ × ℕ) (s : Shape) (steps : List Step) (cut : List ℕ)
@@ -87,6 +89,6 @@ missed =
     ++ by 1 (Look N 1 1 Begins_none)
     ∷ publication 1 1 (0 ∷ 1 ∷ []) (0 ∷ 0 ∷ [])
 
--- The book at the cut of its record alone.
+-- The book at the cut of caller 1's record alone.
 abbrev pub missed_part : List Page
 missed_part = page [] [] ∷ page (6 ∷ []) (answer 1 (0 ∷ 1 ∷ []) ∷ []) ∷ []

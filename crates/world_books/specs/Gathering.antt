@@ -6,20 +6,20 @@ use Rattle.world_core.specs.Shape.{Shape}
 use Rattle.world_core.specs.Local.{Local, Peeked}
 use Rattle.world_core.specs.Calls.{AreTogether, IsGathered, book_in, local_at}
 
--- A book that a caller gathered at a cut is the book at that cut of the book of all callers. No
--- premise says that the cut was published: a peeked record was.
+-- A book that a caller gathered at a cut is the book at that cut of the book of all callers. The
+-- cut needn't be one of what was published, since each peeked record was published.
 abbrev pub GatheredIsTheBookAt : Type 0
 GatheredIsTheBookAt =
     (s : Shape) (locals : List Local) (i : ℕ) (cut : List ℕ) (book : List Page)
     → AreTogether s locals → i < s.callers
     → IsGathered s.callers (local_at locals i) cut book → book ≡ book_at cut (book_in locals)
 
--- Each word that a local has peeked another has peeked too: so it is with the same caller's local
--- at a later moment.
+-- Each word that the local l has peeked, the local m has peeked too, as where m is the same
+-- caller's local at a later moment.
 abbrev pub HasPeekedAll : Local → Local → Type 0
 HasPeekedAll l m = (p : Peeked) → Contains l.peeked p → Contains m.peeked p
 
--- What was gathered stays gathered.
+-- A book that a caller gathered is one that it gathered still after it has peeked more.
 abbrev pub GatheredStays : Type 0
 GatheredStays = (n : ℕ) (l m : Local) (cut : List ℕ) (book : List Page) → HasPeekedAll l m
     → IsGathered n l cut book → IsGathered n m cut book

@@ -1,4 +1,5 @@
--- What the object history of a run makes of the book of its locals: no false error.
+-- Where the object history of a run is linearizable, the book of its locals has a legal order: no
+-- error is false.
 use Rattle.std.specs.Prelude.{◌≡◌, ◌↔◌, ℕ, List, map, Some, Contains}
 use Rattle.book_base.specs.declared.call.Call.{Call}
 use Rattle.book_base.specs.declared.call.Record.{Record}
@@ -11,7 +12,8 @@ use Rattle.world_core.specs.World.{Step, IsRun, end_of}
 use Rattle.world_core.specs.History.{Happening, Invoked, Returned, Done, ReturnsBefore, IsLinearization, IsLinearizable, history_of}
 use Rattle.world_core.specs.Calls.{IsPublished, book_in}
 
--- What a book of views says is so in a history.
+-- A history agrees with the views of a book: on what was invoked, what returned, and in which
+-- order.
 pub record IsHistoryOf (history : List Happening) (book : List Page) : Type 0 where
   -- the calls that were invoked are the book's, each with its operation; so what a view holds was
   -- invoked
@@ -49,7 +51,8 @@ LinearizableRunsHaveLegalBooks =
     → IsLinearizable init next (history_of s steps)
     → HasLegalOrder init next (book_in (end_of s steps).locals)
 
--- And so has the book at each cut of what was published: no error is false.
+-- Where the object history of a run is linearizable, the book at each cut of what was published has
+-- a legal order: no error is false.
 abbrev pub NoFalseError : Type 0
 NoFalseError =
     (init : List ℕ) (next : List ℕ → ℕ → List ℕ × ℕ) (s : Shape) (steps : List Step) (cut : List ℕ)

@@ -59,7 +59,8 @@ BooksAtCutsAreInTheRows =
     (s : Shape) (steps : List Step) (cut : List ℕ) → IsRun s steps
     → IsPublished (end_of s steps).locals cut → IsInTheRows s (end_of s steps) cut
 
--- So it is at each cut that a scan of M gave.
+-- At each cut that a scan of M gave the book of the rows is the book of all callers' calls, and is
+-- valid.
 abbrev pub BooksAtGivenCutsAreInTheRows : Type 0
 BooksAtGivenCutsAreInTheRows =
     (s : Shape) (steps : List Step) (i p : ℕ) (given : Given) → IsRun s steps → i < s.callers

@@ -31,7 +31,7 @@ pub record AreSeenCuts (locals : List Local) : Type 0 where
   pub comparable : (a b : Call) (s t : List ℕ) → HasSeenCut (map calls_in locals) a s
       → HasSeenCut (map calls_in locals) b t → AreComparable s t
 
--- So it is in every reachable world.
+-- The seen cuts of the locals of every reachable world fit.
 abbrev pub SeenCutsFit : Type 0
 SeenCutsFit = (s : Shape) (locals : List Local) → AreTogether s locals → AreSeenCuts locals
 
@@ -76,8 +76,8 @@ pub record HasAllDelivered (init : List ℕ) (next : List ℕ → ℕ → List �
       → record_of (book_at all (book_in locals)) call ≡ record_of (book_in locals) call
   pub one_order : HasLegalOrder init next (book_at all (book_in locals))
 
--- The greatest counts of the cuts of delivered calls are such a cut; of no calls, all counts are 0,
--- and the order is empty.
+-- The greatest counts of the cuts of delivered calls are a cut that has all delivered calls. Where
+-- no call is delivered, all its counts are 0, and the order is empty.
 abbrev pub DeliveredCallsStandInOne : Type 0
 DeliveredCallsStandInOne =
     (init : List ℕ) (next : List ℕ → ℕ → List ℕ × ℕ) (s : Shape) (locals : List Local)

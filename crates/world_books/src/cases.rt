@@ -1,5 +1,5 @@
-//! Worked runs: each law's premises are met by runs that are written out, and what a wrong history
-//! would say of one.
+//! Worked runs: each law's premises are met by runs that are written out; and which error would be
+//! false if calls returned later.
 
 ghost use Rattle.std.specs.Prelude.{◌≡◌, [], ◌∷◌, take, map};
 ghost use Rattle.book_base.specs.BookAt.{book_at};
@@ -96,7 +96,7 @@ pub fn calls_return_at_the_first_look()
     // The book at this cut has no legal order for that object.
     ensures error { ¬ HasLegalOrder [] numbering
         (book_at (0 ∷ 1 ∷ []) (book_in (locals_after missed))) }
-    // Calls don't return so late: else an error would be false.
+    // Calls don't return so late, since then an error would be false.
     ensures so { ¬ ReturnsMayBeLate }
     // The history has the return before the second invocation.
     ensures history { history_of pair missed

@@ -1,5 +1,5 @@
-//! The books of reachable worlds, and what a linearizable run makes of them: every program, in
-//! whatever order its callers go.
+//! The books of reachable worlds, and which books have legal orders where a run is linearizable:
+//! for every program, in whatever order its callers make their steps.
 #![tactic(auto)]
 
 pub mod books;

@@ -2,8 +2,9 @@
 
 ghost use Rattle.world_books.specs.Linearizing.{RunsHaveTheirHistories, LinearizationsAreLegalOrders, LinearizableRunsHaveLegalBooks, NoFalseError};
 
-/// The calls that were invoked are those of the book, an answered call returned with its reply, and
-/// a call that precedes another by its view returned before that one was invoked.
+/// In the history of a run the calls that were invoked are those of the book of its locals, an
+/// answered call returned with its reply, and a call that precedes another by its view returned
+/// before that one was invoked.
 pub fn runs_have_their_histories()
     ensures { RunsHaveTheirHistories }
 {}
@@ -14,8 +15,8 @@ pub fn linearizations_are_legal_orders()
     ensures { LinearizationsAreLegalOrders }
 {}
 
-/// No false error: where the object history of a run is linearizable, its book has a legal order,
-/// and so has the book at every cut of what was published. For every program (Castañeda and
+/// No error is false: where the object history of a run is linearizable, its book has a legal
+/// order, and so has the book at every cut of what was published, for every program (Castañeda and
 /// Rodríguez 2023).
 pub fn no_false_error()
     // Where the object history of a run is linearizable, the book of its locals has a legal order.

@@ -1,5 +1,5 @@
 -- An event that changes no row and no count keeps the agreement of its caller's local with the
--- words; and so does each event.
+-- words; and every event keeps it.
 use Rattle.std.proofs.Common.{◌≡◌, ℕ, ◌+◌, ◌<◌, ◌≤◌, ◌⊎◌, Bool, true, false, ◌&&◌, ◌==◌, nat_lt, List, [], ◌∷◌, ◌++◌, length, Option, Some, None, slice_index, slice_index_or, refl, sym, ap, ◌∙◌, subst, arith, IsTrue, if◌then◌else◌, inl, inr, length-append, length-set}
 use Rattle.std.proofs.lemmas.List.{get_or-set_other, get_or_append_left}
 use Rattle.std.proofs.lemmas.Bool.{and_parts, cond_both, not-true}
@@ -19,12 +19,12 @@ use Rattle.world_laws.proofs.Words.{own_few}
 use Rattle.world_laws.proofs.Staging.{stage_agrees}
 use Rattle.world_laws.proofs.Raising.{announce_agrees, publish_agrees}
 
--- where nothing is staged, nothing stands in the row under way
+-- where nothing is staged, no word is staged at a place
 none_staged : (staged : List Staged) (p : ℕ) → staged ≡ [] → is_staged staged p ≡ true → ⊥
 none_staged staged p empty h = let e : false ≡ true =
     sym (ap (λ (ws : List Staged). is_staged ws p) empty) ∙ h in cc
 
--- What a local looked at, peeked and was given touches no word, nor do its object steps, nor a scan
+-- What a local looked at, peeked and was given concerns no word; nor do its object steps, or a scan
 -- and a cut to embed that its phase allows.
 module _ (s : Shape) (words : List ℕ) (i : ℕ) (l : Local) (scan : Option Scan)
     (kept : Option (List ℕ)) (cuts : List Given) (looked : List Looked)
@@ -87,7 +87,7 @@ module _ (s : Shape) (words : List ℕ) (i : ℕ) (l : Local) (scan : Option Sca
         scan = fits;
       }
 
--- the same with the cut to embed and the object steps as they were
+-- a local with another scan, other cuts, looks and peeks agrees with the words
 with_scan : (s : Shape) (words : List ℕ) (i : ℕ) (l : Local) (scan : Option Scan)
     (cuts : List Given) (looked : List Looked) (peeked : List Peeked)
     → Agrees s words i l → FitsPhase l.phase scan
@@ -241,7 +241,7 @@ module _ (s : Shape) (words : List ℕ) (i : ℕ) (l : Local) (cuts : List Given
         scan = tt;
       }
 
-  -- the local after a scan ended that serves nothing
+  -- the local after a scan ended that serves no purpose
   abbrev ended : Local
   ended = record l { scan = None; cuts = cuts }
 
@@ -294,7 +294,7 @@ module _ (s : Shape) (words : List ℕ) (i : ℕ) (l : Local) (cuts : List Given
       (subst (λ (f : Phase). IsKeptIn f (Some cut)) (sym is) tt) (λ e.
       unstaged_is l.staged (and_parts (is_same_region scan.region M) (is_unstaged l.staged) e).1)
 
--- a scan that took a word keeps the agreement
+-- a local whose scan took a word agrees with the words
 went_on_agrees : (s : Shape) (words : List ℕ) (i : ℕ) (l : Local) (scan : Scan) (want : Want)
     → Agrees s words i l → FitsPhase l.phase (Some scan)
     → Agrees s words i (went_on l scan want)
@@ -305,7 +305,7 @@ went_on_agrees s words i l scan (Wants_look j) h fits =
 went_on_agrees s words i l scan (Wants_peek j k e) h fits =
     with_scan s words i l (Some scan) l.cuts l.looked l.peeked h fits
 
--- what a phase allows of a scan doesn't hang on its words
+-- what a phase allows of a scan doesn't depend on the scan's words
 more_fits : (phase : Phase) (scan : Scan) (x : ℕ) → FitsPhase phase (Some scan)
     → FitsPhase phase (Some (with_word scan x))
 more_fits Announcing scan x h = h
@@ -372,7 +372,7 @@ look_agrees s me l words q j x o may h =
     (with_scan s words me begins begins.scan begins.cuts
     (look ∷ begins.looked) begins.peeked opens opens.scan) opens.scan
 
--- and so does a peek
+-- a peek keeps the agreement of its own caller
 peek_agrees : (s : Shape) (me : ℕ) (l : Local) (words : List ℕ) (q : Region) (j k t x : ℕ)
     → Agrees s words me l
     → Agrees s words me (local_after s.callers l (Peek q j k t x))
@@ -409,7 +409,7 @@ same_words s words more i l low counts rows h =
       scan = h.scan;
     }
 
--- and so does an object step
+-- an object step keeps the agreement of its own caller
 object_agrees : (s : Shape) (me : ℕ) (l : Local) (words : List ℕ) (o : Object_step) → me < s.callers
     → Agrees s words me l
     → Agrees s (words_after s me l words (Object o)) me (local_after s.callers l (Object o))

@@ -34,14 +34,15 @@ pub record Taking (s : Shape) (i : ℕ) (from : World) (region : Region)
   pub steady : IsSteady s.callers i taken
   pub wants : AreWanted s.callers taken
 
--- The counts that were looked at first, as many as this, are none above those of a world. Looked
--- counts stand newest first.
+-- The counts that were looked at first, as many as `since` says, are none above those of a world.
+-- Looked counts stand newest first.
 abbrev pub AreLowBefore : Shape → World → List Looked → ℕ → Type 0
 AreLowBefore s from looked since = (p : ℕ) (look : Looked) → slice_get looked p ≡ Some look
     → length looked ≤ p + since → IsLowLook s from look
 
--- A scan under way of caller i, which began at a world that had the own count that the caller has
--- still: what the caller had been given and had looked at then was not above the counts there.
+-- A scan under way of caller i, which began at a world in which the caller had the own count that
+-- it still has: what the caller had been given and had looked at then was not above that world's
+-- counts.
 pub record Begun (s : Shape) (w : World) (i : ℕ) (l : Local) (from : World)
     (scan : Scan) : Type 0 where
   pub all : AllHigh s from w
@@ -52,7 +53,7 @@ pub record Begun (s : Shape) (w : World) (i : ℕ) (l : Local) (from : World)
   pub few : scan.since ≤ length l.looked
   pub taking : Taking s i from scan.region scan.taken
 
--- The scan under way, if there is one, began at some world of this kind.
+-- The scan under way, if there is one, began at some world for which P holds.
 abbrev pub IsBegun : Shape → World → ℕ → (World → Type 0) → Local → Option Scan → Type 0
 IsBegun s w i P l None = Unit {0}
 IsBegun s w i P l (Some scan) = (from : World) × P from × Begun s w i l from scan
@@ -76,14 +77,14 @@ pub record Gave (s : Shape) (w : World) (i : ℕ) (cuts : List Given) (m : Local
   pub taking : Taking s i from given.region (scan.taken ++ word ∷ [])
   pub none : m.scan ≡ None
 
--- After an event of a caller that had these cuts, it has them still and its scan goes on; or its
--- scan gave one more.
+-- After an event of a caller that had these cuts, either it has them still, and its scan is under
+-- way, or its scan gave one cut more.
 abbrev pub ScanOutcome : Shape → World → ℕ → (World → Type 0) → List Given → Local
     → Option Scan → Type 0
 ScanOutcome s w i P cuts m o = ((m.cuts ≡ cuts) × IsBegun s w i P m m.scan)
     ⊎ ((from : World) × P from × Gave s w i cuts m o from)
 
--- One more word of a steady scan.
+-- The place of one more word of a steady scan.
 place_before : (m t n p : ℕ) → p + n ≡ t + m * n → t < n → (k : ℕ) × (p ≡ k * n + t)
 place_before zero t n p h low = absurd (omega (arith, h, low))
 place_before (suc k) t n p h low = (k, omega (arith, h))
@@ -168,7 +169,7 @@ steady_none n me = record {
   own = λ p k at fits look. absurd (omega arith);
 }
 
--- What a word is that a scan takes: where a look was wanted, the count of the caller that the
+-- What a further word of a scan is: where a look was wanted, the count of the caller that the
 -- collect lacks.
 pub record Fits (s : Shape) (w : World) (region : Region) (taken : List ℕ) (x : ℕ) : Type 0 where
   pub looks : is_look (wanted s.callers taken) ≡ true
@@ -219,7 +220,7 @@ taking_more s w i from region taken x fits h low own word above =
       wants = wants_more n taken x h.wants word.going;
     }
 
--- what a purpose leaves
+-- what serving a purpose leaves of a local
 served_cuts : (l : Local) (p : Purpose) (cut : List ℕ) → (served l p cut).cuts ≡ l.cuts
 served_cuts l For_row cut = refl
 served_cuts l For_view cut = refl
@@ -257,7 +258,7 @@ begun_like s w i P l m (Some scan) cuts looked counts (from, kind, h) = (
   },
 )
 
--- one more look
+-- one more look leaves the counts that were looked at first low
 look_before : (s : Shape) (from : World) (looked : List Looked) (since : ℕ) (look : Looked) → since
     ≤ length looked → AreLowBefore s from looked since → AreLowBefore s from (look ∷ looked) since
 look_before s from looked since look few h zero other is late = absurd (omega (arith, few, late))
@@ -384,7 +385,7 @@ quiet_scan l (Look q j x (Begins_view reply)) h = absurd cc
 quiet_scan l (Peek q j k t x) h = refl
 quiet_scan l Publish h = absurd cc
 
--- one that it begins has taken no word yet
+-- a scan that the event begins has taken no word yet
 loud_scan : (l : Local) (e : Event) → gives_up e ≡ true → (scan : Scan) → scan_at l e ≡ Some scan
     → scan.taken ≡ []
 loud_scan l (Stage q t x) h scan is = absurd cc
@@ -429,7 +430,7 @@ words_still s me l words (Look q j x o) g h = refl
 words_still s me l words (Peek q j k t x) g h = refl
 words_still s me l words Publish g h = absurd (more_cuts l.cuts g h)
 
--- The step's own caller.
+-- The caller that makes the step.
 module _ (s : Shape) (w : World) (sound : Sound s w) (me : ℕ) (low : me < s.callers)
     (P : World → Type 0) where
   abbrev mine : Local

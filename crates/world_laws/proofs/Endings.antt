@@ -1,4 +1,5 @@
--- What a scan wants, by what it does; and the cut with which it ends, which is one of its rounds.
+-- Which word a scan wants, by its course; and the cut with which a scan ends, which is one of its
+-- rounds.
 use Rattle.std.proofs.Common.{◌≡◌, ℕ, zero, suc, ◌+◌, ◌-◌, ◌*◌, ◌<◌, ◌≤◌, Bool, true, false, if◌then◌else◌, ◌&&◌, ◌==◌, nat_lt, List, length, drop, slice_index, Option, Some, None, refl, sym, ap, ◌∙◌, subst, arith, length-drop}
 use Rattle.std.proofs.lemmas.List.{get_or-take, get_or-drop, length-take-le}
 use Rattle.std.proofs.lemmas.Bool.{and_parts, eqb-true, ltb-true}
@@ -89,7 +90,7 @@ look_is Collects words j h = (refl, sym (eqb-true (length words) j h))
 look_is (Borrows i row) words j h = absurd cc
 look_is (Ends cut) words j h = absurd cc
 
--- and a peek that is wanted is the one that the borrowed cut lacks
+-- a peek that is wanted is the one that the borrowed cut lacks
 pub record IsPeekOf (n : ℕ) (region : Region) (j k place : ℕ) (c : Course)
     (words : List ℕ) : Type 0 where
   pub borrows : c ≡ Borrows j k
@@ -110,7 +111,7 @@ peek_is n region j k place (Borrows i row) words h =
       at = sym (eqb-true (embedded_place n region (length words)) place b.1);
     }
 
--- what stands at the place of an embedded entry
+-- what a place of an embedded entry is for
 suffix : (n e i : ℕ) (b : Bool) → nat_lt (n + e) n ≡ b → i ≡ e
     → (if b then View_entry (n + e) else Embedded_entry M i) ≡ Embedded_entry M e
 suffix n e i true less same =

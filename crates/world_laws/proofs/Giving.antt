@@ -160,7 +160,7 @@ module _ (l : Local) (h : Keeps l.cuts l) (keeps : IsKeptIn l.phase l.to_embed) 
       (subst (λ (f : Phase). IsKeptIn f l.to_embed) is keeps)) (λ _. ended_given)
   served_given Asking is = ended_given
 
-  -- what a purpose leaves of the cuts
+  -- what serving a purpose leaves of the cuts
   served_all : (p : Purpose) → Keeps more (served ended p cut)
       → Keeps (served ended p cut).cuts (served ended p cut)
   served_all For_row k = k
@@ -213,7 +213,7 @@ opened_given l q (Begins_view reply) none h =
       to_embed = λ r staging. none_given l.cuts r l.to_embed (none reply refl);
     }
 
--- The step's own caller.
+-- The caller that makes the step.
 module _ (s : Shape) (w : World) (sound : Sound s w) (me : ℕ) (low : me < s.callers)
     (h : Keeps (local_of w me).cuts (local_of w me)) where
   abbrev mine : Local
@@ -334,7 +334,7 @@ steps_keep s w (step ∷ steps) sound all may =
     steps_keep s (after s w step) steps (sound_after s w step sound parts.0)
     (step_keeps s w step sound parts.0 all) parts.1
 
--- Locals that are together are those of such a world.
+-- Locals that are together are those of a world with what is proved above.
 record Of (s : Shape) (locals : List Local) : Type 0 where
   world : World
   sound : Sound s world
@@ -358,7 +358,7 @@ keeps_in s locals i t low =
     let o = together s locals t in
     subst (λ (ls : List Local). Keeps (local_at ls i).cuts (local_at ls i)) o.are (o.keep i low)
 
--- the laws
+-- the laws that `specs` states, from what is proved above
 pub views_are_given : ViewsAreGiven
 views_are_given s locals i k t low below =
     let l : Local = local_at locals i in

@@ -148,7 +148,7 @@ module _ (s : Shape) (steps : List Step) (w : World) (some : 0 < s.callers) wher
         (subst (λ (f : Phase). IsKeptIn f l.to_embed) is keeps)) (λ _. ended_was)
     served_was Asking is = ended_was
 
-  -- a local with another scan under way
+  -- a local with another scan under way has cuts that were counts
   scanning_was : (l : Local) (o : Option Scan) → Momentary s steps w l → MaybeScanned s steps w o
       → Momentary s steps w (record l { scan = o })
   scanning_was l o h low =
@@ -286,7 +286,7 @@ module _ (s : Shape) (steps : List Step) (w : World) (step : Step) (sound : Soun
         scan = scan_on l.scan h.scan;
       }
 
--- The step's own caller.
+-- The caller that makes the step.
 module _ (s : Shape) (steps : List Step) (w : World) (sound : Sound s w) (run : IsRun s steps)
     (ends : end_of s steps ≡ w) (all : AllMomentary s steps w)
     (me : ℕ) (low : me < s.callers) where
@@ -510,7 +510,7 @@ start_was s i low =
       scan = tt;
     })
 
--- along the rest of a run
+-- the cuts of locals were counts along the rest of a run
 steps_was : (s : Shape) (done rest : List Step) (w : World) → Sound s w → IsRun s done
     → end_of s done ≡ w → IsTrue (are_possible s w rest)
     → AllMomentary s done w → AllMomentary s (done ++ rest) (after_all s w rest)
@@ -573,7 +573,7 @@ was_comparable s steps r a b run p q =
       | inr shorter ↦ inr (was_within s steps r b a run q p shorter.0 shorter.1)
     ]
 
--- the laws
+-- the laws that `specs` states, from what is proved above
 pub run_cut : (s : Shape) (steps : List Step) (i p : ℕ) (given : Given) → IsRun s steps
     → i < s.callers → slice_get (local_of (end_of s steps) i).cuts p ≡ Some given
     → Was s steps given.region given.cut

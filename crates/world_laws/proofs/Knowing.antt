@@ -1,4 +1,5 @@
--- A row that a caller knows of is counted, and so every local stays low.
+-- A row that a caller knows of is counted, and every local stays low: what it holds of counts isn't
+-- above them.
 use Rattle.std.proofs.Common.{◌≡◌, ℕ, zero, suc, ◌-◌, ◌<◌, ◌≤◌, Bool, true, false, ◌&&◌, ◌||◌, ◌==◌, if◌then◌else◌, nat_lt, List, [], ◌∷◌, length, Option, Some, None, slice_index, slice_index_or, refl, sym, ap, ◌∙◌, subst, arith, IsTrue, inl, inr}
 use Rattle.std.specs.Option.{unwrap_or}
 use Rattle.std.specs.List.{list_any}
@@ -195,7 +196,7 @@ module _ (s : Shape) (w : World) (kept : Kept s w) (all : AllLow s w) where
               ]
         ]
 
--- A cut to embed that has an entry is there.
+-- A cut to embed that has an entry exists.
 entry_there : (s : Shape) (w : World) (r : Region) (kept : Option (List ℕ)) (j x : ℕ)
     → is_entry_to_embed kept j x ≡ true → IsLowKept s w r kept → IsLowCut s w r (unwrap_or kept [])
 entry_there s w r None j x e h = absurd cc
@@ -354,7 +355,7 @@ module _ (s : Shape) (w : World) (kept : Kept s w) (all : AllLow s w) (me : ℕ)
         peeked = was.peeked;
       }
 
-  -- a stage and an object step change nothing of it
+  -- a stage and an object step keep the caller's local low
   own_low : (e : Event) → IsTrue (is_enabled s me mine e) → IsTrue (is_loaded s w.words e)
       → Low s w (local_after s.callers mine e)
   own_low (Stage q t x) may loaded =

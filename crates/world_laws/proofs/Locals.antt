@@ -100,7 +100,7 @@ module _ (s : Shape) (w : World) (h : Sound s w) where
             omega (arith, a, count),
       )
 
--- the laws
+-- the laws that `specs` states, from what is proved above
 pub locals_have_phases : LocalsHavePhases
 locals_have_phases s locals t =
     let o = together s locals t in

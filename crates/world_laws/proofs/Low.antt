@@ -1,5 +1,5 @@
--- What a local holds of counts is never above the counts, and what it holds of rows is what stands
--- in counted rows.
+-- What a local holds of counts is never above the counts, and each word that it holds of a row is
+-- in a counted row.
 use Rattle.std.proofs.Common.{◌≡◌, ℕ, ◌+◌, ◌*◌, ◌<◌, ◌≤◌, Bool, true, false, ◌&&◌, List, [], ◌∷◌, ◌++◌, length, Option, Some, None, slice_index, refl, sym, ap, ◌∙◌, subst, arith, inl, inr, length-append}
 use Rattle.std.proofs.lemmas.List.{get_or_append_left, get_or_push}
 use Rattle.std.proofs.lemmas.Nat.{same_from_place}
@@ -45,7 +45,7 @@ module _ (s : Shape) (w : World) where
   IsLowScan None = Unit {0}
   IsLowScan (Some scan) = AreLow scan.region scan.taken
 
-  -- a peeked word is the one that stands in a counted row
+  -- a peeked word is one of a counted row
   pub record IsCounted (p : Peeked) : Type 0 where
     pub caller : p.caller < s.callers
     pub row : p.row < count_of s w p.region p.caller
@@ -114,7 +114,7 @@ module _ (s : Shape) (w v : World) (on : Later s w v) where
         peeked = each_map (IsCounted s w) (IsCounted s v) l.peeked (λ p a. counted_on p a) h.peeked;
       }
 
--- where a phase keeps no cut to embed, none is low
+-- where a phase keeps no cut to embed, no such cut has to be low
 kept_none : (s : Shape) (w : World) (r : Region) (kept : Option (List ℕ)) → kept ≡ None
     → IsLowKept s w r kept
 kept_none s w r kept none = subst (λ (o : Option (List ℕ)). IsLowKept s w r o) (sym none) tt
@@ -256,7 +256,7 @@ module _ (s : Shape) (w : World) (some : 0 < s.callers) where
         (subst (λ (f : Phase). IsKeptIn f l.to_embed) is keeps)) (λ _. ended_low)
     served_low Asking is = ended_low
 
-  -- a local with another scan under way
+  -- a local with another low scan under way is low
   scanning_low : (l : Local) (o : Option Scan) → Low s w l → IsLowScan s w o
       → Low s w (record l { scan = o })
   scanning_low l o h low =

@@ -1,4 +1,4 @@
--- A scan that is under way, against the moments of the run: what a word that it takes makes of it.
+-- A scan that is under way, against the moments of the run: what a further word makes of it.
 use Rattle.std.proofs.Common.{◌≡◌, ℕ, zero, suc, ◌+◌, ◌*◌, ◌<◌, ◌≤◌, Bool, true, false, if◌then◌else◌, List, [], ◌∷◌, ◌++◌, length, slice_index, Option, Some, None, refl, sym, ap, ◌∙◌, subst, arith, inl, inr, length-append}
 use Rattle.std.proofs.lemmas.List.{get_or_append_left, get_or_push, append-nil, append_assoc}
 use Rattle.std.proofs.lemmas.Bool.{cases_lt}
@@ -53,8 +53,8 @@ pub record FromRow (s : Shape) (w : World) (region : Region) (j k e x : ℕ) : T
   pub row : k < count_of s w region j
   pub word : x ≡ row_word s w region j k (embedded_place s.callers region e)
 
--- A collect under way has such a moment for the collect before it, and the peeks of a borrowed cut
--- are words of its row.
+-- A collect under way has a moment between its own counts and those of the collect before it, and
+-- the peeks of a borrowed cut are words of its row.
 pub record Scanned (s : Shape) (steps : List Step) (w : World) (region : Region)
     (taken : List ℕ) : Type 0 where
   pub between : (k : ℕ) → rounds s.callers taken ≡ suc k → course s.callers taken ≡ Collects
@@ -63,8 +63,8 @@ pub record Scanned (s : Shape) (steps : List Step) (w : World) (region : Region)
       → e < length (open_round s.callers taken)
       → FromRow s w region j k e (slice_index (open_round s.callers taken) e)
 
--- What a word that is taken is: the count that the collect lacks, or the entry that the borrowed
--- cut lacks.
+-- What a further word of a scan is: the count that the collect lacks, or the entry that the
+-- borrowed cut lacks.
 pub data TakenWord (s : Shape) (w : World) (region : Region) (taken : List ℕ) (x : ℕ) : Type 0 where
   OfCollect : course s.callers taken ≡ Collects
       → x ≡ count_of s w region (length (open_round s.callers taken)) → TakenWord s w region taken x
@@ -129,7 +129,7 @@ module _ (s : Shape) (steps : List Step) (w : World) (some : 0 < s.callers) (reg
     | OfBorrowed j k is row ↦ let never : Collects ≡ Borrows j k = sym going ∙ is in absurd cc
   ]
 
-  -- the moment of the collect before, with one more word
+  -- the moment of the collect before stays one with one more word
   between_more : (k : ℕ) → rounds n taken ≡ suc k → course n taken ≡ Collects
       → Between s steps region (round n taken k) (words ++ x ∷ [])
   between_more k is going =
@@ -290,7 +290,7 @@ module _ (s : Shape) (steps : List Step) (w : World) (some : 0 < s.callers) (reg
               omega (arith, up, down, ap (λ (c : List ℕ). slice_index c j) closed);
         })
 
-    -- and a borrowed cut was the counts at the moment of its row's
+    -- a borrowed cut was the counts at the moment of its row's cut
     borrowed_was : (j k : ℕ) → course n taken ≡ Borrows j k → Was s steps region latest
     borrowed_was j k going =
         let last = borrowed_more j k going (length words) (omega (arith, latest_wide, fills)) in

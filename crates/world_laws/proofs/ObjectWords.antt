@@ -99,13 +99,13 @@ module _ (s : Shape) (w : World) where
       let p = possible s w step may in
       leaves_objects step.who step.event place p.caller p.allowed no_step
 
-  -- an object step leaves its word at its place
+  -- an object step leaves its new word at its place
   pub object_is : (who : ℕ) (o : Object_step) → Kept s w → o.place < s.program.objects
       → object_word s (after s w (record { who = who; event = Object o })) o.place ≡ o.new
   object_is who o kept low = get_or-set_same w.words (object_index s.callers s.cap o.place) o.new 0
       (omega (arith, low, kept.words_long))
 
-  -- and the other object words as they are
+  -- an object step leaves the other object words as they are
   pub other_object : (who : ℕ) (o : Object_step) (place : ℕ) → place ≢ o.place
       → object_word s (after s w (record { who = who; event = Object o })) place
       ≡ object_word s w place

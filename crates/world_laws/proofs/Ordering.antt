@@ -33,7 +33,7 @@ pub record Ordered (l : Local) : Type 0 where
   pub few : (q : ℕ) (given : Given) → slice_get l.cuts q ≡ Some given
       → given.since ≤ length l.looked
 
--- What was looked at stands after what is looked at later.
+-- Looked counts come after those that are looked at later.
 abbrev pub LooksGrow : Local → Local → Type 0
 LooksGrow l m = (more : List Looked) × (m.looked ≡ more ++ l.looked)
 
@@ -88,7 +88,7 @@ step_looks s w step i sound may =
       | inr away ↦ ([], ap (λ (l : Local). l.looked) (other_local s w step i away))
     ]
 
--- one of the first counts that were looked at is one of them still
+-- one of the counts that were looked at first is still one of them
 looked_after : (more xs : List Looked) (p since : ℕ) (look : Looked)
     → slice_get (more ++ xs) p ≡ Some look → since ≤ length xs → length (more ++ xs) ≤ p + since
     → (k : ℕ) × (slice_get xs k ≡ Some look) × (length xs ≤ k + since)
@@ -148,7 +148,7 @@ module _ (l m : Local) (h : Ordered l) (grows : LooksGrow l m) where
           | inr past ↦ omega (arith, get_or_past a.cut j 0 (omega (arith, past, low.wide)))
         ]
 
-    -- and so is a count that was looked at before it
+    -- a count that was looked at before the scan is within the scan's cut
     looked_within : (p : ℕ) (look : Looked) → slice_get m.looked p ≡ Some look
         → length m.looked ≤ p + g.given.since → look.region ≡ g.given.region
         → look.count ≤ slice_index g.given.cut look.caller
@@ -195,7 +195,7 @@ module _ (l m : Local) (h : Ordered l) (grows : LooksGrow l m) where
 abbrev pub Anywhere : World → Type 0
 Anywhere w = Unit {0}
 
--- Both of a caller of a world.
+-- What a scan under way has known, and that cuts are ordered, of a caller of a world.
 pub record Placed (s : Shape) (w : World) (i : ℕ) (l : Local) : Type 0 where
   pub begun : IsBegun s w i Anywhere l l.scan
   pub ordered : Ordered l
@@ -245,7 +245,7 @@ steps_placed s w (step ∷ steps) sound all may =
     steps_placed s (after s w step) steps (sound_after s w step sound parts.0)
     (step_placed s w step sound parts.0 all) parts.1
 
--- Locals that are together are those of such a world.
+-- Locals that are together are those of a world with what is proved above.
 pub record Of (s : Shape) (locals : List Local) : Type 0 where
   pub world : World
   pub placed : AllPlaced s world
@@ -266,7 +266,7 @@ ordered_in s locals i t low =
     let o = together s locals t in
     subst (λ (ls : List Local). Ordered (local_at ls i)) o.are (o.placed i low).ordered
 
--- the laws
+-- the laws that `specs` states, from what is proved above
 pub cuts_rise : CutsRise
 cuts_rise s locals i p q a b t low less is is' same =
     (ordered_in s locals i t low).rise p q a b less is is' same

@@ -24,8 +24,8 @@ use Rattle.world_laws.proofs.Knowing.{Sound, known_counted, embedded_low, none_a
 use Rattle.world_laws.proofs.Low.{done_low, word_low, IsLowScan, AreLow, opened_low}
 use Rattle.world_laws.proofs.Running.{possible, own_local, other_local}
 
--- Where a scan under way began: at a world that had the own count that its caller has still, and
--- below whose counts no word of the scan is.
+-- Where a scan under way began: at a world in which its caller had the own count that it still has,
+-- and whose counts no word of the scan is below.
 pub record Mark (s : Shape) (w : World) (i : ℕ) (l : Local) (scan : Scan) : Type 0 where
   pub from : World
   pub all : AllHigh s from w
@@ -49,7 +49,7 @@ pub record Owns (i : ℕ) (l : Local) : Type 0 where
       → slice_index (slice_index_or (embedded_in l r) k []) i ≡ k
   pub to_embed : (r : Region) → is_staging l.phase r ≡ true → OwnsKept i (own_count l r) l.to_embed
 
--- Both of a caller.
+-- The own entries and the mark of a caller.
 pub record Owned (s : Shape) (w : World) (i : ℕ) (l : Local) (o : Option Scan) : Type 0 where
   pub owns : Owns i l
   pub mark : IsMarked s w i l o
@@ -74,13 +74,13 @@ pushed_own i more cuts cut h new k below = elim (cases_lt k (length cuts)) [
       ∙ omega (arith, new, here)
 ]
 
--- a cut to embed that has an entry is there
+-- a cut to embed that has an entry exists
 owns_there : (i : ℕ) (kept : Option (List ℕ)) (count x : ℕ) → is_entry_to_embed kept 0 x ≡ true
     → OwnsKept i count kept → slice_index (unwrap_or kept []) i ≡ count
 owns_there i None count x e h = absurd cc
 owns_there i (Some cut) count x e h = h
 
--- what changes no count
+-- a change of the local that changes no count
 same_counts : (l : Local) (look : Looked) (r : Region)
     → own_count l r ≡ own_count (with_look l look) r
 same_counts l look N = refl
@@ -127,7 +127,7 @@ peeked_phase l peek h =
       object_steps = h.object_steps;
     }
 
--- The step's own caller.
+-- The caller that makes the step.
 module _ (s : Shape) (w : World) (sound : Sound s w) (me : ℕ) (low : me < s.callers) where
   abbrev mine : Local
   mine = local_of w me
@@ -215,7 +215,7 @@ module _ (s : Shape) (w : World) (sound : Sound s w) (me : ℕ) (low : me < s.ca
       only_M is region N staging = let never : false ≡ true =
           sym (ap (λ (f : Phase). is_staging f N) is) ∙ staging in absurd cc
 
-      -- a local that was served has no scan
+      -- a local whose scan has served its purpose has no scan
       pair : (p : Purpose) → Owns me (served ended p cut)
           → Owned s w me (served ended p cut) (served ended p cut).scan
       pair For_row o = record { owns = o; mark = tt }
@@ -507,7 +507,7 @@ module _ (s : Shape) (w : World) (sound : Sound s w) (me : ℕ) (low : me < s.ca
   own_owned (Look q j x o) may loaded h = look_owned q j x o may loaded h
   own_owned (Peek q j k t x) may loaded h = peek_owned q j k t x may loaded h
 
--- a mark holds on
+-- a mark of a scan stays one along steps
 mark_on : (s : Shape) (w : World) (step : Step) (i : ℕ) (l : Local) (o : Option Scan) → Sound s w
     → IsTrue (is_possible s w step) → IsMarked s w i l o → IsMarked s (after s w step) i l o
 mark_on s w step i l None sound may h = tt

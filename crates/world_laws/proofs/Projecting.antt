@@ -41,7 +41,7 @@ map-replicate : {X Y : Type 0} (f : X → Y) (n : ℕ) (x : X)
 map-replicate f zero x = refl
 map-replicate f (suc n) x = ap (λ (ys : List _). f x ∷ ys) (map-replicate f n x)
 
--- where both arms commute with a change, so does the choice
+-- where both arms commute with a change, the choice between them does
 if_commutes : (b : Bool) (x y u v : Local) → x ≡ without_steps u → y ≡ without_steps v
     → (if b then x else y) ≡ without_steps (if b then u else v)
 if_commutes true x y u v p q = p
@@ -78,14 +78,14 @@ opened_commutes l q Begins_none = refl
 opened_commutes l q Begins_scan = refl
 opened_commutes l q (Begins_view reply) = refl
 
--- the scan under way after a look begins one is the same
+-- the scan under way after a look begins one is that of the local without object steps
 opened_scan : (l : Local) (q : Region) (o : Opening)
     → (opened (without_steps l) q o).scan ≡ (opened l q o).scan
 opened_scan l q Begins_none = refl
 opened_scan l q Begins_scan = refl
 opened_scan l q (Begins_view reply) = refl
 
--- an event that is no object step does the same to the local
+-- an event that is no object step does to the local without object steps what it does to the local
 local_commutes : (n : ℕ) (l : Local) (e : Event) → is_object e ≡ false
     → local_after n (without_steps l) e ≡ without_steps (local_after n l e)
 local_commutes n l (Stage q t x) is = refl
@@ -105,7 +105,7 @@ local_commutes n l (Peek q j k t x) is =
     fed_commutes n (with_peek l (record { region = q; caller = j; row = k; place = t; word = x }))
     l.scan q (is_peek_wanted n q j k t) x
 
--- and an object step does nothing to it
+-- an object step does nothing to the local without object steps
 object_nothing : (n : ℕ) (l : Local) (o : Object_step)
     → without_steps (local_after n l (Object o)) ≡ without_steps l
 object_nothing n l o =
@@ -113,7 +113,7 @@ object_nothing n l o =
     (map-set_same (λ (steps : List Object_step). let none : List Object_step = [] in none)
     l.object_steps l.published (slice_index_or l.object_steps l.published [] ++ o ∷ []) [] refl)
 
--- what a look may begin, it may begin where the object is outside
+-- a look may begin where the object is outside what it may begin in the world
 may_begin_outside : (s : Shape) (me : ℕ) (l : Local) (q : Region) (j : ℕ) (o : Opening)
     → may_begin s me l q j o ≡ true → may_begin (outside_of s) me (without_steps l) q j o ≡ true
 may_begin_outside s me l q j Begins_none h = refl
@@ -148,7 +148,7 @@ same_happenings who l (Look q j x Begins_scan) = refl
 same_happenings who l (Look q j x (Begins_view reply)) = refl
 same_happenings who l (Peek q j k t x) = refl
 
--- A world and the plain world that is it without its object words and object steps.
+-- A world, and the plain world: the same without object words and object steps.
 module _ (s : Shape) (w v : World) (h : Sound s w) (p : IsPlain s w v) where
   abbrev prefix : ℕ
   prefix = row_words s.callers s.cap
@@ -161,7 +161,7 @@ module _ (s : Shape) (w v : World) (h : Sound s w) (p : IsPlain s w v) where
   local_same i = ap (λ (ls : List Local). slice_index_or ls i fresh) p.locals
       ∙ get_or-map_default without_steps w.locals i fresh
 
-  -- what is loaded is the same
+  -- what is loaded in the world is loaded in the plain world
   loaded_outside : (me : ℕ) → me < s.callers → (e : Event) → is_object e ≡ false
       → is_enabled s me (local_of w me) e ≡ true → is_loaded s w.words e ≡ true
       → is_loaded (outside_of s) v.words e ≡ true
@@ -210,8 +210,8 @@ module _ (s : Shape) (w v : World) (h : Sound s w) (p : IsPlain s w v) where
   words_outside me (Look q j x o) is = p.words
   words_outside me (Peek q j k t x) is = p.words
 
-  -- a step that is no object step is enabled there too, and leads to the plain world of the world
-  -- that it leads to
+  -- a step that is no object step is enabled in the plain world, and leads to the plain world of
+  -- the world that it leads to
   step_outside : (step : Step) → is_object step.event ≡ false → is_possible s w step ≡ true
       → (is_possible (outside_of s) v step ≡ true)
       × IsPlain s (after s w step) (after (outside_of s) v step)
@@ -246,7 +246,7 @@ module _ (s : Shape) (w v : World) (h : Sound s w) (p : IsPlain s w v) where
         },
       )
 
-  -- and an object step leads to a world with the same plain world
+  -- an object step leads to a world with this same plain world
   object_outside : (who : ℕ) (o : Object_step)
       → IsPlain s (after s w (record { who = who; event = Object o })) v
   object_outside who o =
@@ -258,13 +258,13 @@ module _ (s : Shape) (w v : World) (h : Sound s w) (p : IsPlain s w v) where
             (Object o)) fresh (object_nothing s.callers (local_of w who) o));
       }
 
-  -- what happens to calls of the object is the same
+  -- a step makes the same happenings in the plain world
   happens_outside : (who : ℕ) (e : Event)
       → happenings who (local_of v who) e ≡ happenings who (local_of w who) e
   happens_outside who e = ap (λ (l : Local). happenings who l e) (local_same who)
       ∙ same_happenings who (local_of w who) e
 
--- What the rest of a run has, from such worlds on.
+-- What the rest of a run has, from a world and its plain world on.
 record Projects (s : Shape) (w v : World) (steps : List Step) : Type 0 where
   may : are_possible (outside_of s) v (plain steps) ≡ true
   at : IsPlain s (after_all s w steps) (after_all (outside_of s) v (plain steps))
@@ -332,7 +332,7 @@ project s w v (step ∷ steps) h p may =
           }
     ]
 
--- the start is plain
+-- the start has a plain world
 take_zeros : (m more : ℕ) → take {A = ℕ} m (replicate (m + more) 0) ≡ replicate (m + 0) 0
 take_zeros m more = take-replicate m (m + more) 0 (omega arith)
     ∙ ap (λ (k : ℕ). replicate k 0) (let e : m ≡ m + 0 = omega arith in e)

@@ -30,7 +30,7 @@ staging_M Asking h = absurd cc
 staging_M Viewing h = absurd cc
 staging_M Judging h = absurd cc
 
--- each place below one whose lower places are all staged
+-- each place below a number is staged where all places below it are
 staged_below : (staged : List Staged) (n p : ℕ) → are_staged staged n ≡ true → p < n
     → is_staged staged p ≡ true
 staged_below staged zero p all below = absurd (omega arith)
@@ -76,7 +76,7 @@ entry_to_embed : (kept : Option (List ℕ)) (j x : ℕ) → is_entry_to_embed ke
 entry_to_embed None j x h = absurd cc
 entry_to_embed (Some cut) j x h = eqb-true x (slice_index cut j) h
 
--- the row of N that is announced: what is staged there is what belongs to the new call
+-- the row of N that is announced has the words that belong to the new call
 announced_word : (n : ℕ) (l : Local) (k p : ℕ) → HasPhase l → k ≡ l.announced
     → is_word (staged_at l.staged 0) ≡ true
     → is_due l (content n N p) (staged_at l.staged p) ≡ true
@@ -96,7 +96,7 @@ announced_word n l k (suc (suc j)) h here low due =
     ∙ ap (λ (c : List ℕ). slice_index c j)
     (sym (get_or_push l.embedded_in_N (cut_to_embed l) [] k (h.embedded_in_N ∙ sym here)))
 
--- and the rows before it are as they were
+-- the rows of N before the announced one are as they were
 announced_before : (n : ℕ) (l : Local) (r : Region) (k : ℕ) → HasPhase l → k < l.announced
     → SameRow l (local_after n l Announce) r k
 announced_before n l N k h below =
@@ -194,7 +194,7 @@ published_counts s me l words low long h N =
     (λ e. let same : N ≡ M = (count_apart s.callers N M me me low low e).0 in cc)
     ∙ h.counts N
 
--- the row of M that is published: what is staged there is what belongs to the call
+-- the row of M that is published has the words that belong to the call
 published_entry : (n : ℕ) (l : Local) (k i j x : ℕ) (b : Bool) → HasPhase l → k ≡ l.published
     → is_due l (if b then View_entry i else Embedded_entry M j) x ≡ true
     → x ≡ word_of (local_after n l Publish) k (if b then View_entry i else Embedded_entry M j)
@@ -213,7 +213,7 @@ published_word n l k zero x h here due = eqb-true x (word_of l l.published Reply
 published_word n l k (suc j) x h here due =
     published_entry n l k j (j - n) x (nat_lt j n) h here due
 
--- and the rows before it are as they were
+-- the rows of M before the published one are as they were
 published_before : (n : ℕ) (l : Local) (r : Region) (k : ℕ) → HasPhase l → k < own_count l r
     → SameRow l (local_after n l Publish) r k
 published_before n l N k h below = record { operation = refl; embedded = refl }

@@ -1,4 +1,4 @@
--- What is high stays high along a run.
+-- Cuts and words that are high, with no count below those of a world, stay high along a run.
 use Rattle.std.proofs.Common.{◌≡◌, ℕ, ◌<◌, ◌≤◌, true, ◌&&◌, nat_lt, List, [], ◌∷◌, length, Option, Some, None, slice_index_or, sym, ◌∙◌, subst, arith, IsTrue, inl, inr}
 use Rattle.std.specs.Option.{unwrap_or}
 use Rattle.std.proofs.lemmas.List.{get_or_append_left, get_or_push}
@@ -18,7 +18,7 @@ use Rattle.world_laws.proofs.Since.{High, AllHigh, IsHighCut, IsHighKept, IsHigh
 use Rattle.world_laws.proofs.Knowing.{Sound, known_counted, none_asked, keeps_open}
 use Rattle.world_laws.proofs.Running.{possible, own_local, other_local}
 
--- a cut to embed that has an entry is there
+-- a cut to embed that has an entry exists
 high_there : (s : Shape) (from : World) (r : Region) (kept : Option (List ℕ)) (j x : ℕ)
     → is_entry_to_embed kept j x ≡ true → IsHighKept s from r kept
     → IsHighCut s from r (unwrap_or kept [])
@@ -41,7 +41,7 @@ none_since s w sound j low =
       scan = no_scan s w j (local_of w j) (λ r. agrees.counts r) (local_of w j).scan;
     }
 
--- The step's own caller.
+-- The caller that makes the step.
 module _ (s : Shape) (w : World) (sound : Sound s w) (me : ℕ) (low : me < s.callers) where
   abbrev mine : Local
   mine = local_of w me
@@ -201,7 +201,7 @@ module _ (s : Shape) (w : World) (sound : Sound s w) (me : ℕ) (low : me < s.ca
         })
         agrees.kept_in was.scan (found_peek q j k t x may loaded)
 
--- so all stay high
+-- all locals stay high at a step
 pub step_high : (s : Shape) (from w : World) (step : Step) → Sound s w
     → IsTrue (is_possible s w step) → AllHigh s from w → AllHigh s from (after s w step)
 step_high s from w step sound may all i low =

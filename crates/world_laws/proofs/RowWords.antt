@@ -1,4 +1,4 @@
--- The words that belong in a row hang on the lists of its region alone.
+-- The words that belong in a row depend on the lists of its region alone.
 use Rattle.std.proofs.Common.{◌≡◌, ℕ, zero, suc, ◌+◌, ◌*◌, ◌-◌, ◌^◌, ◌<◌, Bool, true, false, nat_lt, if◌then◌else◌, List, [], slice_index, slice_index_or, ap, ◌∙◌, arith}
 use Rattle.std.proofs.lemmas.Nat.{div-mul-add, mod-mul-add}
 use Rattle.book_base.specs.OperationWord.{low_of, high_of, joined}
@@ -27,7 +27,7 @@ same_entry : (l m : Local) (k i j : ℕ) (b : Bool) → SameRecord l m k
 same_entry l m k i j true h = ap (λ (c : List ℕ). slice_index c i) h.view
 same_entry l m k i j false h = ap (λ (c : List ℕ). slice_index c j) h.embedded
 
--- so the same words belong in it
+-- the same words belong in the row of two locals that have the same row
 pub same_row : (n : ℕ) (l m : Local) (r : Region) (k p : ℕ) → SameRow l m r k
     → word_of l k (content n r p) ≡ word_of m k (content n r p)
 same_row n l m N k zero h = ap low_of h.operation

@@ -86,7 +86,7 @@ step_kept s w step h may =
       ];
     }
 
--- the start has it
+-- the start has what every reachable world has
 no_count : (r : Region) → 0 ≡ own_count fresh r
 no_count N = refl
 no_count M = refl
@@ -128,7 +128,7 @@ start_kept s =
           (sym (get_or-replicate_default s.callers i fresh)) (fresh_agrees s i);
     }
 
--- and each world after possible steps
+-- each world after possible steps has what every reachable world has
 pub steps_kept : (s : Shape) (w : World) (steps : List Step) → Kept s w
     → IsTrue (are_possible s w steps) → Kept s (after_all s w steps)
 steps_kept s w [] h may = h
@@ -136,7 +136,7 @@ steps_kept s w (step ∷ steps) h may =
     let parts = and_parts (is_possible s w step) (are_possible s (after s w step) steps) may in
     steps_kept s (after s w step) steps (step_kept s w step h parts.0) parts.1
 
--- a run goes on
+-- a run of two lists of steps in a row is the second one's after the first one's
 pub after_all-append : (s : Shape) (w : World) (xs ys : List Step)
     → after_all s w (xs ++ ys) ≡ after_all s (after_all s w xs) ys
 after_all-append s w [] ys = refl
@@ -198,7 +198,7 @@ step_grows s w step h may r i low =
       )
     ]
 
--- and no row below its count changes
+-- no row below its count changes at a step
 pub step_stays : (s : Shape) (w : World) (step : Step) → Kept s w → IsTrue (is_possible s w step)
     → (r : Region) (i k place : ℕ) → i < s.callers
     → k < count_of s w r i → place < places s.callers r
@@ -211,7 +211,7 @@ step_stays s w step h may r i k place low below fits =
     (omega (arith, own_few s w.words i (local_of w i) agrees r)) fits
     (λ same. subst (λ (j : ℕ). k < own_count (local_of w j) r) same counted)
 
--- along possible steps
+-- counts never fall along possible steps, and no row below its count changes
 pub steps_grow : (s : Shape) (w : World) (steps : List Step) → Kept s w
     → IsTrue (are_possible s w steps) → (r : Region) (i : ℕ) → i < s.callers
     → count_of s w r i ≤ count_of s (after_all s w steps) r i
@@ -238,7 +238,7 @@ steps_stay s w (step ∷ steps) h may r i k place low below fits =
     (omega (arith, grows)) fits
     ∙ step_stays s w step h parts.0 r i k place low below fits
 
--- What steps of others leave to a caller.
+-- What the steps of other callers leave unchanged for a caller.
 pub record IsLeft (s : Shape) (w v : World) (i : ℕ) : Type 0 where
   pub counts : (r : Region) → count_of s v r i ≡ count_of s w r i
   pub rows : (r : Region) (k place : ℕ) → k < s.cap → place < places s.callers r
@@ -276,7 +276,7 @@ others_left s w (step ∷ steps) may i low others =
       local = rest.local ∙ first.local;
     }
 
--- A run is one up to some moment, and goes on from there.
+-- A run is a run up to some moment, and possible steps from there.
 pub record GoesOn (s : Shape) (before later : List Step) : Type 0 where
   pub kept : Kept s (end_of s before)
   pub may : IsTrue (are_possible s (end_of s before) later)
@@ -293,7 +293,7 @@ goes_on s before later run =
       at = after_all-append s (start s) before later;
     }
 
--- the laws
+-- the laws that `specs` states, from what is proved above
 pub counts_never_fall : CountsNeverFall
 counts_never_fall s before later r i run low =
     let on = goes_on s before later run in

@@ -1,4 +1,4 @@
--- A scan that goes on leaves its caller's calls as they were.
+-- A scan that takes a word leaves its caller's calls as they were.
 use Rattle.std.proofs.Common.{◌≡◌, ℕ, Bool, ◌&&◌, List, [], ◌∷◌, ◌++◌, Option, Some, None, refl}
 use Rattle.std.proofs.lemmas.Bool.{cond_both}
 use Rattle.world_core.specs.declared.region.Region.{Region}
@@ -30,7 +30,7 @@ went_on_calls l scan (Wants_look i) =
 went_on_calls l scan (Wants_peek i k e) =
     record { operations = refl; replies = refl; object_steps = refl }
 
--- a word that is fed to the scan under way
+-- a word that the scan under way takes leaves the calls as they were
 pub fed_calls : (n : ℕ) (l : Local) (o : Option Scan) (q : Region) (is_it : Want → Bool) (x : ℕ)
     → SameCalls l (fed n l o q is_it x)
 fed_calls n l None q is_it x = record { operations = refl; replies = refl; object_steps = refl }
@@ -41,7 +41,7 @@ fed_calls n l (Some scan) q is_it x =
     (λ _. went_on_calls l (with_word scan x) (wanted n (with_word scan x).taken))
     (λ _. record { operations = refl; replies = refl; object_steps = refl })
 
--- a look, but for what it opens
+-- a look leaves the calls as they were, but for what it opens
 pub looked_calls : (n : ℕ) (l : Local) (q : Region) (j x : ℕ) (o : Opening)
     → SameCalls (opened l q o) (local_after n l (Look q j x o))
 looked_calls n l q j x o =

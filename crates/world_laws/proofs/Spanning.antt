@@ -21,7 +21,7 @@ use Rattle.world_laws.proofs.Moments.{Was}
 use Rattle.world_laws.proofs.Instants.{run_cut, was_counts}
 use Rattle.world_laws.proofs.Begun.{IsBegun, StepGave, AfterStep, step_outcome, more_cuts, gives_of}
 
--- A scan that no step gives up goes on, or has ended.
+-- A scan that no step gives up is under way still, or has ended.
 pub steps_begun : (s : Shape) (w : World) (steps : List Step) (i : ℕ) (P : World → Type 0)
     → i < s.callers → Sound s w → IsTrue (are_possible s w steps)
     → list_all (keeps_scan i) steps ≡ true → IsBegun s w i P (local_of w i) (local_of w i).scan
@@ -189,7 +189,7 @@ module _ (s : Shape) (who : ℕ) (given : Given) (r : Span) (h : GivesCut s who 
       let down = at_last.low who it.low in
       omega (arith, stays, up, down, last_still who)
 
-  -- nor does the first look
+  -- the first look changes no count
   after_first : end_of s (r.before ++ r.first ∷ []) ≡ after s (end_of s r.before) r.first
   after_first = after_all-append s (start s) r.before (r.first ∷ [])
 
@@ -229,7 +229,7 @@ module _ (s : Shape) (who : ℕ) (given : Given) (r : Span) (h : GivesCut s who 
         omega (arith, up, here, down, there, last_still j, was.same j fits)),
   )
 
-  -- the moment is before the first look: then the counts stood still until it
+  -- the moment is before the first look, and the counts stayed until then
   soon : (more : List Step) → r.before ≡ was.early ++ more → IsInstantaneous s given r
   soon more longer = (
     [],
@@ -250,7 +250,7 @@ module _ (s : Shape) (who : ℕ) (given : Given) (r : Span) (h : GivesCut s who 
         omega (arith, up, here, down, first_still j, was.same j fits)),
   )
 
-  -- the moment is between them
+  -- the moment is between the first look and the last step
   within : (ys zs : List Step) → was.early ≡ r.before ++ ys → r.first ∷ r.between ≡ ys ++ zs
       → IsInstantaneous s given r
   within [] zs longer parts = soon [] (let e : was.early ≡ r.before =
@@ -281,7 +281,7 @@ module _ (s : Shape) (who : ℕ) (given : Given) (r : Span) (h : GivesCut s who 
     | inr (more, longer) ↦ middle more longer
   ]
 
--- the laws
+-- the laws that `specs` states, from what is proved above
 pub cuts_are_instantaneous : CutsAreInstantaneous
 cuts_are_instantaneous s who given r h = instantaneous s who given r h
 

@@ -12,7 +12,7 @@ use Rattle.world_core.specs.Agreement.{Agrees, IsInRow, IsStagedIn}
 use Rattle.world_core.proofs.Indices.{count_or_row, row_apart, row_within}
 use Rattle.world_laws.proofs.Words.{MayStage, may_stage, one_staged, row_kept, own_few}
 
--- a phase that stages
+-- a phase that stages allows any staged words
 staging_some : (phase : Phase) (r : Region) (staged more : List Staged) → is_staging phase r ≡ true
     → IsStagedIn phase staged → IsStagedIn phase more
 staging_some Announcing r staged more a b = tt
@@ -24,7 +24,7 @@ staging_some Viewing M staged more a b = absurd cc
 staging_some Judging N staged more a b = absurd cc
 staging_some Judging M staged more a b = absurd cc
 
--- What stands where a stage put a word, and elsewhere in the row under way.
+-- The words at the place of a staged word, and elsewhere in the row under way.
 module _ (s : Shape) (me : ℕ) (l : Local) (words : List ℕ) (q : Region) (t x : ℕ)
     (low : me < s.callers) (long : words_of s ≤ length words) (m : MayStage s l q t x) where
   abbrev new_words : List ℕ

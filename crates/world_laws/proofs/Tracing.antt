@@ -24,7 +24,7 @@ use Rattle.world_laws.proofs.Running.{possible, own_local, other_local, are_poss
 use Rattle.world_laws.proofs.Begun.{StepGave, AfterStep, step_outcome, served_scan, keeps_of, others_of}
 use Rattle.world_laws.proofs.Ordering.{Anywhere, AllPlaced, start_placed, step_placed}
 
--- The scan under way, if there is one, is of a region of this kind.
+-- The scan under way, if there is one, is of a region for which Q holds.
 abbrev OnScan : (Region → Type 0) → Option Scan → Type 0
 OnScan Q None = Unit {0}
 OnScan Q (Some scan) = Q scan.region
@@ -65,7 +65,8 @@ module _ (Q : Region → Type 0) where
   opened_scan l q j x (Begins_view reply) old new =
       new (and_from (is_same_region q q) true (region_self q) refl)
 
-  -- an event that gives no scan up leaves the region of the one under way, and a look may begin one
+  -- an event that gives no scan up leaves the region of the scan under way, and a look may begin a
+  -- scan
   event_scan : (n : ℕ) (l : Local) (e : Event) → (gives_up e ≡ false → OnScan Q l.scan)
       → ((q : Region) → is_first_look q e ≡ true → Q q) → OnScan Q (local_after n l e).scan
   event_scan n l (Stage q t x) old new = old refl
@@ -80,7 +81,7 @@ module _ (Q : Region → Type 0) where
       fed_scan n (with_look (opened l q o) (record { region = q; caller = j; count = x }))
       (opened l q o).scan q (is_look_wanted j) x opens opens
 
--- A scan of a region that began in these steps, and that none of the later ones gave up.
+-- A scan of a region that began in these steps, and that none of the later steps gave up.
 record Open (done : List Step) (i : ℕ) (region : Region) : Type 0 where
   before : List Step
   first : Step
@@ -271,7 +272,7 @@ unfolding AllTraced
 start_traced s i low = subst (λ (l : Local). Traced s [] i l)
     (sym (get_or-replicate_default s.callers i fresh)) (fresh_traced s [] i)
 
--- along the rest of a run
+-- what a caller has at the end of steps, along the rest of a run
 steps_traced : (s : Shape) (done rest : List Step) (w : World) → Sound s w → IsRun s done
     → end_of s done ≡ w → IsTrue (are_possible s w rest)
     → AllPlaced s w → AllTraced s done w → AllTraced s (done ++ rest) (after_all s w rest)

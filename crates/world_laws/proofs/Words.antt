@@ -69,7 +69,7 @@ row_kept s me l words (Object o) low may r i k p low' a b below =
 row_kept s me l words (Look q j x o) low may r i k p low' a b below = refl
 row_kept s me l words (Peek q j m t x) low may r i k p low' a b below = refl
 
--- and each count but its caller's
+-- an event leaves each count but its caller's
 pub count_kept : (s : Shape) (me : ℕ) (l : Local) (words : List ℕ) (e : Event) → me < s.callers
     → (r : Region) (i : ℕ) → i < s.callers → i ≢ me
     → slice_index (words_after s me l words e) (count_index s.callers r i)

@@ -8,8 +8,8 @@ use Rattle.world_core.specs.World.{Step, local_of, IsRun, end_of}
 use Rattle.world_core.specs.Snapshot.{Span, up_to_last, GivesCut}
 use Rattle.world_core.specs.Calls.{AreTogether, local_at}
 
--- The words that a scan of caller i of n has taken are steady, and come of at most n + 1 collects,
--- which are n * (n + 1) looks, and n peeks; and they are at most that many.
+-- The words that a scan of caller i of n has taken are steady. They come of at most n + 1 collects,
+-- which are n * (n + 1) looks, and of at most n peeks; so they are at most n * (n + 1) + n.
 pub record IsBounded (n i : ℕ) (taken : List ℕ) : Type 0 where
   pub steady : IsSteady n i taken
   pub looks : looks n taken ≤ n * (n + 1)
@@ -23,14 +23,15 @@ ScansAreBounded =
     → (local_at locals i).scan ≡ Some scan
     → IsBounded s.callers i scan.taken
 
+-- The scan under way of each caller at the end of a run is bounded.
 abbrev pub ScansAreBoundedInRuns : Type 0
 ScansAreBoundedInRuns =
     (s : Shape) (steps : List Step) (i : ℕ) (scan : Scan) → IsRun s steps → i < s.callers
     → (local_of (end_of s steps) i).scan ≡ Some scan
     → IsBounded s.callers i scan.taken
 
--- The scan that gave a cut at the end of a span: with its last word it was done with that cut, and
--- it is bounded.
+-- The scan that gave a cut at the end of a span was done with that cut at its last word, and is
+-- bounded.
 pub record IsEnded (s : Shape) (who : ℕ) (given : Given) (r : Span) : Type 0 where
   pub scan : Scan
   pub under : (local_of (end_of s (up_to_last r)) who).scan ≡ Some scan

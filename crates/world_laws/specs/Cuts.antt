@@ -20,7 +20,7 @@ CutsWereCounts =
     → slice_get (local_of (end_of s steps) i).cuts p ≡ Some given
     → WereCounts s steps given.region given.cut
 
--- So was the cut that a counted row embeds.
+-- The cut that a counted row embeds was the counts of its region at one moment.
 abbrev pub EmbeddedCutsWereCounts : Type 0
 EmbeddedCutsWereCounts =
     (s : Shape) (steps : List Step) (i k : ℕ) (region : Region) → IsRun s steps → i < s.callers
@@ -39,8 +39,8 @@ pub record WereOwnCounts (s : Shape) (locals : List Local) (region : Region)
   pub counts : (j : ℕ) → j < s.callers
       → own_count (local_of (end_of s early) j) region ≡ slice_index cut j
 
--- The same of the locals of one reachable world: each cut that a scan gave, and each that a counted
--- row embeds.
+-- In the locals of one reachable world, each cut that a scan gave was the callers' own counts in
+-- its region at one moment.
 abbrev pub GivenCutsWereCounts : Type 0
 GivenCutsWereCounts =
     (s : Shape) (locals : List Local) (i p : ℕ) (given : Given) → AreTogether s locals
@@ -48,6 +48,8 @@ GivenCutsWereCounts =
     → slice_get (local_at locals i).cuts p ≡ Some given
     → WereOwnCounts s locals given.region given.cut
 
+-- In the locals of one reachable world, each cut that a counted row embeds was the callers' own
+-- counts in the row's region at one moment.
 abbrev pub EmbeddedCutsWereOwnCounts : Type 0
 EmbeddedCutsWereOwnCounts =
     (s : Shape) (locals : List Local) (i k : ℕ) (region : Region) → AreTogether s locals
@@ -64,8 +66,8 @@ CutsAreComparable =
     → slice_get (local_of (end_of s steps) j).cuts q ≡ Some b → a.region ≡ b.region
     → AreComparable a.cut b.cut
 
--- The same of the locals of one reachable world; and of any two views in them, and any two seen
--- cuts.
+-- In the locals of one reachable world any two cuts of one region are comparable, and so are any
+-- two views, and any two seen cuts.
 abbrev pub GivenCutsAreComparable : Type 0
 GivenCutsAreComparable =
     (s : Shape) (locals : List Local) (i j p q : ℕ) (a b : Given) → AreTogether s locals
@@ -97,8 +99,9 @@ CutsRise =
     → slice_get (local_at locals i).cuts p ≡ Some a → slice_get (local_at locals i).cuts q ≡ Some b
     → a.region ≡ b.region → IsWithin a.cut b.cut
 
--- It contains each count of that region that its caller had looked at before the scan began. Looked
--- counts stand newest first: so these are the last ones, as many as the cut says.
+-- A cut of a region contains each count of that region that its caller had looked at before the
+-- cut's scan began. Looked counts stand newest first, so these are the last ones, as many as the
+-- field since of the cut says.
 abbrev pub CutsHoldLooked : Type 0
 CutsHoldLooked =
     (s : Shape) (locals : List Local) (i p q : ℕ) (look : Looked) (given : Given)
@@ -108,7 +111,7 @@ CutsHoldLooked =
     → length (local_at locals i).looked ≤ p + given.since → look.region ≡ given.region
     → look.count ≤ slice_index given.cut look.caller
 
--- There are as many.
+-- The field since of a cut is at most the number of counts that its caller has looked at.
 abbrev pub CutsHaveSince : Type 0
 CutsHaveSince =
     (s : Shape) (locals : List Local) (i q : ℕ) (given : Given) → AreTogether s locals

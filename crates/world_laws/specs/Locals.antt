@@ -1,5 +1,5 @@
--- What holds of the locals of one reachable world, said of locals alone; and the same of the world
--- at the end of a run.
+-- What holds of the locals of one reachable world, said of locals alone; and what then holds of the
+-- world at the end of a run.
 use Rattle.std.specs.Prelude.{◌≡◌, ℕ, ◌<◌, ◌≤◌, IsTrue, List, [], ◌∷◌, ◌++◌, length, Some, None, slice_get, slice_index}
 use Rattle.book_base.specs.declared.call.Call.{Call}
 use Rattle.world_core.specs.declared.region.Region.{Region}

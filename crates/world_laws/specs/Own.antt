@@ -30,8 +30,8 @@ SeenCutsCountTheirCall =
     → k < length (local_at locals i).seen
     → IsCutOf locals M i (k + 1) (slice_index_or (local_at locals i).seen k [])
 
--- The cut that row k of a caller embeds in a region counts what is counted there, k rows of them
--- its own.
+-- The cut that row k of a caller embeds in a region counts rows of that region, k of them the
+-- caller's own.
 abbrev pub EmbeddedCutsCountTheirRow : Type 0
 EmbeddedCutsCountTheirRow =
     (s : Shape) (locals : List Local) (i k : ℕ) (region : Region) → AreTogether s locals

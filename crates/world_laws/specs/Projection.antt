@@ -9,15 +9,16 @@ use Rattle.world_core.specs.World.{World, Step, IsRun, end_of}
 use Rattle.world_core.specs.History.{history_of}
 use Rattle.world_core.specs.Calls.{book_in}
 
--- The same callers and cap, with the object outside.
+-- The shape with the same callers and cap, whose object is outside the world.
 abbrev pub outside_of : Shape → Shape
 outside_of s = record s { program = outside }
 
+-- Whether an event is an object step.
 abbrev pub is_object : Event → Bool
 is_object (Object step) = true
 is_object _ = false
 
--- The steps without the object steps.
+-- A list of steps, with the object steps left out.
 abbrev pub plain : List Step → List Step
 plain [] = []
 plain (step ∷ steps) = if is_object step.event then plain steps else step ∷ plain steps
@@ -26,7 +27,7 @@ plain (step ∷ steps) = if is_object step.event then plain steps else step ∷ 
 abbrev pub without_steps : Local → Local
 without_steps l = record l { object_steps = map (λ (steps : List Object_step). []) l.object_steps }
 
--- A world of the outside program that is another's without its object words and object steps.
+-- World v is world w without its object words, and without the object steps of its calls.
 pub record IsPlain (s : Shape) (w v : World) : Type 0 where
   pub words : v.words ≡ take (row_words s.callers s.cap) w.words
   pub locals : v.locals ≡ map without_steps w.locals
@@ -41,11 +42,12 @@ RunsProject =
     × IsPlain s (end_of s steps) (end_of (outside_of s) (plain steps))
     × (history_of (outside_of s) (plain steps) ≡ history_of s steps)
 
--- This holds at each moment of the run, since a beginning of it projects to a beginning.
+-- A prefix of a run projects to a prefix of the projected run, so a run projects at each of its
+-- moments.
 abbrev pub BeginningsProject : Type 0
 BeginningsProject = (before later : List Step)
     → plain (before ++ later) ≡ plain before ++ plain later
 
--- And the books are the same.
+-- The book of some locals without their object steps is the book of these locals.
 abbrev pub BooksProject : Type 0
 BooksProject = (locals : List Local) → book_in (map without_steps locals) ≡ book_in locals

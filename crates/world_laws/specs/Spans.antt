@@ -30,7 +30,8 @@ CutsHoldOwn =
     (s : Shape) (who : ℕ) (given : Given) (r : Span) → GivesCut s who given r
     → slice_index given.cut who ≡ count_of s (end_of s (through_last r)) given.region who
 
--- A cut tells how many counts its caller had looked at before the scan began.
+-- The field since of a cut is the number of counts that its caller had looked at before the cut's
+-- scan began.
 abbrev pub CutsTellSince : Type 0
 CutsTellSince =
     (s : Shape) (who : ℕ) (given : Given) (r : Span) → GivesCut s who given r
@@ -43,8 +44,8 @@ pub record IsGivenBy (s : Shape) (steps : List Step) (who : ℕ) (given : Given)
   pub parts : steps ≡ through_last span ++ later
   pub gives : GivesCut s who given span
 
--- Each cut that a caller has was given by a scan of its own: so what is said here of spans holds of
--- each of them.
+-- Each cut that a caller has was given by a scan of its own, in a span of the run; so the laws on
+-- spans hold of each such cut.
 abbrev pub CutsHaveSpans : Type 0
 CutsHaveSpans =
     (s : Shape) (steps : List Step) (i p : ℕ) (given : Given) → IsRun s steps → i < s.callers

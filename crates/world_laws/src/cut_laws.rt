@@ -48,7 +48,8 @@ pub fn cuts_hold_by_time()
     ensures no_later { CutsHoldNoLater }
     // The entry of a scan's cut for its own caller is that caller's count.
     ensures own { CutsHoldOwn }
-    // A cut tells how many counts its caller had looked at before the scan began.
+    // The field since of a cut is the number of counts that its caller had looked at before the
+    // cut's scan began.
     ensures since { CutsTellSince }
 {}
 
@@ -65,12 +66,13 @@ pub fn cuts_rise()
     ensures cuts { CutsRise }
     // A cut contains each count of its region that its caller had looked at before the scan began.
     ensures looked { CutsHoldLooked }
-    // A caller has looked at no fewer counts than one of its cuts tells.
+    // The field since of a cut is at most the number of counts that its caller has looked at.
     ensures since { CutsHaveSince }
 {}
 
 /// A scan of `n` callers makes at most `n + 1` collects, which are `n * (n + 1)` looks, and at most
-/// `n` peeks, whatever the others do: so far as it is under way, and when it has given its cut.
+/// `n` peeks, whatever the others do. This holds of a scan under way and of one that has given its
+/// cut.
 pub fn scans_are_bounded()
     // The scan under way of each caller, in the locals of a reachable world, makes at most n + 1
     // collects and n peeks.

@@ -2,7 +2,8 @@
 
 ghost use Rattle.world_laws.specs.Runs.{StartIsReachable, StepsReach, CountsNeverFall, CountedRowsStay, CountsAreOwn, RowsAreOwn, LocalsAreOwn, LocalsAgree};
 
-/// The worlds that runs reach are the start and what each possible step makes of such a world.
+/// The worlds that runs reach are the start, and the world after each possible step of such a
+/// world.
 #[tactic(auto, using(crate::proofs::Running::start_is_reachable, crate::proofs::Running::steps_reach))]
 pub fn runs_go_on()
     // The world at the start is reachable.

@@ -1,5 +1,5 @@
-//! What holds of the locals of one reachable world, said of locals alone; and the same at the end
-//! of a run.
+//! What holds of the locals of one reachable world, said of locals alone; and what then holds at
+//! the end of a run.
 
 ghost use Rattle.world_laws.specs.Locals.{LocalsHavePhases, KnownRowsAreCounted, PeekedWordsAreWords, LookedCountsAreLow, GivenCutsAreLow, GivenCutsArePublished, KnownRowsAreCountedInRuns, PeekedWordsStand, LookedCountsAreLowInRuns, AnnouncementsGiveUpScans, PublicationsGiveUpScans};
 
@@ -26,11 +26,11 @@ pub fn peeked_words_are_words()
     ensures runs { PeekedWordsStand }
 {}
 
-/// A count that a caller looked at is at most the count that stands there.
+/// A count that a caller looked at is at most the count that its region has now.
 pub fn looked_counts_are_low()
     // A count that a caller looked at is at most the own count of the caller that it is of.
     ensures locals { LookedCountsAreLow }
-    // A count that a caller looked at is at most the count that stands there at the end of the run.
+    // A count that a caller looked at is at most the count word at the end of the run.
     ensures runs { LookedCountsAreLowInRuns }
 {}
 

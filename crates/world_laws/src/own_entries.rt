@@ -3,8 +3,9 @@
 ghost use Rattle.world_laws.specs.Given.{ViewsAreGiven, SeenCutsAreGiven, EmbeddedCutsAreGiven, ViewsRise, SeenCutsRise};
 ghost use Rattle.world_laws.specs.Own.{ViewsCountTheirCall, SeenCutsCountTheirCall, EmbeddedCutsCountTheirRow};
 
-/// View `k` and seen cut `k` of a caller have `k + 1` for it, and the cut that its row `k` embeds
-/// has `k`; and none of them counts more than is counted (Afek and others 1993).
+/// View `k` and seen cut `k` of a caller count `k + 1` calls or records of the caller itself, and
+/// the cut that its row `k` embeds counts `k` of its rows; and none of these cuts counts more than
+/// is counted (Afek and others 1993).
 pub fn own_entries_are_numbers()
     // View k of a caller counts k + 1 of its own calls, and no more calls of a caller than are
     // counted.
@@ -17,8 +18,9 @@ pub fn own_entries_are_numbers()
     ensures embedded { EmbeddedCutsCountTheirRow }
 {}
 
-/// What a caller keeps of cuts its own scans gave: each view is a cut of announcements, each seen
-/// cut one of answers, and the cut that a row embeds one of the row's region.
+/// Each cut that a caller keeps was given by a scan of its own: each view is a cut of
+/// announcements, each seen cut one of answers, and the cut that a row embeds one of the row's
+/// region.
 pub fn kept_cuts_are_given()
     // Each view of a caller is a cut of announcements that a scan of its own gave.
     ensures views { ViewsAreGiven }

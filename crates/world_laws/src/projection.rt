@@ -10,7 +10,7 @@ pub fn runs_project()
     // A run without its object steps is a run of the program whose object is outside.
     ensures runs { RunsProject }
     // Each moment of a run has the words and the locals of that moment of the run without object
-    // steps, but for the object's own.
+    // steps, but for object words and object steps.
     ensures moments { BeginningsProject }
     // The books of a run are those of the run without its object steps.
     ensures books { BooksProject }

@@ -21,7 +21,7 @@ each_call P a b h g (suc zero) zero line e = subst (P 1 0) (same_Some b line e) 
 each_call P a b h g (suc zero) (suc k) line e = absurd (none-some line e)
 each_call P a b h g (suc (suc i)) k line e = absurd (none-some line e)
 
--- the call stands in the order, where its line is delivered
+-- the call has a place in the order, where its line is delivered
 abbrev DeliveredHasPlace : List (List Line) → List Place → ℕ → ℕ → Line → Type 0
 DeliveredHasPlace lines order i k line =
     (r : Record) (cut : List ℕ) → line.end ≡ Delivered r cut
