@@ -9,7 +9,7 @@ use Rattle.world_core.specs.CallSteps.{steps_now, all_steps_of}
 use Rattle.log_program.specs.LogWords.{low_place, high_place, ticket_place, ticket_of, known, is_known, is_filled, are_filled_below, is_first_unfilled, placed_at, names, is_named_below, joined_if_known, known_operation, with_operation, known_log}
 use Rattle.log_program.specs.LogProgram.{is_exchange, is_load, is_named_before}
 
--- what is known stays known
+-- a known word stays known along further steps
 pub known-append : (place x : ℕ) (steps more : List Object_step) → known place steps ≡ Some x
     → known place (steps ++ more) ≡ Some x
 known-append place x [] more e = absurd (none-some x e)
@@ -46,7 +46,7 @@ known_somehow (first ∷ more) step =
           )
     ]
 
--- what isn't known is known from the step on that is made there
+-- a place that isn't known becomes known by a step at it
 pub known-push_new : (place : ℕ) (steps : List Object_step) (step : Object_step)
     → known place steps ≡ None → step.place ≡ place
     → known place (steps ++ step ∷ []) ≡ Some step.new
@@ -63,7 +63,7 @@ known-push_new place (first ∷ more) step none at =
           at
     ]
 
--- and not from a step at another place on
+-- a place doesn't become known by a step at another place
 pub known-push_away : (place : ℕ) (steps : List Object_step) (step : Object_step)
     → step.place ≢ place → known place (steps ++ step ∷ []) ≡ known place steps
 known-push_away place [] step away =
@@ -95,7 +95,7 @@ placed-push_new total ticket (first ∷ more) step none high is =
           (Some (first.place - 2 * total)) (placed_at total ticket more) away) ∙ none) high is
     ]
 
--- and not by a step that leaves another word, or at another place
+-- a ticket isn't placed by a step that leaves another word, or at a place of no ticket
 pub placed-push_away : (total ticket : ℕ) (steps : List Object_step) (step : Object_step)
     → (not (nat_lt step.place (2 * total)) && step.new == ticket) ≡ false
     → placed_at total ticket (steps ++ step ∷ []) ≡ placed_at total ticket steps
@@ -107,7 +107,7 @@ placed-push_away total ticket (first ∷ more) step away =
     then Some (first.place - 2 * total) else o)
     (placed-push_away total ticket more step away)
 
--- and once placed it stays so
+-- a placed ticket stays placed along further steps
 pub placed-append : (total ticket p : ℕ) (steps more : List Object_step)
     → placed_at total ticket steps ≡ Some p
     → placed_at total ticket (steps ++ more) ≡ Some p
@@ -272,7 +272,7 @@ log-append total steps more (suc p) operations e =
     parts.2 ∙ ap (with_operation (Some parts.0)) parts.3)
     ∙ e
 
--- and grows by the operation of the next ticket, once both its words are known
+-- a known log grows by the operation of the next ticket, once both its words are known
 pub log-next : (total : ℕ) (steps : List Object_step) (p number low high : ℕ) (operations : List ℕ)
     → known_log total steps p ≡ Some operations
     → known (ticket_place total p) steps ≡ Some (suc number)

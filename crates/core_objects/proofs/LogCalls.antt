@@ -71,7 +71,7 @@ tickets_stay_known total tickets steps step low h =
           (λ same. omega (arith, low, same)) ∙ h.free q high;
     }
 
--- and one more is known by a step at the next place
+-- one ticket more is known by a step at the next place
 tickets_grow : (total ticket : ℕ) (tickets : List ℕ) (steps : List Object_step) (step : Object_step)
     → step.place ≡ ticket_place total (length tickets)
     → length tickets < total → 0 < ticket → known step.place (steps ++ step ∷ []) ≡ Some ticket
@@ -99,7 +99,7 @@ tickets_grow total ticket tickets steps step at low filled is h =
           (λ same. omega (arith, at, same, high, count)) ∙ h.free q (omega (arith, high, count));
     }
 
--- a test and one that fails
+-- a conjunction fails where its second test does
 and_fails : (a b : Bool) → b ≡ false → (a && b) ≡ false
 and_fails true b h = h
 and_fails false b h = refl
@@ -152,7 +152,7 @@ module _ {S : Type 0} (init : S → List ℕ) (next : S → List ℕ → ℕ →
     has_list a caller = has_steps (shape_of meaning r) (who_announced a)
         (announced_local a) a.op caller.seat.local a.asked
 
-    -- none, one and more steps of a call
+    -- a call after none, after one, and after more object steps
     pub made_none : (a : Announced P) → IsCaller a → Made a a
     made_none a caller =
         let l : Local = announced_local a in
@@ -226,7 +226,7 @@ module _ {S : Type 0} (init : S → List ℕ) (next : S → List ℕ → ℕ →
     unfolding made_one
     step_now a b step caller h = made_now a b caller (made_one a b step h)
 
-    -- what is known, stored, placed and loaded stays
+    -- what is known, stored, placed and loaded stays so along further object steps
     known_kept : (a b : Announced P) (place x : ℕ) → Made a b → known place (all a) ≡ Some x
         → known place (all b) ≡ Some x
     known_kept a b place x h e =
@@ -322,7 +322,7 @@ module _ {S : Type 0} (init : S → List ℕ) (next : S → List ℕ → ℕ →
         unplaced_kept a b step caller h
         (low_places_none (places_on r) (ticket_of (number_on r a)) step.place step.new low) e
 
-    -- and one that leaves its own places it
+    -- a step that leaves the call's own ticket places the call
     pub now_placed : (a b : Announced P) (step : Object_step) (tickets : List ℕ) → IsCaller a
         → Stepped a b step
         → step.place ≡ ticket_place (places_on r) (length tickets)
@@ -378,7 +378,7 @@ module _ {S : Type 0} (init : S → List ℕ) (next : S → List ℕ → ℕ →
         (not (is_known (known (high_place own) (now a)))) (ap is_known has_low)
         (ap (λ (o : Option ℕ). not (is_known o)) none)))))
 
-    -- to exchange 0 for its ticket at the first place that isn't known
+    -- the program allows a call to exchange 0 for its ticket at the first place that isn't known
     pub may_place : (a : Announced P) (number place : ℕ) (tickets : List ℕ) → number ≡ number_on r a
         → place ≡ ticket_place (places_on r) (length tickets)
         → HasStored r a → place_on r a ≡ None → KnowsPlaces r a tickets
@@ -413,7 +413,7 @@ module _ {S : Type 0} (init : S → List ℕ) (next : S → List ℕ → ℕ →
         (or_left (is_exchange (places_on r) own l step) (is_load (places_on r) own l step)
         (subst (λ (st : Object_step). IsTrue (is_exchange (places_on r) own l st)) same allowed)))
 
-    -- and to load a word of an operation before its own
+    -- the program allows a call to load a word of an operation before its own
     may_load : (a : Announced P) (named place x : ℕ) → MayLoad r a named
         → (place == low_place named || place == high_place named) ≡ true
         → IsTrue (log_may_step r.callers r.cap (who_announced a) (announced_local a)
@@ -581,7 +581,7 @@ module _ {S : Type 0} (init : S → List ℕ) (next : S → List ℕ → ℕ →
                   ∙ step_known b d high_step k ∙ ap Some hi_here;
             }
 
-        -- the number of the call is low
+        -- the number of the call is one of the log's
         own_low : number < places_on r
         own_low = omega (arith, is, (number_is_low a caller).1)
 
@@ -616,7 +616,7 @@ module _ {S : Type 0} (init : S → List ℕ) (next : S → List ℕ → ℕ →
         (slice_get-get_or tickets q 0 (omega (arith, low, many))) in
         (slice_index_or tickets q 0, t.0, t.1))
 
-    -- One more place was tried, at which this ticket stands now.
+    -- One more place was tried, at which this ticket is now.
     module _ (a b d : Announced P) (number found ticket place : ℕ) (tickets : List ℕ)
         (caller : IsCaller a) (is : number ≡ number_on r a) (made : Made a b)
         (h : Stepped b d (record { place = place; old = found; new = ticket }))
@@ -672,7 +672,7 @@ module _ {S : Type 0} (init : S → List ℕ) (next : S → List ℕ → ℕ →
         ∙ (h.filled placed.place (ticket_of (number_on r a)) placed.ticket).0)
         (own_operation a op stored is)
 
-    -- a call that has come so far has its reply
+    -- a call of whose log the operations before its own are known has its reply
     abbrev pub has_replied : (a b : Announced P) (object : S) (log tickets : List ℕ) (op reply : ℕ)
         → now a ≡ [] → Made a b → r.program ≡ record { object = object }
         → op_announced b ≡ op → HasPlaced r b tickets → length log + 1 ≡ length tickets

@@ -1,11 +1,11 @@
--- Passes of the log are dealt one by one.
+-- Passes of the log are made one by one.
 use Rattle.std.proofs.Common.{◌≡◌, ℕ, ◌+◌, List, [], ◌∷◌, ◌++◌, length, Some, slice_get, refl, sym, ap, ◌∙◌, subst, inl, inr, length-append}
 use Rattle.std.proofs.lemmas.Option.{none-some}
 use Rattle.list_laws.proofs.Places.{slice_get-push_cases}
 use Rattle.core_objects.specs.declared.log_pass.CorePass.{CorePass}
 use Rattle.core_objects.specs.LogPasses.{FitsLog}
 
--- The first passes, for n callers and a cap.
+-- The passes of the first callers of the log, for n callers and a cap.
 pub record AreLogPasses (init : List ℕ) (next : List ℕ → ℕ → List ℕ × ℕ) (n cap k : ℕ)
     (passes : List CorePass) : Type 0 where
   pub count : length passes ≡ k

@@ -51,14 +51,14 @@ module _ (init : List ℕ) (next : List ℕ → ℕ → List ℕ × ℕ) (n cap 
             (each_of_all (IsLasting s w) (local_of w i).object_steps (log.lasting i low));
       }
 
-  -- a known word is the one that is there
+  -- a known word is still at its place
   known_stands : (i : ℕ) (l : Local) (h : IsWorldWith i l) (place x : ℕ)
       → known place (all_steps_of l) ≡ Some x → object_word s h.world place ≡ x
   known_stands i l h place x e =
       let found = known_step (IsLasting s h.world) place x (all_steps_of l) h.lasting e in
       ap (object_word s h.world) (sym found.at) ∙ found.holds.stands ∙ found.left
 
-  -- so the last step of a caller left what is known of its place
+  -- the last step of a caller left the word that is known at its place
   pub known_last : (i : ℕ) (l : Local) (before : List Object_step) (step : Object_step)
       → IsLocalOf s i l → all_steps_of l ≡ before ++ step ∷ []
       → known step.place (all_steps_of l) ≡ Some step.new

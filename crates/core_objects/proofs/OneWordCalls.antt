@@ -23,7 +23,7 @@ set_none [] k none = refl
 set_none (x ∷ xs) zero none = ap (λ (y : List Object_step). y ∷ xs) (sym none)
 set_none (x ∷ xs) (suc k) none = ap (λ (ys : List (List Object_step)). x ∷ ys) (set_none xs k none)
 
--- no step leaves the local
+-- a call without steps leaves the local unchanged
 pub no_steps : (l : Local) → steps_now l ≡ [] → l ≡ with_steps l []
 no_steps l none = ap (λ (xs : List (List Object_step)). record l { object_steps = xs })
     (sym (set_none l.object_steps l.published none))
@@ -51,7 +51,7 @@ allows_bad o l op is none =
     (ap (λ (x : ℕ). reply_of o x (steps_now l)) is
     ∙ cond-false (o.makes_step op) (reply_by_step o op (steps_now l)) (Some BAD) none)
 
--- and one with a step the reply of the step
+-- an operation with a step may get the reply of the step
 pub allows_reply : (o : OneWord) (l m : Local) (op reply : ℕ) (step : Object_step)
     → operation_now l ≡ op → m ≡ with_steps l (step ∷ [])
     → l.published < length l.object_steps → o.makes_step op ≡ true → reply ≡ o.replies op step.old
@@ -65,7 +65,7 @@ allows_reply o l m op reply step is same low some told =
     ∙ cond-true (o.makes_step op) (reply_by_step o op (step ∷ [])) (Some BAD) some
     ∙ ap Some (sym told))
 
--- and may make it, as its first
+-- an operation with a step may make it, as the call's first
 pub allows_step : (o : OneWord) (l : Local) (op x word : ℕ) → operation_now l ≡ op
     → steps_now l ≡ [] → o.makes_step op ≡ true → word ≡ o.leaves op x
     → IsTrue (o.makes_step (operation_now l)

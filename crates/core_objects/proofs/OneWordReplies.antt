@@ -38,7 +38,7 @@ module _ {P : Type 0} (o : P → OneWord) (r : Rows P) (a : Announced P)
             allows_bad (o (caller_announced a).program) l (op_announced a) a.asked.operation own;
       }
 
-  -- and one whose operation makes a step the reply of this step
+  -- a call whose operation makes a step replies the reply of this step
   pub replies_by_step : (b : Announced P) (step : Object_step) (reply : ℕ)
       → HasStepped (meaning_by o) r a b step → (o r.program).makes_step (op_announced a) ≡ true
       → reply ≡ (o r.program).replies (op_announced a) step.old

@@ -1,11 +1,11 @@
--- Passes are dealt one by one.
+-- Passes are made one by one.
 use Rattle.std.proofs.Common.{◌≡◌, ℕ, ◌+◌, List, [], ◌∷◌, ◌++◌, length, Some, slice_get, refl, sym, ap, ◌∙◌, inl, inr, length-append}
 use Rattle.std.proofs.lemmas.Option.{none-some}
 use Rattle.list_laws.proofs.Places.{slice_get-push_cases}
 use Rattle.core_objects.specs.declared.one_word_pass.OneWordPass.{OneWordPass}
 use Rattle.core_objects.specs.OneWordPasses.{pass_of}
 
--- The first passes, for n callers and a cap.
+-- The passes of the first callers, for n callers and a cap.
 pub record AreDealt (n cap k : ℕ) (passes : List OneWordPass) : Type 0 where
   pub count : length passes ≡ k
   pub are : (i : ℕ) (pass : OneWordPass) → slice_get passes i ≡ Some pass → pass ≡ pass_of i n cap

@@ -54,7 +54,7 @@ unfolding is_known_word entry_of entries
 known_is op =
     known_by words.write words.read (is_operation_of op words.write) (is_operation_of op words.read)
 
--- so a known word that isn't the read is a write
+-- a known word that isn't the read is a write
 pub writes : (op : ℕ) → op ≢ 2 * 2 ^ 32 → is_known_word kinds.Register op ≡ true → IsWrite op
 writes op other known =
     elim (cases_Bool (is_operation_of op words.write)) [

@@ -8,8 +8,8 @@ pub list_of-append : (next : List ℕ → ℕ → List ℕ × ℕ) (list operati
 list_of-append next list [] operation = refl
 list_of-append next list (x ∷ xs) operation = list_of-append next (next list x).0 xs operation
 
--- It is as long as the list before and the operations at most, where an operation makes it at most
--- one word longer.
+-- The list of a sequential object is at most as long as the list before and the operations
+-- together, where each operation makes it at most one word longer.
 pub length-list_of : (next : List ℕ → ℕ → List ℕ × ℕ)
     (grows : (list : List ℕ) (op : ℕ) → length (next list op).0 ≤ length list + 1)
     (list operations : List ℕ)

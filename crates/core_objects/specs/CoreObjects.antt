@@ -16,7 +16,7 @@ shape_with meaning n cap = record { callers = n; cap = cap; program = meaning n 
 abbrev pub with_steps : Local → List Object_step → Local
 with_steps l steps = record l { object_steps = slice_set l.object_steps l.published steps }
 
--- How far a caller has come that has made these object steps more.
+-- The progress of a caller after these further object steps.
 abbrev pub after_steps : List Object_step → Progress → Progress
 after_steps steps progress = record progress { steps = progress.steps ++ steps }
 

@@ -64,8 +64,7 @@ module _ {P : Type 0} where
   abbrev pub place_on : Rows P → Announced P → Option ℕ
   place_on r a = placed_at (places_on r) (ticket_of (number_on r a)) (steps_now (announced_local a))
 
-  -- The caller of the announced call knows these first tickets of the log; and the operations of
-  -- these first tickets.
+  -- The caller of the announced call knows these tickets of the first places of the log.
   abbrev pub KnowsPlaces : Rows P → Announced P → List ℕ → Type 0
   KnowsPlaces r a tickets = KnowsTickets (places_on r) tickets (all_steps_of (announced_local a))
 

@@ -12,9 +12,10 @@ use seq_objects::{DONE, Register, value_reply};
 use std::alloc::Global;
 use world_core::{InWorld, Program};
 
-/// The operation word of the write of 0, and that of the read.
+/// The operation word of the write of 0.
 const WRITE_0: OpWord = 1 << 32;
 
+/// The operation word of the read.
 const READ: OpWord = 2 << 32;
 
 /// The program of the cell: a write makes one store of its value into the one object word, a read

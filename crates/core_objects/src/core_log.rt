@@ -80,7 +80,7 @@ impl<S: SeqObject + Copy> CoreLog<S> {
     }
 
     // The reply to an operation after those of a log, where the state is the list after the first
-    // ones of it. It makes only the operations after these, and then this one.
+    // `made` operations of the log. It makes only the operations after these, and then this one.
     fn reply_after(&self, state: &mut State, log: &[OpWord], made: usize, op: OpWord) -> u64
         requires made { made ≤ length log.now }
         requires state { state.old.words ≡ list_of (S.next self.now.object) (S.init self.now.object)

@@ -19,30 +19,30 @@ use world_core::InWorld;
 /// The object history of every run of its program is linearizable for its sequential object,
 /// whatever the callers and the cap (Herlihy and Wing 1990).
 pub trait CoreObject {
-    /// The sequential object whose replies it gives.
+    /// The sequential object whose replies this object gives.
     type S: SeqObject;
 
-    /// The program that says which steps its callers make.
+    /// The program that says which steps the object's callers make.
     type P: InWorld;
 
-    /// What one caller holds to ask it.
+    /// What one caller holds to ask the object.
     type Pass;
 
-    /// The sequential object of this one.
+    /// The sequential object of this core object.
     ghost sequential_of: { Self → Self.S };
 
-    /// The program of this one, with which the rows are opened.
+    /// The program of this core object, with which the rows are opened.
     ghost program_of: { Self → Self.P };
 
     /// The pass is this object's for a caller, for `n` callers and a cap, and knows what these
     /// object steps of all the caller's calls show.
     ghost fits: { Self → Self.Pass → ℕ → ℕ → ℕ → List Object_step → Type 0 };
 
-    /// The sequential object.
+    /// The sequential object of this core object.
     fn sequential(&self) -> &Self::S
         ensures { result.now ≡ sequential_of self.now };
 
-    /// The program.
+    /// The program of this core object.
     fn program(&self) -> Self::P
         ensures { result ≡ program_of self.now };
 
@@ -107,7 +107,8 @@ pub trait CoreObject {
         announced.answer(reply)
     }
 
-    /// The object history of every run of its program is linearizable for its sequential object.
+    /// The object history of every run of the object's program is linearizable for its sequential
+    /// object.
     ghost linearizes: { (object : Self) (n cap : ℕ) (steps : List Step)
         → IsRun (shape_with (Self.P.meaning (program_of object)) n cap) steps
         → IsLinearizable (Self.S.init (sequential_of object)) (Self.S.next (sequential_of object))

@@ -37,7 +37,7 @@ pub(crate) fn store_operation<S: SeqObject + Copy>(
 }
 
 // Exchanges 0 for the ticket of the call at the first place that isn't known to be filled. It
-// answers the ticket that stands there then.
+// answers the ticket that the place has then.
 fn try_place<S: SeqObject + Copy>(
     rows: &Rows<LogProgram<S>>,
     announced: &mut Announced<LogProgram<S>>,
@@ -67,7 +67,7 @@ fn try_place<S: SeqObject + Copy>(
 }
 
 // Places the ticket of the call in the log, place by place from the first that isn't known to be
-// filled. The tickets that are there, up to its own, come to those that are known.
+// filled. The tickets of these places, up to its own, are added to those that are known.
 pub(crate) fn place_ticket<S: SeqObject + Copy>(
     rows: &Rows<LogProgram<S>>,
     announced: &mut Announced<LogProgram<S>>,
@@ -99,7 +99,7 @@ pub(crate) fn place_ticket<S: SeqObject + Copy>(
             return;
         }
     }
-    // There are as many places as calls, and this call has none yet.
+    // The log has as many places as there are calls, and this call has none yet.
     unreachable!()
 }
 

@@ -11,7 +11,7 @@ Contains-suffix [] xs x h = h
 Contains-suffix (y ∷ more) xs x h = let (k, low, is) = Contains-suffix more xs x h in
     (suc k, omega arith, is)
 
--- new counts and words stand in front, new cuts at the end
+-- new counts and words come first, new cuts last
 pub grows_by : (l m : Local) (looks : List Looked) (peeks : List Peeked) (cuts : List Given)
     → m.looked ≡ looks ++ l.looked → m.peeked ≡ peeks ++ l.peeked → m.cuts ≡ l.cuts ++ cuts
     → Grows l m

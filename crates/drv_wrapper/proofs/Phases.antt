@@ -24,7 +24,7 @@ use Rattle.drv_wrapper.proofs.Locals.{local_has_phase}
 use Rattle.drv_wrapper.proofs.Growing.{grows_by}
 use Rattle.drv_wrapper.proofs.Scans.{scanned_for_row, scanned_for_view, row_scanned, view_scanned}
 
--- What an announcement leaves; and what a view leaves.
+-- What an announcement leaves of its caller's local.
 pub record Announces (n op : ℕ) (l m : Local) : Type 0 where
   pub events : HasAnnounced n op l m
   pub asked : IsAsked op m
@@ -38,7 +38,7 @@ pub record Views (n op reply : ℕ) (view : List ℕ) (l m : Local) : Type 0 whe
       ≡ after_viewing (record { reply = reply; view = view }) (progress_of l)
   pub grows : Grows l m
 
--- an announcement, whose scan leaves the local so
+-- an announcement leaves this row, where its scan leaves the local so
 announced_row : (n op : ℕ) (l : Local) (cut : List ℕ) (looks : List Looked) (peeks : List Peeked)
     → HasPhase l → l.phase ≡ Announcing
     → HasScanned n N Begins_scan cut l (scanned_for_row N cut looks peeks l) → HoldsLooks N cut l
@@ -71,7 +71,7 @@ announced_row n op l cut looks peeks has phase scan looked =
           (record { region = N; cut = cut; since = length l.looked } ∷ []) refl refl refl;
     }
 
--- of a caller in a reachable world, by how it stood before the scan
+-- an announcement of a caller in a reachable world, by the local before the scan
 pub announces : (s : Shape) (who op : ℕ) (cut : List ℕ) (stance : Stance) (l scanned m : Local)
     → IsLocalOf s who l → IsIdle l → stance ≡ ready
     → HasScanned s.callers N (opening_in (opening_with (Some N) stance.reply)) cut l scanned
@@ -115,7 +115,7 @@ replied_phase l reply has phase =
       object_steps = has.object_steps;
     }
 
--- a view, whose scan leaves the local so
+-- a view leaves this record, where its scan leaves the local so
 recorded_view : (n op reply : ℕ) (view : List ℕ) (l : Local) (looks : List Looked)
     (peeks : List Peeked) → HasPhase l → IsAsked op l
     → HasScanned n N (Begins_view reply) view l (scanned_for_view reply view looks peeks l)
@@ -156,7 +156,7 @@ recorded_view n op reply view l looks peeks has asked scan looked =
           (record { region = N; cut = view; since = length l.looked } ∷ []) refl refl refl;
     }
 
--- of a caller in a reachable world, by how it stood before the scan
+-- a view of a caller in a reachable world, by the local before the scan
 pub views : (s : Shape) (who op reply : ℕ) (view : List ℕ) (stance : Stance) (l m : Local)
     → IsLocalOf s who l → IsAsked op l → stance ≡ replied reply
     → HasScanned s.callers N (opening_in (opening_with (Some N) stance.reply)) view l m

@@ -7,8 +7,7 @@ use Rattle.world_core.specs.Local.{Phase, Announcing, Asking, Viewing, Publishin
 use Rattle.world_core.specs.Event.{Begins_scan, Begins_view, Purpose, For_row, purpose_of, served, is_staging}
 use Rattle.collect_scan.specs.Scanned.{ScannedWords, found_by, scan_with, local_in_scan, HasScanned}
 
--- The local after a scan that serves the row, and after the view's scan: what the scan has looked
--- at and peeked stands in front.
+-- The local after a scan that serves the row: what the scan has looked at and peeked comes first.
 abbrev pub scanned_for_row : Region → List ℕ → List Looked → List Peeked → Local → Local
 scanned_for_row region cut looks peeks l =
     record l {

@@ -1,10 +1,9 @@
--- How the local of a caller stands in the midst of its call, whose number is its count of published
--- records.
+-- The local of a caller in the midst of its call, whose number is its count of published records.
 use Rattle.std.specs.Prelude.{◌≡◌, ℕ, ◌+◌, Bool, true, false, List, [], slice_index, slice_index_or}
 use Rattle.world_core.specs.Local.{Local, Phase, Publishing}
 use Rattle.world_core.specs.Event.{is_asking, is_unstaged, is_view_under_way}
 
--- The phase is publish.
+-- Whether a phase is the one in which a record is published.
 abbrev pub is_publishing : Phase → Bool
 is_publishing Publishing = true
 is_publishing _ = false

@@ -1,4 +1,4 @@
--- How a caller stands between its steps.
+-- The stances of a caller between its steps, and callers that have stayed the same.
 use Rattle.std.specs.Prelude.{◌≡◌, ℕ, Some, false}
 use Rattle.row_table.specs.declared.stance.Stance.{Stance}
 use Rattle.row_table.specs.declared.caller.Caller.{Caller}

@@ -1,4 +1,4 @@
--- The callers inside the states that a call passes through, and what these states tell.
+-- The callers inside the states that a call passes through, and the parts of these states.
 use Rattle.std.specs.Prelude.{ℕ, List}
 use Rattle.book_base.specs.declared.call.Record.{Record}
 use Rattle.world_core.specs.Local.{Local}

@@ -7,10 +7,10 @@ use book_base::OpWord;
 use row_table::Caller;
 use world_core::Outside;
 
-/// A call that is announced: its operation stands in the table, and the object is not asked yet.
+/// A call that is announced: its operation is in the table, and the object isn't asked yet.
 ///
-/// It goes on by [`ask`](crate::ask), or ends by `stop`. One that is let go stays announced, and
-/// its caller makes no more steps.
+/// It is continued by [`ask`](crate::ask), or ended by `stop`. One that is dropped stays announced,
+/// and its caller makes no more steps.
 #[derive(Drop)]
 pub struct Announced<P = Outside> {
     pub(crate) caller: Caller<P>,
@@ -30,7 +30,7 @@ impl<P> Announced<P> {
         self.op
     }
 
-    /// The number of the caller whose call it is.
+    /// The number of the call's caller.
     pub fn caller(&self) -> u32
         ensures { result ≡ who_announced self.now }
     {
@@ -47,7 +47,8 @@ impl<P> Announced<P> {
     /// The caller, halted, with its local as it is: the call stays announced, and nobody answers
     /// it.
     pub fn stop(self) -> Caller<P>
-        // The caller has its number and its local, makes no calls, and is still one of its rows.
+        // The caller keeps its number and its local, makes no further calls, and is still one of
+        // its rows.
         ensures { IsStopped (caller_announced self) result }
     {
         let Announced { caller, op: _ } = self;

@@ -10,8 +10,8 @@ use world_core::Outside;
 /// A call that the object has answered: the caller keeps the reply, with which the scan of its view
 /// begins.
 ///
-/// It goes on by [`view`](crate::view), or ends by `stop`. One that is let go stays announced, and
-/// its caller makes no more steps.
+/// It is continued by [`view`](crate::view), or ended by `stop`. One that is dropped stays
+/// announced, and its caller makes no more steps.
 #[derive(Drop)]
 pub struct Answered<P = Outside> {
     pub(crate) caller: Caller<P>,
@@ -25,7 +25,7 @@ impl<P> Answered<P> {
     ghost use Rattle.drv_wrapper.specs.States.{caller_answered, reply_answered};
     ghost use Rattle.drv_wrapper.specs.Stands.{IsStopped};
 
-    /// The reply of the object.
+    /// The reply of the object to the call.
     pub fn reply(&self) -> u64
         ensures { result ≡ reply_answered self.now }
     {
@@ -35,7 +35,8 @@ impl<P> Answered<P> {
     /// The caller, halted, with its local as it is: the call stays announced, and its reply is in
     /// no word of the table.
     pub fn stop(self) -> Caller<P>
-        // The caller has its number and its local, makes no calls, and is still one of its rows.
+        // The caller keeps its number and its local, makes no further calls, and is still one of
+        // its rows.
         ensures { IsStopped (caller_answered self) result }
     {
         let Answered {

@@ -19,7 +19,7 @@ use row_table::{Caller, Rows, Steps};
 use std::sync::ledger::Ledger;
 use world_core::{Outside, Program};
 
-/// Announces a call, asks the object, and takes the view, with the conditions of these three. It
+/// Announces a call, asks the object, and takes the view, under the conditions of these three. It
 /// ticks at most as often as two scans.
 pub fn apply<B: BlackBox, L: Ledger>(
     caller: Caller,

@@ -7,19 +7,20 @@ ghost use Rattle.std.specs.Prelude.{◌≡◌, ℕ, List, Option, None};
 /// pair more after each call, and who runs the object learns what it was asked and what it
 /// answered. A pass that leaves `told` out tells nothing.
 pub trait ObjectPass {
-    /// The number of the caller whose pass it is.
+    /// The number of the pass's caller.
     ghost caller: { Self → ℕ };
 
-    /// How many calls were made with it.
+    /// How many calls were made with the pass.
     ghost made: { Self → ℕ };
 
-    /// How many calls may be made with it in all.
+    /// How many calls may be made with the pass in all.
     ghost cap: { Self → ℕ };
 
-    /// The calls that were made with it, the first one first: of each its operation and its reply.
+    /// The calls that were made with the pass, the first one first: of each its operation and its
+    /// reply.
     ghost told: { Self → Option (List (ℕ × ℕ)) } = { λ pass. None };
 
-    /// The number of the caller whose pass it is.
+    /// The number of the pass's caller.
     fn caller(&self) -> u32
         ensures { result ≡ caller self.now };
 

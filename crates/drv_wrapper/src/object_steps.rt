@@ -15,16 +15,16 @@ use world_core::InWorld;
 /// The steps of an object that is inside the world: they are made by its callers, each in the midst
 /// of an announced call of its own.
 impl<P: InWorld> Announced<P> {
-    /// Loads an object word, which is one object step that leaves the word as it is.
+    /// Loads an object word, which is one object step that doesn't change the word.
     ///
-    /// Like the three calls below it, it has the condition that the program allows the step for
-    /// every word that may be found.
+    /// Like `object_store`, `object_add` and `object_exchange` it has the condition that the
+    /// program allows the step for every word that may be found.
     pub fn object_load(&mut self, rows: &Rows<P>, place: u64) -> u64
         // The caller is one of these rows.
         requires rows { IsCallerOf P.meaning rows.now (caller_announced self.old) }
         // The table has an object word at this place.
         requires place { place < rows.now.objects }
-        // The program allows the caller a step that leaves whichever word it finds there.
+        // The program allows the caller a step that doesn't change whichever word it finds there.
         requires program { MayStep P.meaning rows.now (caller_announced self.old) place (λ x. x) }
         // The announced call has made one object step more, which found the answered word and left
         // it there.
@@ -104,7 +104,7 @@ impl<P: InWorld> Announced<P> {
     }
 
     /// Keeps a reply that the caller found by its object steps, and that the program allows it by
-    /// its local. It is allowed still as [`view`](crate::view) hands it over.
+    /// its local. The program still allows it when [`view`](crate::view) hands it over.
     pub fn answer(self, reply: u64) -> Answered<P>
         // The program allows the caller this reply, by its local.
         requires allowed { MayGet P.meaning (caller_announced self) reply }

@@ -24,7 +24,7 @@ impl<P> Viewed<P> {
     ghost use Rattle.drv_wrapper.specs.Stands.{IsSame, IsStopped};
     ghost use Rattle.row_table.specs.Callers.{stance_of};
 
-    /// The reply of the object.
+    /// The reply of the object to the call.
     pub fn reply(&self) -> u64
         ensures { result ≡ reply_viewed self.now }
     {
@@ -39,7 +39,7 @@ impl<P> Viewed<P> {
         self.view
     }
 
-    /// The live caller, with its local as it is.
+    /// The call's caller, live, with its local as it is.
     pub fn into_caller(self) -> Caller<P>
         // The caller keeps its number and its local, and is still one of its rows.
         ensures caller { IsSame (caller_viewed self) result }
@@ -55,9 +55,10 @@ impl<P> Viewed<P> {
         caller
     }
 
-    /// The caller, halted, with its local as it is: its record is not published.
+    /// The caller, halted, with its local as it is: the call's record is not published.
     pub fn stop(self) -> Caller<P>
-        // The caller has its number and its local, makes no calls, and is still one of its rows.
+        // The caller keeps its number and its local, makes no further calls, and is still one of
+        // its rows.
         ensures { IsStopped (caller_viewed self) result }
     {
         let Viewed {

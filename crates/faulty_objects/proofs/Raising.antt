@@ -8,7 +8,7 @@ use Rattle.shared_words.specs.Histories.{Access, access, word_from, word_at, IsL
 use Rattle.shared_words.proofs.Histories.{lawful_allowed, lawful_prefix, lawful_last}
 use Rattle.faulty_objects.specs.Forms.{up, meeting_may, queue_may, item_index, HasRaised, FlagsAreRaised}
 
--- a choice of two that are one
+-- a choice between two equal words
 either_one : (b : Bool) (word : ℕ) → (if b then word else word) ≡ word
 either_one true word = refl
 either_one false word = refl
@@ -53,7 +53,7 @@ flags_are_raised flag history lawful is =
     raised_from flag history (lawful_allowed meeting_may [] history lawful)
     (λ none. absurd (let one = sym is ∙ none in omega arith))
 
--- more accesses after it
+-- a history that has raised a flag has raised it with further accesses
 raised_more : (flag : ℕ) (xs ys zs : List Access) → zs ≡ xs ++ ys → HasRaised flag xs
     → HasRaised flag zs
 raised_more flag xs ys zs is h =

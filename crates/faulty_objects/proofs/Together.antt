@@ -16,7 +16,7 @@ use Rattle.faulty_objects.specs.Forms.{IsSplit, queue_may, item_index, IsOnePass
 use Rattle.faulty_objects.specs.Together.{TellOneSplit, is_addition, IsPutAt, IsGiven, TellOneQueue, TellOneMeeting, QueuesGivePlacesInOrder, QueuesGiveWhatWasPut, MeetingsFindRaisedFlags}
 use Rattle.faulty_objects.proofs.Raising.{flags_are_raised}
 
--- what may be done, of each access
+-- each access is one that its caller may make
 abbrev AllMay : List Access → Type 0
 AllMay history = All (λ (a : Access). queue_may a.caller a.deed) history
 
@@ -236,7 +236,7 @@ meetings_find_raised_flags history lawful before rest who flag is =
     flags_are_raised flag before
     (first_lawful meeting_may history before rest a lawful is) (sym was)
 
--- ---- what the transcripts tell together
+-- ---- what the transcripts say together
 
 pub one_split : (n : ℕ) (history : List Access) (transcripts : List Transcript)
     → AreOfOneHistory cell_may (λ _. IsSplit) n history transcripts

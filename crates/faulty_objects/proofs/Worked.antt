@@ -1,4 +1,5 @@
--- What callers may tell of the worked histories of a split tally, a one-pass queue and a meeting.
+-- Which transcripts callers may have of the worked histories of a split tally, a one-pass queue and
+-- a meeting.
 use Rattle.std.proofs.Common.{◌≡◌, ◌≢◌, ℕ, zero, suc, ◌+◌, ◌-◌, ◌%◌, ◌^◌, ◌<◌, ◌≤◌, List, [], ◌∷◌, ◌++◌, refl, sym, ap, ◌∙◌, subst, inl, inr, arith}
 use Rattle.std.specs.List.{All}
 use Rattle.std.proofs.lemmas.Bool.{cases_eq}

@@ -5,15 +5,15 @@ use Rattle.shared_log.specs.Entries.{entry}
 use Rattle.seq_objects.specs.Words.{code_of}
 use Rattle.lawful_objects.specs.Replays.{list_after}
 
--- Whether an operation is a put: its code says so, whether or not an object knows it.
+-- Whether an operation is a put by its code, whether or not an object knows the operation.
 abbrev pub is_put : ℕ → Bool
 is_put op = code_of op == 1
 
--- Whether an operation is a take: its code says so, whether or not an object knows it.
+-- Whether an operation is a take by its code, whether or not an object knows the operation.
 abbrev pub is_take : ℕ → Bool
 is_take op = code_of op == 2
 
--- The calls of a log before its last one, and the last one.
+-- The calls of a log before its last one.
 abbrev pub earlier : List Entry → List Entry
 earlier log = take (length log - 1) log
 
@@ -21,7 +21,7 @@ earlier log = take (length log - 1) log
 abbrev pub last_call : List Entry → Entry
 last_call log = get_or log (length log - 1) (entry 0 0)
 
--- A call in a list of its own, unless it is left out.
+-- A list of this call, or the empty list where the call is left out.
 abbrev pub unless : Bool → Entry → List Entry
 unless left e = if left then [] else e ∷ []
 

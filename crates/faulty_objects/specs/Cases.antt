@@ -1,4 +1,5 @@
--- What callers of a split tally, of a one-pass queue and of a meeting tell, in worked histories.
+-- Worked histories of a split tally, of a one-pass queue and of a meeting, and the transcripts of
+-- their callers.
 use Rattle.std.specs.Prelude.{ℕ, List, [], ◌∷◌}
 use Rattle.seq_objects.specs.Replies.{reply_done, reply_value}
 use Rattle.shared_words.specs.Deeds.{Added, Stored, Loaded, Swapped}
@@ -16,7 +17,7 @@ both_load_first word =
     ∷ access 1 (Stored 0 word)
     ∷ []
 
--- Caller 0 loads 0 and stores 1, and then caller 1 loads a word and stores one more.
+-- Caller 0 loads 0 and stores 1, and then caller 1 loads this word and stores that one.
 abbrev pub one_by_one : ℕ → ℕ → List Access
 one_by_one found word =
     access 0 (Loaded 0 0)

@@ -1,4 +1,4 @@
--- What a step of a machine makes of its list and of what waits.
+-- How many operations wait in a machine that keeps what waits by caller.
 use Rattle.std.specs.Prelude.{ℕ, List, Option, Some, None}
 use Rattle.std.specs.List.{sum_by}
 

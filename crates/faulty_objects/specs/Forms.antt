@@ -1,4 +1,4 @@
--- What a call of each object does, and which form its reply has.
+-- What a call of each object does to the words, and which form its reply has.
 use Rattle.std.specs.Prelude.{◌≡◌, ◌≢◌, ℕ, zero, suc, ◌+◌, ◌-◌, ◌%◌, ◌^◌, ◌<◌, ◌≤◌, ◌⊎◌, ◌↔◌, min, List, [], ◌∷◌, ◌++◌, All, length, map}
 use Rattle.book_base.specs.declared.TheConstants.{BAD}
 use Rattle.seq_objects.specs.Replies.{reply_done, reply_none, reply_value}
@@ -7,14 +7,14 @@ use Rattle.shared_words.specs.Deeds.{Deed, Added, Stored, Loaded, Swapped, AreCa
 use Rattle.shared_words.specs.Histories.{Access, access, word_at, IsLawful}
 
 -- A call of a split tally: an increment loads the word, and then stores one more than it found, in
--- two steps; its reply is the word found. All else makes no step, and the reply is bad.
+-- two steps; its reply is the word found. Any other operation makes no step, and its reply is bad.
 pub record IsSplit (op reply : ℕ) (before after : List Deed) : Type 0 where
   pub counts : op ≡ increment → (found : ℕ)
       × (after ≡ before ++ Loaded 0 found ∷ Stored 0 ((found + 1) % 2 ^ 64) ∷ [])
       × (reply ≡ reply_value found)
   pub other : op ≢ increment → (after ≡ before) × (reply ≡ BAD)
 
--- A history that ends with a split increment of a caller, with the reply to it: the word that the
+-- A history that ends with a split increment of a caller, and the reply to it: the word that the
 -- last store before its load stored, or 0 where there is none.
 pub record IsTorn (who reply : ℕ) (history : List Access) : Type 0 where
   pub before : List Access
@@ -25,8 +25,8 @@ pub record IsTorn (who reply : ℕ) (history : List Access) : Type 0 where
       ++ access who (Stored 0 ((word + 1) % 2 ^ 64)) ∷ []
   pub told : reply ≡ reply_value word
 
--- The pairs of a split tally's calls have the form of a tally's: a value exactly to the increment,
--- and else bad.
+-- Each pair of a split tally's calls has the form of a tally's replies: a value exactly to the
+-- increment, and else bad.
 abbrev pub SplitsAreFormed : Type 0
 SplitsAreFormed = (pairs : List (ℕ × ℕ)) (before after : List Deed)
     → AreCalls IsSplit pairs before after → All (λ pair. IsTallyReply pair.0 pair.1) pairs
@@ -43,7 +43,7 @@ dequeue = operation 2 0
 abbrev pub IsNoEnqueue : ℕ → Type 0
 IsNoEnqueue op = (value : ℕ) → value < 2 ^ 32 → op ≢ enqueue value
 
--- The word of an item place stands after the counter.
+-- The word of the item at a place comes after the counter.
 abbrev pub item_index : ℕ → ℕ
 item_index place = 1 + place
 
@@ -56,21 +56,22 @@ queue_may caller deed =
     ⊎ ((place value : ℕ) × (deed ≡ Stored (item_index place) (value + 1)))
     ⊎ ((place found : ℕ) × (deed ≡ Swapped (item_index place) 0 found))
 
--- The first places, this many, are gone over once, from the first, and each is found empty.
+-- The first places, this many, are gone through once, in order, and each is found empty.
 abbrev pub empty_places : ℕ → List Deed
 empty_places zero = []
 empty_places (suc count) = empty_places count ++ Swapped (item_index count) 0 0 ∷ []
 
 -- An enqueue takes a place by one addition to the counter, and stores one more than its value
--- there, if there are this many places.
+-- there, if the place is below the number of places.
 pub record IsEnqueued (places value : ℕ) (before after : List Deed) : Type 0 where
   pub place : ℕ
   pub stored : place < places
       → after ≡ before ++ Added 0 1 place ∷ Stored (item_index place) (value + 1) ∷ []
   pub beyond : places ≤ place → after ≡ before ++ Added 0 1 place ∷ []
 
--- A dequeue loads the counter once, and goes over the places below it: all are empty, and there is
--- none; or the first one that isn't empty gives one less than its word.
+-- A dequeue loads the counter once, and goes through the places below it, in order. Either all of
+-- them are empty, and the reply is none; or the reply is one less than the word of the first place
+-- that isn't empty.
 pub record IsDequeued (places reply : ℕ) (before after : List Deed) : Type 0 where
   pub counter : ℕ
   pub count : ℕ
@@ -89,14 +90,14 @@ pub record IsOnePass (places op reply : ℕ) (before after : List Deed) : Type 0
   pub takes : op ≡ dequeue → IsDequeued places reply before after
   pub other : IsNoEnqueue op → op ≢ dequeue → (after ≡ before) × (reply ≡ BAD)
 
--- The form of its reply: done exactly to an enqueue, a value or none exactly to the dequeue, and
--- else bad.
+-- The form of a one-pass queue's reply: done exactly to an enqueue, a value or none exactly to the
+-- dequeue, and else bad.
 pub record IsQueueReply (op reply : ℕ) : Type 0 where
   pub puts : (value : ℕ) → value < 2 ^ 32 → op ≡ enqueue value → reply ≡ reply_done
   pub takes : op ≡ dequeue → (reply ≡ reply_none) ⊎ ((value : ℕ) × (reply ≡ reply_value value))
   pub other : IsNoEnqueue op → op ≢ dequeue → reply ≡ BAD
 
--- The pairs of its calls have this form.
+-- Each pair of a one-pass queue's calls has the form of its replies.
 abbrev pub OnePassesAreFormed : Type 0
 OnePassesAreFormed = (places : ℕ) (pairs : List (ℕ × ℕ)) (before after : List Deed)
     → AreCalls (IsOnePass places) pairs before after
@@ -130,14 +131,14 @@ other_caller caller = 1 - caller
 abbrev pub most_loads : ℕ
 most_loads = 100000000
 
--- A caller has loaded a flag as often as this count says, and found it up at none of these loads.
+-- A caller has loaded a flag this many times, and never found it up.
 pub record IsMissed (flag count : ℕ) (before after : List Deed) : Type 0 where
   pub found : List ℕ
   pub many : length found ≡ count
   pub each : All (λ word. word ≢ up) found
   pub loaded : after ≡ before ++ map (Loaded flag) found
 
--- Fewer loads of a flag than the most miss it, and the next one finds it up.
+-- Fewer loads of a flag than the most find it down, and the next one finds it up.
 pub record IsSeen (flag : ℕ) (before after : List Deed) : Type 0 where
   pub misses : ℕ
   pub few : misses < most_loads
@@ -145,25 +146,26 @@ pub record IsSeen (flag : ℕ) (before after : List Deed) : Type 0 where
   pub missed : IsMissed flag misses before between
   pub seen : after ≡ between ++ Loaded flag up ∷ []
 
--- A call of a caller at a meeting, whatever it asks: it raises its own flag, and then loads the
--- other caller's. The reply is done where it saw that one up, and bad where all loads missed it.
+-- A call of a caller at a meeting, whatever it asks for: it raises its own flag, and then loads the
+-- other caller's. The reply is done where a load found that flag up, and bad where none did.
 pub record IsMeeting (caller reply : ℕ) (before after : List Deed) : Type 0 where
   pub between : List Deed
   pub raised : between ≡ before ++ Stored caller up ∷ []
   pub waited : (IsSeen (other_caller caller) between after × (reply ≡ reply_done))
       ⊎ (IsMissed (other_caller caller) most_loads between after × (reply ≡ BAD))
 
--- The form of its reply: done or bad.
+-- The form of a meeting's reply: done or bad.
 abbrev pub IsMeetingReply : ℕ → Type 0
 IsMeetingReply reply = (reply ≡ reply_done) ⊎ (reply ≡ BAD)
 
--- The pairs of a caller's calls have this form.
+-- Each pair of a caller's calls at a meeting has the form of a meeting's reply.
 abbrev pub MeetingsAreFormed : Type 0
 MeetingsAreFormed = (caller : ℕ) (pairs : List (ℕ × ℕ)) (before after : List Deed)
     → AreCalls (λ _. IsMeeting caller) pairs before after
     → All (λ pair. IsMeetingReply pair.1) pairs
 
--- The last step of a call tells its reply: done exactly where it found the other caller's flag up.
+-- The last step of a call at a meeting determines its reply: done exactly where this step found the
+-- other caller's flag up.
 abbrev pub LastLoadsTellReplies : Type 0
 LastLoadsTellReplies = (caller reply : ℕ) (before after : List Deed)
     → IsMeeting caller reply before after

@@ -1,25 +1,26 @@
--- The late object: the change of a put waits for the next call of its caller.
+-- The late object makes the change of a put only at the next call of the put's caller.
 use Rattle.std.specs.Prelude.{◌≡◌, ◌≢◌, ℕ, ◌==◌, if◌then◌else◌, List, [], ◌∷◌, ◌++◌, Option, Some, None}
 use Rattle.shared_log.specs.declared.entry.Entry.{Entry}
 use Rattle.shared_log.specs.Entries.{entry}
 use Rattle.faulty_objects.specs.Calls.{is_put, earlier, last_call, unless, reply_after}
 
--- What waits of a caller after a call of its own: the call itself, if that is a put.
+-- The operation of a caller that waits after a call of its own: the call's, if it is a put.
 abbrev pub waits_after : ℕ → Option ℕ
 waits_after op = if is_put op then Some op else None
 
--- What waits of a caller after some calls, where this waits before them: the caller's last call, if
--- that is a put.
+-- The operation of a caller that waits after some calls, where `waits` waits before them: that of
+-- the caller's last call, if it is a put.
 abbrev pub waiting_from : ℕ → Option ℕ → List Entry → Option ℕ
 waiting_from i waits [] = waits
 waiting_from i waits (e ∷ log) =
     waiting_from i (if e.caller == i then waits_after e.op else waits) log
 
--- What waits of a caller after some calls: the caller's last call, if that is a put.
+-- The operation of a caller that waits after some calls: that of the caller's last call, if it is a
+-- put.
 abbrev pub waiting_of : ℕ → List Entry → Option ℕ
 waiting_of i log = waiting_from i None log
 
--- What waits, as a list of no or one call.
+-- The waiting operation of a caller as a list of no or one call.
 abbrev pub waiting_call : ℕ → Option ℕ → List Entry
 waiting_call i None = []
 waiting_call i (Some op) = entry i op ∷ []
@@ -34,18 +35,18 @@ abbrev pub late_changes : List Entry → List Entry → List Entry
 late_changes before [] = []
 late_changes before (e ∷ log) = late_change before e ++ late_changes (before ++ e ∷ []) log
 
--- The reply to a call after some others: it is lawful at the list that their changes leave, and
--- then the waiting one of its caller.
+-- The reply to a call after some others: the lawful one at the list after the changes of the others
+-- and the waiting change of the call's caller.
 abbrev pub late_reply_after : (List ℕ → ℕ → List ℕ × ℕ) → List ℕ → List Entry → Entry → ℕ
 late_reply_after next init before e = reply_after next init
     (late_changes [] before ++ waiting_call e.caller (waiting_of e.caller before)) e.op
 
--- The reply to the last call of a log.
+-- The reply of the late object to the last call of a log.
 abbrev pub late_reply : (List ℕ → ℕ → List ℕ × ℕ) → List ℕ → List Entry → ℕ
 late_reply next init log = late_reply_after next init (earlier log) (last_call log)
 
--- A call makes its changes after those of the others, what waits of its caller afterwards is the
--- call itself where it is a put, and it is answered before its own change.
+-- A call makes its changes after those of the others; what waits of its caller afterwards is the
+-- call itself where it is a put; and its reply is given before its own change.
 pub record PutsWait : Type 0 where
   pub changes : (before : List Entry) (e : Entry)
       → late_changes [] (before ++ e ∷ []) ≡ late_changes [] before ++ late_change before e

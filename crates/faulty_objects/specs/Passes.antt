@@ -1,4 +1,4 @@
--- Whose a pass is.
+-- Which passes are those of a split tally, of a one-pass queue and of a meeting.
 use Rattle.std.specs.Prelude.{ℕ, ◌*◌}
 use Rattle.shared_words.specs.declared.words_pass.WordsPass.{WordsPass}
 use Rattle.shared_words.specs.Passes.{callers_of, cap_of, IsPassOf}

@@ -1,4 +1,4 @@
--- What the calls of all callers of each object tell together.
+-- The transcripts of all callers of each object, and the one history of their accesses.
 use Rattle.std.specs.Prelude.{◌≡◌, ◌≢◌, ℕ, ◌-◌, ◌%◌, ◌^◌, ◌⊎◌, Bool, true, false, List, [], ◌∷◌, ◌++◌, All, count_by}
 use Rattle.seq_objects.specs.Replies.{reply_none, reply_value}
 use Rattle.lawful_objects.specs.Forms.{cell_may}
@@ -22,7 +22,7 @@ is_addition (Stored place word) = false
 is_addition (Loaded place found) = false
 is_addition (Swapped place word found) = false
 
--- Each addition to the counter found the number of additions before it, modulo 2^64: so the places
+-- Each addition to the counter found the number of additions before it, modulo 2^64. So the places
 -- are given in order, and each of them once where there are at most 2^64 additions.
 abbrev pub PlacesAreInOrder : List Access → Type 0
 PlacesAreInOrder history = (before rest : List Access) (who found : ℕ)
@@ -45,7 +45,8 @@ TakesTakeWhatWasPut history = (before rest : List Access) (who place found : ℕ
     → history ≡ before ++ access who (Swapped (item_index place) 0 found) ∷ rest → found ≢ 0
     → IsPutAt place found before
 
--- A history that ends with an exchange of a caller which took what was put, and the reply gives it.
+-- A history that ends with an exchange of a caller that took an item which was put, and the reply
+-- that gives this item.
 pub record IsGiven (who reply : ℕ) (history : List Access) : Type 0 where
   pub before : List Access
   pub place : ℕ
@@ -54,7 +55,7 @@ pub record IsGiven (who reply : ℕ) (history : List Access) : Type 0 where
   pub ends : history ≡ before ++ access who (Swapped (item_index place) 0 word) ∷ []
   pub told : reply ≡ reply_value (word - 1)
 
--- The reply to a dequeue is none, or gives what was put.
+-- The reply to a dequeue is none, or gives an item that was put.
 abbrev pub IsNoneOrGiven : ℕ → ℕ → List Access → Type 0
 IsNoneOrGiven who reply history = (reply ≡ reply_none) ⊎ IsGiven who reply history
 
@@ -78,11 +79,12 @@ pub record TellOneMeeting (n : ℕ) (history : List Access)
   pub told : AreOfOneHistory meeting_may (λ caller _. IsMeeting caller) n history transcripts
   pub raised : LoadsFindRaisedFlags history
 
--- In the history of a one-pass queue the places are given in order, and what is taken was put.
+-- In the history of a one-pass queue the places are given in order.
 abbrev pub QueuesGivePlacesInOrder : Type 0
 QueuesGivePlacesInOrder = (history : List Access) → IsLawful queue_may history
     → PlacesAreInOrder history
 
+-- In the history of a one-pass queue each item that is taken was put.
 abbrev pub QueuesGiveWhatWasPut : Type 0
 QueuesGiveWhatWasPut = (history : List Access) → IsLawful queue_may history
     → TakesTakeWhatWasPut history

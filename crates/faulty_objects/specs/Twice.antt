@@ -1,4 +1,4 @@
--- The object that gives an item twice: a take leaves the list.
+-- The object that gives an item twice: a take doesn't change its list.
 use Rattle.std.specs.Prelude.{◌≡◌, ℕ, not, List, [], ◌∷◌, ◌++◌}
 use Rattle.std.specs.List.{filter}
 use Rattle.shared_log.specs.declared.entry.Entry.{Entry}
@@ -8,12 +8,12 @@ use Rattle.faulty_objects.specs.Calls.{is_take, earlier, last_call, reply_after}
 abbrev pub without_takes : List Entry → List Entry
 without_takes log = filter (λ e. not (is_take e.op)) log
 
--- The reply to the last call of a log: it is lawful at the list that the earlier calls leave, but
--- the takes.
+-- The reply to the last call of a log: the lawful one at the list that the earlier calls leave,
+-- without the takes.
 abbrev pub twice_reply : (List ℕ → ℕ → List ℕ × ℕ) → List ℕ → List Entry → ℕ
 twice_reply next init log = reply_after next init (without_takes (earlier log)) (last_call log).op
 
--- A call after some others is answered at the list that these leave, but the takes.
+-- A call after some others gets the reply at the list that these leave, without the takes.
 abbrev pub TakesLeaveTheList : Type 0
 TakesLeaveTheList =
     (next : List ℕ → ℕ → List ℕ × ℕ) (init : List ℕ) (before : List Entry) (e : Entry)

@@ -43,7 +43,7 @@ impl Behaviour {
             .copied()
     }
 
-    /// The name.
+    /// The name of the behaviour.
     #[tactic(auto, unfolding(crate::specs::Names::behaviour_name))]
     pub fn name(self) -> &'static str
         ensures { result.now ≡ behaviour_name self }

@@ -4,14 +4,14 @@ ghost use Rattle.faulty_objects.specs.Calls as calls;
 
 use book_base::{OpWord, SeqObject, State, low};
 
-/// Whether an operation is a put: whatever an object knows, its code is 1.
+/// Whether an operation is a put: its code is 1, whether or not an object knows the operation.
 pub(crate) fn is_put(op: OpWord) -> bool
     ensures { result ≡ calls.is_put op }
 {
     low(op) / (1 << 32) == 1
 }
 
-/// Whether an operation is a take: its code is 2.
+/// Whether an operation is a take: its code is 2, whether or not an object knows the operation.
 pub(crate) fn is_take(op: OpWord) -> bool
     ensures { result ≡ calls.is_take op }
 {

@@ -1,5 +1,5 @@
-//! Worked histories of a split tally, of a one-pass queue and of a meeting: what two callers may
-//! tell of them, and what not.
+//! Worked histories of a split tally, of a one-pass queue and of a meeting: which transcripts two
+//! callers may have of them, and which not.
 
 ghost use Rattle.std.specs.Prelude.{[], ◌∷◌, ◌++◌};
 ghost use Rattle.seq_objects.specs.Replies.{reply_none, reply_value};
@@ -10,13 +10,13 @@ ghost use Rattle.faulty_objects.specs.Cases.{both_load_first, one_by_one, enqueu
 /// Two callers of a split tally make an increment each.
 #[tactic(auto, using(crate::proofs::Worked::split_told, crate::proofs::Worked::split_apart_told, crate::proofs::Worked::store_missed, crate::proofs::Worked::stores_another, crate::proofs::Worked::tells_another))]
 pub fn split_tallies_are_told()
-    // Where both load before either stores, both reply 0, and an increment is lost.
+    // Where both callers load before either stores, both increments reply 0, and one is lost.
     ensures right { TellOneSplit 2 (both_load_first 1)
         (counts_once 0 (reply_value 0) ∷ counts_once 1 (reply_value 0) ∷ []) }
-    // Where one is through before the other begins, they reply 0 and 1.
+    // Where one increment ends before the other begins, they reply 0 and 1.
     ensures apart { TellOneSplit 2 (one_by_one 1 2)
         (counts_once 0 (reply_value 0) ∷ counts_once 1 (reply_value 1) ∷ []) }
-    // An increment that begins after the other can't have found 0.
+    // An increment that begins after the other one has ended can't have found 0.
     ensures missed { ¬ TellOneSplit 2 (one_by_one 0 1)
         (counts_once 0 (reply_value 0) ∷ counts_once 1 (reply_value 0) ∷ []) }
     // An increment can't store two more than it found.
@@ -50,10 +50,10 @@ pub fn one_pass_queues_are_told()
 /// Two callers meet.
 #[tactic(auto, using(crate::proofs::Worked::meeting_told, crate::proofs::Worked::flag_too_early, crate::proofs::Worked::other_flag_raised))]
 pub fn meetings_are_told()
-    // Where both raise their flags before either looks, both reply done.
+    // Where both callers raise their flags before either loads one, both reply done.
     ensures right { TellOneMeeting 2 both_raise_first (meets 0 ∷ meets 1 ∷ []) }
-    // A caller can't find a flag up before it is raised.
+    // A caller can't find a flag up before its caller has raised it.
     ensures early { ¬ TellOneMeeting 2 found_too_early (meets 0 ∷ meets 1 ∷ []) }
-    // A caller can't raise the other one's flag.
+    // A caller can't raise the other caller's flag.
     ensures other { ¬ TellOneMeeting 2 raises_the_other (meets 0 ∷ meets 1 ∷ []) }
 {}

@@ -9,15 +9,15 @@ use crate::calls;
 use book_base::{OpWord, SeqObject};
 use lawful_objects::{Entry, Machine, Scratch};
 
-/// The machine that is late: a put gets its lawful reply, and its change waits for the next call of
-/// its caller, which makes it first.
+/// The machine that is late: a put gets its lawful reply, and its change is made only at the next
+/// call of its caller, before that call.
 #[derive(Clone, Copy, Debug)]
 pub struct Late<S: SeqObject> {
     pub object: S,
 }
 
 impl<S: SeqObject> Late<S> {
-    // Makes the change that waits of a caller, if one does.
+    // Makes the change of a caller that waits, if one does.
     fn make_waiting(&self, caller: usize, scratch: &mut Scratch)
         requires caller { caller < vec_len scratch.old.waiting }
         requires room { length scratch.old.state.words < scratch.old.state.room }
@@ -35,8 +35,8 @@ impl<S: SeqObject> Late<S> {
         }
     }
 
-    // Makes the changes of a call: the one that waits of its caller, and its own unless it is a
-    // put, which waits.
+    // Makes the changes of a call: the waiting one of its caller, and its own unless it is a put,
+    // which waits.
     fn turn(&self, entry: &Entry, scratch: &mut Scratch)
         requires caller { entry.now.caller < vec_len scratch.old.waiting }
         requires room { length scratch.old.state.words + waiting_count scratch.old.waiting.items
@@ -62,7 +62,7 @@ impl<S: SeqObject> Late<S> {
 }
 
 impl<S: SeqObject> Late<S> {
-    // Makes the changes of the calls of a log; nothing waits before them.
+    // Makes the changes of the calls of a log, before which nothing waits.
     fn replay(&self, log: &[Entry], scratch: &mut Scratch)
         requires callers { All (λ e. e.caller < vec_len scratch.old.waiting) log.now }
         requires none { waiting_count scratch.old.waiting.items ≡ 0 }
@@ -81,7 +81,7 @@ impl<S: SeqObject> Late<S> {
     }
 }
 
-// Nothing waits any more.
+// Makes nothing wait any more.
 fn clear(waiting: &mut Vec<Option<OpWord>>)
     ensures { waiting.new.items ≡ replicate (vec_len waiting.old) None }
 {

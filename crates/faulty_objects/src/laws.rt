@@ -1,14 +1,15 @@
-//! The forms of the replies of all calls of a pass, and what the last step of a call tells.
+//! The forms of the replies of all calls of a pass, and which reply the last step of a call
+//! determines.
 ghost use Rattle.faulty_objects.specs.Forms.{SplitsAreFormed, OnePassesAreFormed, MeetingsAreFormed, LastLoadsTellReplies, FlagsAreRaised};
 ghost use Rattle.faulty_objects.specs.Together.{QueuesGivePlacesInOrder, QueuesGiveWhatWasPut, MeetingsFindRaisedFlags};
 
-/// The replies of a split tally have the form of a tally's.
+/// The replies of a split tally have the form of a tally's replies.
 #[tactic(auto, using(crate::proofs::Forming::splits_are_formed))]
 pub fn splits_are_formed()
     ensures { SplitsAreFormed }
 {}
 
-/// The replies of a one-pass queue have the form of a queue's.
+/// The replies of a one-pass queue have the form of a queue's replies.
 #[tactic(auto, using(crate::proofs::Forming::one_passes_are_formed))]
 pub fn one_passes_are_formed()
     ensures { OnePassesAreFormed }
@@ -32,7 +33,7 @@ pub fn flags_are_raised()
     ensures { FlagsAreRaised }
 {}
 
-/// What the accesses of a one-pass queue found.
+/// Which words the accesses of a one-pass queue found.
 pub fn takes_take_what_was_put()
     // Each addition to the counter found the number of additions before it, modulo 2^64.
     ensures places { QueuesGivePlacesInOrder }

@@ -1,4 +1,4 @@
-//! Faulty objects, machines over the log object among them that lose, repeat, delay or invent; and
+//! Faulty objects, among them machines over the log object that lose, repeat, delay or invent; and
 //! the name of each object that can be run.
 #![tactic(auto)]
 

@@ -6,14 +6,14 @@ use crate::calls::{is_put, make_unless};
 use book_base::{SeqObject, State};
 use lawful_objects::{Entry, Machine, Scratch};
 
-/// The machine that loses: each second put of the log gets its lawful reply and leaves the list.
+/// The machine that loses: each second put of the log gets its lawful reply and is dropped.
 #[derive(Clone, Copy, Debug)]
 pub struct Lossy<S: SeqObject> {
     pub object: S,
 }
 
 impl<S: SeqObject> Lossy<S> {
-    // Makes the calls of a log, but each second put.
+    // Makes the calls of a log without each second put.
     fn replay(&self, log: &[Entry], state: &mut State)
         requires { length state.old.words + length log.now ≤ state.old.room }
         ensures list { state.new ≡ record state.old {

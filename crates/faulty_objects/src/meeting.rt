@@ -19,10 +19,10 @@ use std::hint::spin_loop;
 /// The word of a flag that is up.
 const UP: u64 = 1;
 
-/// How often a call loads the other caller's flag at most.
+/// How often a call of a meeting loads the other caller's flag at most.
 const MOST_LOADS: u32 = 100_000_000;
 
-/// Callers raise their own flags, and load any.
+/// Callers of a meeting raise their own flags, and load any.
 pub struct Flags;
 
 impl Usage for Flags {
@@ -32,8 +32,8 @@ impl Usage for Flags {
 }
 
 /// A meeting of two callers: each raises its own flag, and waits a while for the other's to be up.
-/// It serves to see whether callers are at work at the same time: one that is through before the
-/// other begins waits in vain, and its reply is bad.
+/// It shows whether callers are at work at the same time: a caller whose call ends before the
+/// other's begins waits in vain, and its reply is bad.
 #[derive(Drop)]
 pub struct Meeting {
     pub(crate) words: SharedWords<Flags>,
@@ -68,7 +68,7 @@ impl Meeting {
         Ok((Meeting { words }, passes))
     }
 
-    // Whether a flag is found up, by loads of it until one finds it.
+    // Whether a flag is found up, by loads of it until one finds it up.
     fn sees(&self, seat: &mut WordSeat, flag: usize) -> bool
         requires seat { IsSeatOf meeting_may self.now.words seat.old }
         requires flag { flag < 2 }
@@ -90,7 +90,7 @@ impl Meeting {
         false
     }
 
-    // The reply to a caller, with the steps that it makes.
+    // Makes the steps of a caller's call, and answers the reply to it.
     fn reply(&self, seat: &mut WordSeat) -> u64
         requires seat { IsSeatOf meeting_may self.now.words seat.old }
         ensures seat { IsSeatOf meeting_may self.now.words seat.new }
@@ -110,7 +110,7 @@ impl Meeting {
         }
     }
 
-    /// Makes one call of the pass's caller, the same one whatever the operation. It takes no
+    /// Makes one call of the pass's caller, in the same way whatever its operation. It takes no
     /// memory.
     pub fn make(&self, pass: &mut WordsPass, op: OpWord) -> u64
         // The pass is one of this meeting.
@@ -137,15 +137,15 @@ impl Meeting {
         reply
     }
 
-    /// Takes the passes of all callers back, in order, and lets the meeting go. It takes no memory.
+    /// Takes the passes of all callers back, in order, and drops the meeting. It takes no memory.
     pub fn close(self, passes: Vec<WordsPass>)
         // The passes are those of all callers, in order.
         requires callers { map caller_of_pass passes.items
             ≡ range_with_len 0 (callers_of self.words) }
         // Each pass is one of this meeting.
         requires own { All (IsMeetingPass self) passes.items }
-        // The passes tell one history, in which a flag is found up only after its caller has raised
-        // it.
+        // The passes are of one history, in which a flag is found up only after its caller has
+        // raised it.
         ensures history { (history : List Access)
             × TellOneMeeting (callers_of self.words) history (map transcript_of passes.items) }
     {

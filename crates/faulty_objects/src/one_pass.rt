@@ -13,10 +13,11 @@ use seq_objects::{DONE, NONE, value_reply};
 use shared_words::{SharedWords, Usage, WordSeat, WordsPass};
 use std::alloc::Global;
 
-/// The operation word of the enqueue of 0, and that of the dequeue: the enqueues stand from the one
-/// up to the other.
+/// The operation word of the enqueue of 0; the words of enqueues are from this one up to that of
+/// the dequeue.
 const ENQUEUE_0: OpWord = 1 << 32;
 
+/// The operation word of the dequeue.
 const DEQUEUE: OpWord = 2 << 32;
 
 /// Callers add to the counter and load it, put items into places, and take what is in a place.
@@ -28,8 +29,8 @@ impl Usage for QueueDeeds {
     ghost may = { queue_may };
 }
 
-/// The array queue of Herlihy and Wing (1990) with a dequeue that gives up: it goes over the places
-/// once, and says that there is none where it found each of them empty.
+/// The array queue of Herlihy and Wing (1990) with a dequeue that gives up: it goes through the
+/// places once, and replies that there is no item where it found each of them empty.
 #[derive(Drop)]
 pub struct OnePass {
     pub(crate) words: SharedWords<QueueDeeds>,
@@ -73,7 +74,8 @@ impl OnePass {
         self.words.callers() as u64 * self.words.cap()
     }
 
-    // An enqueue of a value. There are as many places as calls, so there is one for it.
+    // Makes an enqueue of a value. The queue has as many places as there are calls, so it has one
+    // for this value.
     fn enqueue(&self, seat: &mut WordSeat, value: u64)
         requires seat { IsSeatOf queue_may self.now.words seat.old }
         requires value { value < 4294967296 }
@@ -89,7 +91,7 @@ impl OnePass {
         }
     }
 
-    // A dequeue: one pass over the places below the counter.
+    // Makes a dequeue: one pass through the places below the counter.
     fn dequeue(&self, seat: &mut WordSeat) -> u64
         requires seat { IsSeatOf queue_may self.now.words seat.old }
         ensures seat { IsSeatOf queue_may self.now.words seat.new }
@@ -109,7 +111,7 @@ impl OnePass {
         NONE
     }
 
-    // The reply to an operation, with the steps that it makes.
+    // Makes the steps of an operation, and answers the reply to it.
     fn reply(&self, seat: &mut WordSeat, op: OpWord) -> u64
         requires seat { IsSeatOf queue_may self.now.words seat.old }
         ensures seat { IsSeatOf queue_may self.now.words seat.new }
@@ -148,8 +150,8 @@ impl OnePass {
         // The reply is done exactly to an enqueue, a value or none exactly to the dequeue, and else
         // `bad`.
         ensures form { IsQueueReply op result }
-        // The reply to a dequeue is none, or gives the item that its last access took, which a
-        // store had put into this place, and nobody had taken since.
+        // The reply to a dequeue is none, or gives the item that its last access took: a store had
+        // put it into this place, and no access had taken it since.
         ensures given { op ≡ dequeue
             → IsNoneOrGiven (caller_of_pass pass.old) result (history_in pass.new) }
     {
@@ -158,15 +160,15 @@ impl OnePass {
         reply
     }
 
-    /// Takes the passes of all callers back, in order, and lets the queue go. It takes no memory.
+    /// Takes the passes of all callers back, in order, and drops the queue. It takes no memory.
     pub fn close(self, passes: Vec<WordsPass>)
         // The passes are those of all callers, in order.
         requires callers { map caller_of_pass passes.items
             ≡ range_with_len 0 (callers_of self.words) }
         // Each pass is one of this queue.
         requires own { All (IsQueuePass self) passes.items }
-        // The passes tell one history. Its additions to the counter found 0, 1 and so on, modulo
-        // 2^64, so that the places are given in order, and each item that an exchange found had
+        // The passes are of one history. Its additions to the counter found 0, 1 and so on, modulo
+        // 2^64, so that the places are given in order; and each item that an exchange found had
         // been put into this place and not taken since.
         ensures history { (history : List Access)
             × TellOneQueue (callers_of self.words * cap_of self.words) (callers_of self.words)

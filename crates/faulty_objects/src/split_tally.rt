@@ -54,7 +54,7 @@ impl SplitTally {
         Ok((SplitTally { words }, passes))
     }
 
-    // The reply to an operation, with the steps that it makes.
+    // Makes the steps of an operation, and answers the reply to it.
     fn reply(&self, seat: &mut WordSeat, op: OpWord) -> u64
         requires { IsSeatOf cell_may self.now.words seat.old }
         ensures seat { IsSeatOf cell_may self.now.words seat.new }
@@ -88,7 +88,7 @@ impl SplitTally {
         // The accesses that the pass knew are the first of those that it knows.
         ensures history { IsPrefix (history_in pass.old) (history_in pass.new) }
         // The call loaded the word and then stored one more, maybe with others' accesses between,
-        // and its reply tells the word loaded.
+        // and its reply gives the word loaded.
         ensures torn { op ≡ increment
             → IsTorn (caller_of_pass pass.old) result (history_in pass.new) }
         // The reply is a value exactly to the increment, and else `bad`.
@@ -99,14 +99,14 @@ impl SplitTally {
         reply
     }
 
-    /// Takes the passes of all callers back, in order, and lets the tally go. It takes no memory.
+    /// Takes the passes of all callers back, in order, and drops the tally. It takes no memory.
     pub fn close(self, passes: Vec<WordsPass>)
         // The passes are those of all callers, in order.
         requires callers { map caller_of_pass passes.items
             ≡ range_with_len 0 (callers_of self.words) }
         // Each pass is one of this tally.
         requires own { All (IsSplitPass self) passes.items }
-        // The passes tell one history of loads and stores, of which each load found what the last
+        // The passes are of one history of loads and stores, of which each load found what the last
         // store before it stored, or 0 where there is none.
         ensures history { (history : List Access)
             × TellOneSplit (callers_of self.words) history (map transcript_of passes.items) }

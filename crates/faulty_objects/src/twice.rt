@@ -6,7 +6,7 @@ use crate::calls::{is_take, make_unless};
 use book_base::{SeqObject, State};
 use lawful_objects::{Entry, Machine, Scratch};
 
-/// The machine that gives an item twice: a take gets its lawful reply and leaves the list.
+/// The machine that gives an item twice: a take gets its lawful reply and doesn't change the list.
 #[derive(Clone, Copy, Debug)]
 pub struct Twice<S: SeqObject> {
     pub object: S,

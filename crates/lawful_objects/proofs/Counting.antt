@@ -1,4 +1,4 @@
--- What the history of a tally and of a cell says of its word, and so of a reply.
+-- What the history of a tally and of a cell determines of its word, and so of a reply.
 use Rattle.std.proofs.Common.{◌≡◌, ◌⊎◌, ℕ, suc, ◌+◌, ◌%◌, ◌^◌, ◌==◌, if◌then◌else◌, List, [], ◌∷◌, ◌++◌, length, refl, sym, ap, ◌∙◌, subst, inl, inr, arith}
 use Rattle.std.specs.List.{All}
 use Rattle.std.proofs.Math.Nat.{mod-add-mod}
@@ -9,7 +9,7 @@ use Rattle.shared_words.specs.Histories.{Access, access, word_from, word_at, IsL
 use Rattle.shared_words.proofs.Histories.{lawful_allowed, lawful_prefix, lawful_last}
 use Rattle.lawful_objects.specs.Forms.{tally_may, cell_may, IsCounted, IsLoad, IsLastStored, IsLastRead, TalliesCount, CellsHoldTheLast}
 
--- increments from a word on
+-- the word after increments, from a word on
 counts : (word : ℕ) (history : List Access)
     → All (λ (a : Access). tally_may a.caller a.deed) history
     → word_from 0 (word % 2 ^ 64) history ≡ (word + length history) % 2 ^ 64
@@ -30,7 +30,7 @@ tallies_count history lawful =
     let all : 0 + length history ≡ length history = omega arith in
     counts 0 history (lawful_allowed tally_may [] history lawful) ∙ ap (λ (k : ℕ). k % 2 ^ 64) all
 
--- the last store, or the word from which there is none
+-- the word of the last store, or the first word where there is no store
 LastFrom : ℕ → ℕ → List Access → Type 0
 LastFrom first word history =
     (All IsLoad history × (word ≡ first)) ⊎ ((before rest : List Access) × (who : ℕ)

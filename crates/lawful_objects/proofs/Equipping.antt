@@ -27,14 +27,14 @@ All-unmap f P [] h = All-nil (λ x. P (f x))
 All-unmap f P (x ∷ xs) h = All-cons (λ y. P (f y)) x xs (All-head P (f x) (map f xs) h)
     (All-unmap f P xs (All-tail P (f x) (map f xs) h))
 
--- what holds by two facts
+-- what follows from two facts holds of each element that has both
 pub All-both : {A : Type 0} (P Q R : A → Type 0) → ((x : A) → P x → Q x → R x) → (xs : List A)
     → All P xs → All Q xs → All R xs
 All-both P Q R both [] p q = All-nil R
 All-both P Q R both (x ∷ xs) p q = All-cons R x xs (both x (All-head P x xs p) (All-head Q x xs q))
     (All-both P Q R both xs (All-tail P x xs p) (All-tail Q x xs q))
 
--- as many seats as callers
+-- a log has as many seats as callers
 pub seats_count : (l : SharedLog) (seats : List LogSeat) → AreSeatsOf l seats
     → length seats ≡ callers_of l
 seats_count l seats h = sym (length-map seats caller_of) ∙ ap (λ (k : List ℕ). length k) h.callers
@@ -115,7 +115,7 @@ module _ {M : Type 0} (reply_to : M → List Entry → ℕ) (has_seen : M → Li
           (All-head (λ q. IsSeatOf b.log (seat_in q)) p ps all)
           (All-of_map ps (All-tail (λ q. IsSeatOf b.log (seat_in q)) p ps all))
 
--- a new scratch has room
+-- a new scratch has capacity
 pub clear_capacity : (n cap : ℕ) (s : Scratch) → IsClear n cap s → HasCapacity (n * cap) s
 clear_capacity n cap s clear =
     let state = ap (λ (c : Contents). c.room) clear.state in

@@ -1,4 +1,4 @@
--- The pairs of a caller: of a log, of one that goes on, and of one that gets one entry more.
+-- The pairs of a caller in a log, in a log that extends it, and in one with one entry more.
 use Rattle.std.proofs.Common.{◌≡◌, ℕ, ◌==◌, true, false, List, [], ◌∷◌, ◌++◌, map, refl, sym, ap, ◌∙◌, inl, inr, append_assoc}
 use Rattle.std.specs.List.{filter}
 use Rattle.std.proofs.lemmas.Bool.{cases_Bool, cond-true, cond-false}
@@ -41,7 +41,7 @@ module _ (answer : List Entry → ℕ) (i : ℕ) where
             (sym (after_other prefix xs e other))
       ]
 
-  -- their operations are the caller's
+  -- the operations of the pairs are those of the caller
   calls_after : (prefix log : List Entry)
       → map (λ (pair : ℕ × ℕ). pair.0) (pairs_after answer i prefix log) ≡ calls_by i log
   calls_after prefix [] = refl
@@ -58,7 +58,7 @@ module _ (answer : List Entry → ℕ) (i : ℕ) where
         (λ (d : Entry). d.caller == i) log) (filter (λ (d : Entry). d.caller == i) log) other))
   ]
 
-  -- where no call of the caller stands, there is no pair
+  -- where the log has no call of the caller, there is no pair
   pub none_after : (prefix log : List Entry)
       → calls_by i log ≡ [] → pairs_after answer i prefix log ≡ []
   none_after prefix log none =

@@ -1,4 +1,4 @@
--- A replay of a log goes on by one step for each entry.
+-- A replay of a log takes one step for each entry.
 use Rattle.std.proofs.Common.{◌≡◌, ℕ, ◌+◌, ◌-◌, ◌<◌, ◌≤◌, List, [], ◌∷◌, ◌++◌, length, take, drop, get_or, refl, sym, ap, ◌∙◌, arith}
 use Rattle.std.proofs.lemmas.List.{take_more, take_all, length-take, length-drop, take-append-drop}
 use Rattle.shared_log.specs.declared.entry.Entry.{Entry}
@@ -16,8 +16,8 @@ module _ (next : List ℕ → ℕ → List ℕ × ℕ) where
   last_reply-append list (d ∷ []) e ys = refl
   last_reply-append list (d ∷ c ∷ xs) e ys = last_reply-append (next list d.op).0 (c ∷ xs) e ys
 
-  -- where each operation makes the list at most one longer, the list is at most so much longer as
-  -- there are operations
+  -- where each operation makes the list at most one word longer, the list is at most longer by the
+  -- number of operations
   pub length-list_after : ((list : List ℕ) (op : ℕ) → length (next list op).0 ≤ length list + 1)
       → (list : List ℕ) (log : List Entry)
       → length (list_after next list log) ≤ length list + length log
@@ -28,7 +28,7 @@ module _ (next : List ℕ → ℕ → List ℕ × ℕ) where
 pub last_reply_is_next : LastReplyIsNext
 last_reply_is_next next list before e = last_reply-append next list before e []
 
--- a replay that has come to entry i, and its next step
+-- a replay that has reached entry i, and its next step
 module _ (next : List ℕ → ℕ → List ℕ × ℕ) (list : List ℕ) (log : List Entry) (i : ℕ) (d : Entry)
     (words : List ℕ)
     (at : words ≡ list_after next list (take i log)) (low : i < length log) where
@@ -51,7 +51,7 @@ module _ (next : List ℕ → ℕ → List ℕ × ℕ) (list : List ℕ) (log : 
       let same = ap length at in
       omega (arith, length-take i log)
 
--- a replay goes on after the entries that it has seen
+-- a replay that begins after the entries that it has seen
 module _ (next : List ℕ → ℕ → List ℕ × ℕ) (init : List ℕ) (log : List Entry) (known : ℕ)
     (words : List ℕ) (seen : words ≡ list_after next init (take known log)) where
   pub list_beyond : list_after next words (drop known log) ≡ list_after next init log
@@ -73,7 +73,7 @@ module _ (next : List ℕ → ℕ → List ℕ × ℕ) (init : List ℕ) (log : 
       → last_reply next words (drop known log) ≡ last_reply next init log
   reply_beyond more = reply_of_more (drop known log) refl (omega (arith, length-drop known log))
 
-  -- there is room for what the rest adds
+  -- there is capacity for the words that the remaining entries add
   pub capacity_beyond : (room : ℕ) → length init ≤ 1
       → ((l : List ℕ) (op : ℕ) → length (next l op).0 ≤ length l + 1) → known < length log
       → length log < room → length words + length (drop known log) ≤ room

@@ -1,4 +1,4 @@
--- What a pass tells is what its log, and any log that goes on from it, says of its caller.
+-- The calls of a pass are those that its log, and any log that extends it, has of its caller.
 use Rattle.std.proofs.Common.{◌≡◌, ℕ, List, [], ◌∷◌, ◌++◌, length, refl, sym, ap, ◌∙◌, arith, length-append, eq-eqb}
 use Rattle.std.proofs.lemmas.List.{append-nil, append_cancel_right, nil_from_length, length-map}
 use Rattle.shared_log.specs.declared.entry.Entry.{Entry}
@@ -13,7 +13,7 @@ pub length-pairs_of : (answer : List Entry → ℕ) (log : List Entry) (i : ℕ)
 length-pairs_of answer log i = sym (length-map (pairs_of answer log i) (λ (pair : ℕ × ℕ). pair.0))
     ∙ ap (λ (l : List ℕ). length l) (pairs_have_the_calls answer log i)
 
--- a log that goes on without entries of the caller has the same pairs
+-- a log that extends another without entries of the caller has the same pairs of it
 pub pairs_of-begins : (answer : List Entry → ℕ) (log prefix : List Entry) (i : ℕ)
     → BeginsWith log prefix → calls_by i log ≡ calls_by i prefix
     → pairs_of answer prefix i ≡ pairs_of answer log i
@@ -46,7 +46,7 @@ pairs_of-call answer before after i op call =
     ∙ (λ k. sym same k ++ after_own answer i prefix [] (entry i op) (eq-eqb i i refl) k)
     ∙ ap (λ (l : List Entry). pairs_of answer before i ++ (op, answer l) ∷ []) (sym call.log)
 
--- the same of a pass whose pairs were those of the log before
+-- after a call there is one pair more of a pass whose pairs were those of the log before
 pub pairs_called : (answer : List Entry → ℕ) (before after : List Entry) (i j op reply : ℕ)
     (pairs new : List (ℕ × ℕ)) → IsAfterCall i op before after → j ≡ i
     → pairs ≡ pairs_of answer before i → new ≡ pairs ++ (op, reply) ∷ [] → reply ≡ answer after

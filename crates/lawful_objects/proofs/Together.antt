@@ -1,4 +1,4 @@
--- What the calls of all callers of a tally, and of a cell, tell together.
+-- What the transcripts of all callers of a tally, and of a cell, say together.
 use Rattle.std.proofs.Common.{◌≡◌, ◌≢◌, ℕ, zero, suc, ◌+◌, ◌%◌, ◌^◌, ◌<◌, ◌≤◌, Bool, cond, ◌==◌, List, [], ◌∷◌, length, map, count_by, sum_by, refl, sym, ap, ◌∙◌, subst, inl, inr, arith, length-append, eq-eqb, ne_eqb}
 use Rattle.std.specs.List.{All, range_with_len}
 use Rattle.std.proofs.lemmas.Bool.{cases_Bool, cases_eq, cond-true, cond-false}
@@ -166,7 +166,7 @@ all_told history (t ∷ transcripts) calls =
       more,
     )
 
--- what the transcripts tell together
+-- what the transcripts say together
 pub one_tally : (n : ℕ) (history : List Access) (transcripts : List Transcript)
     → AreOfOneHistory tally_may (λ _. IsTallied) n history transcripts
     → TellOneTally n history transcripts

@@ -1,4 +1,4 @@
--- What callers may tell of the worked histories of a tally and of a cell.
+-- Which transcripts callers may have of the worked histories of a tally and of a cell.
 use Rattle.std.proofs.Common.{◌≡◌, ℕ, ◌^◌, ◌<◌, List, [], ◌∷◌, ◌++◌, length, refl, sym, ap, ◌∙◌, inl, inr, arith}
 use Rattle.std.specs.List.{All}
 use Rattle.std.proofs.lemmas.Bool.{cases_eq}
@@ -72,7 +72,7 @@ tally_told =
           (All-nil (Tallied three_additions)));
     })
 
--- the reply to an increment tells what it found
+-- the reply to an increment gives the word that it found
 tells_found : (caller reply found : ℕ) (history : List Access)
     → Tallied history (counts_once caller reply)
     → deeds_by caller history ≡ Added 0 1 found ∷ [] → reply ≡ reply_value found
@@ -100,7 +100,7 @@ both_count_0 one =
     let n : 0 ≡ 1 = right.found in
     omega (arith, n)
 
--- of two accesses the second one's caller tells what that found
+-- of two accesses the second one's caller replies with the word that this access found
 tells_last : (caller reply : ℕ) (a b : Access) → Tallied (a ∷ b ∷ []) (counts_once caller reply)
     → b.caller ≡ caller → b.deed ≡ Added 0 1 1 → reply ≡ reply_value 1
 tells_last caller reply a b told own deed =

@@ -1,4 +1,4 @@
--- What callers of a tally and of a cell tell, in worked histories.
+-- Worked histories of a tally and of a cell, and the transcripts of their callers.
 use Rattle.std.specs.Prelude.{ℕ, List, [], ◌∷◌}
 use Rattle.book_base.specs.declared.TheConstants.{BAD}
 use Rattle.seq_objects.specs.Replies.{reply_done, reply_value}
@@ -8,8 +8,8 @@ use Rattle.shared_words.specs.Transcripts.{Transcript}
 use Rattle.shared_words.specs.Cases.{transcript}
 use Rattle.lawful_objects.specs.Forms.{increment, write, read}
 
--- Caller 0 of a tally asks for two increments, which reply 0 and 2, and between them for what a
--- tally doesn't know.
+-- Caller 0 of a tally asks for two increments, which reply 0 and 2, and between them for an
+-- operation that a tally doesn't know.
 abbrev pub counts_0_and_2 : Transcript
 counts_0_and_2 =
     transcript 0 ((increment, reply_value 0) ∷ (7, BAD) ∷ (increment, reply_value 2) ∷ [])

@@ -1,4 +1,4 @@
--- What a call of a tally and of a cell does, and which form its reply has.
+-- What a call of a tally and of a cell does to the word, and which form its reply has.
 use Rattle.std.specs.Prelude.{◌≡◌, ◌≢◌, ℕ, ◌+◌, ◌*◌, ◌%◌, ◌^◌, ◌<◌, ◌⊎◌, List, [], ◌∷◌, ◌++◌, All, length}
 use Rattle.book_base.specs.declared.TheConstants.{BAD}
 use Rattle.seq_objects.specs.Replies.{reply_done, reply_value}
@@ -26,14 +26,14 @@ abbrev pub IsNoWrite : ℕ → Type 0
 IsNoWrite op = (value : ℕ) → value < 2 ^ 32 → op ≢ write value
 
 -- A call of a tally: an increment adds 1 to the word in one step, and its reply is the word found;
--- all else makes no step, and the reply is bad.
+-- any other operation makes no step, and its reply is bad.
 pub record IsTallied (op reply : ℕ) (before after : List Deed) : Type 0 where
   pub counts : op ≡ increment → (found : ℕ) × (after ≡ before ++ Added 0 1 found ∷ [])
       × (reply ≡ reply_value found)
   pub other : op ≢ increment → (after ≡ before) × (reply ≡ BAD)
 
 -- A call of a cell: a write stores its value in one step; a read loads the word in one step, and
--- its reply is the word found; all else makes no step, and the reply is bad.
+-- its reply is the word found; any other operation makes no step, and its reply is bad.
 pub record IsKept (op reply : ℕ) (before after : List Deed) : Type 0 where
   pub writes : (value : ℕ) → value < 2 ^ 32 → op ≡ write value
       → (after ≡ before ++ Stored 0 value ∷ []) × (reply ≡ reply_done)
@@ -88,8 +88,8 @@ IsLastStored word history =
     (All IsLoad history × (word ≡ 0)) ⊎ ((before rest : List Access) × (who : ℕ)
     × (history ≡ before ++ access who (Stored 0 word) ∷ rest) × All IsLoad rest)
 
--- A history that ends with a load of a caller, with a reply that tells the word that the last store
--- before it stored, or 0 where there is none.
+-- A history that ends with a load of a caller, and the reply to it: the word that the last store
+-- before the load stored, or 0 where there is none.
 pub record IsLastRead (who reply : ℕ) (history : List Access) : Type 0 where
   pub before : List Access
   pub word : ℕ

@@ -53,7 +53,7 @@ module _ {M : Type 0} where
   abbrev pub machine_in : LogBox M → M
   machine_in b = b.machine
 
-  -- The pass is one of this box, and has room for all that its caller may ask; its pairs are what
+  -- The pass is one of this box, and has capacity for all calls of its caller; its pairs are what
   -- its log says, and its scratch holds what the machine keeps of that log.
   pub record IsPassOf (reply_to : M → List Entry → ℕ) (has_seen : M → List Entry → Scratch → Type 0)
       (b : LogBox M) (p : LogPass) : Type 0 where

@@ -1,4 +1,4 @@
--- What a sequential object makes of a log.
+-- The list of a sequential object after the operations of a log, and its reply to the last of them.
 use Rattle.std.specs.Prelude.{◌≡◌, ℕ, List, [], ◌∷◌, ◌++◌}
 use Rattle.shared_log.specs.declared.entry.Entry.{Entry}
 

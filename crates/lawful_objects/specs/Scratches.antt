@@ -7,14 +7,14 @@ use Rattle.lawful_objects.specs.declared.scratch.Scratch.{Scratch}
 abbrev pub empty_state : ℕ → Contents
 empty_state room = record { words = []; room = room }
 
--- A new scratch: both states are empty and have room for one word more than n callers have calls,
--- and nothing waits.
+-- A new scratch: both states are empty, with capacity for one word more than n callers have calls,
+-- and no operation waits.
 pub record IsClear (n cap : ℕ) (s : Scratch) : Type 0 where
   pub state : s.state ≡ empty_state (n * cap + 1)
   pub other : s.other ≡ empty_state (n * cap + 1)
   pub waiting : s.waiting.items ≡ replicate n None
 
--- The states have room for more than this many words.
+-- The states have capacity for more than this many words.
 pub record HasCapacity (count : ℕ) (s : Scratch) : Type 0 where
   pub state : count < s.state.room
   pub other : count < s.other.room

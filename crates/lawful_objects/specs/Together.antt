@@ -1,4 +1,4 @@
--- What the calls of all callers of a tally, and of a cell, tell together.
+-- The transcripts of all callers of a tally, and of a cell, and the one history of their accesses.
 use Rattle.std.specs.Prelude.{◌≡◌, ℕ, ◌%◌, ◌^◌, ◌==◌, List, ◌∷◌, ◌++◌, length, count_by, sum_by}
 use Rattle.shared_words.specs.Deeds.{Added, Loaded}
 use Rattle.shared_words.specs.Histories.{Access, access, word_at, IsLawful}

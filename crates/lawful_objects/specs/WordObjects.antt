@@ -1,4 +1,4 @@
--- Whose a pass of a tally or a cell is.
+-- Which passes are those of a tally, and of a cell.
 use Rattle.shared_words.specs.declared.words_pass.WordsPass.{WordsPass}
 use Rattle.shared_words.specs.Passes.{IsPassOf}
 use Rattle.lawful_objects.specs.declared.tally.Tally.{Tally}

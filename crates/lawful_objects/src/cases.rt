@@ -1,4 +1,5 @@
-//! Worked histories of a tally and of a cell: what two callers may tell of them, and what not.
+//! Worked histories of a tally and of a cell: which transcripts two callers may have of them, and
+//! which not.
 
 ghost use Rattle.std.specs.Prelude.{List, [], ◌∷◌};
 ghost use Rattle.seq_objects.specs.Replies.{reply_value};
@@ -15,16 +16,16 @@ pub fn tallies_are_told()
     // tally doesn't know adds nothing.
     ensures right { TellOneTally 2 three_additions
         (counts_0_and_2 ∷ counts_once 1 (reply_value 1) ∷ []) }
-    // An increment can't reply with a word that was there before the one that it found.
+    // An increment can't reply with a word that an earlier increment found.
     ensures earlier { ¬ TellOneTally 2 three_additions
         (counts_0_and_2 ∷ counts_once 1 (reply_value 0) ∷ []) }
     // Two increments can't both have found 0.
     ensures both { ¬ TellOneTally 2 (adds 0 0 ∷ adds 1 0 ∷ [])
         (counts_once 0 (reply_value 0) ∷ counts_once 1 (reply_value 0) ∷ []) }
-    // The history can't have an increment that nobody tells.
+    // The history can't have an increment that is in no transcript.
     ensures untold { ¬ TellOneTally 2 three_additions
         (counts_once 0 (reply_value 0) ∷ counts_once 1 (reply_value 1) ∷ []) }
-    // A caller can't tell an increment that the history doesn't have.
+    // The transcript of a caller can't have an increment that the history doesn't have.
     ensures not_made { ¬ TellOneTally 2 (adds 0 0 ∷ [])
         (counts_once 0 (reply_value 0) ∷ counts_once 1 (reply_value 1) ∷ []) }
     // No history whatever has two increments that both reply 0.

@@ -1,4 +1,4 @@
-//! What replies and pairs are, in other words.
+//! What the replies of lawful objects and the pairs of their callers are.
 
 ghost use Rattle.lawful_objects.specs.Replays.{LastReplyIsNext};
 ghost use Rattle.lawful_objects.specs.Pairs.{PairsHaveTheCalls};
@@ -12,7 +12,7 @@ pub fn last_reply_is_next()
     ensures { LastReplyIsNext }
 {}
 
-/// The pairs of a caller ask, in order, what the caller's entries of the log ask.
+/// The operations of a caller's pairs are, in order, those of the caller's entries in the log.
 #[tactic(auto, using(crate::proofs::Pairing::pairs_have_the_calls))]
 pub fn pairs_have_the_calls()
     ensures { PairsHaveTheCalls }
@@ -39,7 +39,7 @@ pub fn words_are_of_histories()
     ensures cells { CellsHoldTheLast }
 {}
 
-/// What each access of a tally's history, and of a cell's, found.
+/// Which words the accesses of a tally's history, and of a cell's, found.
 pub fn accesses_find_what_was_left()
     // Each increment of a tally found the number of increments before it, modulo 2^64.
     ensures tallies { TalliesAreCounted }

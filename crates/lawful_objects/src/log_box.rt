@@ -13,7 +13,7 @@ use std::alloc::Global;
 /// A lawful object: its callers share one log of their calls, and a machine answers each call from
 /// the log up to it.
 ///
-/// The log is one order of all calls, so the object does what the machine does in that order,
+/// The log is one order of all calls, so the object answers as the machine does in that order,
 /// whatever the threads do.
 pub struct LogBox<M: Machine> {
     pub(crate) machine: M,
@@ -56,7 +56,7 @@ impl<M: Machine> LogBox<M> {
         reply
     }
 
-    // Each seat gets its tools.
+    // Gives each seat its tools.
     fn equip(
         &self,
         seats: Vec<LogSeat>,

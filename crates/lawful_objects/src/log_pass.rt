@@ -17,7 +17,7 @@ pub(crate) struct Tools {
 impl Tools {
     ghost use Rattle.lawful_objects.specs.Equipment.{AreReady};
 
-    // For each of `n` callers with `cap` calls.
+    // The tools of each of `n` callers with `cap` calls.
     pub(crate) fn for_all(alloc: Global, n: u32, cap: u64) -> Result<Vec<Tools>, NoMemory>
         requires some_callers { 1 ≤ n }
         requires few_callers { n ≤ MAX_CALLERS }

@@ -6,26 +6,25 @@ ghost use Rattle.lawful_objects.specs.Scratches.{HasCapacity, KeepsCapacity};
 use crate::scratch::Scratch;
 use shared_log::Entry;
 
-/// How an object answers from the log of all calls: the meaning is the reply to the last entry of a
-/// log.
+/// How an object answers from the log of all calls: by a reply to the last entry of a log.
 pub trait Machine {
     /// The reply to the last entry of a log.
     ghost reply_to: { Self → List Item → ℕ };
 
-    /// What the scratch holds after the machine has answered a log, if that serves the next answer.
-    /// A machine that leaves it out keeps nothing there.
+    /// What the scratch holds after the machine has answered a log, if that is of use for the next
+    /// answer. A machine that leaves this out keeps nothing there.
     ghost has_seen: { Self → List Item → Tool → Type 0 } = { λ machine log scratch. Unit {0} };
 
     /// The reply to the last entry of the log.
     ///
-    /// It may use the scratch as it likes: its capacities stay, and what it held before doesn't
-    /// matter.
+    /// The machine may use the scratch as it likes: its capacities stay, and its contents before
+    /// don't matter.
     fn answer(&self, log: &[Entry], scratch: &mut Scratch) -> u64
         // The log has at least one entry.
         requires some { 0 < length log.now }
         // Each entry of the log is a call of one of the callers that the scratch is for.
         requires callers { All (λ e. e.caller < vec_len scratch.old.waiting) log.now }
-        // Both states of the scratch have room for more words than the log has entries.
+        // Both states of the scratch have capacity for more words than the log has entries.
         requires room { HasCapacity (length log.now) scratch.old }
         // The answer is the machine's reply to the log.
         ensures reply { result ≡ reply_to self.now log.now }
@@ -34,14 +33,14 @@ pub trait Machine {
         // The scratch holds what the machine keeps of the log.
         ensures seen { has_seen self.now log.now scratch.new };
 
-    /// The reply to the last entry of the log, where the machine may go on from its last answer: of
-    /// the first `known` entries the scratch holds what the machine keeps.
+    /// The reply to the last entry of the log, where the machine may continue from its last answer:
+    /// the scratch holds what the machine keeps of the first `known` entries.
     fn go_on(&self, log: &[Entry], known: usize, scratch: &mut Scratch) -> u64
         // The log has more entries than the machine has answered.
         requires more { known < length log.now }
         // Each entry of the log is a call of one of the callers that the scratch is for.
         requires callers { All (λ e. e.caller < vec_len scratch.old.waiting) log.now }
-        // Both states of the scratch have room for more words than the log has entries.
+        // Both states of the scratch have capacity for more words than the log has entries.
         requires room { HasCapacity (length log.now) scratch.old }
         // The scratch holds what the machine keeps of the first `known` entries, where there are
         // some.

@@ -5,8 +5,8 @@ use crate::scratch::Scratch;
 use book_base::{SeqObject, State};
 use shared_log::Entry;
 
-/// The machine that answers as a sequential object does: it replays the operations of the log, and
-/// goes on from the list that it reached at its last answer.
+/// The machine that answers as a sequential object does: it replays the operations of the log,
+/// beginning with the list that it reached at its last answer.
 #[derive(Debug, Drop)]
 pub struct Plain<S: SeqObject> {
     pub object: S,
@@ -15,7 +15,7 @@ pub struct Plain<S: SeqObject> {
 impl<S: SeqObject> Plain<S> {
     ghost use Rattle.lawful_objects.specs.Replays.{list_after, last_reply};
 
-    // Makes the operations of a log. The reply to the last one.
+    // Makes the operations of a log, and answers the reply to the last one.
     fn replay(&self, log: &[Entry], state: &mut State) -> u64
         requires room { length state.old.words + length log.now ≤ state.old.room }
         ensures list { state.new ≡ record state.old {

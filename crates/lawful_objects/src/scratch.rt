@@ -11,15 +11,15 @@ use std::alloc::Global;
 pub struct Scratch {
     pub state: State,
     pub other: State,
-    /// A place for each caller.
+    /// The operation that waits of each caller, where one does.
     pub waiting: Vec<Option<OpWord>>,
 }
 
 impl Scratch {
     ghost use Rattle.lawful_objects.specs.Scratches.{IsClear};
 
-    /// A scratch for logs of `n` callers with `cap` calls each: both states are empty, with room
-    /// for one word more than there are calls, and nothing waits.
+    /// A scratch for logs of `n` callers with `cap` calls each: both states are empty, with
+    /// capacity for one word more than there are calls, and no operation waits.
     pub fn new(alloc: Global, n: u32, cap: u64) -> Result<Scratch, NoMemory>
         // There is at least one caller.
         requires some_callers { 1 ≤ n }
@@ -29,8 +29,8 @@ impl Scratch {
         requires some_calls { 1 ≤ cap }
         // Each caller has at most `MAX_CALLS` calls.
         requires few_calls { cap ≤ MAX_CALLS }
-        // Both states of the scratch are empty, with room for one word more than there are calls,
-        // and nothing waits.
+        // Both states of the scratch are empty, with capacity for one word more than there are
+        // calls, and no operation waits.
         ensures { IfOk result (IsClear n cap) }
     {
         let room = n as u64 * cap + 1;

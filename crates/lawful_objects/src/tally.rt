@@ -60,7 +60,7 @@ impl Tally {
         Ok((Tally { word }, passes))
     }
 
-    // The reply to an operation, with the step that it makes.
+    // Makes the step of an operation, and answers the reply to it.
     fn reply(&self, seat: &mut WordSeat, op: OpWord) -> u64
         requires { IsSeatOf tally_may self.now.word seat.old }
         ensures seat { IsSeatOf tally_may self.now.word seat.new }
@@ -93,7 +93,7 @@ impl Tally {
         ensures form { IsTallyReply op result }
         // The accesses that the pass knew are the first of those that it knows.
         ensures history { IsPrefix (history_in pass.old) (history_in pass.new) }
-        // The last access is this increment, and its reply tells the number of increments before
+        // The last access is this increment, and its reply gives the number of increments before
         // it, modulo 2^64.
         ensures counted { op ≡ increment
             → IsCounted (caller_of_pass pass.old) result (history_in pass.new) }
@@ -103,16 +103,16 @@ impl Tally {
         reply
     }
 
-    /// Takes the passes of all callers back, in order, and lets the tally go. It takes no memory.
+    /// Takes the passes of all callers back, in order, and drops the tally. It takes no memory.
     pub fn close(self, passes: Vec<WordsPass>)
         // The passes are those of all callers, in order.
         requires callers { map caller_of_pass passes.items
             ≡ range_with_len 0 (callers_of self.word) }
         // Each pass is one of this tally.
         requires own { All (IsTallyPass self) passes.items }
-        // The passes tell one history of increments. The history has as many increments as the
-        // passes tell, each found the number of those before it, and the word is left as their
-        // number, modulo 2^64.
+        // The passes are of one history of increments. The history has as many increments as the
+        // passes have calls of one, each found the number of those before it, and the word is left
+        // as their number, modulo 2^64.
         ensures history { (history : List Access)
             × TellOneTally (callers_of self.word) history (map transcript_of passes.items) }
     {

@@ -13,10 +13,11 @@ use seq_objects::{DONE, value_reply};
 use shared_words::{SharedWords, Usage, WordSeat, WordsPass};
 use std::alloc::Global;
 
-/// The operation word of the write of 0, and that of the read: the writes stand from the one up to
-/// the other.
+/// The operation word of the write of 0; the words of writes are from this one up to that of the
+/// read.
 const WRITE_0: OpWord = 1 << 32;
 
+/// The operation word of the read.
 const READ: OpWord = 2 << 32;
 
 /// Callers load the one word and store into it, and do nothing else.
@@ -63,7 +64,7 @@ impl WordCell {
         Ok((WordCell { word }, passes))
     }
 
-    // The reply to an operation, with the step that it makes.
+    // Makes the step of an operation, and answers the reply to it.
     fn reply(&self, seat: &mut WordSeat, op: OpWord) -> u64
         requires { IsSeatOf cell_may self.now.word seat.old }
         ensures seat { IsSeatOf cell_may self.now.word seat.new }
@@ -100,7 +101,7 @@ impl WordCell {
         ensures form { IsCellReply op result }
         // The accesses that the pass knew are the first of those that it knows.
         ensures history { IsPrefix (history_in pass.old) (history_in pass.new) }
-        // The last access is this read, and its reply tells the last word stored before it, or 0
+        // The last access is this read, and its reply gives the last word stored before it, or 0
         // where none was.
         ensures last { op ≡ read
             → IsLastRead (caller_of_pass pass.old) result (history_in pass.new) }
@@ -110,14 +111,14 @@ impl WordCell {
         reply
     }
 
-    /// Takes the passes of all callers back, in order, and lets the cell go. It takes no memory.
+    /// Takes the passes of all callers back, in order, and drops the cell. It takes no memory.
     pub fn close(self, passes: Vec<WordsPass>)
         // The passes are those of all callers, in order.
         requires callers { map caller_of_pass passes.items
             ≡ range_with_len 0 (callers_of self.word) }
         // Each pass is one of this cell.
         requires own { All (IsCellPass self) passes.items }
-        // The passes tell one history of stores and loads. Each load found what the last store
+        // The passes are of one history of stores and loads. Each load found what the last store
         // before it stored, and the word is left as the last one stored; both are 0 where no store
         // comes before.
         ensures history { (history : List Access)

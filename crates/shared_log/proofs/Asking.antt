@@ -1,4 +1,4 @@
--- The steps of a seat that has one caller, under the numbers that its kind of step was told.
+-- The steps of a seat that has one caller, under the numbers that its kind of step was given.
 use Rattle.std.proofs.Common.{◌≡◌, ℕ, ◌+◌, ◌*◌, ◌<◌, ◌==◌, [], ◌∷◌, length, slice_set, Some, sym, ap, ◌∙◌, subst}
 use prog.Atomic.{either}
 use Rattle.atomic_table.specs.Table.{Me, Allows}
@@ -16,7 +16,7 @@ pub alone_here : (me : Me (Unit {0}) View) (who : ℕ) (h : Hand) → me ≡ (on
     → has me.0 who ≡ Some h
 alone_here me who h alone = ap (λ (m : Me (Unit {0}) View). has m.0 who) alone ∙ only_here who h
 
--- after a step it has that caller alone, of whose hand the kind of step tells
+-- after a step the seat has that caller alone, whose hand is as the kind of step says
 pub record HasTurned (who : ℕ) (after : Me (Unit {0}) View) (tells : Hand → Type 0) : Type 0 where
   pub alone : after ≡ (only who (the (has after.0 who)), [])
   pub told : tells (the (has after.0 who))

@@ -1,4 +1,4 @@
--- All seats come back to one, and the longest of their logs is the one log.
+-- All seats come back to one seat, and the longest of their logs is the one log.
 use Rattle.std.proofs.Common.{◌≡◌, ℕ, zero, suc, ◌+◌, ◌<◌, ◌≤◌, List, [], ◌∷◌, ◌++◌, length, map, slice_set, Some, None, refl, sym, ap, ◌∙◌, subst, inl, inr, arith, length-append}
 use Rattle.std.specs.List.{All, Contains, range_with_len}
 use Rattle.std.proofs.lemmas.List.{append-nil, map-append, nil_from_length}
@@ -24,15 +24,15 @@ pub record IsLongestOf (seats : List LogSeat) (longest : List Entry) : Type 0 wh
   pub stands : Contains seats from
   pub is : log_of from ≡ longest
 
--- A suffix of the seats of n callers came back: a view has their hands, and this is the longest of
--- their logs.
+-- A suffix of the seats of n callers came back: a view has their hands, and `longest` is the
+-- longest of their logs.
 pub record IsClosing (n : ℕ) (all rest : List LogSeat) (v : View)
     (longest : List Entry) : Type 0 where
   pub gathered : List LogSeat
   pub coming : IsComing caller_of hand_of n all rest gathered v
   pub got : IsLongestOf gathered longest
 
--- the last one keeps its seat
+-- the last caller keeps its seat
 pub starts_closing : (n : ℕ) (all rest : List LogSeat) (last : LogSeat) (me : Me (Unit {0}) View)
     → all ≡ rest ++ last ∷ [] → map caller_of all ≡ range_with_len 0 n → me ≡ last.seat.seat.me
     → IsClosing n all rest me.0 (log_of last)
@@ -52,7 +52,7 @@ starts_closing n all rest last me is callers kept =
           };
     }
 
--- what is asked where the next one comes back
+-- what is required where the next seat comes back
 pub record IsNext (l : SharedLog) (v : View) (s : LogSeat) : Type 0 where
   pub seat : IsSeatOf l s
   pub gone : has v (caller_of s) ≡ None
@@ -127,7 +127,7 @@ at_place (suc n) P a (s ∷ seats) (suc i) all callers low =
       Contains-append_right (s ∷ []) seats deeper.0 deeper.3,
     )
 
--- the one log
+-- the longest log is the one log
 module _ (n cap : ℕ) (words : List ℕ) (views : List View) (id : ℕ) (v : View) (seats : List LogSeat)
     (longest : List Entry)
     (r : HaveOneLog n cap words views) (at : get_elem? views id ≡ some v)
@@ -191,7 +191,7 @@ module _ (n cap : ℕ) (words : List ℕ) (views : List View) (id : ℕ) (v : Vi
             ≡ calls_by (caller_of s) (log_of s)) longest_is k.1) seats knows;
       }
 
--- what a closed table says of the seats that all came back
+-- what a closed table determines of the seats that all came back
 pub closes : (n cap id : ℕ) (v : View) (all rest : List LogSeat) (longest : List Entry)
     (ws : List ℕ) (homes : List (Unit {0})) → map caller_of all ≡ range_with_len 0 n
     → IsClosing n all rest v longest
@@ -217,7 +217,7 @@ pub last_seat : (l : SharedLog) (all rest : List LogSeat) (last : LogSeat) → A
 last_seat l all rest last seats is = All-head (IsSeatOf l) last [] (All-suffix (IsSeatOf l) rest
     (last ∷ []) (subst (λ (ss : List LogSeat). All (IsSeatOf l) ss) is seats.each))
 
--- a closed log, under the numbers that its table was told
+-- a closed log, under the numbers that its table was given
 pub closed : (l : SharedLog) (id : ℕ) (v : View) (all rest : List LogSeat) (longest : List Entry)
     (ws : List ℕ) (homes : List (Unit {0})) → AreSeatsOf l all
     → IsClosing l.callers all rest v longest
@@ -229,7 +229,7 @@ closed l id v all rest longest ws homes seats h none final =
     (subst (λ (k : ℕ × ℕ). Final (Seen (Ruled k.0 k.1) id v) ws homes)
     (λ i. (l.sized.2 i, l.sized.3 i)) final)
 
--- the seat of what was taken off the end
+-- the seat of the item that was taken off the end
 pub seat_popped : {A : Type 0} (f : A → LogSeat) (all rest : List A) (last : A) (s : LogSeat)
     → all ≡ rest ++ last ∷ [] → s ≡ f last → map f all ≡ map f rest ++ s ∷ []
 seat_popped f all rest last s is own = ap (map f) is ∙ map-append f rest (last ∷ [])

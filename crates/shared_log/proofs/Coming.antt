@@ -1,4 +1,4 @@
--- The seats of all callers come back to one, the last first: what its view has of them.
+-- The seats of all callers come back to one seat, the last first, and its view has what they know.
 use Rattle.std.proofs.Common.{◌≡◌, ℕ, zero, suc, ◌+◌, ◌<◌, List, [], ◌∷◌, ◌++◌, length, map, slice_set, Option, Some, None, refl, sym, ap, ◌∙◌, subst, arith, append_assoc, length-append, length-set}
 use Rattle.std.specs.List.{All, range_with_len}
 use Rattle.std.proofs.lemmas.Option.{none-some}
@@ -45,7 +45,7 @@ module _ {S A : Type 0} (caller : S → ℕ) (known : S → A) where
       let deeper = caller_at (a + 1) n xs ys s tail in
       ((let same = deeper.0 in omega arith), (let long = deeper.1 in omega arith))
 
-  -- the last one keeps its seat
+  -- the last caller keeps its seat
   pub starts_coming : (n : ℕ) (all rest : List S) (last : S) (v : List (Option A)) → all ≡ rest
       ++ last ∷ [] → map caller all ≡ range_with_len 0 n → v ≡ only (caller last) (known last)
       → IsComing caller known n all rest (last ∷ []) v
@@ -67,7 +67,7 @@ module _ {S A : Type 0} (caller : S → ℕ) (known : S → A) where
             omega arith;
       }
 
-  -- where the next one comes back
+  -- one more seat comes back
   module _ (n : ℕ) (all rest rest' gathered : List S) (s : S) (v : List (Option A))
       (callers : map caller all ≡ range_with_len 0 n)
       (h : IsComing caller known n all rest gathered v) (popped : rest ≡ rest' ++ s ∷ []) where
@@ -82,7 +82,7 @@ module _ {S A : Type 0} (caller : S → ℕ) (known : S → A) where
     next_low = let at = place.0 in let long = ap length popped in
         omega (arith, length-append rest' (s ∷ []))
 
-    -- the view lacks it, and has a place for it
+    -- the view lacks the caller that comes back next, and has a place for it
     pub next_gone : has v (caller s) ≡ None
     next_gone = h.below (caller s) next_low
 
@@ -120,7 +120,7 @@ module _ {S A : Type 0} (caller : S → ℕ) (known : S → A) where
                 ∙ length-set v (caller s) (Some (known s)) ∙ h.wide;
           }
 
-  -- all came back
+  -- all seats have come back
   pub all_came : (n : ℕ) (all rest gathered : List S) (v : List (Option A))
       → IsComing caller known n all rest gathered v → length rest ≡ 0 → gathered ≡ all
   all_came n all rest gathered v h none =

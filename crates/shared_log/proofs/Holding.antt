@@ -1,4 +1,4 @@
--- What is held of the callers stays right where one seat changes, gives a caller away or gets one
+-- What is held of the callers still fits where one seat changes, gives a caller away or gets one
 -- back.
 use Rattle.std.proofs.Common.{◌≡◌, ◌≢◌, ◌⊎◌, ℕ, ◌<◌, ◌==◌, if◌then◌else◌, List, [], ◌∷◌, ◌++◌, length, slice_set, Option, Some, None, zero, suc, refl, sym, ap, ◌∙◌, subst, arith, inl, inr, length-set, eq-eqb, ne_eqb}
 use Rattle.std.proofs.lemmas.List.{get_or-set_other, get_or-set_same}
@@ -90,7 +90,7 @@ module _ {A : Type 0} where
   joined_only (Some y ∷ v) (suc who) x gone low =
       ap (λ (u : List (Option A)). Some y ∷ u) (joined_only v who x gone (omega arith))
 
-  -- where a seat changes what it has of one caller, and all that others have stays right
+  -- where a seat changes what it has of one caller, what the other seats have still fits
   pub held_changed : (fits fits' : ℕ → A → Type 0) (views : List (List (Option A))) (id : ℕ)
       (v : List (Option A)) (who : ℕ) (x y : A)
       → AreHeld fits views → get_elem? views id ≡ some v → has v who ≡ Some x → fits' who y
@@ -164,7 +164,7 @@ module _ {A : Type 0} where
             ];
       }
 
-  -- where a seat gets the one caller of another back, and that one is spent
+  -- where a seat gets the one caller of another seat back, and that seat is spent
   pub held_returned : (fits : ℕ → A → Type 0) (views : List (List (Option A))) (id other : ℕ)
       (v : List (Option A)) (who : ℕ) (x : A)
       → AreHeld fits views → get_elem? views id ≡ some v → other ≢ id

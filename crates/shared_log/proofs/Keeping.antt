@@ -1,4 +1,4 @@
--- Each step of a caller keeps the rule of the table, and tells what its kind tells.
+-- Each step of a caller keeps the rule of the table, and changes the hand as its kind says.
 use Rattle.std.proofs.Common.{◌≡◌, ◌≢◌, ℕ, ◌+◌, ◌*◌, ◌<◌, List, [], ◌∷◌, ◌++◌, length, slice_index, slice_set, refl, sym, ap, ◌∙◌, subst, inl, inr, arith, append_assoc, length-append, length-set}
 use Rattle.std.proofs.lemmas.Bool.{cases_lt}
 use Rattle.std.proofs.lemmas.List.{append-nil, get_or-set_other, get_or-set_same, get_or_append_left, get_or-append-add}
@@ -181,7 +181,7 @@ module _ (n cap who : ℕ) (words : List ℕ) (log : List Entry) (h : Hand)
               (subst (λ (l : List Entry). IsWithin n cap l) prefix_is stand.within);
         }
 
-  -- the caller's own ticket goes to that place
+  -- the caller's own ticket is placed at the first place that it doesn't know
   module _ (op : ℕ) (left : length (calls_by who h.log) < cap)
       (staged : h.staged ≡ low_of op ∷ high_of op ∷ []) (free : ticket_there ≡ 0) (ticket : ℕ)
       (own_ticket : ticket ≡ next_number cap who h + 1) where

@@ -1,4 +1,4 @@
--- What a ticket says of the entry that a caller learns.
+-- What a ticket determines of the entry that a caller learns.
 use Rattle.std.proofs.Common.{◌≡◌, ℕ, ◌-◌, ◌*◌, ◌/◌, ◌<◌, List, [], ◌∷◌, ◌++◌, length, sym, ap, ◌∙◌, subst, arith}
 use Rattle.std.proofs.lemmas.Nat.{div-mul-add}
 use Rattle.std.specs.Prelude.{Some}

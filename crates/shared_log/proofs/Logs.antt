@@ -29,7 +29,7 @@ same_ends (w ∷ xs) (z ∷ ys) x y e =
     let same = same_ends xs ys x y tail in
     ((λ i. head i ∷ same.0 i), same.1)
 
--- what stands in a list with one more element is that element, or stood there before
+-- an element of a list with one more element is that element, or one of the list
 pub ends_at : {A : Type 0} (log before rest : List A) (last e : A)
     → log ++ last ∷ [] ≡ before ++ e ∷ rest
     → ((log ≡ before) × (last ≡ e)) ⊎ ((rest' : List A) × (log ≡ before ++ e ∷ rest'))
@@ -85,13 +85,13 @@ length-calls_by-push i xs e = elim (cases_eq e.caller i) [
   )
 ]
 
--- a prefix has no more of them
+-- a prefix has at most as many entries of a caller
 pub calls_by-prefix : (i : ℕ) (xs ys : List Entry)
     → length (calls_by i xs) + length (calls_by i ys) ≡ length (calls_by i (xs ++ ys))
 calls_by-prefix i xs ys =
     sym (ap length (calls_by-append i xs ys) ∙ length-append (calls_by i xs) (calls_by i ys))
 
--- an entry that stands in a log is one of its caller's after those before it
+-- an entry of a log is one of its caller's, after the caller's entries before it
 pub calls_by-at : (xs ys : List Entry) (e : Entry)
     → length (calls_by e.caller xs) < length (calls_by e.caller (xs ++ e ∷ ys))
 calls_by-at xs ys e =
@@ -109,7 +109,7 @@ All-prefix P [] ys h = All-nil P
 All-prefix P (x ∷ xs) ys h =
     All-cons P x xs (All-head P x (xs ++ ys) h) (All-prefix P xs ys (All-tail P x (xs ++ ys) h))
 
--- and after one
+-- what holds of each element holds after a prefix
 pub All-suffix : {A : Type 0} (P : A → Type 0) (xs ys : List A) → All P (xs ++ ys) → All P ys
 All-suffix P [] ys h = h
 All-suffix P (x ∷ xs) ys h = All-suffix P xs ys (All-tail P x (xs ++ ys) h)
@@ -122,7 +122,7 @@ within_prefix n cap xs ys h =
       calls = λ i. let all = h.calls i in let parts = calls_by-prefix i xs ys in omega arith;
     }
 
--- of an entry of such a log, its caller, and how many calls of it stand before
+-- the caller of an entry of such a log, and how many calls of this caller come before the entry
 pub within_at : (n cap : ℕ) (xs ys : List Entry) (e : Entry) → IsWithin n cap (xs ++ e ∷ ys)
     → (e.caller < n) × (length (calls_by e.caller xs) < cap)
 within_at n cap xs ys e h = (
@@ -131,7 +131,7 @@ within_at n cap xs ys e h = (
   (let all = h.calls e.caller in let here = calls_by-at xs ys e in omega arith),
 )
 
--- with one more entry of a caller that has calls left
+-- a log within bounds stays within them with one more entry of a caller that has calls left
 pub within_push : (n cap : ℕ) (log : List Entry) (e : Entry) → IsWithin n cap log → e.caller < n
     → length (calls_by e.caller log) < cap → IsWithin n cap (log ++ e ∷ [])
 within_push n cap log e h low left =

@@ -23,7 +23,7 @@ pub not_other : (a b half other : ℕ) → a ≢ b → half < 2 → other < 2
     → operation_index a + half ≢ operation_index b + other
 not_other a b half other ne one two = λ e. ne (omega arith)
 
--- the next call of a caller is none that stands in the log
+-- the next call of a caller has no entry in the log
 pub not_stored : (n cap who : ℕ) (log before rest : List Entry) (e : Entry) (h : Hand)
     → IsWithin n cap log → log ≡ before ++ e ∷ rest
     → calls_by who log ≡ calls_by who h.log → length (calls_by who h.log) < cap
@@ -42,7 +42,7 @@ not_stored n cap who log before rest e h within is own left = λ same.
     let count = parts.1 in
     omega arith
 
--- nor is it that of another caller
+-- the next call of a caller isn't that of another caller
 pub not_others : (cap i who : ℕ) (m h : Hand) → i ≢ who → length (calls_by i m.log) < cap
     → length (calls_by who h.log) < cap → next_number cap i m ≢ next_number cap who h
 not_others cap i who m h ne room left = λ same. ne (same_from_place i

@@ -1,4 +1,4 @@
--- What a caller's seat leaves and comes back to.
+-- What is left in a seat when a caller leaves it, and what comes back to it.
 use Rattle.std.proofs.Common.{◌≡◌, ℕ, ◌+◌, ◌<◌, ◌≤◌, [], length, slice_set, Some, None, sym, ap, ◌∙◌, arith}
 use Rattle.std.proofs.lemmas.Nat.{mul-le}
 use Rattle.atomic_table.specs.Table.{Me, Splits, Joins}
@@ -14,13 +14,13 @@ use Rattle.shared_log.proofs.Stepping as steps
 pub some_words : (n cap : ℕ) → 1 ≤ n → 1 ≤ cap → 0 < word_count n cap
 some_words n cap some few = let most = mul-le 1 1 n cap some few in omega arith
 
--- a caller that the seat has leaves it
+-- a caller that the seat has leaves this seat
 pub leave_asks : (n cap id who jw : ℕ) (me : Me (Unit {0}) View) (h : Hand) → jw ≡ who
     → has me.0 who ≡ Some h
     → Splits (Ruled n cap) id me.0 (slice_set me.0 jw None) (only jw (the (has me.0 jw)))
 leave_asks n cap id who jw me h is here = steps.leaves n cap 0 id jw me h (ap (has me.0) is ∙ here)
 
--- the hand that it leaves with
+-- the hand with which a caller leaves its seat
 pub left_hand : (v : View) (me : Me (Unit {0}) View) (who jw own : ℕ) (h : Hand) → jw ≡ who
     → own ≡ who → has v who ≡ Some h → me ≡ (only jw (the (has v jw)), []) → the (has me.0 own) ≡ h
 left_hand v me who jw own h is mine here alone =
@@ -30,7 +30,7 @@ left_hand v me who jw own h is mine here alone =
     ∙ ap (λ (i : ℕ). the (has v i)) is
     ∙ ap the here
 
--- the callers that are left
+-- the callers that are left in a seat
 pub left_others : (n who : ℕ) (v u : View) → ((i : ℕ) → who ≤ i → i < n → has v i ≡ Some empty)
     → u ≡ slice_set v who None
     → (i : ℕ) → who + 1 ≤ i → i < n → has u i ≡ Some empty
@@ -38,7 +38,7 @@ left_others n who v u all is i above low =
     ap (λ (w : View). has w i) is ∙ without_else v who i (λ e. absurd (omega arith))
     ∙ all i (omega arith) low
 
--- a caller whose seat has one hand comes to a seat that lacks it
+-- a caller whose seat has its hand alone comes back to a seat that lacks it
 pub return_asks : (n cap id other who : ℕ) (v : View) (me : Me (Unit {0}) View) (h : Hand)
     → me ≡ (only who (the (has me.0 who)), []) → the (has me.0 who) ≡ h → has v who ≡ None
     → who < length v

@@ -1,5 +1,5 @@
--- A log within bounds has no more entries than all callers have calls, and fewer where a caller has
--- calls left.
+-- A log within bounds has at most as many entries as all callers have calls, and fewer where a
+-- caller has calls left.
 use Rattle.std.proofs.Common.{◌≡◌, ◌≢◌, ℕ, zero, suc, ◌+◌, ◌*◌, ◌<◌, ◌≤◌, List, [], ◌∷◌, length, refl, sym, ap, subst, inl, inr, arith, suc-mul}
 use Rattle.std.specs.List.{All}
 use Rattle.std.proofs.lemmas.Bool.{cases_eq}

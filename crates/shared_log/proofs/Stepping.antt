@@ -1,4 +1,4 @@
--- What each kind of step asks of the table.
+-- What each kind of step requires of the table.
 use Rattle.std.proofs.Common.{◌≡◌, ◌≢◌, ℕ, ◌+◌, ◌*◌, ◌<◌, ◌==◌, List, [], ◌∷◌, ◌++◌, length, slice_index, slice_set, Some, None, replicate, refl, sym, ap, ◌∙◌, subst, inl, inr, arith, eq-eqb, ne_eqb, append_assoc, length-append, ◌^◌}
 use Rattle.std.proofs.Math.Nat.{mod-add-div'}
 use Rattle.std.proofs.lemmas.Bool.{cases_eq}
@@ -56,7 +56,7 @@ module _ (n cap slots id who : ℕ) (me : Me (Unit {0}) View) (h : Hand)
         },
       )
 
-  -- an entry is learnt
+  -- the hand after an entry is learnt
   learns : (t : State (Unit {0}) View) (r : HaveOneLog n cap t.words t.views)
       → get_elem? t.views id ≡ some me.0 → length h.log < n * cap
       → slice_index t.words (ticket_index n cap (length h.log)) ≢ 0 → (tried : List ℕ)
@@ -81,7 +81,7 @@ module _ (n cap slots id who : ℕ) (me : Me (Unit {0}) View) (h : Hand)
         learn_tells n cap who t.words r.log h r.stand fits low there.0 there.1 there.2 tried,
       )
 
-  -- nothing is learnt
+  -- the hand after nothing is learnt
   leaves_all : (t : State (Unit {0}) View) → HaveOneLog n cap t.words t.views → get_elem? t.views id
       ≡ some me.0 → HaveOneLog n cap t.words (slice_set t.views id (slice_set me.0 who (Some h)))
   leaves_all t r at =
@@ -247,7 +247,7 @@ module _ (n cap slots id who : ℕ) (me : Me (Unit {0}) View) (h : Hand)
         },
       )
 
-  -- the caller leaves for a seat of its own
+  -- a caller gets a seat of its own
   pub leaves : Splits (Ruled n cap) id me.0 (slice_set me.0 who None)
       (only who (the (has me.0 who)))
   leaves t r at =
@@ -279,7 +279,7 @@ returns n cap id other v w who h is gone low t r at apart there' =
           apart there low);
     }
 
--- the start: no ticket is placed
+-- at the start no ticket is placed
 pub opens : (n cap : ℕ) (words : List ℕ) → words ≡ replicate (word_count n cap) 0
     → Ruled n cap (opening words [] (holders.whole n empty))
 opens n cap words is =

@@ -8,11 +8,11 @@ use Rattle.shared_log.specs.Hands.{Hand}
 use Rattle.shared_log.specs.Entries.{BeginsWith}
 use Rattle.shared_log.specs.Rule.{Looks, Places, Tries, Finds}
 
--- no exchange yet
+-- a caller that makes no exchange has tried no further words
 pub tried_none : (n cap from past : ℕ) (tried : List ℕ) → HasTried n cap from past tried tried
 tried_none n cap from past tried = ([], sym (append-nil tried), tt)
 
--- the places may go on
+-- tickets of places before a bound are tickets of places before a greater one
 tickets_further : (n cap from past past' : ℕ) (words : List ℕ) → past ≤ past'
     → AreTickets n cap from past words → AreTickets n cap from past' words
 tickets_further n cap from past past' [] on h = tt
@@ -20,7 +20,7 @@ tickets_further n cap from past past' (word ∷ words) on h =
     let low = h.2 in
     (h.0, h.1, omega arith, h.3, tickets_further n cap (h.0 + 1) past past' words on h.4)
 
--- one more, at the next place
+-- one more ticket, at the next place
 tickets_push : (n cap from past : ℕ) (words : List ℕ) (word : ℕ) → from ≤ past
     → word ≡ ticket_index n cap past → AreTickets n cap from past words
     → AreTickets n cap from (past + 1) (words ++ word ∷ [])
@@ -42,7 +42,7 @@ tries_on n cap from past word before between after on is h (inr one) = (
   tickets_push n cap from past h.0 word on is h.2,
 )
 
--- the same, where a log that began with another has one entry more
+-- at most one exchange more, where a log that began with another has one entry more
 tries_more : (n cap place : ℕ) (first log more : List Entry) (e : Entry)
     (before between after : List ℕ) → BeginsWith log first → place ≡ length log
     → more ≡ log ++ e ∷ []
@@ -58,7 +58,7 @@ tries_more n cap place first log more e before between after begins at is h may 
     (tries_on n cap (length first) (length log) (ticket_index n cap place) before between after on
     (ap (ticket_index n cap) at) h may)
 
--- what is found at the next place
+-- the words tried after what is found at the next place
 pub found_more : (n cap who op place : ℕ) (first log more : List Entry) (e : Entry)
     (before : List ℕ) (h next : Hand) → BeginsWith log first → place ≡ length log
     → more ≡ log ++ e ∷ []
@@ -82,7 +82,7 @@ placed_more n cap who op place first log more e before h next begins at is tried
     (tries_more n cap place first log more e before h.tried
     (h.tried ++ ticket_index n cap place ∷ []) begins at is tried (inr refl))
 
--- what a load found
+-- what a load found, as a try
 pub looked : (n cap who word found : ℕ) (h next : Hand) → Looks n cap who found h next → found ≢ 0
     → Tries n cap who word found h next
 looked n cap who word found h next l filled =
@@ -91,7 +91,7 @@ looked n cap who word found h next l filled =
       filled = λ _. (h.tried, inl refl, l.filled filled);
     }
 
--- and what an exchange found, after a load that found the ticket free
+-- what an exchange found, after a load that found the ticket free, as a try
 pub exchanged : (n cap who word index seen found : ℕ) (h between next : Hand) → index ≡ word
     → seen ≡ 0 → Looks n cap who seen h between → Places n cap who index found between next
     → Tries n cap who word found h next

@@ -15,13 +15,15 @@ pub record Hand : Type 0 where
 abbrev pub View : Type 0
 View = List (Option Hand)
 
+-- The hand with these parts.
 abbrev pub hand : List Entry → List ℕ → List ℕ → Hand
 hand log staged tried = record { log = log; staged = staged; tried = tried }
 
--- The hand of a caller that knows nothing yet; it stands for a hand that isn't there, too.
+-- The hand of a caller that knows nothing yet.
 abbrev pub empty : Hand
 empty = hand [] [] []
 
+-- The hand, or where there is none, the empty one.
 abbrev pub the : Option Hand → Hand
 the None = empty
 the (Some h) = h
@@ -30,7 +32,7 @@ the (Some h) = h
 abbrev pub next_number : ℕ → ℕ → Hand → ℕ
 next_number cap i h = number_of cap i (length (calls_by i h.log))
 
--- A hand of caller i is right beside these words and this log: the log begins with what the caller
+-- A hand of caller i agrees with these words and this log: the log begins with what the caller
 -- knows of it, and has no other entries of the caller; and what the caller has staged stands in the
 -- words.
 pub record Fits (n cap : ℕ) (words : List ℕ) (log : List Entry) (i : ℕ) (h : Hand) : Type 0 where

@@ -8,21 +8,22 @@ module _ {A : Type 0} where
   abbrev pub has : List (Option A) → ℕ → Option A
   has v i = slice_index_or v i None
 
-  -- The view of a seat that has one caller, and that of a seat that has all of n callers.
+  -- The view of a seat that has something of one caller alone.
   abbrev pub only : ℕ → A → List (Option A)
   only i x = replicate i None ++ Some x ∷ []
 
+  -- The view of a seat that has something of each of n callers.
   abbrev pub whole : ℕ → A → List (Option A)
   whole n x = replicate n (Some x)
 
-  -- What two views have.
+  -- What two views have together.
   abbrev pub joined : List (Option A) → List (Option A) → List (Option A)
   joined [] w = []
   joined (x ∷ v) [] = x ∷ v
   joined (None ∷ v) (y ∷ w) = y ∷ joined v w
   joined (Some x ∷ v) (y ∷ w) = Some x ∷ joined v w
 
-  -- What is held of a caller is held by one seat alone, and is right for it.
+  -- What is held of a caller is held by one seat alone, and fits it.
   pub record AreHeld (fits : ℕ → A → Type 0) (views : List (List (Option A))) : Type 0 where
     pub owner : ℕ → ℕ
     pub held : (i seat : ℕ) (v : List (Option A)) (x : A) → get_elem? views seat ≡ some v

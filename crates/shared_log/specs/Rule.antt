@@ -1,4 +1,4 @@
--- The rule of the table, and what each kind of step tells.
+-- The rule of a log's table, and how each kind of step changes a hand.
 use Rattle.std.specs.Prelude.{◌≡◌, ◌≢◌, ℕ, ◌+◌, List, [], ◌∷◌, ◌++◌, slice_set, Option, Some, None}
 use Rattle.atomic_table.specs.Table.{State, Me}
 use Rattle.book_base.specs.OperationWord.{low_of, high_of}
@@ -8,8 +8,8 @@ use Rattle.shared_log.specs.Words.{number_after, operation_index, AreWordsOf, Ma
 use Rattle.shared_log.specs.Holders.{has, AreHeld}
 use Rattle.shared_log.specs.Hands.{Hand, View, hand, the, Fits}
 
--- There is one log: the words are its words, and the hand of each caller is with one seat and right
--- beside them.
+-- There is one log: the words are its words, and the hand of each caller is with one seat and
+-- agrees with both.
 pub record HaveOneLog (n cap : ℕ) (words : List ℕ) (views : List View) : Type 0 where
   pub log : List Entry
   pub stand : AreWordsOf n cap words log
@@ -19,8 +19,8 @@ pub record HaveOneLog (n cap : ℕ) (words : List ℕ) (views : List View) : Typ
 abbrev pub Ruled : ℕ → ℕ → State (Unit {0}) View → Type 0
 Ruled n cap t = HaveOneLog n cap t.words t.views
 
--- A step changes the hand of one caller alone, and this is so of the hand before and the hand
--- after.
+-- A step changes the hand of one caller alone, and the hands before and after it are related as
+-- tells says.
 pub record Turns (who : ℕ) (me after : Me (Unit {0}) View)
     (tells : Hand → Hand → Type 0) : Type 0 where
   pub next : Hand
@@ -31,8 +31,8 @@ pub record Turns (who : ℕ) (me after : Me (Unit {0}) View)
 abbrev pub Stages : ℕ → Hand → Hand → Type 0
 Stages word h next = next ≡ hand h.log (h.staged ++ word ∷ []) h.tried
 
--- A filled ticket at the first place that a caller doesn't know: it learns the entry there, which
--- is another's; and these are the words at which it made an exchange.
+-- A caller has found a filled ticket at the first place that it doesn't know, and learns the entry
+-- there, which is another caller's; tried are the words at which it has made an exchange.
 pub record Learns (n cap who found : ℕ) (tried : List ℕ) (h next : Hand) : Type 0 where
   pub entry : Entry
   pub log : next ≡ hand (h.log ++ entry ∷ []) h.staged tried
@@ -40,20 +40,23 @@ pub record Learns (n cap who found : ℕ) (tried : List ℕ) (h next : Hand) : T
   pub other : calls_by who next.log ≡ calls_by who h.log
   pub within : IsWithin n cap next.log
 
--- A load of the ticket at that place: it is free, or an entry is learnt.
+-- A load of the ticket at the first place that a caller doesn't know: the place is free, or its
+-- entry is learnt.
 pub record Looks (n cap who found : ℕ) (h next : Hand) : Type 0 where
   pub free : found ≡ 0 → next ≡ h
   pub filled : found ≢ 0 → Learns n cap who found h.tried h next
 
--- An exchange of a free ticket at that place for the caller's own: it is placed, or an entry is
--- learnt. The word of the exchange is told.
+-- An exchange of a free ticket for the caller's own, at the first place that the caller doesn't
+-- know: the own ticket is placed, or the entry there is learnt. The word of the exchange is added
+-- to those tried.
 pub record Places (n cap who word found : ℕ) (h next : Hand) : Type 0 where
   pub placed : found ≡ 0 → (op : ℕ) → h.staged ≡ low_of op ∷ high_of op ∷ []
       → (next ≡ hand (h.log ++ entry who op ∷ []) [] (h.tried ++ word ∷ []))
       × IsWithin n cap next.log
   pub filled : found ≢ 0 → Learns n cap who found (h.tried ++ word ∷ []) h next
 
--- A load of that ticket, and an exchange where the load found it free.
+-- A load of the ticket at the first place that a caller doesn't know, and an exchange where the
+-- load found the place free.
 pub record Tries (n cap who word found : ℕ) (h next : Hand) : Type 0 where
   pub placed : found ≡ 0 → (op : ℕ) → h.staged ≡ low_of op ∷ high_of op ∷ []
       → (next ≡ hand (h.log ++ entry who op ∷ []) [] (h.tried ++ word ∷ []))
@@ -69,8 +72,9 @@ pub record Reads (cap word found : ℕ) (h next : Hand) : Type 0 where
   pub high : (before rest : List Entry) (e : Entry) → h.log ≡ before ++ e ∷ rest
       → word ≡ operation_index (number_after cap before e) + 1 → found ≡ high_of e.op
 
--- What a caller that means to append an operation finds at the first place that it doesn't know:
--- its own ticket, now, or the entry of another's call; with at most one exchange, at this word.
+-- What a caller that appends an operation finds at the first place that it doesn't know: its own
+-- ticket, which it has placed, or the entry of another caller's call. It makes at most one
+-- exchange, at this word.
 abbrev pub Finds : ℕ → ℕ → ℕ → ℕ → ℕ → Hand → Hand → Option Entry → Type 0
 Finds n cap who word op h next None =
     (next ≡ hand (h.log ++ entry who op ∷ []) [] (h.tried ++ word ∷ [])) × IsWithin n cap next.log

@@ -14,31 +14,35 @@ use Rattle.shared_log.specs.Hands.{Hand, the}
 abbrev pub hand_with : OneSeat → Hand
 hand_with s = the (has s.seat.me.0 s.who)
 
--- The number of the caller, how many calls it may make, the log up to its last call, and how many
--- calls it has made.
+-- The number of a seat's caller.
 abbrev pub caller_of : LogSeat → ℕ
 caller_of s = s.seat.who
 
+-- How many calls a seat's caller may make.
 abbrev pub cap_of_seat : LogSeat → ℕ
 cap_of_seat s = s.cap
 
+-- The log up to the last call of a seat's caller.
 abbrev pub log_of : LogSeat → List Entry
 log_of s = s.log.items
 
+-- How many calls a seat's caller has made.
 abbrev pub made_by : LogSeat → ℕ
 made_by s = length (calls_by (caller_of s) (log_of s))
 
--- The hand that is with the seat, and the words at which its caller made an exchange.
+-- The hand that is with a seat.
 abbrev pub hand_of : LogSeat → Hand
 hand_of s = hand_with s.seat
 
+-- The words at which a seat's caller has made an exchange, in order.
 abbrev pub tried_by : LogSeat → List ℕ
 tried_by s = (hand_of s).tried
 
--- How many callers a log has, and how many calls each may make.
+-- How many callers a log has.
 abbrev pub callers_of : SharedLog → ℕ
 callers_of l = l.callers
 
+-- How many calls each caller of a log may make.
 abbrev pub cap_of : SharedLog → ℕ
 cap_of l = l.cap
 
@@ -47,8 +51,8 @@ pub record IsPlaced (l : SharedLog) (s : OneSeat) : Type 0 where
   pub table : s.seat.table_id ≡ l.table.shared.table_id
   pub caller : s.who < l.callers
 
--- The seat is one of this log: its caller is below the callers, it has room for all calls, and what
--- it knows is within n and cap.
+-- The seat is one of this log: its caller is one of the log's, it has capacity for the entries of
+-- all calls, and the log that it knows is within the log's callers and cap.
 pub record IsSeatOf (l : SharedLog) (s : LogSeat) : Type 0 where
   pub placed : IsPlaced l s.seat
   pub cap : s.cap ≡ l.cap
@@ -60,7 +64,7 @@ pub record AreSeatsOf (l : SharedLog) (seats : List LogSeat) : Type 0 where
   pub callers : map caller_of seats ≡ range_with_len 0 (callers_of l)
   pub each : All (IsSeatOf l) seats
 
--- The seat after a call of its caller.
+-- The seat is that after a call of its caller with this operation.
 abbrev pub HasCalled : ℕ → LogSeat → LogSeat → Type 0
 HasCalled op before after = IsAfterCall (caller_of before) op (log_of before) (log_of after)
 

@@ -1,4 +1,4 @@
-//! The rule of the table, and what its steps tell. These types are for the proofs alone.
+//! The rule of the table, and how its steps change the hands. These types are for the proofs alone.
 ghost use Rattle.std.specs.Prelude.{ℕ, [], None, slice_set};
 ghost use Rattle.shared_log.specs.Holders.{has, only, whole, joined};
 ghost use Rattle.shared_log.specs.Hands.{the, empty};
@@ -19,7 +19,7 @@ impl Model for Holding {
     ghost view = { λ _. [] };
 }
 
-/// What the table is told once: its callers, and its cap of calls of each.
+/// What the table is given once: its callers, and its cap of calls of each.
 #[derive(Drop)]
 pub struct Key {
     pub callers: u32,
@@ -35,8 +35,8 @@ impl TableRule<(), Holding, Key> for OneLog {
     ghost first = { λ key. whole key.callers empty };
 }
 
-/// Whose step it is, in a log of how many callers with how many calls each. A call at `Brand` picks
-/// it.
+/// Which caller makes a step, in a log of how many callers with how many calls each. A call at
+/// `Brand` picks it.
 pub trait Part {
     ghost callers: { ℕ };
 
@@ -53,7 +53,7 @@ impl Part for Brand {
     ghost who = { 0 };
 }
 
-/// A store of a word of the next operation.
+/// The step that stores a word of the next operation.
 pub struct Stage<J> {
     part: PhantomData<J>,
 }
@@ -62,7 +62,7 @@ impl<J: Part> Play<(), Holding> for Stage<J> {
     ghost then = { λ st me _ after. Turns J.who me after (Stages st.first) };
 }
 
-/// A load of the ticket at the first place that isn't known.
+/// The step that loads the ticket at the first place that isn't known.
 pub struct Look<J> {
     part: PhantomData<J>,
 }
@@ -71,7 +71,7 @@ impl<J: Part> Play<(), Holding> for Look<J> {
     ghost then = { λ st me found after. Turns J.who me after (Looks J.callers J.cap J.who found) };
 }
 
-/// A compare-exchange of the ticket there.
+/// The step that compares and exchanges the ticket at the first place that isn't known.
 pub struct Place<J> {
     part: PhantomData<J>,
 }
@@ -80,7 +80,7 @@ impl<J: Part> Play<(), Holding> for Place<J> {
     ghost then = { λ st me found after. Turns J.who me after (Places J.callers J.cap J.who st.word found) };
 }
 
-/// A load of a word of an operation.
+/// The step that loads a word of an operation.
 pub struct Read<J> {
     part: PhantomData<J>,
 }
@@ -89,7 +89,7 @@ impl<J: Part> Play<(), Holding> for Read<J> {
     ghost then = { λ st me found after. Turns J.who me after (Reads J.cap st.word found) };
 }
 
-/// One caller gets a seat of its own.
+/// The step by which one caller gets a seat of its own.
 pub struct Leaves<J> {
     part: PhantomData<J>,
 }
@@ -100,7 +100,8 @@ impl<J: Part> Split<Holding> for Leaves<J> {
     ghost right = { λ v. only J.who (the (has v J.who)) };
 }
 
-/// The callers of another seat come to this one, and its view is spent.
+/// The step by which the callers of another seat are given to this one, and that seat's view is
+/// spent.
 pub struct Returns;
 
 impl Join<Holding> for Returns {

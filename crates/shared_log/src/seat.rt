@@ -7,7 +7,7 @@ use crate::entry::Entry;
 use crate::plays::Holding;
 use atomic_table::Seat;
 
-/// The seat of one caller, whose hand alone is with it.
+/// The seat of one caller, with the hand of this caller alone.
 pub struct OneSeat {
     pub who: u32,
     pub seat: Seat<(), Holding>,
@@ -30,28 +30,28 @@ pub struct LogSeat {
 impl LogSeat {
     ghost use Rattle.shared_log.specs.Seats.{caller_of, cap_of_seat, log_of, made_by};
 
-    /// The number of the caller.
+    /// The number of the seat's caller.
     pub fn caller(&self) -> u32
         ensures { result ≡ caller_of self.now }
     {
         self.seat.who
     }
 
-    /// How many calls the caller may make.
+    /// How many calls the seat's caller may make.
     pub fn cap(&self) -> u64
         ensures { result ≡ cap_of_seat self.now }
     {
         self.cap
     }
 
-    /// How many calls the caller has made.
+    /// How many calls the seat's caller has made.
     pub fn made(&self) -> u64
         ensures { result ≡ made_by self.now }
     {
         self.made
     }
 
-    /// The log up to the last call of this caller.
+    /// The log up to the last call of the seat's caller.
     pub fn log(&self) -> &[Entry]
         ensures { result.now ≡ log_of self.now }
     {

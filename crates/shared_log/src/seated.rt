@@ -6,10 +6,10 @@ use crate::seat::LogSeat;
 /// What has the seat of one caller of a log: the seat itself, or what a layer above keeps beside
 /// it.
 pub trait Seated {
-    /// The seat.
+    /// The seat of the value.
     ghost seat: { Self → OwnSeat };
 
-    /// Gives the seat back, and lets all else go.
+    /// Gives the seat back, and drops all else.
     fn into_seat(self) -> LogSeat
         ensures { result ≡ seat self };
 }

@@ -68,8 +68,8 @@ impl SharedLog {
         self.cap
     }
 
-    // The ticket of the call goes into the first free place. The entries before it that the
-    // caller didn't know come into its log, and then its own.
+    // Puts the ticket of the call into the first free place. The entries before it that the caller
+    // didn't know are added to its log, and then its own.
     fn place(&self, seat: &mut OneSeat, log: &mut Vec<Entry>, ticket: u64, op: OpWord)
         requires seat { IsPlaced self.now seat.old }
         requires known { (hand_with seat.old).log ≡ log.old.items }
@@ -98,7 +98,7 @@ impl SharedLog {
                 Some(entry) => log.push(entry).unwrap(),
             }
         }
-        // There are as many places as calls, and this call has none yet.
+        // The log has as many places as there are calls, and this call has none yet.
         unreachable!()
     }
 
@@ -126,7 +126,7 @@ impl SharedLog {
         seat.made += 1;
     }
 
-    // A caller gets a seat of its own.
+    // Gives a caller a seat of its own.
     fn leave_as<J: Part>(&self, seat: &mut Seat<(), Holding>, who: u32) -> OneSeat
         requires who { J.who ≡ who }
         requires seat { seat.old.table_id ≡ self.now.table.shared.table_id }
@@ -140,7 +140,7 @@ impl SharedLog {
         OneSeat { who, seat }
     }
 
-    // Each caller gets a seat of its own, with an empty log.
+    // Gives each caller a seat of its own, with an empty log.
     fn deal(
         &self,
         mut seat: Seat<(), Holding>,
@@ -204,7 +204,8 @@ impl SharedLog {
         Ok((log, seats))
     }
 
-    // A caller's seat is spent, and what it knew is with the keeper. The longer of both logs stays.
+    // Spends a caller's seat, and gives what it knew to the keeper. The answer is the longer of the
+    // two logs.
     fn take_in(
         &self,
         keeper: &mut Seat<(), Holding>,
@@ -230,7 +231,7 @@ impl SharedLog {
         longer(longest, log)
     }
 
-    /// The one log, which each seat's log is a prefix of. The seats of all callers come back, in
+    /// The one log, of which each seat's log is a prefix. The seats of all callers come back, in
     /// order, each with whatever has it.
     pub fn close<P: Seated>(self, mut seats: Vec<P>) -> Vec<Entry>
         // The seats are those of all callers of this log, in order.
@@ -238,8 +239,8 @@ impl SharedLog {
         // Each entry is of one of the log's callers, and no caller has more entries than it may
         // make calls.
         ensures within { IsWithin (callers_of self) (cap_of self) result.items }
-        // The log that is answered begins with the log of each seat, and its entries of each caller
-        // are those that the caller's seat has.
+        // The log that is answered begins with the log of each seat, and has just those entries of
+        // each caller that the caller's seat knows.
         ensures log { IsOneLog result.items (map P.seat seats.items) }
     {
         let Some(last) = seats.pop() else {

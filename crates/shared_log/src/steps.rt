@@ -18,7 +18,7 @@ use std::marker::Brand;
 impl SharedLog {
     ghost use Rattle.shared_log.specs.Seats.{hand_with, IsPlaced};
 
-    // A store of one more word of the next operation.
+    // Stores one more word of the next operation.
     fn stage_as<J: Part>(&self, seat: &mut OneSeat, index: usize, word: u64)
         requires seat { IsPlaced self.now seat.old }
         requires part { (J.callers ≡ self.now.callers) × (J.cap ≡ self.now.cap)
@@ -36,7 +36,7 @@ impl SharedLog {
             .store::<Stage<J>>(&mut seat.seat, index, word)
     }
 
-    // A load of the ticket at the first place that the caller doesn't know.
+    // Loads the ticket at the first place that the caller doesn't know.
     fn look_as<J: Part>(&self, seat: &mut OneSeat, index: usize) -> u64
         requires seat { IsPlaced self.now seat.old }
         requires part { (J.callers ≡ self.now.callers) × (J.cap ≡ self.now.cap)
@@ -51,7 +51,8 @@ impl SharedLog {
         self.table.shared.load::<Look<J>>(&mut seat.seat, index)
     }
 
-    // A compare-exchange of a free ticket at that place for the ticket of the next call.
+    // Exchanges a free ticket at the first place that the caller doesn't know for the ticket of the
+    // next call.
     fn place_as<J: Part>(&self, seat: &mut OneSeat, index: usize, ticket: u64, op: OpWord) -> u64
         requires seat { IsPlaced self.now seat.old }
         requires part { (J.callers ≡ self.now.callers) × (J.cap ≡ self.now.cap)
@@ -72,7 +73,7 @@ impl SharedLog {
             .compare_exchange::<Place<J>>(&mut seat.seat, index, 0, ticket)
     }
 
-    // A load of a word of an operation.
+    // Loads a word of an operation.
     fn read_as<J: Part>(&self, seat: &mut OneSeat, index: usize) -> u64
         requires seat { IsPlaced self.now seat.old }
         requires part { (J.callers ≡ self.now.callers) × (J.cap ≡ self.now.cap)
@@ -84,7 +85,7 @@ impl SharedLog {
         self.table.shared.load::<Read<J>>(&mut seat.seat, index)
     }
 
-    // Both words of the next operation are stored.
+    // Stores both words of the next operation.
     pub(crate) fn stage(&self, seat: &mut OneSeat, number: u64, op: OpWord)
         requires seat { IsPlaced self.now seat.old }
         requires number { number ≡ hands.next_number self.now.cap seat.old.who
@@ -100,8 +101,8 @@ impl SharedLog {
         self.stage_as::<Brand>(seat, index + 1, high(op));
     }
 
-    // The ticket at the first place that the caller doesn't know: it is loaded, and where it is
-    // free, it is exchanged for the caller's own. A 0 says that the own one is placed.
+    // Loads the ticket at the first place that the caller doesn't know, and where the place is
+    // free, exchanges it for the caller's own. The answer 0 says that the own ticket is placed.
     #[tactic(auto, using(crate::proofs::Trying::looked, crate::proofs::Trying::exchanged))]
     fn ticket_at(&self, seat: &mut OneSeat, place: usize, ticket: u64, op: OpWord) -> u64
         requires seat { IsPlaced self.now seat.old }
@@ -139,8 +140,8 @@ impl SharedLog {
         join(low, high)
     }
 
-    // What stands at the first place that the caller doesn't know: none where it is the caller's
-    // own ticket now, or the entry of another's call.
+    // The entry at the first place that the caller doesn't know: none where its own ticket is
+    // placed there now, or the entry of another caller's call.
     pub(crate) fn next_entry(
         &self,
         seat: &mut OneSeat,

@@ -1,4 +1,4 @@
--- All passes come back to one seat: they know parts of one history.
+-- All passes come back to one seat: they know prefixes of one history.
 use Rattle.std.proofs.Common.{◌≡◌, ℕ, ◌<◌, List, [], ◌∷◌, ◌++◌, length, map, get_or, slice_set, Some, None, refl, sym, ap, ◌∙◌, subst}
 use Rattle.std.specs.List.{All, range_with_len}
 use Rattle.std.proofs.lemmas.List.{nil_from_length}
@@ -24,7 +24,7 @@ pub record IsClosing (n : ℕ) (all rest : List WordsPass) (v : View) : Type 0 w
   pub gathered : List WordsPass
   pub coming : IsComing caller_of_pass history_in n all rest gathered v
 
--- the last one keeps its seat
+-- the last caller keeps its seat
 pub starts_closing : (n : ℕ) (all rest : List WordsPass) (last : WordsPass) → all ≡ rest ++ last
     ∷ [] → map caller_of_pass all ≡ range_with_len 0 n → IsClosing n all rest last.seat.seat.me.0
 starts_closing n all rest last is callers =
@@ -37,7 +37,7 @@ starts_closing n all rest last is callers =
 module _ {U : Type 0} (may : ℕ → Deed → Type 0) (w : SharedWords U)
     (all rest rest' : List WordsPass) (p : WordsPass)
     (seats : All (λ q. IsSeatOf may w (seat_in q)) all) where
-  -- a pass that stands among them is one of these words
+  -- a pass among those that come back is one of these words
   pub seat_among : (back : List WordsPass) → all ≡ rest' ++ p ∷ back → IsSeatOf may w (seat_in p)
   seat_among back is =
       All-head (λ q. IsSeatOf may w (seat_in q)) p back
@@ -87,7 +87,7 @@ knows may n count id v passes words views r at hands =
           passes hands;
     }
 
--- what a closed table says of the passes that all came back
+-- what a closed table determines of the passes that all came back
 pub closed : {U : Type 0} (may : ℕ → Deed → Type 0) (w : SharedWords U) (id : ℕ) (v : View)
     (all rest : List WordsPass) (ws : List ℕ) (homes : List (Unit {0}))
     → IsClosing w.callers all rest v → length rest ≡ 0
@@ -122,7 +122,7 @@ closed_without may n passes none =
           (sym (nil_from_length passes none)) no_history,
     )
 
--- the calls of the passes are of that history
+-- the calls of the passes are of that one history
 calls_from : (call : ℕ → ℕ → ℕ → List Deed → List Deed → Type 0) (history : List Access)
     (p : WordsPass) → AreCalls (call (caller_of_pass p)) (pairs_in p) [] (deeds_of p.seat)
     → deeds_by (caller_of_pass p) history ≡ deeds_of p.seat

@@ -34,7 +34,7 @@ deeds_by-other i xs a other =
     (cond-false (a.caller == i) (a ∷ []) [] (ne_eqb a.caller i other))
     ∙ append-nil (deeds_by i xs)
 
--- no access is lawful, and so is one more that is right
+-- an empty history is lawful, and a lawful one stays so with one more access that is right
 pub lawful_none : (may : ℕ → Deed → Type 0) (history : List Access)
     → history ≡ [] → IsLawful may history
 lawful_none may history none before rest a is =
@@ -69,7 +69,7 @@ pub lawful_last : (may : ℕ → Deed → Type 0) (before : List Access) (a : Ac
     → IsLawful may (before ++ a ∷ []) → HasFound a.deed (word_at (place_of a.deed) before)
 lawful_last may before a lawful = (lawful before [] a refl).found
 
--- prefixes
+-- laws of prefixes
 pub prefix_itself : (xs : List Access) → IsPrefix xs xs
 prefix_itself xs = ([], append-nil xs)
 

@@ -1,4 +1,4 @@
--- What a caller's seat leaves the first seat with, and what it brings back.
+-- What is left in the first seat when a caller leaves it, and what comes back to it.
 use Rattle.std.proofs.Common.{◌≡◌, ℕ, ◌+◌, ◌<◌, ◌≤◌, List, [], ◌∷◌, ◌++◌, length, slice_set, Some, None, sym, ap, ◌∙◌, subst, arith}
 use mathlib.Core.Option.{some}
 use lib.ListN.{get_elem?}
@@ -10,7 +10,7 @@ use Rattle.shared_words.specs.Deeds.{Deed}
 use Rattle.shared_words.specs.Histories.{Access, View, known}
 use Rattle.shared_words.specs.Rule.{Knows, Ruled}
 
--- a caller that the seat has leaves it
+-- a caller that the seat has leaves this seat
 pub leave_asks : (may : ℕ → Deed → Type 0) (n count id who jw : ℕ) (me : Me (Unit {0}) View)
     (h : List Access) → jw ≡ who → has me.0 who ≡ Some h
     → Splits (Ruled may n count) id me.0 (slice_set me.0 jw None) (only jw (known (has me.0 jw)))

@@ -1,4 +1,4 @@
--- What an access asks of the table.
+-- What an access requires of the table.
 use Rattle.std.proofs.Common.{◌≡◌, ℕ, ◌<◌, List, [], ◌∷◌, ◌++◌, length, slice_index, slice_set, Some, replicate, refl, sym, ap, ◌∙◌, subst, inl, inr, length-set}
 use Rattle.std.proofs.lemmas.Bool.{cases_eq}
 use Rattle.std.proofs.lemmas.Option.{same_Some}
@@ -18,8 +18,7 @@ pub alone_here : (me : Me (Unit {0}) View) (who : ℕ) (h : List Access) → me 
     → has me.0 who ≡ Some h
 alone_here me who h alone = ap (λ (m : Me (Unit {0}) View). has m.0 who) alone ∙ only_here who h
 
--- A deed at a place, where the word found becomes f of it, by the caller of a seat that it has
--- alone.
+-- A deed at a place, which makes of the word found f of it, by the one caller that a seat has.
 module _ (may : ℕ → Deed → Type 0) (n count words slots id who : ℕ) (me : Me (Unit {0}) View)
     (h : List Access) (same : count ≡ words) (alone : me ≡ (only who h, [])) (place : ℕ) (f : ℕ → ℕ)
     (deed : ℕ → Deed)
@@ -120,7 +119,7 @@ turned may who me after h deed alone t =
       lawful = subst (λ (l : List Access). IsLawful may l) (sym here) t.lawful;
     }
 
--- the start: there is no access
+-- at the start there is no access
 pub opens : (may : ℕ → Deed → Type 0) (n count : ℕ) (words : List ℕ) → words ≡ replicate count 0
     → Ruled may n count (opening words [] (whole n []))
 opens may n count words is =

@@ -1,4 +1,4 @@
--- What a history leaves in the words.
+-- The words that a history leaves.
 use Rattle.std.proofs.Common.{◌≡◌, ℕ, ◌==◌, if◌then◌else◌, List, [], ◌∷◌, ◌++◌, refl, ap, ◌∙◌, eq-eqb, ne_eqb}
 use Rattle.shared_words.specs.Deeds.{place_of, leaves, Added, Stored, Loaded, Swapped}
 use Rattle.shared_words.specs.Histories.{Access, access, word_from, word_at, AccessesAct, AccessesLeaveOthers}

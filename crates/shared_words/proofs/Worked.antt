@@ -1,4 +1,4 @@
--- Which of the worked histories are lawful, and what is told of them.
+-- Which of the worked histories are lawful, and whose transcripts are of them.
 use Rattle.std.proofs.Common.{◌≡◌, ℕ, ◌<◌, List, [], ◌∷◌, ◌++◌, length, get_or, refl, sym, ap, ◌∙◌, subst, arith, append_assoc}
 use Rattle.std.specs.List.{All}
 use Rattle.std.proofs.lemmas.List.{append-nil}
@@ -22,19 +22,19 @@ right_from may before (a ∷ rest) lawful right =
     subst (λ (l : List Access). IsLawful may l) (append_assoc before (a ∷ []) rest)
     (right_from may (before ++ a ∷ []) rest (lawful_push may before a lawful right.0) right.1)
 
--- so they are a lawful history
+-- accesses that are right after those before them are a lawful history
 pub lawful_by_steps : (may : ℕ → Deed → Type 0) (history : List Access) → AllRight may [] history
     → IsLawful may history
 lawful_by_steps may history right = right_from may [] history (lawful_none may [] refl) right
 
--- parts of deeds
+-- the kind of a deed, by number
 abbrev pub kind_of : Deed → ℕ
 kind_of (Added place amount found) = 0
 kind_of (Stored place word) = 1
 kind_of (Loaded place found) = 2
 kind_of (Swapped place word found) = 3
 
--- what was found, or stored
+-- the word that a deed found, or stored
 abbrev pub told_word : Deed → ℕ
 told_word (Added place amount found) = found
 told_word (Stored place word) = word
@@ -124,7 +124,7 @@ load_of_another_word lawful =
     (second_right all_may (access 0 (Stored 1 7)) (access 1 (Loaded 0 7)) lawful).found in
     omega (arith, n)
 
--- ---- what is told
+-- ---- the transcripts of histories
 
 abbrev Told : List Access → Transcript → Type 0
 Told history t = AreCalls (adds_1 t.caller) t.pairs [] (deeds_by t.caller history)

@@ -15,7 +15,7 @@ on_two_words =
     ∷ access 0 (Loaded 0 9)
     ∷ []
 
--- Each caller may do what it likes.
+-- Each caller may make any deed.
 abbrev pub all_may : ℕ → Deed → Type 0
 all_may caller deed = Unit {0}
 
@@ -35,12 +35,14 @@ adds caller found = access caller (Added 0 1 found)
 abbrev pub three_additions : List Access
 three_additions = adds 0 0 ∷ adds 1 1 ∷ adds 0 2 ∷ []
 
+-- The transcript of a caller with these pairs.
 abbrev pub transcript : ℕ → List (ℕ × ℕ) → Transcript
 transcript caller pairs = record { caller = caller; pairs = pairs }
 
--- The two calls of caller 0, and the one of caller 1.
+-- The two calls of caller 0.
 abbrev pub told_by_0 : Transcript
 told_by_0 = transcript 0 ((0, 0) ∷ (0, 2) ∷ [])
 
+-- The one call of caller 1.
 abbrev pub told_by_1 : Transcript
 told_by_1 = transcript 1 ((0, 1) ∷ [])

@@ -9,29 +9,29 @@ pub data Deed : Type 0 where
   Loaded : (place found : ℕ) → Deed
   Swapped : (place word found : ℕ) → Deed
 
--- The place of its word.
+-- The place of the word of a deed.
 abbrev pub place_of : Deed → ℕ
 place_of (Added place amount found) = place
 place_of (Stored place word) = place
 place_of (Loaded place found) = place
 place_of (Swapped place word found) = place
 
--- The word that it leaves there, where this word was there before.
+-- The word that a deed leaves at its place, where this word was there before.
 abbrev pub leaves : Deed → ℕ → ℕ
 leaves (Added place amount found) before = (before + amount) % 2 ^ 64
 leaves (Stored place word) before = word
 leaves (Loaded place found) before = before
 leaves (Swapped place word found) before = word
 
--- What it found is this word. A store finds nothing.
+-- A deed found this word at its place. A store finds nothing.
 abbrev pub HasFound : Deed → ℕ → Type 0
 HasFound (Added place amount found) before = found ≡ before
 HasFound (Stored place word) before = Unit {0}
 HasFound (Loaded place found) before = found ≡ before
 HasFound (Swapped place word found) before = found ≡ before
 
--- These pairs of operations and replies are calls, one after the other, the first of which begins
--- after some deeds and the last of which ends after some: what one call is, is given.
+-- These pairs of operations and replies are calls in the sense of the relation call, one after the
+-- other: the first begins after the deeds `before`, and the last ends with the deeds `after`.
 abbrev pub AreCalls : (ℕ → ℕ → List Deed → List Deed → Type 0) → List (ℕ × ℕ) → List Deed
     → List Deed → Type 0
 AreCalls call [] before after = before ≡ after

@@ -8,6 +8,7 @@ pub record Access : Type 0 where
   pub caller : ℕ
   pub deed : Deed
 
+-- The access of this caller with this deed.
 abbrev pub access : ℕ → Deed → Access
 access caller deed = record { caller = caller; deed = deed }
 
@@ -15,13 +16,13 @@ access caller deed = record { caller = caller; deed = deed }
 abbrev pub deeds_by : ℕ → List Access → List Deed
 deeds_by i history = map (λ a. a.deed) (filter (λ a. a.caller == i) history)
 
--- The word at a place after a history, where this word was there before it; and from 0 on, as all
--- words begin.
+-- The word at a place after a history, where this word was there before it.
 abbrev pub word_from : ℕ → ℕ → List Access → ℕ
 word_from place word [] = word
 word_from place word (a ∷ history) =
     word_from place (if place_of a.deed == place then leaves a.deed word else word) history
 
+-- The word at a place after a history, before which all words are 0.
 abbrev pub word_at : ℕ → List Access → ℕ
 word_at place history = word_from place 0 history
 

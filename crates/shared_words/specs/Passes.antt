@@ -1,4 +1,4 @@
--- Whose a seat and a pass are, and what they tell.
+-- Whose a seat and a pass are, and what they know.
 use Rattle.std.specs.Prelude.{◌≡◌, ℕ, ◌<◌, ◌≤◌, List, [], length, All, vec_capacity}
 use mathlib.Core.List.{IsPrefix}
 use Rattle.shared_log.specs.Holders.{has}
@@ -9,13 +9,15 @@ use Rattle.shared_words.specs.Deeds.{Deed, AreCalls}
 use Rattle.shared_words.specs.Histories.{Access, known, deeds_by, IsLawful}
 use Rattle.shared_words.specs.Transcripts.{Transcript}
 
--- The caller of a seat, the history up to the last access of this caller, and its deeds.
+-- The caller of a seat.
 abbrev pub caller_of_seat : WordSeat → ℕ
 caller_of_seat s = s.who
 
+-- The history up to the last access of a seat's caller.
 abbrev pub history_of : WordSeat → List Access
 history_of s = known (has s.seat.me.0 s.who)
 
+-- The deeds of a seat's caller, in order.
 abbrev pub deeds_of : WordSeat → List Deed
 deeds_of s = deeds_by (caller_of_seat s) (history_of s)
 
@@ -23,27 +25,31 @@ deeds_of s = deeds_by (caller_of_seat s) (history_of s)
 abbrev pub seat_in : WordsPass → WordSeat
 seat_in p = p.seat
 
--- The caller of a pass, how many calls it made, how many it may make, its calls, each as an
--- operation and a reply, and for how many there is memory; and the history up to its last access.
+-- The caller of a pass.
 abbrev pub caller_of_pass : WordsPass → ℕ
 caller_of_pass p = caller_of_seat p.seat
 
+-- The calls of a pass, each as an operation and a reply.
 abbrev pub pairs_in : WordsPass → List (ℕ × ℕ)
 pairs_in p = p.pairs.items
 
+-- How many calls a pass made.
 abbrev pub made_with : WordsPass → ℕ
 made_with p = length (pairs_in p)
 
+-- How many calls a pass may make.
 abbrev pub cap_of_pass : WordsPass → ℕ
 cap_of_pass p = p.cap
 
+-- For how many calls a pass has memory.
 abbrev pub capacity_of_pass : WordsPass → ℕ
 capacity_of_pass p = vec_capacity p.pairs
 
+-- The history up to the last access of a pass's caller.
 abbrev pub history_in : WordsPass → List Access
 history_in p = history_of p.seat
 
--- What a pass tells of its calls.
+-- The transcript of a pass: its caller, and its calls.
 abbrev pub transcript_of : WordsPass → Transcript
 transcript_of p = record { caller = caller_of_pass p; pairs = pairs_in p }
 
@@ -63,13 +69,15 @@ pub record IsOneHistory (may : ℕ → Deed → Type 0) (n : ℕ) (history : Lis
   pub deeds : All (λ p. deeds_by (caller_of_pass p) history ≡ deeds_of p.seat) passes
 
 module _ {U : Type 0} where
-  -- How many callers some words have, how many calls each may make, and how many words there are.
+  -- How many callers some words have.
   abbrev pub callers_of : SharedWords U → ℕ
   callers_of w = w.callers
 
+  -- How many calls each caller of some words may make.
   abbrev pub cap_of : SharedWords U → ℕ
   cap_of w = w.cap
 
+  -- How many words there are.
   abbrev pub count_of : SharedWords U → ℕ
   count_of w = w.table.shared.table_id.words
 
@@ -79,8 +87,8 @@ module _ {U : Type 0} where
     pub caller : caller_of_seat s < callers_of w
     pub lawful : IsLawful may (history_of s)
 
-  -- The pass is one of these words, and has room for all that its caller may ask; its pairs are
-  -- calls of which each is as given, made by its deeds.
+  -- The pass is one of these words, with capacity for all calls of its caller. Its pairs are calls
+  -- in the sense of the relation call, made by its caller's deeds.
   pub record IsPassOf (may : ℕ → Deed → Type 0) (call : ℕ → ℕ → ℕ → List Deed → List Deed → Type 0)
       (w : SharedWords U) (p : WordsPass) : Type 0 where
     pub seat : IsSeatOf may w p.seat
@@ -88,7 +96,7 @@ module _ {U : Type 0} where
     pub room : cap_of w ≤ capacity_of_pass p
     pub calls : AreCalls (call (caller_of_pass p)) (pairs_in p) [] (deeds_of p.seat)
 
-  -- It is new: it knows of no access.
+  -- The pass is a new one of these words: it knows of no access.
   pub record IsNewPass (w : SharedWords U) (p : WordsPass) : Type 0 where
     pub table : p.seat.seat.table_id ≡ w.table.shared.table_id
     pub caller : caller_of_pass p < callers_of w

@@ -1,4 +1,4 @@
--- The rule of the table, and what a step tells.
+-- The rule of the table of shared words, and what a seat learns by a step.
 use Rattle.std.specs.Prelude.{◌≡◌, ℕ, ◌<◌, List, length, slice_index, slice_set, All, Some}
 use mathlib.Core.List.{IsPrefix}
 use Rattle.atomic_table.specs.Table.{State, Me}
@@ -12,8 +12,8 @@ pub record Knows (n : ℕ) (history : List Access) (i : ℕ) (h : List Access) :
   pub prefix : IsPrefix h history
   pub own : deeds_by i history ≡ deeds_by i h
 
--- There is one history: it is lawful and of the callers alone, it leaves the words, and each caller
--- knows a prefix of it.
+-- There is one history, which is lawful and of the callers alone: the words are those that it
+-- leaves, and each caller knows a prefix of it.
 pub record HaveOneHistory (may : ℕ → Deed → Type 0) (n count : ℕ) (words : List ℕ)
     (views : List View) : Type 0 where
   pub history : List Access
@@ -27,8 +27,8 @@ pub record HaveOneHistory (may : ℕ → Deed → Type 0) (n count : ℕ) (words
 abbrev pub Ruled : (ℕ → Deed → Type 0) → ℕ → ℕ → State (Unit {0}) View → Type 0
 Ruled may n count t = HaveOneHistory may n count t.words t.views
 
--- A step is an access of a caller that is with the seat: it learns the history up to it, which is
--- lawful.
+-- A step is an access of a caller that is with the seat: the seat learns the history up to this
+-- access, which is lawful.
 pub record Accesses (may : ℕ → Deed → Type 0) (me after : Me (Unit {0}) View)
     (deed : Deed) : Type 0 where
   pub who : ℕ

@@ -1,4 +1,4 @@
--- What the calls of all callers tell together.
+-- The transcripts of all callers, and the one history of their accesses.
 use Rattle.std.specs.Prelude.{◌≡◌, ℕ, ◌<◌, List, [], map, All}
 use Rattle.std.specs.List.{range_with_len}
 use Rattle.shared_words.specs.Deeds.{Deed, AreCalls}
@@ -11,7 +11,7 @@ pub record Transcript : Type 0 where
 
 -- These transcripts are those of all n callers, in order, and their calls are of this one history
 -- of all accesses: it is lawful, no other caller has an access in it, and the pairs of each caller
--- are calls of which each is as given, made of just the deeds that the caller has there.
+-- are calls in the sense of the relation call, made of just the deeds that the caller has there.
 pub record AreOfOneHistory (may : ℕ → Deed → Type 0)
     (call : ℕ → ℕ → ℕ → List Deed → List Deed → Type 0) (n : ℕ) (history : List Access)
     (transcripts : List Transcript) : Type 0 where

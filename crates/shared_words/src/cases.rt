@@ -1,5 +1,5 @@
-//! Worked histories: what they leave in the words, which of them are lawful, and what callers tell
-//! of them.
+//! Worked histories: which words they leave, which of them are lawful, and which transcripts
+//! callers can have of them.
 
 ghost use Rattle.std.specs.Prelude.{◌≡◌, [], ◌∷◌, ◌++◌};
 ghost use Rattle.shared_words.specs.Deeds as deeds;
@@ -7,7 +7,7 @@ ghost use Rattle.shared_words.specs.Histories.{access, deeds_by, word_at, IsLawf
 ghost use Rattle.shared_words.specs.Transcripts.{AreOfOneHistory};
 ghost use Rattle.shared_words.specs.Cases.{on_two_words, all_may, additions_may, adds_1, adds, three_additions, transcript, told_by_0, told_by_1};
 
-/// What a history leaves in the words, and whose deeds it has.
+/// The words that a history leaves, and the deeds that each caller has in it.
 pub fn histories_leave_words()
     // Word 0 is left as the 9 that it was swapped for.
     ensures swapped { word_at 0 on_two_words ≡ 9 }
@@ -31,12 +31,12 @@ pub fn histories_are_lawful()
     ensures right { IsLawful all_may on_two_words }
     // A history with a store isn't lawful where callers may make additions alone.
     ensures forbidden { ¬ IsLawful additions_may on_two_words }
-    // An addition can't find the word that was there before the addition before it.
+    // An addition can't find the word that the addition before it found.
     ensures addition { ¬ IsLawful all_may (adds 0 0 ∷ adds 1 0 ∷ []) }
-    // A load can't find the word that was there before the store before it.
+    // A load can't find the word that the store before it replaced.
     ensures load { ¬ IsLawful all_may
         (access 0 (deeds.Stored 0 7) ∷ access 1 (deeds.Loaded 0 0) ∷ []) }
-    // A swap can't find the word that was there before the store before it.
+    // A swap can't find the word that the store before it replaced.
     ensures swap { ¬ IsLawful all_may
         (access 0 (deeds.Stored 0 7) ∷ access 1 (deeds.Swapped 0 9 0) ∷ []) }
     // The first load can't find 1.
@@ -46,26 +46,26 @@ pub fn histories_are_lawful()
         (access 0 (deeds.Stored 1 7) ∷ access 1 (deeds.Loaded 0 7) ∷ []) }
 {}
 
-/// What two callers tell is of one history where their calls are made of just the deeds that each
-/// has there, and nobody else has any.
+/// Two callers' transcripts are of one history where their calls are made of just the deeds that
+/// each caller has there, and nobody else has a deed there.
 #[tactic(auto, using(crate::proofs::Worked::both_told, crate::proofs::Worked::caller_lacking, crate::proofs::Worked::callers_out_of_order, crate::proofs::Worked::stranger, crate::proofs::Worked::call_untold, crate::proofs::Worked::replies_exchanged, crate::proofs::Worked::both_found_0))]
 pub fn transcripts_are_of_one_history()
-    // Two callers tell one history, of which each has the deeds of its calls.
+    // The transcripts of two callers are of one history in which each has the deeds of its calls.
     ensures right { AreOfOneHistory all_may adds_1 2 three_additions
         (told_by_0 ∷ told_by_1 ∷ []) }
-    // The first of two callers alone doesn't tell what both did.
+    // The transcript of the first of two callers alone isn't that of both.
     ensures a_caller_lacks { ¬ AreOfOneHistory all_may adds_1 2 (adds 0 0 ∷ [])
         (transcript 0 ((0, 0) ∷ []) ∷ []) }
-    // The callers can't change places.
+    // The transcripts of the callers can't change places.
     ensures out_of_order { ¬ AreOfOneHistory all_may adds_1 2 three_additions
         (told_by_1 ∷ told_by_0 ∷ []) }
     // Nobody but the two callers can have an access.
     ensures stranger { ¬ AreOfOneHistory all_may adds_1 2 (three_additions ++ adds 2 3 ∷ [])
         (told_by_0 ∷ told_by_1 ∷ []) }
-    // A caller can't leave out its last call.
+    // The transcript of a caller can't leave out its last call.
     ensures untold { ¬ AreOfOneHistory all_may adds_1 2 three_additions
         (transcript 0 ((0, 0) ∷ []) ∷ told_by_1 ∷ []) }
-    // A caller can't tell the replies of its two calls the other way round.
+    // The transcript of a caller can't have the replies of its two calls the other way round.
     ensures exchanged { ¬ AreOfOneHistory all_may adds_1 2 three_additions
         (transcript 0 ((0, 2) ∷ (0, 0) ∷ []) ∷ told_by_1 ∷ []) }
     // Both callers can't have found 0.

@@ -2,11 +2,11 @@
 
 ghost use Rattle.shared_words.specs.Histories.{AccessesAct, AccessesLeaveOthers};
 
-/// An addition adds modulo 2^64, a store sets its word, a load leaves it, and a swap sets it; the
-/// other words stay.
+/// An addition adds modulo 2^64, a store sets its word, a load doesn't change its word, and a swap
+/// sets it; the other words stay.
 #[tactic(auto, using(crate::proofs::Words::accesses_act, crate::proofs::Words::accesses_leave_others))]
 pub fn accesses_act()
-    // What an access leaves in its word.
+    // An access leaves the sum, the stored word, the word as it was or the new word in its place.
     ensures act { AccessesAct }
     // An access leaves all other words as they are.
     ensures others { AccessesLeaveOthers }

@@ -1,4 +1,5 @@
-//! The rule of the table, and what its steps tell. These types are for the proofs alone.
+//! The rule of the table, and what a seat learns by its steps. These types are for the proofs
+//! alone.
 ghost use Rattle.std.specs.Prelude.{ℕ, [], None, slice_set};
 ghost use Rattle.shared_log.specs.Holders.{has, only, whole, joined};
 ghost use Rattle.shared_words.specs.Deeds as deeds;
@@ -22,7 +23,7 @@ impl Model for Knowing {
     ghost view = { λ _. [] };
 }
 
-/// What the table is told once: its callers, and how many words it has.
+/// What the table is given once: its callers, and how many words it has.
 #[derive(Drop)]
 pub struct Key {
     pub callers: u32,
@@ -40,7 +41,7 @@ impl<U: Usage> TableRule<(), Knowing, Key> for OneHistory<U> {
     ghost first = { λ key. whole key.callers [] };
 }
 
-/// An addition.
+/// The step of an addition.
 pub struct Adds<U> {
     usage: PhantomData<U>,
 }
@@ -50,7 +51,7 @@ impl<U: Usage> Play<(), Knowing> for Adds<U> {
         Accesses U.may me after (deeds.Added st.word st.first found) };
 }
 
-/// A store.
+/// The step of a store.
 pub struct Stores<U> {
     usage: PhantomData<U>,
 }
@@ -59,7 +60,7 @@ impl<U: Usage> Play<(), Knowing> for Stores<U> {
     ghost then = { λ st me _ after. Accesses U.may me after (deeds.Stored st.word st.first) };
 }
 
-/// A load.
+/// The step of a load.
 pub struct Loads<U> {
     usage: PhantomData<U>,
 }
@@ -68,7 +69,7 @@ impl<U: Usage> Play<(), Knowing> for Loads<U> {
     ghost then = { λ st me found after. Accesses U.may me after (deeds.Loaded st.word found) };
 }
 
-/// A swap.
+/// The step of a swap.
 pub struct Swaps<U> {
     usage: PhantomData<U>,
 }
@@ -87,7 +88,7 @@ impl Part for Brand {
     ghost who = { 0 };
 }
 
-/// One caller gets a seat of its own.
+/// The step by which one caller gets a seat of its own.
 pub struct Leaves<J> {
     part: PhantomData<J>,
 }
@@ -98,7 +99,8 @@ impl<J: Part> Split<Knowing> for Leaves<J> {
     ghost right = { λ v. only J.who (known (has v J.who)) };
 }
 
-/// The callers of another seat come to this one, and its view is spent.
+/// The step by which the callers of another seat are given to this one, and that seat's view is
+/// spent.
 pub struct Returns;
 
 impl Join<Knowing> for Returns {

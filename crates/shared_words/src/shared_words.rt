@@ -1,5 +1,4 @@
-//! Atomic words that callers share: each access is told to the seat that makes it, with the
-//! history before it.
+//! Atomic words that callers share: with each access its seat learns the history before it.
 ghost use Rattle.std.specs.Prelude.{◌≡◌, ℕ, ◌<◌, ◌≤◌, [], ◌∷◌, ◌++◌, List, None, Some, IfOk, All, map, length, vec_len, vec_capacity, slice_set};
 ghost use Rattle.std.specs.List.{range_with_len};
 ghost use Rattle.book_base.specs.declared.TheConstants.{MAX_CALLERS, MAX_CALLS};
@@ -16,10 +15,10 @@ use book_base::{MAX_CALLERS, MAX_CALLS, NoMemory, OpWord};
 use std::alloc::{AllocError, Global};
 use std::marker::Brand;
 
-/// The words of some callers. Each is 0 at first.
+/// The words of some callers. Each word is 0 at first.
 ///
-/// There is one history of all accesses, in the order in which they were made, whatever the
-/// threads do: each access found what those before it leave.
+/// There is one history of all accesses, in the order in which they were made, whatever the threads
+/// do: each access found the word that those before it leave.
 #[derive(Drop)]
 pub struct SharedWords<U: Usage> {
     pub(crate) table: Table<(), Knowing, Key, OneHistory<U>, Global>,
@@ -50,9 +49,9 @@ impl<U: Usage> SharedWords<U> {
 
     /// How many callers the words have.
     pub fn callers(&self) -> u32
-        // It is the number of callers of these words.
+        // The answer is the number of callers of these words.
         ensures count { result ≡ callers_of self.now }
-        // They are no more than a table has.
+        // The callers are at most as many as a table has.
         ensures few { result ≤ MAX_CALLERS }
     {
         self.callers
@@ -60,15 +59,15 @@ impl<U: Usage> SharedWords<U> {
 
     /// How many calls each caller may make.
     pub fn cap(&self) -> u64
-        // It is the cap of these words.
+        // The answer is the cap of these words.
         ensures count { result ≡ cap_of self.now }
-        // It is no more than a table has.
+        // The cap is at most that of a table.
         ensures few { result ≤ MAX_CALLS }
     {
         self.cap
     }
 
-    /// An addition to a word, modulo 2^64. The word found.
+    /// Adds to a word, modulo 2^64, and answers the word that it found.
     pub fn add(&self, seat: &mut WordSeat, place: usize, amount: u64) -> u64
         // The seat is one of these words.
         requires seat { IsSeatOf U.may self.now seat.old }
@@ -93,7 +92,7 @@ impl<U: Usage> SharedWords<U> {
             .fetch_add::<Adds<U>>(&mut seat.seat, place, amount)
     }
 
-    /// A store into a word.
+    /// Stores a word into the word at this place.
     pub fn store(&self, seat: &mut WordSeat, place: usize, word: u64)
         // The seat is one of these words.
         requires seat { IsSeatOf U.may self.now seat.old }
@@ -116,7 +115,7 @@ impl<U: Usage> SharedWords<U> {
             .store::<Stores<U>>(&mut seat.seat, place, word)
     }
 
-    /// A load of a word. The word found.
+    /// Loads a word, and answers it.
     pub fn load(&self, seat: &mut WordSeat, place: usize) -> u64
         // The seat is one of these words.
         requires seat { IsSeatOf U.may self.now seat.old }
@@ -137,7 +136,7 @@ impl<U: Usage> SharedWords<U> {
         self.table.shared.load::<Loads<U>>(&mut seat.seat, place)
     }
 
-    /// A swap of a word for another. The word found.
+    /// Swaps a word for another one, and answers the word that it found.
     pub fn swap(&self, seat: &mut WordSeat, place: usize, word: u64) -> u64
         // The seat is one of these words.
         requires seat { IsSeatOf U.may self.now seat.old }
@@ -162,7 +161,7 @@ impl<U: Usage> SharedWords<U> {
             .swap::<Swaps<U>>(&mut seat.seat, place, word)
     }
 
-    // A caller gets a seat of its own.
+    // Gives a caller a seat of its own.
     fn leave_as<J: Part>(&self, seat: &mut Seat<(), Knowing>, who: u32) -> WordSeat
         requires who { J.who ≡ who }
         requires seat { seat.old.table_id ≡ self.now.table.shared.table_id }
@@ -176,7 +175,7 @@ impl<U: Usage> SharedWords<U> {
         WordSeat { who, seat }
     }
 
-    // Each caller gets a pass.
+    // Gives each caller a pass.
     fn deal(
         &self,
         mut seat: Seat<(), Knowing>,
@@ -213,13 +212,13 @@ impl<U: Usage> SharedWords<U> {
         cap: u64,
         count: usize,
     ) -> Result<(SharedWords<U>, Vec<WordsPass>), NoMemory>
-        // A table has as many callers.
+        // There are at most `MAX_CALLERS` callers.
         requires few_callers { n ≤ MAX_CALLERS }
-        // A table lets each caller make as many calls.
+        // Each caller has at most `MAX_CALLS` calls.
         requires few_calls { cap ≤ MAX_CALLS }
-        // There is a word.
+        // There is at least one word.
         requires some_words { 0 < count }
-        // The words have these numbers.
+        // The words have this many callers, this cap and this count.
         ensures words { IfOk result (λ r.
             (callers_of r.0 ≡ n) × (cap_of r.0 ≡ cap) × (count_of r.0 ≡ count)) }
         // The passes are those of the callers, in order.
@@ -241,7 +240,7 @@ impl<U: Usage> SharedWords<U> {
         Ok((words, passes))
     }
 
-    // A caller's seat is spent, and what it knew is with the keeper.
+    // Spends a caller's seat, and gives what it knew to the keeper.
     fn take_in(&self, keeper: &mut Seat<(), Knowing>, pass: WordsPass)
         requires keeper { keeper.old.table_id ≡ self.now.table.shared.table_id }
         requires seat { IsSeatOf U.may self.now (seat_in pass) }
@@ -260,8 +259,8 @@ impl<U: Usage> SharedWords<U> {
         self.table.shared.join_seat::<Returns>(keeper, seat);
     }
 
-    /// Takes the passes of all callers back, in order, and lets the words go. All accesses are
-    /// one history, of which each pass knows a prefix, with all deeds of its caller.
+    /// Takes the passes of all callers back, in order, and drops the words. All accesses are one
+    /// history, of which each pass knows a prefix, with all deeds of its caller.
     pub fn close(self, mut passes: Vec<WordsPass>)
         // The passes are those of all callers, in order.
         requires callers { map caller_of_pass passes.items ≡ range_with_len 0 (callers_of self) }

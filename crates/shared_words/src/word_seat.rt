@@ -5,8 +5,8 @@ ghost use Rattle.shared_words.specs.Histories.{known};
 use crate::plays::Knowing;
 use atomic_table::Seat;
 
-/// The seat of one caller of some words, whose history alone is with it. It has the history up to
-/// the last access of this caller.
+/// The seat of one caller of some words, with the history of this caller alone: the one up to its
+/// last access.
 #[derive(Drop)]
 pub struct WordSeat {
     pub(crate) who: u32,
@@ -17,7 +17,7 @@ pub struct WordSeat {
 impl WordSeat {
     ghost use Rattle.shared_words.specs.Passes.{caller_of_seat};
 
-    /// The number of the caller.
+    /// The number of the seat's caller.
     pub fn caller(&self) -> u32
         ensures { result ≡ caller_of_seat self.now }
     {
