@@ -1,4 +1,4 @@
--- What is kept of a call that its caller leaves under way.
+-- What holds of a call that its caller leaves under way.
 use Rattle.std.proofs.Common.{◌≡◌, subst, ℕ, List, length, arith}
 use Rattle.std.specs.Prelude.{IsTrue}
 use Rattle.book_base.specs.declared.call.Record.{Record}
@@ -16,7 +16,7 @@ use Rattle.client_calls.specs.Stands.{local_at_stand, phases_at}
 use Rattle.client_calls.specs.Course.{HasCome}
 use Rattle.client_calls.specs.Finishing.{KeepsAsked}
 
--- what a caller's program allows it, that of its rows does
+-- a reply that a caller's program allows the program of its rows allows
 allowed_by_rows : {P : Type 0} (meaning : P → ℕ → ℕ → Meaning) (r : Rows P) (c : Caller P)
     (who reply : ℕ) → IsCallerOf meaning r c → who_of c ≡ who
     → MayGet meaning c reply
@@ -32,7 +32,7 @@ allowed_by_rows {P} meaning r c who reply h number may =
     (λ (p : P). IsTrue ((meaning p c.callers c.cap).may_reply (who_of c) (local_with c) reply))
     h.program may)))
 
--- wherever the caller stands
+-- what holds of a call under way, whatever state the caller is in
 pub keeps_asked : {P : Type 0} (meaning : P → ℕ → ℕ → Meaning) (r : Rows P)
     (says : ℕ → Local → Record → List ℕ → LineEnd → Type 0) (who : ℕ) (operations : List ℕ)
     (s : CallerState P) (own : List Line)

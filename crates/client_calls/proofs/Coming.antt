@@ -1,4 +1,4 @@
--- A client comes on by each phase of its caller.
+-- A client makes one phase of its caller after the other.
 use Rattle.std.proofs.Common.{◌≡◌, ◌∙◌, sym, ap, refl, ℕ, ◌+◌, ◌*◌, ◌<◌, List, [], ◌∷◌, ◌++◌, length, slice_index, slice_index_or, arith}
 use Rattle.std.proofs.lemmas.List.{append-nil, get_or_push}
 use Rattle.book_base.specs.declared.call.Record.{Record}
@@ -29,7 +29,7 @@ use Rattle.client_calls.specs.Course.{HasCome}
 use Rattle.client_calls.proofs.Phases.{the_last_call_goes_on, announcing_is_a_phase, asking_is_a_phase, publishing_is_a_phase, progress_along}
 use Rattle.client_calls.proofs.Lines.{lines_stay}
 
--- what the ends of lines say stays so while the caller goes on
+-- what the ends of lines say stays true as the caller makes further steps
 abbrev pub Stays : (ℕ → Local → Record → List ℕ → LineEnd → Type 0) → Type 0
 Stays says = (n : ℕ) (l m : Local) (r : Record) (cut : List ℕ) (end : LineEnd) → Grows l m
     → says n l r cut end → says n m r cut end

@@ -1,4 +1,4 @@
--- A client comes on by the end of a call; and a caller that is idle has a row left.
+-- A client after the end of a call; and an idle caller, which has a row left.
 use Rattle.std.proofs.Common.{◌≡◌, ◌∙◌, sym, subst, ap, refl, ℕ, ◌+◌, ◌*◌, List, [], ◌∷◌, ◌++◌, length, slice_index, arith}
 use Rattle.std.proofs.lemmas.List.{append-nil, length-map, length_push}
 use Rattle.std.proofs.lemmas.List.FromFn.{length-map-range_with_len}
@@ -53,7 +53,8 @@ module _ {P : Type 0} (meaning : P → ℕ → ℕ → Meaning) (r : Rows P)
             (length (local_with c).operations),
       )
 
-  -- what has ended in whatever way: the calls, and the lines of those before
+  -- the calls of a caller after one has ended, in whatever way, and the lines of the calls before
+  -- it
   ended_calls : (p : Published P) (e : Ended P) (h : Come (at.Published p) own)
       (end : HasEnded meaning r says p e)
       → calls_in (local_ended e)
@@ -61,7 +62,7 @@ module _ {P : Type 0} (meaning : P → ℕ → ℕ → Meaning) (r : Rows P)
   ended_calls p e h end = seen_calls (progress_of (local_with (caller_published p)))
       (progress_of (local_ended e)) end.cut (record_published p) op h.ended end.progress h.calls
 
-  -- .. and the client has come on
+  -- the client has come to the state after a call that has ended
   pub ended_come : (p : Published P) (e : Ended P) (s : CallerState P) (own' : List Line)
       → Come (at.Published p) own → HasEnded meaning r says p e → IsNoted op own e own' s
       → Come s own'

@@ -1,5 +1,5 @@
--- What a client has gathered stays gathered while its caller goes on. The proof that is kept of it
--- is truncated; but all that it says is decided, so that the proof is at hand again.
+-- What a client has gathered stays gathered as its caller makes further steps. The proof that is
+-- kept of it is truncated; but all that it says is decidable, so the fact can be had again.
 use Rattle.std.proofs.Common.{◌≡◌, refl, sym, subst, ap, ℕ, zero, suc, ◌+◌, ◌<◌, inl, inr, List, [], ◌∷◌, length, slice_index, slice_index_or, Option, Some, None, arith}
 use Rattle.std.specs.List.{Contains}
 use Rattle.std.proofs.Math.Logic.{∥∥₁_map, ∥∥₁_elim}
@@ -143,13 +143,13 @@ gathered_is n l cut book h =
       );
     }
 
--- what is kept was gathered
+-- what is kept was gathered by the caller
 pub gathered_by_is : (l : Local) (gathered : Option Gathered) → ∥ IsGatheredBy l gathered ∥₁
     → IsGatheredBy l gathered
 gathered_by_is l None h = tt
 gathered_by_is l (Some g) h = gathered_is (length g.book) l g.cut g.book h
 
--- and stays so
+-- what the caller gathered stays gathered as it finds more
 pub stays_gathered : (l m : Local) (gathered : Option Gathered) → Grows l m
     → IsGatheredBy l gathered → IsGatheredBy m gathered
 stays_gathered l m gathered grows h = gathered_by_stays l m gathered grows.peeked h
@@ -158,14 +158,14 @@ pub stays_kept : (l m : Local) (gathered : Option Gathered) → Grows l m
     → ∥ IsGatheredBy l gathered ∥₁ → ∥ IsGatheredBy m gathered ∥₁
 stays_kept l m gathered grows h = ∥∥₁_map h (stays_gathered l m gathered grows)
 
--- where the caller of a call that has ended stands once its line is noted
+-- the caller of a call that has ended is in the state that its note says
 pub stand_noted : {P : Type 0} (op : ℕ) (own : List Line) (e : Ended P) (own' : List Line)
     (s : CallerState P) → IsNoted op own e own' s → caller_ended e ≡ caller_at s
 stand_noted op own (GoesOn c end) own' s is = sym (ap caller_at is.0)
 stand_noted op own (Halts c end) own' s is = sym (ap caller_at is.0)
 stand_noted op own (WantsMemory u) own' s is = sym (ap caller_at is.0)
 
--- what was kept at a stand
+-- what was kept in one state is kept in an equal one
 pub kept_at : {P : Type 0} (s t : CallerState P) (gathered : Option Gathered) → s ≡ t
     → ∥ IsGatheredBy (local_at_stand s) gathered ∥₁ → ∥ IsGatheredBy (local_at_stand t) gathered ∥₁
 kept_at {P} s t gathered is h =

@@ -1,4 +1,4 @@
--- How a caller stands that a client leaves.
+-- How a caller is when its client leaves it.
 use Rattle.std.proofs.Common.{◌≡◌, ◌≢◌, ◌∙◌, refl, sym, subst, ap, ℕ, ◌+◌, ◌*◌, ◌%◌, false, true, List, length, Some, arith}
 use Rattle.std.proofs.lemmas.Bool.{false≢true}
 use Rattle.std.proofs.lemmas.Option.{none-some}
@@ -59,7 +59,7 @@ module _ {P : Type 0} (meaning : P → ℕ → ℕ → Meaning) (r : Rows P)
   left_standing (Unjudged u) h =
       record { within = λ other. h.may; between = λ live. absurd (false≢true (sym h.may ∙ live)) }
 
-  -- free, where no memory was wanted, no line is an error and no call is under way
+  -- where no memory was wanted, no line is an error and no call is under way, the caller is free
   pub left_free : (s : CallerState P) → HasCome meaning r says who operations s own
       → is_unjudged s ≡ false → any_error own ≡ false → phases_at (length own) s % 5 ≡ 0
       → stance_left s ≡ fresh_stance

@@ -1,4 +1,4 @@
--- The lines of calls, as calls go on and more of them are there.
+-- The lines of calls, as a call changes, and as more calls are made.
 use Rattle.std.proofs.Common.{◌≡◌, ap, ℕ, Bool, true, false, ◌||◌, List, [], ◌∷◌, ◌++◌}
 use Rattle.book_base.specs.declared.call.Record.{Record}
 use Rattle.world_core.specs.Calls.{Reached, Is_announced, Has_record, Has_seen, Made}
@@ -7,7 +7,7 @@ use Rattle.report_lines.specs.declared.line.Line.{Line}
 use Rattle.report_lines.specs.Lines.{is_error, any_error}
 use Rattle.client_calls.specs.Ends.{EndsAs, IsLineOf, AreLinesOfCalls}
 
--- where more is said by the one than by the other
+-- what one of two meanings of lines says follows from the other
 abbrev Implies : (Record → List ℕ → LineEnd → Type 0)
     → (Record → List ℕ → LineEnd → Type 0) → Type 0
 Implies says says' = (r : Record) (cut : List ℕ) (end : LineEnd) → says r cut end → says' r cut end
@@ -44,7 +44,7 @@ one_more_line says (c ∷ calls) [] call line h one = absurd h
 one_more_line says (c ∷ calls) (first ∷ own) call line h one =
     (h.0, one_more_line says calls own call line h.1 one)
 
--- no error among some lines, and none after them
+-- no error among two lists of lines, where none is among the first and so none among the second
 any_with : (a b c : Bool) → (a || b) ≡ false → (b ≡ false → c ≡ false) → (a || c) ≡ false
 any_with true b c none more = none
 any_with false b c none more = more none

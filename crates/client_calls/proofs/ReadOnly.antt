@@ -1,4 +1,4 @@
--- The lines that a client leaves, wherever its caller stands.
+-- The lines that a client leaves, whatever state its caller is in.
 use Rattle.std.proofs.Common.{◌≡◌, ◌∙◌, sym, subst, ap, refl, inl, inr, ℕ, zero, suc, ◌+◌, ◌*◌, ◌<◌, ◌≤◌, Bool, true, false, cond, ◌||◌, List, [], ◌∷◌, ◌++◌, Some, None, length, slice_get, slice_index, arith}
 use Rattle.std.proofs.lemmas.Bool.{false≢true}
 use Rattle.std.proofs.lemmas.List.{append-nil, length-take, length_push}
@@ -51,7 +51,7 @@ begun_few operations p progress h =
       length-take (begun p) operations,
     )
 
--- without an error, all of the allotment is made
+-- without an error, all phases of the allotment are made
 left_without_error : (operations : List ℕ) (allotment p : ℕ) (l : Local) (own : List Line)
     → any_error own ≡ false → p ≡ allotment → HasMade operations p l
     → HasMade operations (phases_of allotment own) l × KeepsTo allotment own
@@ -68,7 +68,7 @@ left_without_error operations allotment p l own none is made =
       is ∙ sym phases,
     )
 
--- with one at the end, all of each line
+-- with an error at the end, all phases of each line are made
 left_with_error : (operations : List ℕ) (allotment p : ℕ) (l : Local) (own : List Line)
     → EndsInError own → p ≡ 5 * length own → p ≤ allotment → HasMade operations p l
     → HasMade operations (phases_of allotment own) l × KeepsTo allotment own
@@ -128,7 +128,7 @@ module _ {P : Type 0} (meaning : P → ℕ → ℕ → Meaning) (r : Rows P)
   operation_left (Halted c) end h is = absurd (none-some end is)
   operation_left (Unjudged u) end h is = absurd (none-some end is)
 
-  -- with the line of the call under way
+  -- the lines that are left with that of the call under way
   pending_left : (l : Local) (allotment p : ℕ) (ended : List Made) (call : Made) (end : LineEnd)
       → calls_in l ≡ ended ++ call ∷ [] → AreLinesOfCalls (says r.callers l) ended own
       → IsLineOf (says r.callers l) call (record { op = op; end = end }) → any_error own ≡ false
@@ -189,7 +189,7 @@ module _ {P : Type 0} (meaning : P → ℕ → ℕ → Meaning) (r : Rows P)
   noted_left (Halted c) end allotment h is spent = absurd (none-some end is)
   noted_left (Unjudged u) end allotment h is spent = absurd (none-some end is)
 
-  -- and where no call is under way
+  -- the lines that are left where no call is under way
   all_left : (l : Local) (ended : List Made)
       → calls_in l ≡ ended ++ [] → AreLinesOfCalls (says r.callers l) ended own
       → AreLinesOfCalls (says r.callers l) (calls_in l) own

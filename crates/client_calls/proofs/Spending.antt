@@ -1,4 +1,4 @@
--- An allotment of phases is spent as a client comes on.
+-- An allotment of phases is spent as a client makes them.
 use Rattle.std.proofs.Common.{◌≡◌, ℕ, ◌≤◌, arith}
 use Rattle.client_calls.specs.declared.stand.CallerState.{CallerState}
 use Rattle.client_calls.specs.declared.stand.CallerState.TheVariants.{Idle, Announced, Answered, Viewed, Published, Halted, Unjudged}
@@ -6,7 +6,7 @@ use Rattle.client_calls.specs.Stands.{phases_at, GoesOnFrom}
 use Rattle.client_calls.specs.Clients.{Spent}
 
 module _ {P : Type 0} where
-  -- by exactly this many phases, wherever the caller then stands
+  -- an allotment of exactly this many phases is spent, whatever state the caller is in
   pub spent_by : (allotment lines : ℕ) (s : CallerState P) → phases_at lines s ≡ allotment
       → Spent allotment lines s
   spent_by allotment lines (Idle c) is = is
@@ -17,7 +17,7 @@ module _ {P : Type 0} where
   spent_by allotment lines (Halted c) is = omega (arith, is)
   spent_by allotment lines (Unjudged u) is = omega (arith, is)
 
-  -- a caller that goes on has made all of them
+  -- a caller that isn't halted has made all phases of the allotment
   pub spent_exact : (allotment lines : ℕ) (s : CallerState P) → GoesOnFrom s
       → Spent allotment lines s
       → phases_at lines s ≡ allotment
@@ -29,7 +29,7 @@ module _ {P : Type 0} where
   spent_exact allotment lines (Halted c) goes is = absurd goes
   spent_exact allotment lines (Unjudged u) goes is = absurd goes
 
-  -- one that is halted has spent each greater allotment too
+  -- a caller that is halted has also spent each greater allotment
   pub spent_more : (allotment greater lines : ℕ) (s : CallerState P) → (GoesOnFrom s → ⊥)
       → allotment ≤ greater → Spent allotment lines s → Spent greater lines s
   spent_more allotment greater lines (Idle c) stops more is = absurd (stops tt)

@@ -1,5 +1,5 @@
--- What holds of a client that stands somewhere, at the stand that this is, and with the sheet and
--- the pass that these are.
+-- What holds of a client in one state holds in an equal state, and with an equal sheet and an equal
+-- pass.
 use Rattle.std.proofs.Common.{◌≡◌, ◌∙◌, refl, sym, subst, ap, ℕ, List, length}
 use Rattle.std.specs.Prelude.{Option}
 use Rattle.book_base.specs.declared.call.Record.{Record}
@@ -43,7 +43,7 @@ pub fits_at : {P T : Type 0} (fits : Fits T) (pass : T) (s t : CallerState P) �
 fits_at {P} fits pass s t is h =
     subst (λ (z : CallerState P). FitsCaller fits pass (caller_at z)) is h
 
--- a pass that fits a caller fits it still where it has the same object steps
+-- a pass that fits a caller still fits it where the caller has the same object steps
 pub fits_stays : {P T : Type 0} (meaning : P → ℕ → ℕ → Meaning) (r : Rows P) (fits : Fits T)
     (pass : T) (c d : Caller P) → IsCallerOf meaning r c → IsStill meaning r c d
     → all_steps_of (local_with d) ≡ all_steps_of (local_with c) → FitsCaller fits pass c
@@ -56,7 +56,7 @@ fits_stays meaning r fits pass c d was still steps h =
     (subst (λ (i : ℕ). fits c.callers c.cap pass i (all_steps_of (local_with d))) (sym still.1)
     (subst (λ (own : List Object_step). fits c.callers c.cap pass (who_of c) own) (sym steps) h)))
 
--- a caller that goes on stands somewhere before the end of a call
+-- a caller that isn't halted and isn't idle is within a call
 pub stands_before : {P : Type 0} (s : CallerState P) → GoesOnFrom s
     → ((c : Caller P) → s ≡ at.Idle c → ⊥)
     → ((a : Announced P) → s ≡ at.Announced a → ⊥) → ((a : Answered P) → s ≡ at.Answered a → ⊥)
@@ -69,7 +69,7 @@ stands_before (at.Published p) goes idle announced answered viewed published = p
 stands_before (at.Halted c) goes idle announced answered viewed published = goes
 stands_before (at.Unjudged u) goes idle announced answered viewed published = goes
 
--- with the stand and the sheet that these are
+-- what holds of one state and one sheet holds of equal ones
 module _ {P E : Type 0} (s t : CallerState P) (h k : Sheet E) (stand_is : s ≡ t)
     (sheet_is : h ≡ k) where
   pub phases_with : (phases : ℕ) → phases_at (length k.lines.items) t ≡ phases
@@ -108,7 +108,7 @@ module _ {P E : Type 0} (s t : CallerState P) (h k : Sheet E) (stand_is : s ≡ 
       subst (λ (z : CallerState P). ∥ IsGatheredBy (local_at_stand z) h.gathered ∥₁) (sym stand_is)
       (subst (λ (x : Sheet E). ∥ IsGatheredBy (local_at_stand t) x.gathered ∥₁) (sym sheet_is) kept)
 
--- What stands by the sheet that this is.
+-- What stands of an order by one sheet stands by an equal one.
 pub standing_with : {E : Type 0} (h k : Sheet E) → h ≡ k → (object : E → Sequential)
     → KeepsStanding (object k.ending) k → KeepsStanding (object h.ending) h
 standing_with {E} h k is object stands =

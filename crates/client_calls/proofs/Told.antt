@@ -153,7 +153,7 @@ module _ {P : Type 0} (meaning : P → ℕ → ℕ → Meaning) (r : Rows P)
             asked.told_is;
       }
 
-  -- what was told before the last phase is told after it, wherever the caller then stands
+  -- what was told before the last phase is told after it, whatever state the caller is then in
   seen_told : (p : Published P) (e : Ended P) (end : HasEnded meaning r says p e)
       (pairs : List (ℕ × ℕ)) → HasTold (at.Published p) own pairs
       → IsTold (5 * (length own + 1)) (progress_of (local_ended e)).calls pairs
@@ -213,7 +213,7 @@ module _ {P : Type 0} (meaning : P → ℕ → ℕ → Meaning) (r : Rows P)
         told_is = if_some_as told _ _ (ended_told p e s own' end noted phases) asked.told_is;
       }
 
--- what a pass counts, where it counts, as the client comes on and it isn't asked; and as it is
+-- what a pass counts, where it counts, as the client makes a phase without asking, and with asking
 module _ {P : Type 0} (operations : List ℕ) where
   pub counted_as : (count : Option PassCount) (s t : CallerState P) (own own' : List Line)
       → ((made : ℕ) (told : Option (List (ℕ × ℕ))) → HasAskedFor made told s own

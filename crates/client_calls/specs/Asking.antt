@@ -8,12 +8,12 @@ use Rattle.row_table.specs.declared.caller.Caller.{Caller}
 use Rattle.row_table.specs.Callers.{who_of, local_with}
 use Rattle.drv_wrapper.specs.Telling.{told_after}
 
--- For how many callers and which cap a pass fits a caller of this number, with these object steps
--- of all its calls.
+-- For how many callers, for which cap and for which caller a pass fits, and beside which object
+-- steps of all calls of that caller.
 abbrev pub Fits : Type 0 → Type 1
 Fits T = ℕ → ℕ → T → ℕ → List Object_step → Type 0
 
--- A pass fits this caller, as it stands.
+-- A pass fits this caller, with its object steps.
 abbrev pub FitsCaller : {P T : Type 0} → Fits T → T → Caller P → Type 0
 FitsCaller fits pass c = fits c.callers c.cap pass (who_of c) (all_steps_of (local_with c))
 
@@ -34,17 +34,17 @@ count_after op reply count =
     option_map (λ (c : PassCount).
     record { made = c.made + 1; room = c.room; told = told_after op reply c.told }) count
 
--- A caller has come no further with its calls: at the most it has more object steps.
+-- The progress of a caller is as before, but for object steps.
 abbrev pub ComesNoFurther : Local → Local → Type 0
 ComesNoFurther before after =
     progress_of after ≡ record (progress_of before) { steps = all_steps_of after }
 
--- The passes of an object outside the world: each is the object's own, fits its caller whatever the
--- caller's steps, and counts.
+-- A pass of an object outside the world fits a caller where it is the object's own and that
+-- caller's, whatever the caller's object steps.
 abbrev pub fits_own : {T : Type 0} → (T → Type 0) → (T → ℕ) → Fits T
 fits_own is_own caller n cap pass who steps = is_own pass × (caller pass ≡ who)
 
--- What a pass of an object outside the world counts, which counts its calls.
+-- What a pass of an object outside the world counts of its calls.
 abbrev pub own_count : {T : Type 0} → (T → ℕ) → (T → ℕ) → (T → Option (List (ℕ × ℕ))) → T
     → Option PassCount
 own_count made cap told pass = Some (record { made = made pass; room = cap pass; told = told pass })

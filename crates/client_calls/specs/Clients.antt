@@ -12,8 +12,8 @@ use Rattle.client_calls.specs.declared.stand.CallerState.{CallerState}
 use Rattle.client_calls.specs.declared.stand.CallerState.TheVariants.{Halted, Unjudged}
 use Rattle.client_calls.specs.declared.client.Client.{Client}
 
--- A caller that stands there after this many lines has spent an allotment of phases: it has made
--- all of them, or halted within them.
+-- A caller in this state after this many lines has spent an allotment of phases: it has made all of
+-- them, or halted within them.
 abbrev pub Spent : {P : Type 0} → ℕ → ℕ → CallerState P → Type 0
 Spent allotment lines (Halted c) = 5 * lines ≤ allotment
 Spent allotment lines (Unjudged u) = 5 * lines + 5 ≤ allotment
@@ -24,17 +24,17 @@ module _ {P T E : Type 0} where
   abbrev pub phases_by : Client P T E → ℕ
   phases_by c = phases_at (length c.sheet.lines.items) c.stand
 
-  -- A client has spent an allotment: it has made all its phases, or was halted before.
+  -- A client has spent an allotment: it has made all its phases, or halted within them.
   abbrev pub HasSpent : ℕ → Client P T E → Type 0
   HasSpent allotment c = Spent allotment (length c.sheet.lines.items) c.stand
 
-  -- A client has come this far.
+  -- A client has come to its state and its lines, with its operations.
   abbrev pub IsUnderWay : (P → ℕ → ℕ → Meaning) → Rows P
       → (ℕ → Local → Record → List ℕ → LineEnd → Type 0) → Client P T E → Type 0
   IsUnderWay meaning r says c =
       HasCome meaning r says c.sheet.who c.sheet.operations.now c.stand c.sheet.lines.items
 
-  -- A client's pass fits its caller, and has come along with its calls, where it counts them.
+  -- A client's pass fits its caller and agrees with its state and its lines, where it counts calls.
   pub record HasPass (fits : Fits T) (count : T → Option PassCount)
       (c : Client P T E) : Type 0 where
     pub fits_caller : FitsCaller fits c.pass (caller_at c.stand)
@@ -45,7 +45,8 @@ module _ {P T E : Type 0} where
     pub rows : length c.sheet.operations.now ≤ r.cap
     pub lines : length c.sheet.operations.now ≤ vec_capacity c.sheet.lines
 
-  -- One client is the other, further on: with the same operations, and no less room for lines.
+  -- The client d is c at a later moment, with the same operations, and with at least the capacity
+  -- for lines.
   pub record IsSameClient (c d : Client P T E) : Type 0 where
     pub who : d.sheet.who ≡ c.sheet.who
     pub operations : d.sheet.operations.now ≡ c.sheet.operations.now

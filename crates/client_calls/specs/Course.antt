@@ -32,9 +32,9 @@ module _ {P : Type 0} where
   ErrorsFit (Halted c) own = EndsInError own
   ErrorsFit _ own = any_error own ≡ false
 
-  -- A client of this caller has come with these operations to this stand and these lines: the
+  -- A client of this caller has come, with these operations, to this state and these lines: the
   -- caller, one of these rows, has made exactly the phases up to there, the lines are those of all
-  -- its calls but the one under way, and it can go on from there.
+  -- its calls but the one under way, and it can make its next phase.
   pub record HasCome (meaning : P → ℕ → ℕ → Meaning) (r : Rows P)
       (says : ℕ → Local → Record → List ℕ → LineEnd → Type 0) (who : ℕ) (operations : List ℕ)
       (s : CallerState P) (own : List Line) : Type 0 where
@@ -48,32 +48,34 @@ module _ {P : Type 0} where
     pub errors : ErrorsFit s own
     pub may : MayGoOn meaning r (slice_index operations (length own)) s
 
-  -- The last of these pairs is that of the call that was answered last, until its view is taken.
+  -- The last of these pairs is that of the call that was answered last, until the call has its
+  -- view.
   abbrev pub EndsAnswered : CallerState P → List (ℕ × ℕ) → Type 0
   EndsAnswered (Answered a) pairs = (prefix : List (ℕ × ℕ))
       × (pairs ≡ prefix ++ (op_answered a, reply_answered a) ∷ [])
   EndsAnswered _ pairs = Unit {0}
 
-  -- The pairs are what an object tells of a client's calls up to this stand.
+  -- The pairs are what an object tells of a client's calls up to this state and these lines.
   pub record HasTold (s : CallerState P) (own : List Line) (pairs : List (ℕ × ℕ)) : Type 0 where
     pub told : IsTold (phases_at (length own) s) (calls_in (local_at_stand s)) pairs
     pub last : EndsAnswered s pairs
 
-  -- A pass with which this many calls were made, and that tells these pairs, has come along: the
-  -- object was asked for exactly the calls whose second phase was made, and what is told, where
-  -- anything is, is what was asked and answered.
+  -- With a pass of this count and these told pairs the object was asked exactly for the calls whose
+  -- second phase was made up to this state and these lines, and the pairs, where it tells any, are
+  -- what was asked and answered.
   pub record HasAskedFor (made : ℕ) (told : Option (List (ℕ × ℕ))) (s : CallerState P)
       (own : List Line) : Type 0 where
     pub made_is : made ≡ asked (phases_at (length own) s)
     pub told_is : IfSome told (HasTold s own)
 
-  -- A pass that counts has come along, and has a call for each of these operations.
+  -- A pass that counts its calls agrees with this state and these lines, and has a call for each of
+  -- these operations.
   pub record HasCounted (operations : List ℕ) (s : CallerState P) (own : List Line)
       (count : PassCount) : Type 0 where
     pub asked : HasAskedFor count.made count.told s own
     pub has_capacity : length operations ≤ count.room
 
-  -- A pass that counts its calls has come along with them, and has a call for each of these
-  -- operations.
+  -- A pass, where it counts its calls, agrees with this state and these lines, and has a call for
+  -- each of these operations.
   abbrev pub Counts : Option PassCount → List ℕ → CallerState P → List Line → Type 0
   Counts count operations s own = IfSome count (HasCounted operations s own)

@@ -1,4 +1,4 @@
--- How a call has ended: where its caller stands, and what is said of the call.
+-- How a call has ended: the state of its caller then, and what is said of the call.
 use Rattle.std.specs.Prelude.{◌≡◌, ℕ, List, [], ◌∷◌, ◌++◌, true, false}
 use Rattle.book_base.specs.declared.call.Record.{Record}
 use Rattle.world_core.specs.Shape.{Meaning}
@@ -45,36 +45,38 @@ module _ {P : Type 0} where
   abbrev pub local_ended : Ended P → Local
   local_ended e = local_with (caller_ended e)
 
-  -- A caller goes on after a line that isn't an error, and is halted after one that is, and where
-  -- memory was wanted.
+  -- A caller is free after a call that is no error, and is halted after an error, and where memory
+  -- was wanted.
   abbrev pub StandsAfter : Ended P → Type 0
   StandsAfter (GoesOn c end) = IsFree c
   StandsAfter (Halts c end) = (stance_of c).live ≡ false
   StandsAfter (WantsMemory u) = (stance_of u.caller).live ≡ false
 
-  -- The line of a caller that goes on is no error, and that of one that is halted is one.
+  -- The line of a caller that is free for a further call is no error, and that of one that is
+  -- halted at an error is one.
   abbrev pub FitsError : Ended P → Type 0
   FitsError (GoesOn c end) = (op : ℕ) → is_error (record { op = op; end = end }) ≡ false
   FitsError (Halts c end) = (op : ℕ) → is_error (record { op = op; end = end }) ≡ true
   FitsError (WantsMemory u) = Unit {0}
 
-  -- What an ending says is said of the record and the seen cut of the call; where memory was wanted
-  -- nothing is said, and they are handed back.
+  -- What an ending says is said of the record and the seen cut of the call. Where memory was wanted
+  -- it says nothing, and hands the two back.
   abbrev pub SaysOf : (Local → Record → List ℕ → LineEnd → Type 0) → Record → List ℕ
       → Ended P → Type 0
   SaysOf says r cut (GoesOn c end) = says (local_with c) r cut end
   SaysOf says r cut (Halts c end) = says (local_with c) r cut end
   SaysOf says r cut (WantsMemory u) = (record_unjudged u ≡ r) × (u.seen ≡ cut)
 
-  -- A call has ended as its line does: its caller is halted at an error, and else goes on.
+  -- A call has ended as its line does: its caller is halted where the line is an error, and else
+  -- free for its next call.
   abbrev pub IsEndedBy : Caller P → LineEnd → Ended P → Type 0
   IsEndedBy c Pending ended = ended ≡ GoesOn c Pending
   IsEndedBy c (Unchecked r) ended = ended ≡ GoesOn c (Unchecked r)
   IsEndedBy c (Delivered r cut) ended = ended ≡ GoesOn c (Delivered r cut)
   IsEndedBy c (Error r cut) ended = ended ≡ Halts c (Error r cut)
 
-  -- Where the caller stands after a call that has ended, and its lines with that of the call, where
-  -- it has one.
+  -- The state of the caller after a call that has ended, and its lines with that of the call, where
+  -- the call has one.
   abbrev pub IsNoted : ℕ → List Line → Ended P → List Line → CallerState P → Type 0
   IsNoted op own (GoesOn c end) own' s = (s ≡ Idle c)
       × (own' ≡ own ++ record { op = op; end = end } ∷ [])
@@ -83,7 +85,7 @@ module _ {P : Type 0} where
   IsNoted op own (WantsMemory u) own' s = (s ≡ Unjudged u) × (own' ≡ own)
 
   -- A call has ended by an ending that says this: its caller, one of these rows, saw a cut, and
-  -- came no further with its calls.
+  -- made no further phase.
   pub record HasEnded (meaning : P → ℕ → ℕ → Meaning) (r : Rows P)
       (says : ℕ → Local → Record → List ℕ → LineEnd → Type 0) (p : Published P)
       (e : Ended P) : Type 0 where

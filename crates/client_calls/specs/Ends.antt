@@ -34,8 +34,8 @@ SaysJudged object n l r cut (Error r' cut') = (r' ≡ r) × (cut' ≡ cut)
 abbrev pub SaysDeferred : Sequential → ℕ → Local → Record → List ℕ → LineEnd → Type 0
 SaysDeferred object n l r cut end = end ≡ Unchecked r
 
--- The end of a line says how far its call has come; where the call has seen a cut, it says this of
--- the record and the cut.
+-- The end of a line says how far its call has come; where the call has seen a cut, the end is as
+-- `says` says of the record and the cut.
 abbrev pub EndsAs : (Record → List ℕ → LineEnd → Type 0) → Reached → LineEnd → Type 0
 EndsAs says Is_announced end = end ≡ Pending
 EndsAs says (Has_record r) end = end ≡ Unchecked r
@@ -51,8 +51,8 @@ pub record IsLineOf (says : Record → List ℕ → LineEnd → Type 0) (call : 
 abbrev pub AreLinesOfCalls : (Record → List ℕ → LineEnd → Type 0) → List Made → List Line → Type 0
 AreLinesOfCalls says calls own = AllZip (IsLineOf says) calls own
 
--- What a client leaves whose calls end by some ending, for its operations and its allotment, in its
--- caller's local and its lines: the lines are those of all its calls, and it made all phases of its
+-- What a client leaves, in its caller's local and its lines, for its operations and its allotment:
+-- the lines are those of all its calls, with ends as `says` says, and it made all phases of its
 -- allotment, but for those after an error.
 pub record HasLeft (says : ℕ → Local → Record → List ℕ → LineEnd → Type 0) (n : ℕ)
     (operations : List ℕ) (allotment : ℕ) (l : Local) (own : List Line) : Type 0 where
@@ -61,7 +61,7 @@ pub record HasLeft (says : ℕ → Local → Record → List ℕ → LineEnd →
   pub keeps : KeepsTo allotment own
 
 -- A client has left its caller's local and its lines with p phases made: exactly those that its
--- lines tell of.
+-- lines determine.
 pub record HasLeftAt (says : ℕ → Local → Record → List ℕ → LineEnd → Type 0) (n : ℕ)
     (operations : List ℕ) (allotment p : ℕ) (l : Local) (own : List Line) : Type 0 where
   pub left : HasLeft says n operations allotment l own

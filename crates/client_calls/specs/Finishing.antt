@@ -1,4 +1,4 @@
--- What a client leaves that is finished.
+-- What a finished client leaves.
 use Rattle.std.specs.Prelude.{◌≡◌, ◌≢◌, ℕ, ◌%◌, true, false, Bool, IsTrue, List, [], Option, Some, None, length}
 use Rattle.book_base.specs.declared.call.Record.{Record}
 use Rattle.world_core.specs.Shape.{Meaning}
@@ -18,30 +18,30 @@ use Rattle.client_calls.specs.Clients.{Spent}
 use Rattle.client_calls.specs.declared.stand.CallerState.{CallerState}
 use Rattle.client_calls.specs.declared.stand.CallerState.TheVariants.{Idle, Announced, Answered, Viewed, Published, Halted, Unjudged}
 
--- What is kept of the call under way of a caller i that has made this many phases: one that was
--- announced and not asked has no object step, and to one that was asked and has no view its program
--- allows a reply.
+-- What holds of the call under way of a caller i that has made this many phases: where it is
+-- announced and not asked it has no object step yet, and where it is asked and has no view its
+-- program allows a reply.
 pub record KeepsAsked (program : Meaning) (i phases : ℕ) (l : Local) : Type 0 where
   pub unasked : phases % 5 ≡ 1 → steps_now l ≡ []
   pub asked : phases % 5 ≡ 2 → (reply : ℕ) × IsTrue (program.may_reply i l reply)
 
--- How a caller is left that has made this many phases: within a call it is halted, and where it is
+-- How a caller that has made this many phases is left: within a call it is halted, and where it is
 -- live it is free for its next call.
 pub record IsLeftStanding (phases : ℕ) (l : Local) (stance : Stance) : Type 0 where
   pub within : phases % 5 ≢ 0 → stance.live ≡ false
   pub between : stance.live ≡ true → IsIdle l × (stance ≡ fresh_stance)
 
 module _ {P : Type 0} where
-  -- How a caller stands that is left there: as it stood where no call of it is under way, and else
-  -- halted.
+  -- The stance of a caller that is left in this state: as it is where no call of the caller is
+  -- under way, and else halted.
   abbrev pub stance_left : CallerState P → Stance
   stance_left (Idle c) = stance_of c
   stance_left (Halted c) = stance_of c
   stance_left (Unjudged u) = stance_of u.caller
   stance_left s = record (stance_of (caller_at s)) { live = false }
 
-  -- The end of the line of a call that its caller leaves there: pending without its record, and
-  -- unchecked with it.
+  -- The end of the line of a call whose caller is left in this state: pending without the call's
+  -- record, and unchecked with it.
   abbrev pub end_at : CallerState P → Option LineEnd
   end_at (Idle c) = None
   end_at (Announced a) = Some Pending
@@ -56,9 +56,9 @@ module _ {P : Type 0} where
   is_unjudged (Unjudged u) = true
   is_unjudged _ = false
 
-  -- A client that stands there after these lines leaves this local and its lines, whatever
-  -- allotment it has spent, and has made the phases that they tell of. Nothing is said of lines
-  -- where memory was wanted.
+  -- A client in this state after these lines leaves this local and its lines, whatever allotment it
+  -- has spent, and has made the phases that the lines determine. Nothing is said of lines where
+  -- memory was wanted.
   abbrev pub Leaves : (ℕ → Local → Record → List ℕ → LineEnd → Type 0) → ℕ → List ℕ → CallerState P
       → List Line → Local → List Line → Type 0
   Leaves says n operations s before l own =

@@ -6,11 +6,10 @@ use Rattle.enforcer.specs.Lines.{StandsIn}
 use Rattle.client_calls.specs.Ends.{Sequential}
 use Rattle.client_calls.specs.declared.sheet.Sheet.{Sheet}
 
--- What is kept of an order stands for a sequential object in the book that is kept, where there is
--- one.
+-- A kept order stands for a sequential object in the kept book, where there is one.
 abbrev pub StandsBy : Sequential → Option Gathered → Option KeptOrder → Type 0
 StandsBy object gathered standing = StandsIn object.init object.next gathered standing
 
--- What a client's sheet keeps of an order stands for a sequential object in the book that it keeps.
+-- The kept order of a client's sheet stands for a sequential object in the kept book of that sheet.
 abbrev pub KeepsStanding : {E : Type 0} → Sequential → Sheet E → Type 0
 KeepsStanding object sheet = StandsBy object sheet.gathered sheet.standing

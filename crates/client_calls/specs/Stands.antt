@@ -1,4 +1,4 @@
--- Where a caller stands between two phases.
+-- The state of a caller between two phases.
 use Rattle.std.specs.Prelude.{◌≡◌, ℕ, ◌+◌, ◌*◌, false, List, [], ◌∷◌, length}
 use Rattle.world_core.specs.Shape.{Meaning}
 use Rattle.world_core.specs.Local.{Local}
@@ -14,7 +14,7 @@ use Rattle.client_calls.specs.declared.stand.CallerState.{CallerState}
 use Rattle.client_calls.specs.declared.stand.CallerState.TheVariants.{Idle, Announced, Answered, Viewed, Published, Halted, Unjudged}
 
 module _ {P : Type 0} where
-  -- The caller that stands there.
+  -- The caller that is in this state.
   abbrev pub caller_at : CallerState P → Caller P
   caller_at (Idle c) = c
   caller_at (Announced a) = caller_announced a
@@ -24,7 +24,7 @@ module _ {P : Type 0} where
   caller_at (Halted c) = c
   caller_at (Unjudged u) = u.caller
 
-  -- The local of the caller that stands there.
+  -- The local of the caller that is in this state.
   abbrev pub local_at_stand : CallerState P → Local
   local_at_stand s = local_with (caller_at s)
 
@@ -39,7 +39,7 @@ module _ {P : Type 0} where
   place_of (Halted c) = 0
   place_of (Unjudged u) = 5
 
-  -- How many phases a caller has made that stands there, after this many lines.
+  -- How many phases a caller in this state has made, after this many lines.
   abbrev pub phases_at : ℕ → CallerState P → ℕ
   phases_at lines s = 5 * lines + place_of s
 
@@ -60,8 +60,8 @@ module _ {P : Type 0} where
   under_way op (Unjudged u) =
       record { operation = op; reached = Has_seen (record_unjudged u) u.seen } ∷ []
 
-  -- The next phase can be made, of a call with this operation: one that is announced has no object
-  -- step yet, and of one that was asked the program allows the reply.
+  -- The next phase of a call with this operation can be made: a call that is announced has no
+  -- object step yet, and to a call that was asked the program allows the reply.
   abbrev pub MayGoOn : (P → ℕ → ℕ → Meaning) → Rows P → ℕ → CallerState P → Type 0
   MayGoOn meaning r op (Idle c) = IsFree c
   MayGoOn meaning r op (Announced a) = (op_announced a ≡ op) × (steps_now (announced_local a) ≡ [])
@@ -72,7 +72,7 @@ module _ {P : Type 0} where
   MayGoOn meaning r op (Halted c) = (stance_of c).live ≡ false
   MayGoOn meaning r op (Unjudged u) = (stance_of u.caller).live ≡ false
 
-  -- The caller makes further phases: it isn't halted.
+  -- The caller can make further phases: it isn't halted.
   abbrev pub GoesOnFrom : CallerState P → Type 0
   GoesOnFrom (Halted c) = ⊥
   GoesOnFrom (Unjudged u) = ⊥

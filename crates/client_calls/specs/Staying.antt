@@ -1,4 +1,4 @@
--- What the ends of lines say stays so while their caller goes on.
+-- What the ends of lines say stays true as their caller makes further steps.
 use Rattle.std.specs.Prelude.{ℕ, List}
 use Rattle.book_base.specs.declared.call.Record.{Record}
 use Rattle.world_core.specs.Local.{Local}

@@ -1,4 +1,4 @@
--- What a client leaves that judges its calls.
+-- What a client that judges its calls leaves.
 use Rattle.std.specs.Prelude.{ℕ, List}
 use Rattle.world_core.specs.Local.{Local}
 use Rattle.report_lines.specs.declared.line.Line.{Line}

@@ -13,14 +13,14 @@ use world_core::Program;
 /// How a client asks for the reply to an announced call: an object outside the world, or one inside
 /// it whose steps its callers make.
 pub trait Asks {
-    /// The program of the world.
+    /// The program of the rows' world.
     type Program: Program;
 
-    /// What one caller holds to ask.
+    /// What one caller holds to ask the object.
     type Pass;
 
-    /// The rows whose callers may ask: of an object inside the world those that it makes its steps
-    /// on.
+    /// The rows whose callers may ask: for an object inside the world those on which it makes its
+    /// steps.
     ghost serves: { Self → TheRows Self.Program → Type 0 };
 
     /// Whom a pass fits: for how many callers and which cap, the caller's number, and the object
@@ -30,14 +30,14 @@ pub trait Asks {
     /// What a pass counts of its calls, where it counts them.
     ghost count: { Self.Pass → Option PassCount } = { λ pass. None };
 
-    /// Asks once, and keeps the reply, which the program allows. The caller comes no further with
-    /// its calls.
+    /// Asks once, and keeps the reply, which the program allows. The caller makes no further phase
+    /// than this one.
     fn ask(
         &self,
         announced: Announced<Self::Program>,
         pass: &mut Self::Pass,
     ) -> Answered<Self::Program>
-        // The caller is one of some table that these passes serve.
+        // The caller is one of some table whose callers may ask the object.
         requires table { (r : TheRows Self.Program) × serves self.now r
             × IsCallerOf Self.Program.meaning r (caller_announced announced) }
         // The announced call has made no object step.
@@ -48,7 +48,8 @@ pub trait Asks {
         requires left { HasCallLeft (count pass.old) }
         // The answered call is of the same caller.
         ensures who { who_of (caller_answered result) ≡ who_announced announced }
-        // The caller is still one of each table that it was one of, and that these passes serve.
+        // The caller is still one of each table that it was one of, and whose callers may ask the
+        // object.
         ensures rows { (r : TheRows Self.Program) → serves self.now r
             → IsCallerOf Self.Program.meaning r (caller_announced announced)
             → IsCallerOf Self.Program.meaning r (caller_answered result) }
@@ -57,7 +58,7 @@ pub trait Asks {
         // The program allows the caller the reply, by its local.
         ensures allowed { MayGet Self.Program.meaning (caller_answered result)
             (reply_answered result) }
-        // The caller has come no further with its calls: at the most it has more object steps.
+        // The caller's progress is as before, but for object steps.
         ensures calls { ComesNoFurther (announced_local announced) (answered_local result) }
         // The caller's local has each look, peek and cut that it had before.
         ensures grows { Grows (announced_local announced) (answered_local result) }
@@ -67,8 +68,8 @@ pub trait Asks {
         ensures count { count pass.new
             ≡ count_after (op_announced announced) (reply_answered result) (count pass.old) };
 
-    /// What a client does before each of its phases in a run: nothing, unless an impl gives the
-    /// thread away there, so that callers meet who else would miss each other. It is handed neither
-    /// rows nor a caller, so whatever it does, a run stays one that its contract allows.
+    /// What a client does before each of its phases in a run: nothing, unless an impl yields the
+    /// thread there, so that calls overlap which else would not. It is handed neither rows nor a
+    /// caller, so whatever it does, a run stays one that its contract allows.
     fn pause(&self) {}
 }

@@ -15,8 +15,8 @@ use row_table::{Rows, Steps};
 use std::sync::ledger::Ledger;
 use world_core::Program;
 
-/// A caller at work: where it stands, the pass by which it asks, and its sheet, which keeps the
-/// book that this caller gathered last.
+/// A caller at work: its state, the pass by which it asks, and its sheet, which keeps the book that
+/// this caller gathered last.
 pub struct Client<'a, P, T, E> {
     pub stand: CallerState<P>,
     pub pass: T,
@@ -35,7 +35,7 @@ impl<'a, P: Program, T, E: Ending> Client<'a, P, T, E> {
     ghost use Rattle.client_calls.specs.Finishing.{is_unjudged, KeepsAsked, IsLeftStanding, Leaves};
     ghost use Rattle.client_calls.specs.Clients.{phases_by, HasSpent, IsUnderWay, HasPass, HasCapacity, IsSameClient};
 
-    /// Makes the next phase of the caller: announces its next operation, asks, takes the view,
+    /// Makes the next phase of the caller: it announces its next operation, asks, takes the view,
     /// publishes, or ends the call.
     ///
     /// The caller isn't halted, and has a phase left: five for each operation.
@@ -48,13 +48,13 @@ impl<'a, P: Program, T, E: Ending> Client<'a, P, T, E> {
         // phases that it has made.
         requires course { IsUnderWay P.meaning shared.now.rows.now
             (E.says (E.object self.sheet.ending)) self }
-        // The passes serve these rows.
+        // These rows are those whose callers may ask the object.
         requires serves { A.serves shared.now.asks.now shared.now.rows.now }
         // The client's pass fits its caller, and has counted its calls, where it counts them.
         requires pass { HasPass (A.fits shared.now.asks.now) A.count self }
         // There is a row and capacity for a line for each operation.
         requires room { HasCapacity shared.now.rows.now self }
-        // What the sheet keeps of an order stands for the object in the book that it keeps.
+        // The kept order of the sheet stands for the object in the kept book of the sheet.
         requires standing { KeepsStanding (E.object self.sheet.ending) self.sheet }
         // The client's caller isn't halted.
         requires goes { GoesOnFrom self.stand }
@@ -70,9 +70,10 @@ impl<'a, P: Program, T, E: Ending> Client<'a, P, T, E> {
         ensures pass { HasPass (A.fits shared.now.asks.now) A.count result }
         // There still is a row and capacity for a line for each operation.
         ensures room { HasCapacity shared.now.rows.now result }
-        // What the sheet keeps of an order still stands for the object in the book that it keeps.
+        // The kept order of the sheet still stands for the object in the kept book of the sheet.
         ensures standing { KeepsStanding (E.object result.sheet.ending) result.sheet }
-        // The client has the same caller and operations, and no less capacity for lines.
+        // The client has the same caller and operations, and at least the capacity for lines that
+        // it had.
         ensures same { IsSameClient self.entry result }
         // The sequential object of the client's ending stays.
         ensures object { E.object result.sheet.ending ≡ E.object self.entry.sheet.ending }
@@ -97,9 +98,10 @@ impl<'a, P: Program, T, E: Ending> Client<'a, P, T, E> {
         Client { stand, pass, sheet }
     }
 
-    /// Makes this many further phases, or, where the caller is halted before, those up to there.
+    /// Makes this many further phases, or, where the caller halts before, those up to there.
     ///
-    /// There are five phases for each operation, and they are enough.
+    /// There are five phases for each operation, and the operations have as many phases left as are
+    /// to be made.
     pub fn run<A: Asks<Program = P, Pass = T>, L: Ledger>(
         self,
         shared: &Shared<A, P>,
@@ -110,19 +112,19 @@ impl<'a, P: Program, T, E: Ending> Client<'a, P, T, E> {
         // phases that it has made.
         requires course { IsUnderWay P.meaning shared.now.rows.now
             (E.says (E.object self.sheet.ending)) self }
-        // The passes serve these rows.
+        // These rows are those whose callers may ask the object.
         requires serves { A.serves shared.now.asks.now shared.now.rows.now }
         // The client's pass fits its caller, and has counted its calls, where it counts them.
         requires pass { HasPass (A.fits shared.now.asks.now) A.count self }
         // There is a row and capacity for a line for each operation.
         requires room { HasCapacity shared.now.rows.now self }
-        // What the sheet keeps of an order stands for the object in the book that it keeps.
+        // The kept order of the sheet stands for the object in the kept book of the sheet.
         requires standing { KeepsStanding (E.object self.sheet.ending) self.sheet }
         // The client's caller isn't halted.
         requires goes { GoesOnFrom self.stand }
-        // The client's operations have that many phases more.
+        // The client's operations have at least this many phases left.
         requires left { phases_by self + count ≤ 5 * length self.sheet.operations.now }
-        // The client has made these phases, or was halted before.
+        // The client has made these phases, or was halted within them.
         ensures spent { HasSpent (phases_by self.entry + count) result }
         // The client's caller is still one of these rows, and its lines and its local are those of
         // the phases that it has made.
@@ -132,9 +134,10 @@ impl<'a, P: Program, T, E: Ending> Client<'a, P, T, E> {
         ensures pass { HasPass (A.fits shared.now.asks.now) A.count result }
         // There still is a row and capacity for a line for each operation.
         ensures room { HasCapacity shared.now.rows.now result }
-        // What the sheet keeps of an order still stands for the object in the book that it keeps.
+        // The kept order of the sheet still stands for the object in the kept book of the sheet.
         ensures standing { KeepsStanding (E.object result.sheet.ending) result.sheet }
-        // The client has the same caller and operations, and no less capacity for lines.
+        // The client has the same caller and operations, and at least the capacity for lines that
+        // it had.
         ensures same { IsSameClient self.entry result }
         // The sequential object of the client's ending stays.
         ensures object { E.object result.sheet.ending ≡ E.object self.entry.sheet.ending }
@@ -150,8 +153,8 @@ impl<'a, P: Program, T, E: Ending> Client<'a, P, T, E> {
         client
     }
 
-    /// Stops the caller where it stands, and puts the line of a call under way after the others:
-    /// pending, or unchecked where it has its record.
+    /// Stops the caller, and puts the line of a call under way after the others: pending, or
+    /// unchecked where the call has its record.
     ///
     /// A call that wasn't judged for want of memory has no line.
     pub fn finish(self, _rows: &Rows<P>) -> Finished<P, T, E>
@@ -180,8 +183,8 @@ impl<'a, P: Program, T, E: Ending> Client<'a, P, T, E> {
         // Within a call the caller is halted, and where it is live it is free for its next call.
         ensures standing { IsLeftStanding (phases_by self.entry) (local_with result.caller)
             (stance_of result.caller) }
-        // Between two calls, without an error and where memory wasn't wanted, the caller stands as
-        // at the start.
+        // Between two calls, without an error and where memory wasn't wanted, the caller's stance
+        // is that at the start.
         ensures free { is_unjudged self.entry.stand ≡ false → any_error result.lines.items ≡ false
             → phases_by self.entry % 5 ≡ 0 → stance_of result.caller ≡ fresh_stance }
         // Where memory wasn't wanted, the lines that are left are those of the phases that the

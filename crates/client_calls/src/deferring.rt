@@ -11,7 +11,8 @@ use row_table::{Rows, Steps};
 use std::sync::ledger::Ledger;
 use world_core::Program;
 
-/// Judges no call: each line is unchecked, with the record of its call, and its caller goes on.
+/// The ending that judges no call: each line is unchecked, with the record of its call, and its
+/// caller is free for the next call.
 #[derive(Debug, Drop)]
 pub struct Deferring;
 

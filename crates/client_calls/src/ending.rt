@@ -18,20 +18,20 @@ use row_table::{Rows, Steps};
 use std::sync::ledger::Ledger;
 use world_core::Program;
 
-/// How the calls of a client end, once a cut was seen for them: by a judgement, or without one.
+/// How the calls of a client end, once a cut was seen for them: with a judgement, or without one.
 pub trait Ending {
-    /// The sequential object that it judges by, where it judges.
+    /// The sequential object that the ending judges by, where it judges.
     ghost object: { Self → Sequential };
 
-    /// What the end of a line says, by that object: of a caller of `n` with this local, and of the
-    /// record and the seen cut of the call.
+    /// What the end of a line says, by the sequential object, for a number of callers: of a
+    /// caller's local, and of the record and the seen cut of the call.
     ghost says: { Sequential → ℕ → Local → Record → List ℕ → LineEnd → Type 0 };
 
-    /// Ends a call for which a cut was seen. The caller comes no further with its calls, and is
-    /// halted after an error, and where memory is wanted.
+    /// Ends a call for which a cut was seen. The caller's progress stays, and it is halted after an
+    /// error, and where memory is wanted.
     ///
-    /// `gathered` is what the caller has gathered before, or `None`, and `standing` what stands of
-    /// an order in it; and afterwards what is kept for its next call.
+    /// `gathered` is the book that the caller has gathered before, or `None`, and `standing` what
+    /// stands of an order in it. Afterwards they are what is kept for its next call.
     fn end<P: Program, L: Ledger>(
         &mut self,
         rows: &Rows<P>,
@@ -44,21 +44,22 @@ pub trait Ending {
         requires rows { IsCallerOf P.meaning rows.now (caller_seen seen) }
         // The caller has peeked each word of the book that was gathered before, where there is one.
         requires gathered { IsGatheredBy (local_with (caller_seen seen)) gathered.old }
-        // What is kept of an order stands for the object in the book that was gathered before.
+        // The kept order stands for the object in the book that was gathered before.
         requires standing { StandsBy (object self.old) gathered.old standing.old }
         // The sequential object of the ending stays.
         ensures object { object self.new ≡ object self.old }
         // The caller is still one of these rows, with the same number.
         ensures caller { IsStill P.meaning rows.now (caller_seen seen) (caller_ended result) }
-        // The caller has come no further with its calls.
+        // The caller's progress is as before.
         ensures progress { progress_of (local_ended result)
             ≡ progress_of (local_with (caller_seen seen)) }
         // The caller's local has each look, peek and cut that it had before.
         ensures grows { Grows (local_with (caller_seen seen)) (local_ended result) }
-        // A caller that goes on is free for its next call, and one that is halted or wants memory
-        // makes no calls.
+        // The caller is free for its next call after a call that is no error, and makes no further
+        // calls after an error and where memory was wanted.
         ensures stands { StandsAfter result }
-        // A caller that goes on has no error, and one that is halted has one.
+        // A caller that is free for its next call has no error, and one that is halted at an error
+        // has one.
         ensures error { FitsError result }
         // What the ending says is said of the record, the seen cut and the line's end, and where
         // memory was wanted the record and the cut are handed back.
@@ -66,15 +67,15 @@ pub trait Ending {
             (cut_seen seen) result }
         // The caller has peeked each word of the book that is gathered now, where there is one.
         ensures kept { IsGatheredBy (local_ended result) gathered.new }
-        // What is kept of an order now stands for the object in the book that is gathered now.
+        // The order that is kept now stands for the object in the book that is gathered now.
         ensures standing { StandsBy (object self.new) gathered.new standing.new };
 
-    /// The same ending, for another caller.
+    /// An ending of this kind for another caller.
     fn another(&self) -> Self
-        // The ending judges by the same sequential object.
+        // The answered ending judges by the same sequential object.
         ensures { object result ≡ object self.now };
 
-    /// What the end of a line says stays so while the caller goes on.
+    /// What the end of a line says stays true as the caller makes further steps.
     ghost stays: { (o : Sequential) (n : ℕ) (l m : Local) (r : Record) (cut : List ℕ)
         (end : LineEnd) → Grows l m → says o n l r cut end → says o n m r cut end };
 }

@@ -1,8 +1,8 @@
 use report_lines::Line;
 use row_table::Caller;
 
-/// A client that is finished: its caller, with its local as it is, its pass, its lines and its
-/// ending; and whether its last call wasn't judged for want of memory.
+/// A finished client: its caller, with its local as it is, its pass, its lines and its ending; and
+/// whether its last call wasn't judged for want of memory.
 pub struct Finished<P, T, E> {
     pub caller: Caller<P>,
     pub pass: T,

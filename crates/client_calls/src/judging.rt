@@ -13,14 +13,14 @@ use std::alloc::Global;
 use std::sync::ledger::Ledger;
 use world_core::Program;
 
-/// Judges each call by a sequential object.
+/// The ending that judges each call by a sequential object.
 #[derive(Drop)]
 pub struct Judging<'a, S> {
     pub alloc: Global,
     pub sequential: &'a S,
 }
 
-// How a call has ended whose line ends so.
+// Ends the call of this caller with this end of its line.
 fn ended_by<P: Program>(caller: Caller<P>, end: LineEnd) -> Ended<P>
     ensures { IsEndedBy caller end result }
 {

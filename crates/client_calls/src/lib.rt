@@ -1,4 +1,5 @@
-//! Callers at work, phase by phase: each asks its object, and its calls end as their ending says.
+//! Callers at work, phase by phase: each asks its object, and each of its calls ends as its ending
+//! says.
 #![tactic(auto)]
 
 mod asks;

@@ -35,7 +35,8 @@ impl<B: BlackBox> Asks for OutsideObject<'_, B> {
         requires left { B.Pass.made pass.old < B.Pass.cap pass.old }
         // The answered call is of the same caller.
         ensures who { who_of (caller_answered result) ≡ who_announced announced }
-        // The caller is still one of each table that it was one of, and that these passes serve.
+        // The caller is still one of each table that it was one of, and whose callers may ask the
+        // object.
         ensures rows { (r : TheRows Outside) → Unit {0}
             → IsCallerOf ⟦<Outside as Program>⟧.meaning r (caller_announced announced)
             → IsCallerOf ⟦<Outside as Program>⟧.meaning r (caller_answered result) }
@@ -44,7 +45,7 @@ impl<B: BlackBox> Asks for OutsideObject<'_, B> {
         // The program allows the caller the reply, by its local.
         ensures allowed { MayGet ⟦<Outside as Program>⟧.meaning (caller_answered result)
             (reply_answered result) }
-        // The caller has come no further with its calls: at the most it has more object steps.
+        // The caller's progress is as before, but for object steps.
         ensures calls { ComesNoFurther (announced_local announced) (answered_local result) }
         // The caller's local has each look, peek and cut that it had before.
         ensures grows { Grows (announced_local announced) (answered_local result) }

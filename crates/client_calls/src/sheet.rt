@@ -17,13 +17,14 @@ use row_table::{Rows, Steps};
 use std::sync::ledger::Ledger;
 use world_core::Program;
 
-/// What a client works off: whose it is, the operations of that caller, and a line for each call
-/// that has ended, by this ending. There is room for a line for each operation.
+/// What a client works with: whose it is, the operations of its caller, and a line for each call
+/// that has ended, by this ending, with capacity for a line for each operation.
 ///
-/// The book that the caller gathered last is kept from call to call, so that the next one is grown
-/// from it, and so is what stands of its order. There is none before the first call that is judged,
-/// after an error, and where memory was wanted. Forgetting them would cost time alone, so no clause
-/// says that they are kept; the book that is kept is the caller's own (`Client`).
+/// The book that the caller gathered last is kept from call to call, so that the next one grows
+/// from it, and so is what stands of its order. Neither is kept before the first call that is
+/// judged, after an error, and where memory was wanted. Forgetting them would cost time alone, so
+/// no clause says that they are kept; the kept book is one that the caller itself gathered
+/// (`Client`).
 pub struct Sheet<'a, E> {
     pub who: u32,
     pub operations: &'a [OpWord],
@@ -33,7 +34,7 @@ pub struct Sheet<'a, E> {
     pub standing: Option<KeptOrder>,
 }
 
-// Puts the line of a call that has ended after those of its caller, where it has one.
+// Puts the line of a call that has ended after the caller's other lines, where the call has a line.
 fn noted<P: Program>(ended: Ended<P>, op: OpWord, lines: &mut Vec<Line>) -> CallerState<P>
     requires { vec_len lines.old < vec_capacity lines.old }
     ensures noted { IsNoted op lines.old.items ended lines.new.items result }
@@ -63,7 +64,7 @@ impl<'a, E> Sheet<'a, E> {
 }
 
 impl<'a, E: Ending> Sheet<'a, E> {
-    // Sees a cut for a call whose record is published, and ends it.
+    // Sees a cut for a call whose record is published, and ends the call.
     pub(crate) fn end_call<P: Program, L: Ledger>(
         &mut self,
         rows: &Rows<P>,

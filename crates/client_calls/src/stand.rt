@@ -5,21 +5,21 @@ use report_lines::LineEnd;
 use row_table::Caller;
 use world_core::Outside;
 
-/// Where a caller stands between two of its phases.
+/// The state of a caller between two of its phases.
 pub enum CallerState<P = Outside> {
-    /// Between two calls.
+    /// The caller is between two calls.
     Idle(Caller<P>),
-    /// The call is announced.
+    /// The call under way is announced.
     Announced(Announced<P>),
-    /// The object has answered it.
+    /// The object has answered the call under way.
     Answered(Answered<P>),
-    /// The call has its view, and so its record.
+    /// The call under way has its view, and so its record.
     Viewed(Viewed<P>),
-    /// The record is published.
+    /// The record of the call under way is published.
     Published(Published<P>),
-    /// Halted after an error.
+    /// The caller is halted after an error.
     Halted(Caller<P>),
-    /// Halted, and its last call isn't judged for want of memory.
+    /// The caller is halted, and its last call isn't judged for want of memory.
     Unjudged(Unjudged<P>),
 }
 
@@ -30,7 +30,7 @@ impl<P> CallerState<P> {
     ghost use Rattle.client_calls.specs.Stands.{caller_at, GoesOnFrom};
     ghost use Rattle.client_calls.specs.Finishing.{end_at, is_unjudged, stance_left};
 
-    /// Whether the caller makes further phases: it isn't halted.
+    /// Whether the caller can make further phases: it isn't halted.
     pub fn goes_on(&self) -> bool
         ensures { IsTrue result ↔ GoesOnFrom self.now }
     {
@@ -52,8 +52,8 @@ impl<P> CallerState<P> {
     pub fn stop(self) -> (Caller<P>, Option<LineEnd>)
         // The caller keeps its number and its local, and is still one of its rows.
         ensures caller { IsSame (caller_at self) result.0 }
-        // The line of a call under way ends pending without its record, and unchecked with it; else
-        // no line is left.
+        // The line of a call under way ends pending without the call's record, and unchecked with
+        // it; where no call is under way, no line is left.
         ensures end { result.1 ≡ end_at self }
         // The caller's stance stays where no call of it is under way, and else the caller is
         // halted.

@@ -26,7 +26,7 @@ module _ {P : Type 0} (meaning : P → ℕ → ℕ → Meaning) (program : P) (r
       → IsLinearizable init next (history_of (shape_with (meaning p) r.callers r.cap) steps))
       (sym opened.program_is) (linearizes r.callers r.cap)
 
-  -- so no line is an error, since the lines are those of a run
+  -- no line is an error, since the lines are those of a run
   pub no_line_is_an_error : (operations : List (List ℕ)) (allotments : List ℕ)
       (lines : List (List Line))
       → IsLawful init next (shape_of meaning r) operations allotments lines

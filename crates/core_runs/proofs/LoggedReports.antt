@@ -1,4 +1,4 @@
--- What the runs of an object inside the world say of a report of its callers.
+-- What the runs of an object inside the world determine of a report of its callers.
 use Rattle.std.proofs.Common.{◌≡◌, ◌∙◌, sym, subst, ap, ℕ, ◌<◌, List, [], length, map, take, slice_index_or, arith}
 use Rattle.std.specs.List.{All}
 use Rattle.std.proofs.Math.ListN.{get_or-map}
@@ -25,7 +25,7 @@ use Rattle.logged_calls.proofs.OneWordReplies.{runs_of_tallies_are_formed, runs_
 use Rattle.run_report.specs.Reporting.{IsReportOf}
 use Rattle.core_runs.specs.LoggedReports.{phases_in, calls_of_lines, ReportsOfLogsAreLogged, ReportsOfTalliesAreFormed, ReportsOfCellsAreFormed}
 
--- calls that are in one log are so under another count of callers and another name
+-- calls that are in one log are in it also for an equal number of callers and equal lists of calls
 logged_as : (answer : List Entry → ℕ) (n m : ℕ) (phases : ℕ → ℕ) (calls others : ℕ → List Made)
     → m ≡ n → ((i : ℕ) → calls i ≡ others i)
     → IsLoggedBy answer n phases calls → IsLoggedBy answer m phases others

@@ -10,7 +10,7 @@ use Rattle.core_objects.specs.CoreObjects.{shape_with, AreOpenedWith, ArePassesF
 use Rattle.run_report.specs.Reporting.{IsReportOf}
 
 module _ {P : Type 0} (r : Rows P) (n cap : ℕ) (callers : r.callers ≡ n) (most : r.cap ≡ cap) where
-  -- rows that were opened with a program were opened with the object's, where it is the same
+  -- rows that were opened with a program were opened with the object's, where the two are equal
   pub opened_with : (meaning : P → ℕ → ℕ → Meaning) (p q : P) → r.program ≡ p
       → r.objects ≡ (meaning p n cap).objects → p ≡ q → AreOpenedWith meaning q r
   opened_with meaning p q program objects same = record {

@@ -1,5 +1,5 @@
--- The passes of the callers of an object inside the world: whom they fit, on the rows and as
--- clients ask.
+-- The passes of the callers of an object inside the world: whom they fit, by the rows and in the
+-- order of arguments that clients use.
 use Rattle.std.proofs.Common.{◌≡◌, ◌∙◌, sym, subst, ap, ℕ, List, length}
 use Rattle.std.specs.Prelude.{None}
 use Rattle.world_core.specs.Local.{Local, Object_step}
@@ -11,14 +11,14 @@ use Rattle.client_calls.specs.Asking.{ComesNoFurther}
 use Rattle.script_workers.specs.Starts.{AreFreshPasses}
 use Rattle.core_runs.specs.Inside.{fits_inside}
 
--- a caller that has made some object steps more has come no further with its calls
+-- the progress of a caller that has made some more object steps is as before, but for these
 pub comes_no_further : (l m : Local) (steps : List Object_step)
     → progress_of m ≡ after_steps steps (progress_of l) → ComesNoFurther l m
 comes_no_further l m steps made =
     made ∙ ap (λ (all : List Object_step). record (progress_of l) { steps = all })
     (sym (ap (λ (p : Progress). p.steps) made))
 
--- and has found what it had found
+-- a caller that has made some more object steps has still found what it had found
 pub grows_by_steps : (l m : Local) (steps : List Object_step) → m ≡ with_steps l steps → Grows l m
 grows_by_steps l m steps made =
     subst (λ (x : Local). Grows l x) (sym made)

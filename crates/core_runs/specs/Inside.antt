@@ -6,7 +6,8 @@ use Rattle.row_table.specs.declared.rows.Rows.{Rows}
 use Rattle.core_objects.specs.CoreObjects.{AreOpenedWith}
 use Rattle.client_calls.specs.Asking.{Fits}
 
--- Whom a pass fits, as clients ask it: the number of callers and the cap come first.
+-- Whom a pass fits, in the order of arguments that clients use: the number of callers and the cap
+-- come first.
 abbrev pub fits_inside : {T : Type 0} → (T → ℕ → ℕ → ℕ → List Object_step → Type 0) → Fits T
 fits_inside fits n cap pass who steps = fits pass who n cap steps
 

@@ -14,10 +14,11 @@ use Rattle.lawful_objects.specs.Forms.{IsTallyReply, IsCellReply}
 use Rattle.logged_calls.specs.Logged.{IsLoggedBy, AreFormed}
 use Rattle.run_report.specs.Reporting.{IsReportOf}
 
--- How many phases each caller of a report has made, and the calls of its lines.
+-- How many phases each caller of a report has made.
 abbrev pub phases_in : List ℕ → Findings → ℕ → ℕ
 phases_in allotments findings i = phases_of (slice_index allotments i) (lines_at findings.lines i)
 
+-- The calls of the lines of each caller of a report.
 abbrev pub calls_of_lines : Findings → ℕ → List Made
 calls_of_lines findings i = map made_of (lines_at findings.lines i)
 
@@ -32,8 +33,7 @@ ReportsOfLogsAreLogged =
     → IsLoggedBy (last_reply next init) (length findings.lines) (phases_in allotments findings)
     (calls_of_lines findings)
 
--- The reply of each answered call of a report over a tally has a tally's form, and over a cell a
--- cell's.
+-- The reply of each answered call of a report over a tally has the form of a tally's replies.
 abbrev pub ReportsOfTalliesAreFormed : Type 0
 ReportsOfTalliesAreFormed =
     (first : List ℕ) (step : List ℕ → ℕ → List ℕ × ℕ) (n cap : ℕ) (locals : List Local)
@@ -41,6 +41,7 @@ ReportsOfTalliesAreFormed =
     → IsReportOf first step (one_word_shape n cap tally) locals plan allotments findings
     → AreFormed IsTallyReply (length findings.lines) (calls_of_lines findings)
 
+-- The reply of each answered call of a report over a cell has the form of a cell's replies.
 abbrev pub ReportsOfCellsAreFormed : Type 0
 ReportsOfCellsAreFormed =
     (first : List ℕ) (step : List ℕ → ℕ → List ℕ × ℕ) (n cap : ℕ) (locals : List Local)

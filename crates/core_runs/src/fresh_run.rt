@@ -25,8 +25,8 @@ use std::thread::Threads;
 /// one can be had, and answers their report, which is lawful and has no error line. The table of
 /// rows is opened for the run, with this cap: how many calls each caller may make.
 ///
-/// Each caller has its pass, with which nothing was asked yet. Want of memory is answered before
-/// the first call, or where a judgement wanted it.
+/// Each caller has its pass, with which the object wasn't asked yet. Want of memory is answered
+/// before the first call, or where a judgement wanted it.
 pub fn run_core_fresh<R: Threads + Sync, O: CoreObject + Sync>(
     rt: &R,
     alloc: Global,
@@ -69,7 +69,7 @@ where
 {
     let (rows, mut bench) = Rows::open(alloc, object.program(), script.callers(), cap)?;
     let report = run_core(rt, alloc, &rows, &mut bench, object, passes, script);
-    // The report stands, also where no memory is left for the words of the closed table.
+    // The report is answered even where no memory is left for the words of the closed table.
     let _world = rows.close(alloc, bench);
     report
 }

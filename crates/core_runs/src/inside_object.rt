@@ -30,7 +30,8 @@ impl<O: CoreObject> Asks for InsideObject<'_, O> {
     ghost fits = { λ asks. fits_inside (O.fits asks.object.now) };
 
     fn ask(&self, announced: Announced<O::P>, pass: &mut O::Pass) -> Answered<O::P>
-        // The caller is one of some table of rows that this object serves, opened with its program.
+        // The caller is one of some table of rows that this object serves, which was opened with
+        // its program.
         requires table { (r : TheRows O.P)
             × Serves O.P.meaning (O.program_of self.now.object.now) self.now.rows.now r
             × IsCallerOf O.P.meaning r (caller_announced announced) }
@@ -50,7 +51,7 @@ impl<O: CoreObject> Asks for InsideObject<'_, O> {
         ensures operation { op_answered result ≡ op_announced announced }
         // The program allows the caller the reply, by its local.
         ensures allowed { MayGet O.P.meaning (caller_answered result) (reply_answered result) }
-        // The caller has come no further with its calls: at the most it has more object steps.
+        // The caller's progress is as before, but for object steps.
         ensures calls { ComesNoFurther (announced_local announced) (answered_local result) }
         // The caller's local has each look, peek and cut that it had before.
         ensures grows { Grows (announced_local announced) (answered_local result) }

@@ -1,5 +1,5 @@
-//! What a report says of the object inside the world that answered its callers. Each law is the
-//! contract of a function with nothing in it.
+//! What a report says of the object inside the world that answered the calls of its callers. Each
+//! law is the contract of a function with nothing in it.
 
 ghost use Rattle.core_runs.specs.LoggedReports.{ReportsOfLogsAreLogged, ReportsOfTalliesAreFormed, ReportsOfCellsAreFormed};
 
@@ -9,10 +9,11 @@ pub fn reports_of_logs_are_logged()
     ensures { ReportsOfLogsAreLogged }
 {}
 
-/// Each reply of a report over a tally has a tally's form, and over a cell a cell's.
+/// Each reply of a report over a tally has the form of a tally's replies, and each of one over a
+/// cell the form of a cell's.
 pub fn reports_of_words_are_formed()
-    // The reply of each answered call of a report over a tally has a tally's form.
+    // The reply of each answered call of a report over a tally has the form of a tally's replies.
     ensures tallies { ReportsOfTalliesAreFormed }
-    // The reply of each answered call of a report over a cell has a cell's form.
+    // The reply of each answered call of a report over a cell has the form of a cell's replies.
     ensures cells { ReportsOfCellsAreFormed }
 {}

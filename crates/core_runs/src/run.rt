@@ -27,9 +27,9 @@ use std::thread::Threads;
 ///
 /// Whatever the answer, the bench holds all callers again, the passes are in their order and fit
 /// the object steps that their callers have made, and each caller has made a prefix of its phases:
-/// all of them where a report is answered, and there each caller that stopped between two calls, or
-/// made all of them, stands free for its next call. Want of memory is answered before the first
-/// call, or where a judgement wanted it.
+/// all of them where a report is answered, and then each caller that stopped between two calls, or
+/// made all of them, is free for its next call. Want of memory is answered before the first call,
+/// or where a judgement wanted it.
 pub fn run_core<R: Threads + Sync, O: CoreObject + Sync>(
     rt: &R,
     alloc: Global,
@@ -45,15 +45,14 @@ where
     O::Pass: Send,
     // The rows were opened with the program of this object.
     requires program { AreOpenedWith O.P.meaning (O.program_of object.now) rows.now }
-    // The rows have just the script's callers and room for their calls, and the bench is theirs and
-    // holds each of these callers, ready and idle, without a call.
+    // The rows have just the script's callers, and capacity for their calls; the bench is that of
+    // the rows and holds each of these callers, ready and idle, without a call.
     requires begins { MayBegin O.P.meaning script.now 0 rows.now bench.old }
     // There is one pass for each caller of the rows, in order, which fits the caller, the number of
     // callers, the cap, and no object steps.
     requires passes { ArePassesFor (O.fits object.now) rows.now.callers rows.now.cap
         passes.old.items }
-    // For every answer.
-    // The bench is still one of these rows, and holds all their callers.
+    // Whatever the answer, the bench is still one of these rows, and holds all their callers.
     ensures bench { IsBenchOf O.P.meaning rows.now bench.new × HoldsAll bench.new }
     // There is one pass for each caller of the script.
     ensures all_passes { vec_len passes.new ≡ length script.now.operations }
@@ -64,16 +63,15 @@ where
         (fits_inside (O.fits object.now)) (λ pass. None) script.now.operations
         (run_allotments script.now)
         bench.new passes.new.items i }
-    // Where a report is answered.
-    // The report is of the script's kind, and its lines are those of the locals on the bench, which
-    // are of one reachable world; they are lawful, and each caller has made just the phases that
-    // its lines tell of.
+    // A report that is answered is of the script's kind, and its lines are those of the locals on
+    // the bench, which are of one reachable world; they are lawful, and each caller has made just
+    // the phases that its lines determine.
     ensures report { IfOk result (λ report. IsReportOf (O.S.init (O.sequential_of object.now))
         (O.S.next (O.sequential_of object.now)) (shape_of O.P.meaning rows.now)
         (locals_on bench.new) script.now
         (run_allotments script.now) report) }
-    // By a report, each caller whose lines have no error and tell that it stopped between two
-    // calls, or made all of them, stands free for its next call.
+    // Where a report is answered, each caller that by its lines has no error and stopped between
+    // two calls, or made all of them, is free for its next call.
     ensures free { IfOk result (λ report. (i : ℕ) → i < length script.now.operations
         → IsFreeAgain bench.new (run_allotments script.now) report i) }
     // No line of a report is an error.

@@ -19,7 +19,7 @@ use Rattle.run_report.specs.Reporting.{outside_shape, IsReportOf, IsCountedIn}
 use Rattle.run_report.proofs.Workers.{counted_told}
 use Rattle.hunts.specs.Hunting.{IsRun, IsMade}
 
--- what is so of an answer by two facts
+-- what follows from two facts holds of an answer that has both
 pub if_ok_both : {X E : Type 0} (result : Result X E) (A B C : X → Type 0)
     → ((x : X) → A x → B x → C x) → IfOk result A → IfOk result B → IfOk result C
 if_ok_both (Ok x) A B C both a b = both x a b
@@ -56,7 +56,7 @@ made_no_order made told plan findings book is witness =
     (outside_shape (length plan.operations)) plan.operations
     (run_allotments plan) findings.lines book is.1.lawful witness
 
--- what is so of each number below one, and of that one, is so of each number below the next
+-- what holds of each number below one, and of that one, holds of each number below the next
 pub below_next : (P : ℕ → Type 0) (n : ℕ) → ((k : ℕ) → k < n → P k) → P n → (k : ℕ)
     → k < n + 1 → P k
 below_next P n below this k low =

@@ -1,4 +1,4 @@
--- What a hunt says of the runs that it made.
+-- What a hunt found in the runs that it made.
 use Rattle.std.specs.Prelude.{zero, suc, ◌≡◌, ℕ, ◌+◌, ◌<◌, ◌≤◌, ◌%◌, ◌^◌, List, [], ◌∷◌, ◌++◌, length, Option, IfSome, IfNone}
 use Rattle.book_base.specs.Order.{HasLegalOrder}
 use Rattle.seq_objects.specs.Objects.{kind_init, kind_next}
@@ -25,8 +25,8 @@ first_seeds settings (suc number) = first_seeds settings number ++ seed_at setti
 
 module _ {T : Type 0} (made : T → ℕ) (told : T → Option (List (ℕ × ℕ))) where
   -- A run was made of this plan over an object outside the world, and reports these findings: they
-  -- are of the plan's kind, and lawful by the object of that kind, and these passes, in order, were
-  -- asked for just the calls of their lines.
+  -- are of the plan's kind, and lawful by the object of that kind, and with these passes, in order,
+  -- the object was asked for just the calls of their callers' lines.
   pub record IsRun (plan : Plan) (passes : List T) (findings : Findings) : Type 0 where
     pub kind : findings.kind ≡ plan.kind
     pub lawful : IsLawful (kind_init plan.kind) (kind_next plan.kind)
@@ -44,8 +44,9 @@ module _ {T : Type 0} (made : T → ℕ) (told : T → Option (List (ℕ × ℕ)
     pub ran : IsMade (drawn_plan w seed) report
     pub none : HasNoError report.lines
 
-  -- What is caught is of a run of the script of a seed: its witness is what the first error line of
-  -- its report saw, and no order of the witness is legal for the object of its kind.
+  -- The catch is of a run of the script of a seed: its witness is the book at the seen cut of the
+  -- first error line of the run's report, and no order of the witness is legal for the object of
+  -- its kind.
   pub record IsCaught (w : Workload) (seed : ℕ) (catch : Catch) : Type 0 where
     pub seed_is : catch.seed ≡ seed
     pub script : catch.script ≡ drawn_plan w seed
@@ -58,15 +59,14 @@ module _ {T : Type 0} (made : T → ℕ) (told : T → Option (List (ℕ × ℕ)
   AreQuietBefore settings number = (k : ℕ) → k < number
       → IsQuiet settings.workload (seed_at settings k)
 
-  -- What is caught is of the last of this many runs, and those before it were quiet.
+  -- The catch is of the last of this many runs, and those before it were quiet.
   pub record IsCaughtLast (settings : Settings) (runs : ℕ) (catch : Catch) : Type 0 where
     pub number : ℕ
     pub last : runs ≡ number + 1
     pub before : AreQuietBefore settings number
     pub caught : IsCaught settings.workload (seed_at settings number) catch
 
-  -- What a hunt ends with: something is caught by its last run, or all its runs were made, and were
-  -- quiet.
+  -- What a hunt ends with: a catch of its last run, or all its runs, which were quiet.
   pub record IsHunted (settings : Settings) (hunted : Hunted) : Type 0 where
     pub within : hunted.runs ≤ settings.runs
     pub caught : IfSome hunted.caught (IsCaughtLast settings hunted.runs)

@@ -11,7 +11,7 @@ use std::alloc::Global;
 pub trait Maker<B: BlackBox> {
     /// An object for the callers of a script, and an unused pass for each of them, in order, with a
     /// call for each of its operations. The object may keep the noise, and pause inside its calls
-    /// where it is doubtful.
+    /// where it may be wrong.
     fn open(
         &self,
         alloc: Global,

@@ -2,19 +2,18 @@ use random_scripts::{draw, key_of};
 use std::sync::atomic::{AtomicU64, Ordering};
 use std::thread::yield_now;
 
-/// How often noise gives a thread away, and for how long.
+/// How often noise yields the thread, and how many times in a row.
 #[derive(Clone, Copy, Debug, Default, PartialEq, Eq)]
 pub struct Loudness {
-    /// At how many of 256 pauses it does so: none at 0.
+    /// At how many of 256 pauses noise yields: at none where this is 0.
     pub share: u32,
-    /// How many times in a row it yields at such a pause, at the most.
+    /// How many times in a row noise yields at such a pause, at most.
     pub most: u32,
 }
 
-/// Noise for the callers of a run: at a pause it gives the thread away or not, as the seed has it
-/// for the pauses in the order in which they come. So callers meet in the midst of their calls who
-/// else would each be through before the next one starts. All callers share it. The default noise
-/// is silent.
+/// Noise for the callers of a run, which they share: at a pause it yields the thread or not, as the
+/// seed decides for the pauses in the order in which they come. So calls overlap which else would
+/// each end before the next one begins. The default noise never yields.
 #[derive(Default, Drop)]
 pub struct Noise {
     key: u64,
@@ -32,7 +31,7 @@ impl Noise {
         }
     }
 
-    /// Gives the thread away, or doesn't.
+    /// Yields the thread, or doesn't.
     pub fn pause(&self) {
         let drawn = draw(self.key, self.pauses.fetch_add(1, Ordering::SeqCst));
         if drawn % 256 < self.loudness.share {
@@ -43,7 +42,8 @@ impl Noise {
     }
 }
 
-/// How many times in a row a draw yields: once up to the most.
+/// How many times in a row a draw yields: at least once and at most `most` times, but never where
+/// `most` is 0.
 fn yields(draw: u32, most: u32) -> u32 {
     if most == 0 { 0 } else { draw % most + 1 }
 }

@@ -10,7 +10,8 @@ use crate::noise::Noise;
 use client_calls::Asks;
 use drv_wrapper::{Announced, Answered};
 
-/// An object that is asked as ever, and noise at the pauses between the phases of its callers.
+/// An object that is asked as without noise, and noise at the pauses between the phases of its
+/// callers.
 #[derive(Drop)]
 pub struct Noisy<'a, A> {
     pub asks: &'a A,
@@ -29,7 +30,7 @@ impl<A: Asks> Asks for Noisy<'_, A> {
     ghost count = { A.count };
 
     fn ask(&self, announced: Announced<A::Program>, pass: &mut A::Pass) -> Answered<A::Program>
-        // The caller is one of some table that these passes serve.
+        // The caller is one of some table whose callers may ask the object.
         requires table { (r : TheRows A.Program) × A.serves self.now.asks.now r
             × IsCallerOf A.Program.meaning r (caller_announced announced) }
         // The announced call has made no object step.
@@ -41,7 +42,8 @@ impl<A: Asks> Asks for Noisy<'_, A> {
         requires left { HasCallLeft (A.count pass.old) }
         // The answered call is of the same caller.
         ensures who { who_of (caller_answered result) ≡ who_announced announced }
-        // The caller is still one of each table that it was one of, and that these passes serve.
+        // The caller is still one of each table that it was one of, and whose callers may ask the
+        // object.
         ensures rows { (r : TheRows A.Program) → A.serves self.now.asks.now r
             → IsCallerOf A.Program.meaning r (caller_announced announced)
             → IsCallerOf A.Program.meaning r (caller_answered result) }
@@ -50,7 +52,7 @@ impl<A: Asks> Asks for Noisy<'_, A> {
         // The program allows the caller the reply, by its local.
         ensures allowed { MayGet A.Program.meaning (caller_answered result)
             (reply_answered result) }
-        // The caller has come no further with its calls: at the most it has more object steps.
+        // The caller's progress is as before, but for object steps.
         ensures calls { ComesNoFurther (announced_local announced) (answered_local result) }
         // The caller's local has each look, peek and cut that it had before.
         ensures grows { Grows (announced_local announced) (answered_local result) }

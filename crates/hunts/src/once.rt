@@ -18,7 +18,8 @@ use std::thread::Threads;
 use world_core::Outside;
 
 /// Runs all callers of a script over an object, each in a thread of its own where one can be had,
-/// with noise between their phases. The table of rows is opened for the run, and closed after it.
+/// with noise between their phases. It opens the table of rows for the run, and closes it after the
+/// run.
 pub(crate) fn run_once<R: Threads + Sync, B: BlackBox + Sync>(
     rt: &R,
     alloc: Global,
@@ -46,7 +47,7 @@ where
         asks: &asks,
     };
     let report = run_asked(rt, alloc, &shared, &mut bench, &kind, passes, script);
-    // The report stands, also where no memory is left for the words of the closed table.
+    // The report is answered even where no memory is left for the words of the closed table.
     let _world = rows.close(alloc, bench);
     report
 }

@@ -15,16 +15,16 @@ use random_scripts::Workload;
 use std::alloc::Global;
 use std::thread::Threads;
 
-/// What is hunted with.
+/// The settings of a hunt.
 #[derive(Clone, Copy, Debug, PartialEq, Eq)]
 pub struct Settings {
-    /// How scripts are drawn.
+    /// How the scripts of the runs are drawn.
     pub workload: Workload,
     /// How loud the noise is, in objects that keep it and between the phases of their callers.
     pub loudness: Loudness,
-    /// The seed of the first run. Those of the others follow, modulo 2^64.
+    /// The seed of the first run. The seeds of the other runs follow it, modulo 2^64.
     pub seed: u64,
-    /// How many runs are made at the most.
+    /// How many runs are made at most.
     pub runs: u64,
 }
 
@@ -33,7 +33,7 @@ pub struct Settings {
 pub struct Hunted {
     /// How many runs were made.
     pub runs: u64,
-    /// What the last one of them caught. Where nothing is caught, all runs were made.
+    /// The catch of the last run. Where there is none, all runs were made.
     pub caught: Option<Catch>,
 }
 
@@ -41,9 +41,9 @@ pub struct Hunted {
 /// has a witness, or this many runs are made. Callers run in threads of their own where these can
 /// be had, with noise between their phases.
 ///
-/// What is caught is a fact about the object, and no matter of chance: the witness has no legal
-/// order. That nothing is caught says no more than that. A second hunt with the same seed makes the
-/// same scripts, in another interleaving.
+/// A catch is a fact about the object, and no matter of chance: the witness has no legal order.
+/// That there is none says no more than that no run had an error. A second hunt with the same seed
+/// makes the same scripts, in another interleaving.
 pub fn hunt<R: Threads + Sync, B: BlackBox + Sync + Drop, M: Maker<B>, W: Watch>(
     rt: &R,
     alloc: Global,
@@ -53,14 +53,13 @@ pub fn hunt<R: Threads + Sync, B: BlackBox + Sync + Drop, M: Maker<B>, W: Watch>
 ) -> Result<Hunted, NoMemory>
 where
     B::Pass: Send + Drop,
-    // The settings' workload is one that texts of scripts have room for, with a value and an
-    // operation to draw.
+    // The settings' workload fits the texts of scripts, and has a value and an operation to draw.
     requires { IsWorkload settings.now.workload }
-    // What a hunt ends with is caught by its last run, after quiet ones; or all its runs were made,
-    // and were quiet.
+    // A hunt ends with a catch of its last run, after quiet ones; or all its runs were made, and
+    // were quiet.
     ensures hunted { IfOk result (λ hunted.
         IsHunted B.Pass.made B.Pass.told settings.now hunted) }
-    // Whoever looks on was told of each run that was made, in order.
+    // The onlooker was told of each run that was made, in order.
     ensures heard { IfOk result (λ hunted.
         Hears (W.heard watch.old) (first_seeds settings.now hunted.runs) (W.heard watch.new)) }
 {

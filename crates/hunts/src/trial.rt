@@ -1,4 +1,4 @@
-//! A run of the script of a seed, and what it shows.
+//! A run of the script of a seed, and whether it shows an error.
 
 ghost use Rattle.std.specs.Prelude.{IfOk, IfSome, IfNone, OnOk, [], ◌∷◌};
 ghost use Rattle.random_scripts.specs.Drawn.{IsWorkload, drawn_plan};
@@ -22,15 +22,15 @@ use std::thread::Threads;
 pub struct Catch {
     /// The seed of the script, and of the noise.
     pub seed: u64,
-    /// What the callers were to do.
+    /// What the callers were to do in the run.
     pub script: Script,
-    /// What the run reports. A line of it is an error.
+    /// The report of the run, of which a line is an error.
     pub report: Report,
-    /// The book that the first error line saw.
+    /// The book at the seen cut of the first error line.
     pub witness: Book,
 }
 
-/// Runs the script of a seed over an object made for it, which is let go after the run.
+/// Runs the script of a seed over an object made for it, which is dropped after the run.
 pub(crate) fn run_seed<R: Threads + Sync, B: BlackBox + Sync + Drop, M: Maker<B>, W: Watch>(
     rt: &R,
     alloc: Global,

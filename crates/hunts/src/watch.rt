@@ -3,18 +3,18 @@ ghost use Rattle.hunts.specs.Watching.{Hears};
 
 use reports::Counts;
 
-/// Whoever looks on while a hunt goes on.
+/// The onlooker of a hunt, who is told of each run.
 pub trait Watch {
-    /// The seeds of the runs that it was told of, in order, where it keeps them.
+    /// The seeds of the runs that the onlooker was told of, in order, where it keeps them.
     ghost heard: { Self → Option (List ℕ) };
 
-    /// A run was made of the script of this seed, and its report has these counts.
+    /// Tells that a run was made of the script of this seed, and that its report has these counts.
     fn ran(&mut self, seed: u64, counts: Counts)
-        // The seed comes after those of which it was told before, where it keeps them.
+        // The seed comes after those that the onlooker was told of before, where it keeps them.
         ensures { Hears (heard self.old) (seed ∷ []) (heard self.new) };
 }
 
-/// Nobody looks on.
+/// The onlooker of a hunt that nobody watches.
 #[derive(Clone, Copy, Debug, Drop)]
 pub struct Unwatched;
 

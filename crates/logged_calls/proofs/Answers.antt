@@ -20,7 +20,7 @@ use Rattle.report_laws.proofs.Telling.{as_many_calls}
 abbrev answer_with : Made → List (ℕ × ℕ)
 answer_with c = map (λ (r : Record). (c.operation, r.reply)) (records_of c.reached)
 
--- where the first calls have an answer each, and the others none, these are the answers
+-- where the first calls have an answer each, and the later ones none, these are the answers
 answers_are : (calls : List Made) (pairs : List (ℕ × ℕ)) (a : ℕ) → a ≤ length calls
     → ((k : ℕ) (c : Made) → k < a → slice_get calls k ≡ Some c → (pair : ℕ × ℕ)
     × (slice_get pairs k ≡ Some pair) × (answer_with c ≡ pair ∷ []))
@@ -121,7 +121,7 @@ unanswered_mark p k past low =
 -- ---- a caller that has made this many phases
 
 module _ (operations : List ℕ) (p : ℕ) (l : Local) (made : HasMade operations p l) where
-  -- it has announced this many operations
+  -- the caller has announced as many operations as its phases announce
   pub has_begun : length l.operations ≡ begun p
   has_begun = ap (λ (ops : List ℕ). length ops) (sym (operations_with l))
       ∙ as_many_calls operations p (progress_of l) made
@@ -173,7 +173,7 @@ module _ (operations : List ℕ) (p : ℕ) (l : Local) (made : HasMade operation
       ) in
       (low, same_Some (call_in l k) c (sym (call_at k low) ∙ at))
 
-  -- pairs of which the first ones are those of the answered calls
+  -- the first pairs are those of the answered calls
   pub answers_are_first : HasLengths l → (pairs : List (ℕ × ℕ))
       → ((k : ℕ) → k < answered p → slice_get pairs k ≡ Some (answer_at k))
       → take (answered p) pairs ≡ answers_in (calls_in l)

@@ -45,7 +45,7 @@ module _ (init : List ℕ) (next : List ℕ → ℕ → List ℕ × ℕ) (n cap 
             (omega (arith, then place, place, has_begun operations p l made)) allowed.1);
       }
 
-  -- at the end of a run
+  -- the calls at the end of a run are in one log
   at_the_end : (steps : List Step) → IsRun s steps → (operations : ℕ → List ℕ) (phases : ℕ → ℕ)
       → ((i : ℕ) → i < n → HasMade (operations i) (phases i) (local_of (end_of s steps) i))
       → ((i : ℕ) → i < n → KeepsAsked s.program i (phases i) (local_of (end_of s steps) i))

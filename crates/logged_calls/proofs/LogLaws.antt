@@ -14,7 +14,7 @@ use Rattle.lawful_objects.specs.Pairs.{pairs_of, pairs_after}
 use Rattle.lawful_objects.proofs.Pairing.{after_own}
 use Rattle.logged_calls.specs.LogLaws.{AnswersComeFromTheLog, EntriesAreOfCalls}
 
--- ---- a pair of a log stands there
+-- ---- a pair of a log is that of an entry
 
 -- an entry of a caller is the one that asks for its operation
 entry_is : (i : ℕ) (e : Entry) → (e.caller == i) ≡ true → e ≡ entry i e.op
@@ -36,14 +36,14 @@ calls_with_other i e log other =
     (filter (λ (d : Entry). d.caller == i) log) other)
 
 module _ (answer : List Entry → ℕ) (i : ℕ) where
-  -- Call k of the caller stands in the rest of a log after some prefix, and its reply is the answer
-  -- to the log up to it.
+  -- Call k of the caller has an entry in the rest of a log after some prefix, and its reply is the
+  -- answer to the log up to this entry.
   abbrev IsInLog : List Entry → List Entry → ℕ → ℕ → ℕ → Type 0
   IsInLog prefix rest k op reply =
       (before suffix : List Entry) × (rest ≡ before ++ entry i op ∷ suffix)
       × (length (calls_by i before) ≡ k) × (reply ≡ answer (prefix ++ (before ++ entry i op ∷ [])))
 
-  -- with one entry more in front it still stands there
+  -- an entry of the rest of a log is still one with one entry more in front
   later : (prefix rest : List Entry) (e : Entry) (j k op reply : ℕ)
       (s : IsInLog (prefix ++ e ∷ []) rest k op reply) → length (calls_by i (e ∷ s.0)) ≡ j
       → IsInLog prefix (e ∷ rest) j op reply
@@ -96,7 +96,7 @@ module _ (answer : List Entry → ℕ) (i : ℕ) where
         (ap (λ (l : List ℕ). length l) (calls_with_other i e s.0 other) ∙ s.3)
   ]
 
--- each answered call stands in the log, and was answered from the log up to it
+-- each answered call has an entry in the log, and was answered from the log up to it
 pub answers_come_from_the_log : AnswersComeFromTheLog
 answers_come_from_the_log answer n phases calls logged i k op reply low there =
     let pairs : List (ℕ × ℕ) = pairs_of answer logged.log i in
@@ -108,7 +108,7 @@ answers_come_from_the_log answer n phases calls logged i k op reply low there =
 
 -- ---- an entry of a log is of a call
 
--- what stands between two lists stands at the length of the first
+-- the element between two lists is at the place of the first one's length
 slice_get-middle : {X : Type 0} (xs : List X) (y : X) (ys : List X)
     → slice_get (xs ++ y ∷ ys) (length xs) ≡ Some y
 slice_get-middle [] y ys = refl
@@ -124,7 +124,7 @@ next_call before suffix e =
     (calls_with_own e.caller e suffix (eq-eqb e.caller e.caller refl)))
     ∙ slice_get-middle (calls_by e.caller before) e.op (calls_by e.caller suffix)
 
--- each entry of the log is of a call that its caller asked for
+-- each entry of the log is of a call that its caller asked the object for
 pub entries_are_of_calls : EntriesAreOfCalls
 entries_are_of_calls answer n phases calls logged before suffix e at =
     let caller : e.caller < n =

@@ -1,4 +1,4 @@
--- Calls that take effect one at a time are those of one log, in the order in which they do.
+-- Calls that take effect one at a time are those of one log, in the order of their effects.
 use Rattle.std.proofs.Common.{◌≡◌, ℕ, ◌%◌, ◌<◌, true, false, cond, ◌==◌, List, [], ◌∷◌, ◌++◌, map, take, get_or, None, Some, slice_get, slice_index, refl, sym, ap, ap₂, ◌∙◌, subst, inl, inr, arith}
 use Rattle.std.specs.Prelude.{All, Contains}
 use Rattle.std.specs.List.{filter}
@@ -68,8 +68,8 @@ pairs_of_order init next i prefix (d ∷ order) run =
       | false ↦ rest
     ]
 
--- Of the call under way of caller i, which has made this many phases: it has taken no effect where
--- it wasn't asked yet, and has taken effect where it was.
+-- The call under way of caller i, which has made this many phases, has taken no effect where the
+-- object wasn't asked yet, and has taken effect where it was.
 pub record TakesEffectAsAsked (e : Effects) (w : World) (i p : ℕ) : Type 0 where
   pub unasked : p % 5 ≡ 1 → e.reply w (call_of i (judged p)) ≡ None
   pub asked_for : p % 5 ≡ 2 → (reply : ℕ) × (e.reply w (call_of i (judged p)) ≡ Some reply)
@@ -105,7 +105,8 @@ module _ (init : List ℕ) (next : List ℕ → ℕ → List ℕ × ℕ) (s : Sh
       → slice_get (local_of last d.call.caller).operations d.call.number ≡ Some d.operation
   asks_for d there = sym (operation_in_book last.locals lengths d.call) ∙ in_book d there
 
-  -- a caller's calls stand in their order, since each returned before the next was invoked
+  -- a caller's calls are in the order in their own order, since each returned before the next was
+  -- invoked
   rises : (i : ℕ) → RisesFor i order
   rises i j k c less low mine other =
       let a : Done = get_or order j c in

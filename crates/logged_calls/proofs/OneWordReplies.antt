@@ -29,8 +29,8 @@ use Rattle.logged_calls.specs.Runs.{HaveMadePhases, RunsOfTalliesAreFormed, Runs
 use Rattle.logged_calls.proofs.Answers.{has_begun, answer_at, answers_are_first}
 use Rattle.logged_calls.proofs.Logging.{answered_effect}
 
--- The reply of a call to an object of one word: that of its step, by the word that it found, or bad
--- where it makes none.
+-- The reply of a call to an object of one word is that of its step, by the word that this found, or
+-- bad where the call makes no step.
 abbrev IsReplyOf : OneWord → ℕ → ℕ → Type 0
 IsReplyOf o op reply = ((o.makes_step op ≡ true) × (found : ℕ) × (reply ≡ o.replies op found))
     ⊎ ((o.makes_step op ≡ false) × (reply ≡ BAD))
@@ -56,7 +56,8 @@ reply_is_of o op reply steps is =
       )
     ]
 
--- what holds of the operation and the reply of each answered call holds of each answer
+-- what holds of the operation and the reply of each answered call of a caller holds of each pair of
+-- `answers_in`
 all_answers : (form : ℕ → ℕ → Type 0) (operations : List ℕ) (p : ℕ) (l : Local)
     → HasMade operations p l → HasLengths l
     → ((k : ℕ) → k < answered p → form (slice_index l.operations k) (slice_index l.replies k))
@@ -112,7 +113,7 @@ module _ (o : OneWord) (list : ℕ → List ℕ) (init : List ℕ) (next : List 
       (subst (λ (ls : List Local). HasMade (operations i) (phases i) (local_at ls i)) (sym same)
       (h.made i low)))
 
--- the increment's word is the only one of its entry
+-- the operation word of the increment is the only one of the table's entry for increments
 is_increment : (op : ℕ) → is_operation_of op words.inc ≡ true → op ≡ increment
 is_increment op h =
     let a = and_parts (code_of op == 1) ((argument_of op == 0) && (extra_of op == 0)) h in
@@ -135,7 +136,7 @@ tally_form op reply (inr (none, is)) =
       other = λ away. is;
     }
 
--- a write's word is of its entry
+-- the operation word of a write is one of the table's entry for writes
 is_write : (op value : ℕ) → value < 2 ^ 32 → op ≡ 2 ^ 32 + value
     → is_operation_of op words.write ≡ true
 is_write op value low same =

@@ -1,5 +1,5 @@
--- The calls of one caller in an order of all calls, where none is left out and each stands after
--- the caller's earlier ones.
+-- The calls of one caller in an order of all calls, where no call of the caller is left out and
+-- each comes after its earlier ones.
 use Rattle.std.proofs.Common.{◌≡◌, ℕ, zero, suc, ◌<◌, Bool, true, false, cond, ◌==◌, List, [], ◌∷◌, length, map, take, get_or, Some, slice_get, refl, sym, ap, ◌∙◌, subst, inl, inr, arith, eq-eqb}
 use Rattle.std.specs.Prelude.{AllPairs, Contains}
 use Rattle.std.specs.List.{filter, range_with_len}
@@ -16,7 +16,7 @@ use Rattle.list_laws.proofs.Ordered.{IsMember, IsOrderedBy, IsOrderedBy-same}
 use Rattle.world_core.specs.History.{Done, call_of}
 use Rattle.world_books.proofs.LegalOrders.{stands, contained}
 
--- what passes a test stands in what the test keeps
+-- an element that passes a test is in the list that the test keeps
 kept_by_filter : {X : Type 0} (p : X → Bool) (xs : List X) (k : ℕ) (x : X) → p x ≡ true
     → slice_get xs k ≡ Some x → IsMember (filter p xs) x
 kept_by_filter p [] k x passes at = absurd (none-some x at)
@@ -138,7 +138,7 @@ module _ (order : List Done) (i m : ℕ) (operations : List ℕ)
             ∙ ap (λ c. Some c.number) d.2,
       ))
 
-  -- call k of the caller stands at place k of its calls
+  -- call k of the caller is at place k of its calls in the order
   pub own_at : (k : ℕ) → k < m → (d : Done) × (slice_get own k ≡ Some d) × Contains order d
       × (d.call.caller ≡ i) × (d.call.number ≡ k)
   own_at k low =
@@ -150,7 +150,7 @@ module _ (order : List Done) (i m : ℕ) (operations : List ℕ)
   own_length = sym (length-map own number) ∙ ap (λ (xs : List ℕ). length xs) numbers_are
       ∙ length-range_with_len 0 m
 
-  -- their operations are the caller's first ones
+  -- the operations of the caller's calls in the order are its first operations
   pub own_operations : map (λ (d : Done). d.operation) own ≡ take m operations
   own_operations =
       let op : Done → ℕ = λ d. d.operation in

@@ -14,20 +14,20 @@ abbrev pub answered_with : ℕ → ℕ → Made
 answered_with operation reply =
     record { operation = operation; reached = Has_record (record { reply = reply; view = [] }) }
 
--- Caller 0 has its record of a call, with this reply; each other caller has announced one.
+-- Caller 0 has its record of a call, with this reply; each other caller has announced one call.
 abbrev pub one_answered : ℕ → ℕ → List Made
 one_answered reply zero = answered_with 5 reply ∷ []
 one_answered reply (suc i) = record { operation = 6; reached = Is_announced } ∷ []
 
--- Caller 0 has made three phases of its call, and each other caller this many.
+-- How many phases each caller has made: caller 0 three, and each other caller this many.
 abbrev pub others_made : ℕ → ℕ → ℕ
 others_made phases zero = 3
 others_made phases (suc i) = phases
 
--- A caller has made two calls, of which the first was answered with 1 and the second with 0; and
--- all phases of both.
+-- Each caller has made two calls, of which the first was answered with 1 and the second with 0.
 abbrev pub answered_backwards : ℕ → List Made
 answered_backwards i = answered_with 5 1 ∷ answered_with 7 0 ∷ []
 
+-- Each caller has made all phases of two calls.
 abbrev pub both_made : ℕ → ℕ
 both_made i = 10

@@ -16,8 +16,8 @@ pub record IsAnsweredIn (answer : List Entry → ℕ) (log : List Entry)
   pub number : length (calls_by i before) ≡ k
   pub replied : reply ≡ answer (before ++ entry i op ∷ [])
 
--- An entry after some others is of one of n callers, and asks for the operation of the next of its
--- calls, which it asked for.
+-- An entry after some others is of one of n callers, and is the operation of the next call that
+-- this caller asked the object for.
 pub record IsOfCall (n : ℕ) (phases : ℕ → ℕ) (calls : ℕ → List Made) (before : List Entry)
     (e : Entry) : Type 0 where
   pub caller : e.caller < n
@@ -33,7 +33,7 @@ AnswersComeFromTheLog =
     → i < n → slice_get (answers_in (calls i)) k ≡ Some (op, reply)
     → IsAnsweredIn answer logged.log i k op reply
 
--- Each entry of the log is of a call that its caller asked for.
+-- Each entry of the log is of a call that its caller asked the object for.
 abbrev pub EntriesAreOfCalls : Type 0
 EntriesAreOfCalls =
     (answer : List Entry → ℕ) (n : ℕ) (phases : ℕ → ℕ) (calls : ℕ → List Made)

@@ -12,8 +12,8 @@ use Rattle.lawful_objects.specs.Replays.{last_reply}
 use Rattle.lawful_objects.specs.Forms.{IsTallyReply, IsCellReply}
 use Rattle.logged_calls.specs.Logged.{IsLoggedBy, AreFormed}
 
--- These are the locals of one reachable world, and each caller has made exactly this many phases of
--- its operations.
+-- These are the locals of one reachable world, and each caller has made exactly its number of
+-- phases, with its operations.
 pub record HaveMadePhases (s : Shape) (operations : ℕ → List ℕ) (phases : ℕ → ℕ)
     (locals : List Local) : Type 0 where
   pub together : AreTogether s locals
@@ -26,7 +26,7 @@ HaveAskedInTurn s phases locals = (i : ℕ) → i < s.callers
     → KeepsAsked s.program i (phases i) (local_at locals i)
 
 -- The calls of every run of the log of a sequential object are in one log, and its answers are that
--- object's: for every first list and step, number of callers and cap.
+-- object's, whatever the first list, the transition function, the number of callers and the cap.
 abbrev pub RunsOfLogsAreLogged : Type 0
 RunsOfLogsAreLogged =
     (init : List ℕ) (next : List ℕ → ℕ → List ℕ × ℕ) (n cap : ℕ) (operations : ℕ → List ℕ)

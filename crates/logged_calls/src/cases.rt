@@ -3,16 +3,16 @@
 ghost use Rattle.logged_calls.specs.Logged.{IsLoggedBy};
 ghost use Rattle.logged_calls.specs.Cases.{count_before, one_answered, others_made, answered_backwards, both_made};
 
-/// Of two callers the first has its record. Where the second was asked, its call may have come
-/// before the first's, or after it; where it was announced and not asked, no reply counts it. Nor
-/// does a reply count a call of a caller that isn't there, nor one of its own caller that comes
-/// later.
+/// The logs that the calls of two callers can be in, where the first caller has its record. A
+/// second caller's call that was asked may come before the first's, or after it; no reply counts a
+/// call that was announced and not asked. Nor does a reply count a call of a caller that isn't
+/// there, or a later call of its own caller.
 pub fn logs_have_the_calls_that_were_asked()
-    // A reply of 1 is of a log where the other caller's call was asked and came before.
+    // A reply of 1 comes from a log where the other caller's call was asked and comes before.
     ensures asked_before { IsLoggedBy count_before 2 (others_made 2) (one_answered 1) }
-    // A reply of 0 is of a log where the other caller's call was asked and came after.
+    // A reply of 0 comes from a log where the other caller's call was asked and comes after.
     ensures asked_after { IsLoggedBy count_before 2 (others_made 2) (one_answered 0) }
-    // A reply of 0 is of a log where the other caller's call was announced and not asked.
+    // A reply of 0 comes from a log where the other caller's call was announced and not asked.
     ensures unasked { IsLoggedBy count_before 2 (others_made 1) (one_answered 0) }
     // A reply doesn't count a call that was announced and not asked.
     ensures counts_unasked { ¬ IsLoggedBy count_before 2 (others_made 1) (one_answered 1) }

@@ -1,6 +1,6 @@
-//! What one log for all calls says of them, call by call; and what every run over an object inside
-//! the world says of its calls, for every number of callers and cap. Each law is the contract of a
-//! function with nothing in it.
+//! What one log for all calls says of each call; and what every run over an object inside the world
+//! says of its calls, for every number of callers and cap. Each law is the contract of a function
+//! with nothing in it.
 
 ghost use Rattle.logged_calls.specs.LogLaws.{AnswersComeFromTheLog, EntriesAreOfCalls};
 ghost use Rattle.logged_calls.specs.Runs.{RunsOfLogsAreLogged, RunsOfTalliesAreFormed, RunsOfCellsAreFormed};
@@ -10,7 +10,7 @@ pub fn answers_come_from_the_log()
     ensures { AnswersComeFromTheLog }
 {}
 
-/// Each entry of the log is of a call that its caller asked for.
+/// Each entry of the log is of a call that its caller asked the object for.
 pub fn entries_are_of_calls()
     ensures { EntriesAreOfCalls }
 {}

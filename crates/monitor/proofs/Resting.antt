@@ -18,7 +18,7 @@ use Rattle.drv_wrapper.proofs.Growing.{grows_by}
 use Rattle.monitor.specs.Rounds.{HasScannedOnce}
 use Rattle.monitor.specs.Monitors.{HasGathered, TicksForBook}
 
--- the local after a scan of M that serves nothing
+-- the local after a scan of M that serves no purpose
 abbrev scanned_idly : List ℕ → List Looked → List Peeked → Local → Local
 scanned_idly cut looks peeks l =
     record l {
@@ -28,7 +28,7 @@ scanned_idly cut looks peeks l =
       peeked = peeks ++ l.peeked;
     }
 
--- a scan of M while announcing serves nothing
+-- a scan of M while announcing serves no purpose
 idle_scanned : (n : ℕ) (cut : List ℕ) (l m : Local) → l.phase ≡ Announcing
     → HasScanned n M Begins_scan cut l m
     → (looks : List Looked) × (peeks : List Peeked) × (m ≡ scanned_idly cut looks peeks l)
@@ -70,7 +70,7 @@ rests_scanned n cut l m idle h =
     let (looks, peeks, is) = idle_scanned n cut l m idle.announcing h in
     subst (RestsAfter cut l) (sym is) (scanned_rests cut looks peeks l idle)
 
--- further peeks leave it so
+-- further peeks keep the caller idle after one scan
 peeked_rests : (cut : List ℕ) (l m : Local) (more : List Peeked) → RestsAfter cut l m
     → RestsAfter cut l (with_peeked m more)
 peeked_rests cut l m more h =
@@ -98,12 +98,12 @@ pub rests_peeked : (cut : List ℕ) (l m k : Local) (ticks ticks' : ℕ) → Res
 rests_peeked cut l m k ticks ticks' h peeks =
     subst (RestsAfter cut l) (sym peeks.local) (peeked_rests cut l m peeks.more h)
 
--- what the caller found before it has found still
+-- what the caller had found before the scan it has still found
 pub grows_once : (cut : List ℕ) (l m : Local) → HasScannedOnce cut l m → Grows l m
 grows_once cut l m h = grows_by l m h.adds.looks h.adds.peeks
     (given_with l M cut ∷ []) h.adds.looked h.adds.peeked h.adds.cuts
 
--- the cut is one that a scan of M gave, at the end of the earlier ones
+-- the cut is one that a scan of M gave, and the last one of the caller
 pub given_last : (cut : List ℕ) (l m : Local) → HasScannedOnce cut l m
     → slice_get m.cuts (length l.cuts) ≡ Some (given_with l M cut)
 given_last cut l m h = ap (λ (cuts : List Given). slice_get cuts (length l.cuts)) h.adds.cuts

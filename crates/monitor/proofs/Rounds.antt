@@ -13,7 +13,7 @@ use Rattle.monitor.specs.Rounds.{HasScannedOnce, IsLegalAt, IsLegalRound, AreLeg
 use Rattle.monitor.proofs.Resting.{grows_once}
 
 module _ (init : List ℕ) (next : List ℕ → ℕ → List ℕ × ℕ) (n : ℕ) where
-  -- what was found of a book stays so while its caller peeks more
+  -- what was found of a book stays true while its caller peeks more
   pub legal_stays : (l m : Local) (cut : List ℕ) → HasPeekedAll l m → IsLegalAt init next n l cut
       → IsLegalAt init next n m cut
   legal_stays l m cut more h = record {
@@ -47,7 +47,7 @@ module _ (init : List ℕ) (next : List ℕ → ℕ → List ℕ × ℕ) (n : �
   cuts_after l m k rounds given before now = now ∙ ap
       (λ (cuts : List Given). cuts ++ given ∷ []) before ∙ append_assoc l.cuts rounds (given ∷ [])
 
-  -- no round was made
+  -- the rounds of a monitor that made none
   pub no_round : (l : Local) → HasMadeRounds init next n 0 l l None
   no_round l = record {
     rounds = [];

@@ -44,7 +44,7 @@ module _ {P : Type 0} {init : List ℕ} {next : List ℕ → ℕ → List ℕ ×
             (local_of done.after) (own_of done.after)) was (done.round.rounds none));
       }
 
-  -- its monitor is at hand, and off the bench
+  -- the monitor of a watch is at hand, and off the bench
   pub watch_at_hand : {w : Watch P} {c : Bench P} → HasWatchedAs init next meaning r i l most w
       → on_bench c i ≡ None → IsAtHand meaning r c w
   watch_at_hand {w} {c} h gone = record {
@@ -84,12 +84,12 @@ module _ {P : Type 0} {init : List ℕ} {next : List ℕ → ℕ → List ℕ ×
       → (k : ℕ) → k ≢ i → IsUnmoved c d k
   others_stay watched h k other = h.others k (λ same. other (same ∙ whose watched h))
 
--- a caller that one move after another leaves as it is
+-- a caller that two moves, one after the other, leave as it is
 pub unmoved_on : {P : Type 0} {b c d : Bench P} {i : ℕ} → IsUnmoved b c i → IsUnmoved c d i
     → IsUnmoved b d i
 unmoved_on one two = record { local = two.local ∙ one.local; stance = two.stance ∙ one.stance }
 
--- who is back stays while another comes back
+-- a caller that is back stays so while another one comes back
 pub back_stays : {P : Type 0} {init : List ℕ} {next : List ℕ → ℕ → List ℕ × ℕ} {n : ℕ}
     {c d : Bench P} {i : ℕ} {l : Local} {most : ℕ} {left : Left}
     → IsUnmoved c d i → IsBackFrom init next n c i l most left

@@ -1,4 +1,4 @@
--- Callers of a bench that watch: off the bench, through their rounds, and back.
+-- Callers of a bench that watch: as they leave the bench, after their rounds, and back on it.
 use Rattle.std.specs.Prelude.{◌≡◌, ◌≢◌, ℕ, false, List, None, Some}
 use Rattle.world_core.specs.Shape.{Meaning}
 use Rattle.world_core.specs.Local.{Local, IsIdle}
@@ -22,7 +22,7 @@ module _ {P : Type 0} where
     pub stance : stance_on b i ≡ Some ready
     pub idle : IsIdle l
 
-  -- Caller i of one bench is as it is on the other.
+  -- Caller i is on one bench as it is on the other, with its stance.
   pub record IsUnmoved (b c : Bench P) (i : ℕ) : Type 0 where
     pub local : on_bench c i ≡ on_bench b i
     pub stance : stance_on c i ≡ stance_on b i
@@ -57,8 +57,8 @@ module _ {P : Type 0} where
     pub of : IsMonitorOf meaning r monitor
     pub gone : on_bench b (who_of (caller_of monitor)) ≡ None
 
-  -- The caller of a watch came back to the bench as it was, live and idle, and handed over what it
-  -- had found.
+  -- The caller of a watch came back to the bench with its local unchanged, live and idle, and
+  -- handed over what it had found.
   pub record ComesBack (b c : Bench P) (w : Watch P) (left : Left) : Type 0 where
     pub monitor : Monitor P
     pub here : w.monitor ≡ Some monitor
@@ -67,8 +67,8 @@ module _ {P : Type 0} where
     pub wanted : left.wants_memory ≡ w.wants_memory
     pub others : (i : ℕ) → i ≢ who_of (caller_of monitor) → IsUnmoved b c i
 
-  -- Caller i, which had this local, is back on the bench, live and idle: it came no further with
-  -- its calls, and made its rounds, unless it wanted memory.
+  -- Caller i, which had this local, is back on the bench, live and idle: its progress is the same,
+  -- and it made its rounds, unless it wanted memory.
   pub record IsBackFrom (init : List ℕ) (next : List ℕ → ℕ → List ℕ × ℕ) (n : ℕ) (b : Bench P)
       (i : ℕ) (l : Local) (most : ℕ) (left : Left) : Type 0 where
     pub local : Local

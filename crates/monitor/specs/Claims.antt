@@ -30,10 +30,10 @@ pub record HasSameFindings (c d : Claim) : Type 0 where
   pub own : own_in d ≡ own_in c
   pub placed : placed_in d ≡ placed_in c
 
--- A witness on the board is known afterwards, and is the one that was known before, where one was.
+-- A witness on the board is known afterwards; it is the one that was known before, where one was.
 abbrev pub Knows : Option Witness → Option Witness → Type 0
 Knows before after = (w : Witness) × (after ≡ Some w) × Agrees before w
 
--- Two that know a witness on the board know the same one.
+-- Where both know a witness on the board, they know the same one.
 abbrev pub Agree : Option Witness → Option Witness → Type 0
 Agree known other = (w v : Witness) → known ≡ Some w → other ≡ Some v → w ≡ v

@@ -18,7 +18,7 @@ use Rattle.monitor.specs.declared.round.Round.TheVariants.{Legal, Illegal}
 use Rattle.monitor.specs.Claims.{own_in, placed_in, known_in, IsClaimOn, AreOnOne}
 use Rattle.monitor.specs.Rounds.{HasScannedOnce, IsLegalAt, IsIllegalAt}
 
--- A monitor scanned M once, whatever cut that gave.
+-- A monitor scanned M once, whatever cut that scan gave.
 abbrev pub HasScannedSome : Local → Local → Type 0
 HasScannedSome l m = (cut : List ℕ) × HasScannedOnce cut l m
 
@@ -28,9 +28,9 @@ pub record HasGathered (n : ℕ) (l m : Local) (g : Gathered) : Type 0 where
   pub once : HasScannedOnce g.cut l m
   pub book : IsGathered n m g.cut g.book
 
--- What a round found, by the caller's local before and after it and the own witness: the book at
--- the cut of its one scan has a legal order, and there is no witness; or it has none, and is the
--- own witness.
+-- What a round found, by the caller's local before and after it and by the own witness: either the
+-- book at the cut of its one scan has a legal order, and there is no own witness; or that book has
+-- none, and is the own witness.
 abbrev pub HasFound : List ℕ → (List ℕ → ℕ → List ℕ × ℕ) → ℕ → Local → Local → Option Witness
     → Round → Type 0
 HasFound init next n l m own (Legal cut) = HasScannedOnce cut l m × IsLegalAt init next n m cut
@@ -39,14 +39,14 @@ HasFound init next n l m own (Illegal cut) =
     HasScannedOnce cut l m × (w : Witness) × (own ≡ Some w) × (w.cut ≡ cut)
     × IsIllegalAt init next n m w
 
--- What a monitor of a table of n callers keeps for its next round: after a legal round its book,
--- and after an illegal one none.
+-- What a monitor of a table of n callers keeps for its next round: after a legal round the book of
+-- that round, and after an illegal one none.
 abbrev pub IsKeptAfter : ℕ → Round → Option Gathered → Type 0
 IsKeptAfter n (Legal cut) kept = IsSomeAnd kept (λ g. (length g.book ≡ n) × (g.cut ≡ cut))
 IsKeptAfter n (Illegal cut) kept = kept ≡ None
 
--- The counter ticked for a round's scan, at most so often as a scan may, and then once for each
--- word of the book of the round that is new, as against the book that was kept before.
+-- The counter ticked for a round's scan, at most as often as a scan may take a word, and then once
+-- for each word of the round's book that the book kept before lacks.
 pub record TicksForBook (n : ℕ) (before : Option Gathered) (g : Gathered)
     (ticks ticks' : ℕ) : Type 0 where
   pub scan : ℕ
@@ -106,7 +106,7 @@ module _ {P : Type 0} where
     pub resting : IsResting meaning r m.caller
     pub gathered : IsGatheredBy (local_with m.caller) m.gathered
 
-  -- A monitor is one of whatever rows a caller is of.
+  -- A monitor is one of the rows that a caller is of, whichever these are.
   abbrev pub Becomes : Caller P → Monitor P → Type 0
   Becomes c m = (meaning : P → ℕ → ℕ → Meaning) (r : Rows P) → IsCallerOf meaning r c
       → IsMonitorOf meaning r m

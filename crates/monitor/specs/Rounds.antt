@@ -1,5 +1,5 @@
--- What the rounds of a monitor leave in its caller's local: for each a cut, and a verdict on the
--- book that was gathered at it.
+-- What the rounds of a monitor leave in its caller's local: for each round a cut, and a verdict on
+-- the book that was gathered at it.
 use Rattle.std.specs.Prelude.{◌≡◌, ℕ, ◌≤◌, List, [], ◌∷◌, ◌++◌, Option, None, Some, length, slice_get}
 use Rattle.book_base.specs.Book.{Page}
 use Rattle.book_base.specs.Order.{HasLegalOrder}
@@ -10,8 +10,7 @@ use Rattle.report_lines.specs.Phases.{progress_of}
 use Rattle.collect_scan.specs.Given.{AddsCut}
 use Rattle.monitor.specs.declared.witness.Witness.{Witness}
 
--- A caller made one scan of M, which gave this cut, and peeked words; it came no further with its
--- calls.
+-- A caller made one scan of M, which gave this cut, and peeked words; its progress is the same.
 pub record HasScannedOnce (cut : List ℕ) (l m : Local) : Type 0 where
   pub adds : AddsCut M cut l m
   pub progress : progress_of m ≡ progress_of l
@@ -28,7 +27,7 @@ module _ (init : List ℕ) (next : List ℕ → ℕ → List ℕ × ℕ) (n : �
     pub gathered : IsGathered n l w.cut w.book
     pub none : ¬ HasLegalOrder init next w.book
 
-  -- A scan of M gave this cut, and the book that was gathered there has a legal order.
+  -- A scan of M gave this cut, and the book that was gathered at it has a legal order.
   pub record IsLegalRound (l : Local) (given : Given) : Type 0 where
     pub region : given.region ≡ M
     pub legal : IsLegalAt l given.cut
@@ -38,7 +37,7 @@ module _ (init : List ℕ) (next : List ℕ → ℕ → List ℕ × ℕ) (n : �
   AreLegal l rounds = (k : ℕ) (given : Given) → slice_get rounds k ≡ Some given
       → IsLegalRound l given
 
-  -- After legal rounds the last one is illegal, with this witness.
+  -- The last of these rounds is illegal, with this witness, and those before it are legal.
   pub record EndsIllegal (l : Local) (rounds : List Given) (w : Witness) : Type 0 where
     pub before : List Given
     pub since : ℕ
@@ -46,14 +45,14 @@ module _ (init : List ℕ) (next : List ℕ → ℕ → List ℕ × ℕ) (n : �
     pub legal : AreLegal l before
     pub illegal : IsIllegalAt l w
 
-  -- The rounds of a monitor that makes at most this many: all are legal, and there are as many; or
-  -- the last one is illegal, with the own witness, and there are no more than that.
+  -- The rounds of a monitor that may make this many: they are this many, and all legal; or they are
+  -- at most this many, and the last one is illegal, with the own witness.
   abbrev pub AreRounds : ℕ → Local → List Given → Option Witness → Type 0
   AreRounds most l rounds None = (length rounds ≡ most) × AreLegal l rounds
   AreRounds most l rounds (Some w) = (length rounds ≤ most) × EndsIllegal l rounds w
 
   -- A monitor made its rounds: their cuts follow those that its caller had been given before, and
-  -- the caller came no further with its calls.
+  -- the caller's progress is the same.
   pub record HasMadeRounds (most : ℕ) (l m : Local) (own : Option Witness) : Type 0 where
     pub rounds : List Given
     pub cuts : m.cuts ≡ l.cuts ++ rounds

@@ -24,8 +24,8 @@ module _ {P : Type 0} where
     pub here : w.monitor ≡ Some monitor
     pub fresh : IsFresh meaning r b monitor
 
-  -- The monitor m has become k: it came no further with its calls, and made its rounds, unless it
-  -- wanted memory.
+  -- The monitor m has become k: its progress is the same, and it made its rounds, unless it wanted
+  -- memory.
   pub record HasGoneRound (init : List ℕ) (next : List ℕ → ℕ → List ℕ × ℕ)
       (meaning : P → ℕ → ℕ → Meaning) (r : Rows P) (b : Board) (most : ℕ) (m k : Monitor P)
       (wanted : Bool) : Type 0 where

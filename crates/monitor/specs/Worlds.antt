@@ -30,8 +30,8 @@ pub record IsWitnessOf (init : List ℕ) (next : List ℕ → ℕ → List ℕ �
   pub book : w.book ≡ book_at w.cut (book_in locals)
   pub none : ¬ HasLegalOrder init next w.book
 
--- A round is right of these callers' calls: its cut is published, and the book at it has a legal
--- order, or the own witness is that book and has none.
+-- A round is right for the calls of these locals: its cut is published, and the book at it has a
+-- legal order, or the own witness is that book and has none.
 abbrev pub IsRightRound : List ℕ → (List ℕ → ℕ → List ℕ × ℕ) → List Local → Option Witness
     → Round → Type 0
 IsRightRound init next locals own (Legal cut) = IsPublished locals cut
@@ -39,7 +39,7 @@ IsRightRound init next locals own (Legal cut) = IsPublished locals cut
 IsRightRound init next locals own (Illegal cut) = (w : Witness) × (own ≡ Some w) × (w.cut ≡ cut)
     × IsWitnessOf init next locals w
 
--- What a round of caller i found is right at each later moment.
+-- What a round of caller i found is right for the locals of each later moment.
 abbrev pub RoundsAreRight : Type 0
 RoundsAreRight =
     (init : List ℕ) (next : List ℕ → ℕ → List ℕ × ℕ) (s : Shape) (locals : List Local) (i : ℕ)
@@ -47,9 +47,9 @@ RoundsAreRight =
     → AreTogether s locals → i < s.callers → Grows m (local_at locals i)
     → HasFound init next s.callers l m own round → IsRightRound init next locals own round
 
--- The cuts are those of at most a number of rounds over the calls of this book. A scan of M gave
--- each; at each cut but the last the book has a legal order; and either there are as many cuts as
--- that, or the book at the last one has no legal order.
+-- The cuts are those of at most `most` rounds over the calls of this book. A scan of M gave each;
+-- at each cut but the last the book has a legal order; and either there are `most` cuts, or the
+-- book at the last one has no legal order.
 pub record AreJudgedRounds (init : List ℕ) (next : List ℕ → ℕ → List ℕ × ℕ) (book : List Page)
     (most : ℕ) (rounds : List Given) : Type 0 where
   pub few : length rounds ≤ most
@@ -60,8 +60,8 @@ pub record AreJudgedRounds (init : List ℕ) (next : List ℕ → ℕ → List �
       ⊎ ((last : Given) × (slice_get rounds (length rounds - 1) ≡ Some last)
       × ¬ HasLegalOrder init next (book_at last.cut book))
 
--- The rounds that caller i made, after the cuts that it had before, are so judged by the calls of
--- all callers.
+-- The cuts of the rounds that caller i made, which follow the cuts that it had before, are those of
+-- rounds over the calls of all callers.
 abbrev pub RoundsAreJudged : Type 0
 RoundsAreJudged =
     (init : List ℕ) (next : List ℕ → ℕ → List ℕ × ℕ) (s : Shape) (locals : List Local) (i most : ℕ)
@@ -71,7 +71,7 @@ RoundsAreJudged =
     → (rounds : List Given) × ((local_at locals i).cuts ≡ before.cuts ++ rounds)
     × AreJudgedRounds init next (book_in locals) most rounds
 
--- The own witness that rounds of caller i found is a witness of all callers' calls.
+-- The own witness that rounds of caller i found is a witness of the calls of all callers.
 abbrev pub OwnIsAWitness : Type 0
 OwnIsAWitness =
     (init : List ℕ) (next : List ℕ → ℕ → List ℕ × ℕ) (s : Shape) (locals : List Local) (i most : ℕ)

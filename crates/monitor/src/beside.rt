@@ -25,7 +25,7 @@ pub struct Left {
     pub wants_memory: bool,
 }
 
-// A caller leaves its bench to watch.
+// Takes a caller off its bench to watch.
 fn take_off<P: Program>(
     rows: &Rows<P>,
     bench: &mut Bench<P>,
@@ -49,7 +49,7 @@ fn take_off<P: Program>(
     }
 }
 
-// The caller of a watch comes back to its bench.
+// Brings the caller of a watch back to its bench.
 fn bring_back<P: Program>(rows: &Rows<P>, bench: &mut Bench<P>, watch: Watch<P>) -> Left
     requires bench { IsBenchOf P.meaning rows.now bench.old }
     requires watch { IsAtHand P.meaning rows.now bench.old watch }
@@ -71,7 +71,7 @@ fn bring_back<P: Program>(rows: &Rows<P>, bench: &mut Bench<P>, watch: Watch<P>)
     }
 }
 
-// Two watches work while workers work, all side by side.
+// Lets two watches work while workers work, all side by side.
 fn work_beside<
     R: Threads + Sync,
     C: Sync,
@@ -101,7 +101,7 @@ fn work_beside<
     (first, second)
 }
 
-/// Two callers of a bench watch while workers work, all side by side.
+/// Lets two callers of a bench watch while workers work, all side by side.
 ///
 /// All workers have worked when it returns, and both callers are back.
 pub fn watch_beside<
@@ -124,7 +124,7 @@ pub fn watch_beside<
 ) -> (Left, Left)
     // The bench is one of these rows.
     requires bench { IsBenchOf P.meaning rows.now bench.old }
-    // Each worker is ready for what they share.
+    // Each worker is ready for what the workers share.
     requires ready { All (λ w. W.ready w shared.now) all.old }
     // The two callers that watch are different ones.
     requires apart { one ≢ other }
@@ -136,12 +136,12 @@ pub fn watch_beside<
     ensures done { AllZip (λ w d. W.done w shared.now d) all.old all.new }
     // The bench has each other caller as before.
     ensures others { (i : ℕ) → i ≢ one → i ≢ other → IsUnmoved bench.old bench.new i }
-    // The one caller is back on the bench, as far with its calls as before, and made its rounds
-    // unless it wanted memory.
+    // The one caller is back on the bench, with its progress as before, and made its rounds unless
+    // it wanted memory.
     ensures one { (l : Local) → on_bench bench.old one ≡ Some l
         → IsBackFrom (S.init sequential.now) (S.next sequential.now) rows.now.callers
         bench.new one l rounds result.0 }
-    // The other caller is back on the bench, as far with its calls as before, and made its rounds
+    // The other caller is back on the bench, with its progress as before, and made its rounds
     // unless it wanted memory.
     ensures other { (l : Local) → on_bench bench.old other ≡ Some l
         → IsBackFrom (S.init sequential.now) (S.next sequential.now) rows.now.callers

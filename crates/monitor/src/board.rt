@@ -2,7 +2,8 @@ use crate::witness::Witness;
 use once_cell::race::OnceBox;
 use std::alloc::Global;
 
-/// A board for the first witness that a monitor puts up: it stays there, and nobody waits for it.
+/// A board for the first witness that a monitor puts on it: the witness stays there, and nobody
+/// waits for it.
 #[derive(Drop)]
 pub struct Board {
     pub(crate) cell: OnceBox<Witness>,

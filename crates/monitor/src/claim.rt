@@ -7,7 +7,7 @@ use once_cell::race::Note;
 use std::alloc::Global;
 
 /// What one monitor has found, and what it knows of its board: its own witness, whether the board
-/// took a copy of that, and a note of the witness on the board.
+/// took a copy of this witness, and a note of the witness on the board.
 #[derive(Drop)]
 pub(crate) struct Claim {
     own: Option<Witness>,
@@ -23,7 +23,8 @@ impl Claim {
     ghost use Rattle.once_cell.specs.Once.{Agrees};
     ghost use Rattle.monitor.specs.Claims.{own_in, placed_in, known_in, IsClaimOn, AreOnOne, HasSameFindings, Knows, Agree};
 
-    /// Nothing is found yet, and nothing is known of the board. It takes no memory.
+    /// The claim of a monitor that has found nothing yet, and knows nothing of the board. It takes
+    /// no memory.
     pub fn new(board: &Board) -> Claim
         ensures board { IsClaimOn board.now result }
         ensures nothing { (own_in result ≡ None) × (placed_in result ≡ false)
@@ -36,9 +37,9 @@ impl Claim {
         }
     }
 
-    /// Keeps a witness as its own, and tries once to put a copy of it on the board.
+    /// Keeps a witness as the monitor's own, and tries once to put a copy of it on the board.
     ///
-    /// After want of memory the board wasn't tried, and nothing is kept.
+    /// Where memory is wanted, the board isn't tried, and nothing is kept.
     pub fn keep(&mut self, alloc: Global, board: &Board, witness: Witness) -> Result<(), NoMemory>
         requires board { IsClaimOn board.now self.old }
         requires nothing { own_in self.old ≡ None }
@@ -61,7 +62,7 @@ impl Claim {
         self.own.as_ref()
     }
 
-    /// Whether the board took its copy.
+    /// Whether the board took its copy of the own witness.
     pub fn placed(&self) -> bool
         ensures { result ≡ placed_in self.now }
     {
@@ -82,7 +83,7 @@ impl Claim {
         board.cell.get_as(&mut self.note)
     }
 
-    /// Where both know a witness on the board, it is the same one.
+    /// Where both claims know a witness on the board, they know the same one.
     pub fn agree(&mut self, other: &mut Claim)
         requires { AreOnOne self.old other.old }
         ensures same { (self.new ≡ self.old) × (other.new ≡ other.old) }

@@ -2,15 +2,15 @@
 
 ghost use Rattle.monitor.specs.Worlds.{RoundsAreRight, RoundsAreJudged, OwnIsAWitness, WitnessesAreFinal};
 
-/// What a round found is right of the calls of all callers, at each later moment: its cut is
-/// published, and the book there has a legal order or not.
+/// What a round found is right for the calls of all callers, at each later moment: its cut is
+/// published, and the book at the cut has a legal order, or has none.
 pub fn rounds_are_right()
     ensures { RoundsAreRight }
 {}
 
-/// What the rounds of a watch found is right of the calls of all callers.
+/// What the rounds of a watch found is right for the calls of all callers.
 pub fn rounds_are_judged()
-    // The rounds of a watch are judged rightly by the calls of all callers.
+    // The cuts of a watch are those of rounds over the calls of all callers.
     ensures rounds { RoundsAreJudged }
     // The own witness that a watch left is a witness of all callers' calls.
     ensures own { OwnIsAWitness }

@@ -14,9 +14,9 @@ use world_core::{Outside, Program, Region};
 
 /// A caller that makes no calls: round by round it judges what the others have published.
 ///
-/// It keeps the book that it gathered last, so that a round peeks what is new. The rounds of a
-/// watch are for one object: there a search goes on after the places that still stand of the last
-/// order.
+/// It keeps the book that it gathered last, so that a round peeks only what is new. The rounds of a
+/// watch are for one object: each of their searches begins after those places of the last order
+/// that still stand.
 #[derive(Drop)]
 pub struct Monitor<P = Outside> {
     caller: Caller<P>,
@@ -60,8 +60,8 @@ impl<P: Program> Monitor<P> {
         }
     }
 
-    // One scan of M, and the book at the cut that it gave, which grows from the book that is kept;
-    // and what stands in it, of what stood in that one.
+    // Makes one scan of M, and gathers the book at the cut that it gave, which grows from the kept
+    // book. It answers the book with what of the kept order stands in it.
     //
     // No book is kept after it.
     fn look<L: Ledger>(
@@ -93,10 +93,10 @@ impl<P: Program> Monitor<P> {
         Ok((found, before))
     }
 
-    /// Scans M, gathers the book at that cut, and judges it (Castañeda and Rodríguez 2023).
+    /// Scans M, gathers the book at the scan's cut, and judges it (Castañeda and Rodríguez 2023).
     ///
     /// Where the book has no legal order it is the own witness from then on, and the board is tried
-    /// once with a copy. After want of memory the board wasn't tried.
+    /// once with a copy. Where memory is wanted, the board isn't tried.
     pub fn round<S: SeqObject, L: Ledger>(
         &mut self,
         alloc: Global,
@@ -138,16 +138,16 @@ impl<P: Program> Monitor<P> {
         ensures ticks { IfOk result
             (TicksForRound rows.now.callers (kept_by self.old) (kept_by self.new)
             (own_of self.new) steps.old steps.new) }
-        // The counter of steps isn't lower than before.
+        // The counter of steps is at least what it was before.
         ensures rise { steps.old ≤ steps.new }
     {
         let mut standing = None;
         self.round_after(alloc, object, rows, board, &mut standing, steps)
     }
 
-    /// A round as [`Monitor::round`] makes it, whose search goes on after the places that still
-    /// stand of an order of the book that is kept, for this object; and afterwards what stands in
-    /// the book that is kept then.
+    /// Makes a round as [`Monitor::round`] does, with a search that begins after those places of a
+    /// kept order that still stand, for this object. Afterwards `standing` is what stands of an
+    /// order in the book that is kept then.
     pub fn round_after<S: SeqObject, L: Ledger>(
         &mut self,
         alloc: Global,
@@ -163,7 +163,7 @@ impl<P: Program> Monitor<P> {
         requires board { IsOn board.now self.old }
         // The monitor has no own witness.
         requires none { own_of self.old ≡ None }
-        // What is kept of an order stands in the book that the monitor keeps, for this object.
+        // The kept order stands in the book that the monitor keeps, for this object.
         requires stands { StandsIn (S.init object.now) (S.next object.now)
             (kept_by self.old) standing.old }
         // The monitor is still one of these rows and of this board, with the same number.
@@ -183,7 +183,7 @@ impl<P: Program> Monitor<P> {
         // After a legal round the monitor keeps its book, at the cut of its scan, and after an
         // illegal one none.
         ensures kept { IfOk result (λ r. IsKeptAfter rows.now.callers r (kept_by self.new)) }
-        // What is kept of an order afterwards stands in the book that the monitor keeps then, for
+        // The order that is kept afterwards stands in the book that the monitor keeps then, for
         // this object.
         ensures stands { StandsIn (S.init object.now) (S.next object.now)
             (kept_by self.new) standing.new }
@@ -197,7 +197,7 @@ impl<P: Program> Monitor<P> {
         ensures ticks { IfOk result
             (TicksForRound rows.now.callers (kept_by self.old) (kept_by self.new)
             (own_of self.new) steps.old steps.new) }
-        // The counter of steps isn't lower than before.
+        // The counter of steps is at least what it was before.
         ensures rise { steps.old ≤ steps.new }
     {
         let (found, before) = self.look(alloc, rows, standing.take(), steps)?;
@@ -224,7 +224,7 @@ impl<P: Program> Monitor<P> {
         self.claim.own()
     }
 
-    /// Whether the board took its copy of the own witness.
+    /// Whether the board took its copy of the monitor's own witness.
     pub fn placed(&self) -> bool
         ensures { result ≡ placed_by self.now }
     {
@@ -249,15 +249,15 @@ impl<P: Program> Monitor<P> {
         // where one was.
         ensures some { IfSome result
             (λ r. (known_by self.new ≡ Some r.now) × Agrees (known_by self.old) r.now) }
-        // Where the board took a copy of the own witness, that is what is answered.
+        // Where the board took a copy of the own witness, the answer is that witness.
         ensures placed { placed_by self.old ≡ true
             → IsSomeAnd result (λ r. own_of self.old ≡ Some r.now) }
     {
         self.claim.known(board)
     }
 
-    /// Where both monitors know a witness on their board, they know the same one. No memory is
-    /// taken.
+    /// Where both monitors know a witness on their board, they know the same one. It takes no
+    /// memory.
     pub fn agree(&mut self, other: &mut Monitor<P>)
         // The two monitors are of one board.
         requires { AreOfOne self.old other.old }
@@ -269,7 +269,7 @@ impl<P: Program> Monitor<P> {
         self.claim.agree(&mut other.claim);
     }
 
-    /// The caller, with its local as it is.
+    /// The monitor's caller, with its local as it is.
     pub fn leave(self) -> Caller<P>
         ensures { result ≡ caller_of self }
     {
@@ -277,7 +277,7 @@ impl<P: Program> Monitor<P> {
         caller
     }
 
-    /// The caller, the own witness, and whether the board took a copy of that.
+    /// The monitor's caller, its own witness, and whether the board took a copy of this witness.
     pub(crate) fn into_parts(self) -> (Caller<P>, Option<Witness>, bool)
         ensures parts { (result.0 ≡ caller_of self) × (result.1 ≡ own_of self)
             × (result.2 ≡ placed_by self) }

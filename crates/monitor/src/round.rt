@@ -1,10 +1,10 @@
 use book_base::Cut;
 
-/// What a round came to, with the cut that its scan gave.
+/// What a round found, with the cut that its scan gave.
 #[derive(Debug, Clone, Copy, Drop)]
 pub enum Round {
     /// The book at the cut has a legal order.
     Legal(Cut),
-    /// The book at the cut has no legal order.
+    /// The own witness of a claim, and whether the board took its copy.
     Illegal(Cut),
 }

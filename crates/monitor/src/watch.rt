@@ -28,8 +28,8 @@ pub struct Watch<P = Outside> {
     pub wants_memory: bool,
 }
 
-// The monitor makes rounds, up to the first illegal one, and at most this many. It also answers
-// whether it wanted memory.
+// Makes rounds of the monitor, up to the first illegal one, and at most this many. It also answers
+// whether the monitor wanted memory.
 fn make_rounds<P: Program, S: SeqObject, L: Ledger>(
     monitor: Monitor<P>,
     shared: &Watched<S, P>,
@@ -59,7 +59,7 @@ fn make_rounds<P: Program, S: SeqObject, L: Ledger>(
     (monitor, false)
 }
 
-// The monitor makes its rounds by a counter made of this blank.
+// Makes the rounds of a monitor with a counter made of this blank.
 fn make_counted<P: Program, S: SeqObject, L: Ledger>(
     monitor: Monitor<P>,
     shared: &Watched<S, P>,
@@ -75,7 +75,7 @@ fn make_counted<P: Program, S: SeqObject, L: Ledger>(
     make_rounds(monitor, shared, rounds, &mut steps)
 }
 
-// The monitor makes its rounds by a counter of its own.
+// Makes the rounds of a monitor with a counter of its own.
 fn make_alone<P: Program, S: SeqObject>(
     monitor: Monitor<P>,
     shared: &Watched<S, P>,

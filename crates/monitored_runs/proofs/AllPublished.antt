@@ -28,7 +28,7 @@ published_records_are_in_the_book s locals t =
       published_cuts_are_within s locals (published_of locals) t all,
     )
 
--- the book at it is that of all published records
+-- the book at the cut of all published records is that of all published records
 part_is : (s : Shape) (locals : List Local) (part : List Page) → AreTogether s locals
     → IsBookAt (book_in locals) (published_of locals) part → part ≡ published_book locals
 part_is s locals part t h =

@@ -1,4 +1,4 @@
--- What clients leave that judge no call, and the book of all their lines.
+-- What clients that judge no call leave, and the book of all their lines.
 use Rattle.std.proofs.Common.{◌≡◌, ◌∙◌, refl, ap, ap₂, subst, ℕ, suc, ◌*◌, ◌<◌, false, Bool, List, [], ◌∷◌, ◌++◌, map, arith}
 use Rattle.std.specs.Prelude.{◌||◌, if◌then◌else◌, length}
 use Rattle.std.specs.List.{flat_map}
@@ -74,7 +74,7 @@ deferring_clients_make_all object n operations allotment p l own h =
       made = subst (λ (k : ℕ). HasMade operations k l) all h.left.made;
     }
 
--- page by page
+-- the books are equal page by page
 same_book : (locals : List Local) (lines : List (List Line)) → length lines ≡ length locals
     → ((i : ℕ) → i < length lines → HavePage (lines_at lines i) (local_at locals i))
     → book_of_lines lines ≡ book_in locals

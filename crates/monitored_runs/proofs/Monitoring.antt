@@ -1,4 +1,4 @@
--- What the callers of a plan leave whose calls nobody judged, and the two monitors beside them.
+-- What the callers of a plan leave whose calls nobody judged, and what the two monitors leave.
 use Rattle.std.proofs.Common.{◌≡◌, ◌∙◌, refl, sym, ap, ap₂, subst, inl, inr, ℕ, zero, suc, ◌+◌, ◌<◌, ◌≤◌, ◌⊎◌, ◌%◌, ◌/◌, false, List, [], ◌∷◌, ◌++◌, length, map, take, drop, replicate, slice_get, slice_index, sum_by, ◌*◌, Some, arith}
 use Rattle.std.specs.Prelude.{Option, IfSome, IsSome}
 use Rattle.std.specs.List.{range_with_len}
@@ -51,7 +51,7 @@ use Rattle.monitored_runs.proofs.Deferred.{no_errors, deferring_clients_make_all
 use Rattle.monitored_runs.proofs.Returning.{each_monitor, begins_unused}
 use Rattle.monitored_runs.proofs.AllPublished.{published_records_are_in_the_book, answers_are_exact}
 
--- a caller without lines more is no caller more
+-- a caller without lines at the end of a list changes no caller's lines
 none_more : (lines : List (List Line)) (i : ℕ) → lines_at (lines ++ [] ∷ []) i ≡ lines_at lines i
 none_more [] zero = refl
 none_more [] (suc i) = refl
@@ -69,7 +69,7 @@ recorded object n l (Has_record r) end h e = absurd cc
 recorded object n l (Has_seen r cut) end h e =
     subst (λ (x : LineEnd). IsSome (answer_in x)) (sym h) refl
 
--- so have the lines of the first calls
+-- the lines of the first calls have their records
 answered_to : (object : Sequential) (n : ℕ) (l : Local) (calls : List Made) (own : List Line)
     (m : ℕ) (rest : List Mark) → AreLinesOfCalls (SaysDeferred object n l) calls own
     → marks_of calls ≡ replicate m Seen ++ rest → (k : ℕ) (line : Line)
@@ -184,7 +184,7 @@ calls_fit plan i calls valid so_far = omega (
   valid.callers,
 )
 
--- the bench of a run with monitors holds all callers
+-- the bench of a run with monitors holds all callers after the run
 pub holds_beside : {P T : Type 0} (meaning : P → ℕ → ℕ → Meaning) (r : Rows P) (fit : Fits T)
     (count : T → Option PassCount) (plan : Plan) (first b : Bench P) (passes : List T)
     → MayBegin meaning plan 2 r first → IsBenchOf meaning r b
@@ -249,7 +249,7 @@ module _ {P T : Type 0} (meaning : P → ℕ → ℕ → Meaning) (r : Rows P) (
   own_is : (i : ℕ) (low : i < n) → lines_at lines i ≡ (back.back i low).own
   own_is i low = lines_here lines i (back.back i low).own (back.back i low).lines_here
 
-  -- what a caller of the plan has left
+  -- what a caller of the plan has left: all phases of its allotment, and its page
   deferred : (i : ℕ) (low : i < n)
       → HasDeferred (operations_at plan.operations i) (slice_index (run_allotments plan) i)
       (back.back i low).on.phases (back.back i low).on.local (back.back i low).own

@@ -29,14 +29,14 @@ pub begins_unused : {P : Type 0} (meaning : P → ℕ → ℕ → Meaning) (plan
 begins_unused meaning plan r b begins i monitor =
     begins.others i monitor.after (omega (arith, monitor.before, begins.callers))
 
--- no one wanted memory
+-- no caller wanted memory
 pub none_wanted : (a b c : Bool) → (a || (b || c)) ≡ false → (a ≡ false)
     × ((b ≡ false) × (c ≡ false))
 none_wanted true b c none = absurd (false≢true (sym none))
 none_wanted false true c none = absurd (false≢true (sym none))
 none_wanted false false c none = (refl, (refl, none))
 
--- the callers have begun, and a monitor is still on the bench
+-- the script's callers have begun, and a monitor is still on the bench
 pub free_on : {P : Type 0} (n : ℕ) (b s : Bench P) → AreAlikeFrom n b s → (i : ℕ) → n ≤ i
     → IsUnused b i → HoldsFree s i
 free_on n b s started i high unused = record {
@@ -54,7 +54,7 @@ module _ {P : Type 0} (init : List ℕ) (next : List ℕ → ℕ → List ℕ ×
   here_back = subst (λ (j : ℕ). (l : Local) → on_bench s j ≡ Some l
       → IsBackFrom init next callers w j l most left) same back
 
-  -- it comes back as it was, without calls
+  -- a monitor comes back as it was, without calls
   pub back_unused : IsUnused b i → IsUnused e i
   back_unused unused =
       let h = here_back unused.local ((started i high).0 ∙ unused.here) in
@@ -66,7 +66,7 @@ module _ {P : Type 0} (init : List ℕ) (next : List ℕ → ℕ → List ℕ ×
         none = h.progress ∙ unused.none;
       }
 
-  -- and has made its rounds
+  -- a monitor that comes back has made its rounds
   pub back_watched : left.wants_memory ≡ false → (l : Local) → on_bench b i ≡ Some l
       → HasWatched init next callers e i l most left.own
   back_watched none l here =

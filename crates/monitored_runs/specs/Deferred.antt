@@ -1,4 +1,4 @@
--- What clients leave that judge no call, and the book of all their lines.
+-- What clients that judge no call leave, and the book of all their lines.
 use Rattle.std.specs.Prelude.{◌≡◌, ℕ, ◌<◌, List, length, map}
 use Rattle.world_core.specs.Local.{Local}
 use Rattle.world_core.specs.Calls.{page_with, calls_in, book_in, local_at}
@@ -7,18 +7,20 @@ use Rattle.report_lines.specs.Lines.{made_of, book_of_lines, lines_at}
 use Rattle.report_lines.specs.Phases.{HasMade}
 use Rattle.client_calls.specs.Ends.{Sequential, SaysDeferred, HasLeftAt}
 
--- A caller's lines have the operation of each of its calls, and the record where the call has one.
+-- A caller's lines have the operation of each of its calls, and the call's record where it has one.
 abbrev pub HavePage : List Line → Local → Type 0
 HavePage own l = page_with (map made_of own) ≡ page_with (calls_in l)
 
--- A client made all phases of its allotment, whatever it met, and its lines have its page.
+-- A client made all phases of its allotment, whatever the replies to its calls, and its lines have
+-- its page.
 pub record HasDeferred (operations : List ℕ) (allotment p : ℕ) (l : Local)
     (own : List Line) : Type 0 where
   pub page : HavePage own l
   pub all : p ≡ allotment
   pub made : HasMade operations allotment l
 
--- So does each client whose calls end without a judgement.
+-- Each client whose calls end without a judgement makes all phases of its allotment, and its lines
+-- have its page.
 abbrev pub DeferringClientsMakeAll : Type 0
 DeferringClientsMakeAll =
     (object : Sequential) (n : ℕ) (operations : List ℕ) (allotment p : ℕ) (l : Local)
@@ -31,7 +33,7 @@ pub record HavePages (locals : List Local) (lines : List (List Line)) : Type 0 w
   pub as_many : length lines ≡ length locals
   pub pages : (i : ℕ) → i < length lines → HavePage (lines_at lines i) (local_at locals i)
 
--- The book of such lines is that of the callers.
+-- The book of lines that have the callers' pages is the book of the callers.
 abbrev pub LinesAreTheBook : Type 0
 LinesAreTheBook = (locals : List Local) (lines : List (List Line)) → HavePages locals lines
     → book_of_lines lines ≡ book_in locals

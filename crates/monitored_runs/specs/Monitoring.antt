@@ -26,7 +26,7 @@ most_rounds plan = sum_by length plan.operations + 1
 abbrev pub published_for : Plan → List ℕ
 published_for plan = map published_by (run_allotments plan) ++ 0 ∷ 0 ∷ []
 
--- The lines of a plan's callers, with those of the two monitors after them, who have none.
+-- The lines of a plan's callers, and after them those of the two monitors, who have none.
 abbrev pub with_monitors : List (List Line) → List (List Line)
 with_monitors lines = (lines ++ [] ∷ []) ++ [] ∷ []
 
@@ -43,16 +43,15 @@ pub record HaveMadeAll (plan : Plan) (locals : List Local) : Type 0 where
       (slice_index (run_allotments plan) i) (local_at locals i)
   pub none : (i : ℕ) → IsMonitor plan i → progress_of (local_at locals i) ≡ no_progress
 
--- What the pass of caller i counts, where it counts: it was asked for exactly the calls of the
--- caller's allotment, and tells, where it tells anything, an operation and a reply for each of
--- them.
+-- What the pass of caller i counts, where it counts its calls: exactly the calls of the caller's
+-- allotment; and it tells, where it tells anything, an operation and a reply for each of them.
 abbrev pub IsCountedAll : {T : Type 0} → (T → Option PassCount) → Plan → List Local → ℕ → T → Type 0
 IsCountedAll count plan locals i pass =
     IfSome (count pass) (IsCountOf (slice_index (run_allotments plan) i) (local_at locals i))
 
--- The pass of caller i was asked for exactly the calls of the caller's allotment. What it tells,
--- where it tells anything, begins with the operations and the replies of the caller's records, and
--- is at most one pair longer.
+-- With the pass of caller i the object was asked exactly for the calls of the caller's allotment.
+-- What the pass tells, where it tells anything, begins with the operations and the replies of the
+-- caller's records, and is at most one pair longer.
 pub record IsToldAll {T : Type 0} (made : T → ℕ) (told : T → Option (List (ℕ × ℕ))) (plan : Plan)
     (locals : List Local) (i : ℕ) (pass : T) : Type 0 where
   pub asked_for : made pass ≡ asked (slice_index (run_allotments plan) i)
@@ -68,8 +67,8 @@ module _ (init : List ℕ) (next : List ℕ → ℕ → List ℕ × ℕ) where
       × AreJudgedRounds init next (book_in locals) (most_rounds plan) rounds
 
 module _ {P : Type 0} where
-  -- Each of a plan's callers whose allotment ends between two calls, or after all of them, stands
-  -- on the bench free for its next call.
+  -- Each of a plan's callers whose allotment ends between two calls, or after all of them, is on
+  -- the bench, free for its next call.
   abbrev pub AreFreeAgain : Plan → Bench P → Type 0
   AreFreeAgain plan b =
       (i : ℕ) → i < length plan.operations → slice_index (run_allotments plan) i % 5 ≡ 0

@@ -19,15 +19,15 @@ IsJudgedAt init next book cut None = (part : List Page) × IsBookAt book cut par
 IsJudgedAt init next book cut (Some w) = (w.cut ≡ cut) × IsBookAt book cut w.book
     × ¬ HasLegalOrder init next w.book
 
--- The counts of published records are as many as the callers, and each of these records is in the
--- book of all calls.
+-- There is a count of published records for each caller, and each of these records is in the book
+-- of all calls.
 abbrev pub PublishedRecordsAreInTheBook : Type 0
 PublishedRecordsAreInTheBook =
     (s : Shape) (locals : List Local) → AreTogether s locals
     → (length (published_of locals) ≡ length (book_in locals))
     × IsWithin (published_of locals) (answered (book_in locals))
 
--- What is answered of these callers' calls: nothing, where the book of all published records has a
+-- The answer on these callers' calls: no witness, where the book of all published records has a
 -- legal order, and else a witness.
 abbrev pub IsAnswer : List ℕ → (List ℕ → ℕ → List ℕ × ℕ) → List Local → Option Witness → Type 0
 IsAnswer init next locals None = HasLegalOrder init next (published_book locals)

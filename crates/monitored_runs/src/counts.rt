@@ -1,4 +1,4 @@
-//! What a script says of its run before it begins.
+//! What a script determines of its run before the run begins.
 
 ghost use Rattle.std.specs.Prelude.{◌≡◌, ◌+◌, ◌≤◌, length};
 ghost use Rattle.book_base.specs.declared.TheConstants.{MAX_CALLERS};
@@ -19,8 +19,8 @@ pub(crate) fn most_rounds(script: &Script) -> u64
     calls + 1
 }
 
-/// How many records each caller publishes that makes all phases that a script gives it, and none
-/// for the two monitors.
+/// How many records each caller of a script publishes where it makes all phases that the script
+/// gives it, and none for the two monitors.
 pub(crate) fn published_counts(script: &Script) -> Cut
     requires { length script.now.operations + 2 ≤ MAX_CALLERS }
     ensures { result ≡ published_for script.now }

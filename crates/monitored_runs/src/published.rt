@@ -8,7 +8,7 @@ use frontier_check::{Verdict, check};
 use monitor::Witness;
 use std::alloc::Global;
 
-/// Judges the book at a cut: the witness, where it has no legal order.
+/// Judges the book at a cut: the answer is a witness, where this book has no legal order.
 pub fn judge_at<S: SeqObject>(
     alloc: Global,
     object: &S,

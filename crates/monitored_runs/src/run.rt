@@ -30,7 +30,8 @@ use std::alloc::Global;
 use std::thread::Threads;
 use world_core::{Outside, Program};
 
-// The witness that the board took, where a monitor has one; else one that a monitor found.
+// The witness of which the board took a copy, where a monitor has one, else one that a monitor
+// found.
 fn found_by(one: Left, other: Left) -> Option<Witness>
     ensures { IfSome result (λ w. (one.own ≡ Some w) ⊎ (other.own ≡ Some w)) }
 {
@@ -56,7 +57,7 @@ fn add_monitors(alloc: Global, lines: &mut Vec<Own>) -> Result<(), NoMemory>
     Ok(())
 }
 
-// The book of the lines of all callers, judged once at what they have published.
+// Judges once the book of the lines of all callers, at what they have published.
 fn judge_lines<S: SeqObject>(
     alloc: Global,
     sequential: &S,
@@ -84,8 +85,8 @@ fn judge_lines<S: SeqObject>(
 ///
 /// The answer is a witness exactly where the book of all published records has no legal order,
 /// whoever found it, and each caller whose allotment ends between two calls, or after all of them,
-/// then stands free for its next call. Whatever the answer, the bench holds all callers again, and
-/// the passes are in their order. Want of memory is answered before the first call, or where a
+/// is then free for its next call. Whatever the answer, the bench holds all callers again, and the
+/// passes are in their order. Want of memory is answered before the first call, or where a
 /// judgement wanted it.
 pub fn monitor_asked<
     R: Threads + Sync,
@@ -102,17 +103,17 @@ pub fn monitor_asked<
     passes: &mut Vec<T>,
     script: &Script,
 ) -> Result<Option<Witness>, NoMemory>
-    // The passes serve these rows.
+    // These rows are those whose callers may ask the object.
     requires serves { A.serves shared.now.asks.now shared.now.rows.now }
-    // The rows have just the script's callers and two more, and room for the calls of the script;
-    // the bench is theirs and holds each of these callers, ready and idle, without a call.
+    // The rows have just the script's callers and two more, and capacity for the calls of the
+    // script; the bench is that of the rows and holds each of these callers, ready and idle,
+    // without a call.
     requires begins { MayBegin P.meaning script.now 2 shared.now.rows.now bench.old }
     // There is a pass for each caller of the script, in order, which fits the caller; where it
     // counts calls, none was made with it, and it has one for each operation.
     requires passes { AreFreshPasses shared.now.rows.now (A.fits shared.now.asks.now) A.count
         script.now.operations passes.old.items }
-    // For every answer.
-    // The bench is still one of these rows, and holds all their callers.
+    // Whatever the answer, the bench is still one of these rows, and holds all their callers.
     ensures bench { IsBenchOf P.meaning shared.now.rows.now bench.new × HoldsAll bench.new }
     // There is one pass for each caller of the script.
     ensures all_passes { vec_len passes.new ≡ length script.now.operations }
@@ -127,12 +128,11 @@ pub fn monitor_asked<
         bench.new passes.new.items i }
     // Both monitors are back on the bench, ready and idle, without a call.
     ensures monitors { (i : ℕ) → IsMonitor script.now i → IsUnused bench.new i }
-    // Where the run is judged.
-    // Each caller of the script has made exactly the phases that the script gives it, and no
-    // monitor has made a call.
+    // Where an answer is given, each caller of the script has made exactly the phases that the
+    // script gives it, and no monitor has made a call.
     ensures made { IfOk result (λ _. HaveMadeAll script.now (locals_on bench.new)) }
     // With an answer each caller of the script whose allotment ends between two calls, or after all
-    // of them, stands free for its next call.
+    // of them, is free for its next call.
     ensures free { IfOk result (λ _. AreFreeAgain script.now bench.new) }
     // With an answer each pass that counts calls counts exactly those that the script lets its
     // caller ask, and tells, where it tells anything, an operation and a reply for each of them.
@@ -140,8 +140,8 @@ pub fn monitor_asked<
         (λ _. AreInOrder (IsCountedAll A.count script.now (locals_on bench.new)) passes.new.items) }
     // With an answer the cuts that each monitor was given in this run are those of its rounds over
     // the calls of all callers: at most one more than the script has calls; at each but the last
-    // the book has a legal order; and either there are as many as that, or the book at the last has
-    // none.
+    // the book has a legal order; and either there is one cut more than calls, or the book at the
+    // last cut has no legal order.
     ensures rounds { IfOk result
         (λ _. (i : ℕ) (l : Local) → IsMonitor script.now i → on_bench bench.old i ≡ Some l
         → HasMonitored (S.init sequential.now) (S.next sequential.now) script.now
@@ -181,15 +181,15 @@ pub fn monitor_over<R: Threads + Sync, S: SeqObject + Sync, B: BlackBox + Sync>(
 ) -> Result<Option<Witness>, NoMemory>
 where
     B::Pass: Send,
-    // The rows have just the script's callers and two more, and room for the calls of the script;
-    // the bench is theirs and holds each of these callers, ready and idle, without a call.
+    // The rows have just the script's callers and two more, and capacity for the calls of the
+    // script; the bench is that of the rows and holds each of these callers, ready and idle,
+    // without a call.
     requires begins { MayBegin ⟦<Outside as Program>⟧.meaning script.now 2 rows.now bench.old }
     // There is a pass of the object's own for each caller of the script, in order, with which no
     // call was made, and which has a call for each operation of its caller.
     requires passes { AreUnusedPasses (B.is_own object.now) B.Pass.caller B.Pass.made B.Pass.cap
         script.now.operations passes.old.items }
-    // For every answer.
-    // The bench is still one of these rows, and holds all their callers.
+    // Whatever the answer, the bench is still one of these rows, and holds all their callers.
     ensures bench { IsBenchOf ⟦<Outside as Program>⟧.meaning rows.now bench.new
         × HoldsAll bench.new }
     // There is one pass for each caller of the script.
@@ -208,24 +208,25 @@ where
     ensures passes { AreInOrder (IsOwnPass (B.is_own object.now) B.Pass.caller) passes.new.items }
     // Both monitors are back on the bench, ready and idle, without a call.
     ensures monitors { (i : ℕ) → IsMonitor script.now i → IsUnused bench.new i }
-    // Where the run is judged: each caller has made its phases up to its stop, or all of them, and
-    // the object told them; where it stopped between two calls, or made all of them, it stands free
-    // for its next call.
+    // Where an answer is given, each caller of the script has made exactly the phases that the
+    // script gives it, and no monitor has made a call.
     ensures made { IfOk result (λ _. HaveMadeAll script.now (locals_on bench.new)) }
     // With an answer each caller of the script whose allotment ends between two calls, or after all
-    // of them, stands free for its next call.
+    // of them, is free for its next call.
     ensures free { IfOk result (λ _. AreFreeAgain script.now bench.new) }
-    // With an answer each pass has made exactly the calls that the script lets its caller ask; what
-    // it tells, where it tells anything, begins with the operations and the replies of the caller's
-    // records, and is at most one pair longer.
+    // With an answer the object was asked with each pass for exactly the calls that the script lets
+    // its caller ask; what the pass tells, where it tells anything, begins with the operations and
+    // the replies of the caller's records, and is at most one pair longer.
     ensures told { IfOk result (λ _. AreInOrder
         (IsToldAll B.Pass.made B.Pass.told script.now (locals_on bench.new)) passes.new.items) }
-    // The cuts that each monitor was given are those of its rounds.
+    // With an answer the cuts that each monitor was given in this run are those of its rounds over
+    // the calls of all callers.
     ensures rounds { IfOk result
         (λ _. (i : ℕ) (l : Local) → IsMonitor script.now i → on_bench bench.old i ≡ Some l
         → HasMonitored (S.init sequential.now) (S.next sequential.now) script.now
         (locals_on bench.new) i l) }
-    // No witness exactly where the book of all published records has a legal order.
+    // The answer is no witness exactly where the book of all published records has a legal order,
+    // and else a witness.
     ensures answer { IfOk result
         (IsExactAnswer (S.init sequential.now) (S.next sequential.now) (locals_on bench.new)) }
 {

@@ -1,4 +1,4 @@
-//! All callers of a script at work, beside two callers more that watch them.
+//! All callers of a script at work, beside two further callers that watch them.
 
 ghost use Rattle.std.specs.Prelude.{◌≡◌, ◌≢◌, ℕ, ◌+◌, ◌<◌, ◌≤◌, false, Some, length, vec_len, vec_capacity, IfOk};
 ghost use Rattle.std.specs.List.{All, AllZip};
@@ -23,7 +23,7 @@ use std::alloc::Global;
 use std::thread::Threads;
 use world_core::Program;
 
-// All workers of a list work, and beside them two callers of the bench watch.
+// Lets all workers of a list work, and beside them two callers of the bench watch.
 fn watch_in<
     'a,
     R: Threads + Sync,
@@ -73,12 +73,13 @@ fn watch_in<
 }
 
 /// Lets each caller make the phases that a script gives it, each in a thread of its own where one
-/// can be had, while two callers more make rounds, each until one is illegal, and at most this
+/// can be had, while two further callers make rounds, each until one is illegal, and at most this
 /// many. All callers come back to their bench, and all passes to their list, in order, whatever the
 /// answer.
 ///
-/// The answer is the lines of each of the script's callers, in order, and what the two others
-/// found. Want of memory is answered before anything is done, or where it was wanted in a round.
+/// The answer is the lines of each of the script's callers, in order, and what the two further
+/// callers found. Want of memory is answered before anything is done, or where it was wanted in a
+/// round.
 pub(crate) fn watch_all<
     'a,
     R: Threads + Sync,

@@ -1,4 +1,4 @@
--- Of a word that a kind knows, the code and the arguments make the word again.
+-- For a word that a kind knows, the code and the arguments make this word.
 use Rattle.std.proofs.Common.{◌≡◌, ℕ, ◌%◌, ◌^◌, ◌==◌, ◌&&◌, Bool, true, true≢false, List, [], ◌∷◌, find, Some, is_some, inl, inr, ◌⊎◌, refl, sym, ap, ◌∙◌, arith}
 use Rattle.std.specs.Prelude.{nat_lt}
 use Rattle.std.proofs.lemmas.Bool.{cases_Bool, cond-false, and_parts, eqb-true, ltb-true}
@@ -6,7 +6,7 @@ use Rattle.seq_objects.specs.Words as words
 use Rattle.seq_objects.specs.Words.{OperationEntry, with_argument, with_extra, name_alone, is_operation_of, has_arguments, code_of, argument_of, extra_of, word_of, is_known_word, entry_of, entries}
 use Rattle.seq_objects.specs.declared.kind.Kind.TheVariants.{Queue, Stack, Register, Counter, IntSet, Pqueue, CasRegister, Map}
 
--- what is found among some is the first of them, or found among the others
+-- an entry that is found among some is the first one, or is found among the others
 pub found-first : {X : Type 0} (p : X → Bool) (x : X) (xs : List X)
     → is_some (find p (x ∷ xs)) ≡ true
     → (p x ≡ true) ⊎ (is_some (find p xs) ≡ true)
@@ -27,7 +27,7 @@ module _ (word : ℕ) where
   among_none : IsAmong [] → ⊥
   among_none never = true≢false (sym never)
 
-  -- It is the first entry's, where it is none of the others'.
+  -- The word is the first entry's, where it is none of the others'.
   at_first : (e : OperationEntry) (es : List OperationEntry) → IsAmong (e ∷ es) → (IsAmong es → ⊥)
       → is_operation_of word e ≡ true
   at_first e es among none = elim (found-first (is_operation_of word) e es among) [
@@ -35,7 +35,7 @@ module _ (word : ℕ) where
     | inr later ↦ absurd (none later)
   ]
 
-  -- It is one of the others', where its code isn't the first one's.
+  -- The word is one of the other entries', where its code isn't the first one's.
   at_others : (e : OperationEntry) (es : List OperationEntry) → IsAmong (e ∷ es)
       → (code_of word ≡ e.code → ⊥)
       → IsAmong es

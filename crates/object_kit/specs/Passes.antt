@@ -14,6 +14,6 @@ made_with pass = pass.made
 abbrev pub cap_of : CountingPass → ℕ
 cap_of pass = pass.cap
 
--- Every pass is one of the object's own.
+-- Every counting pass is one of the object's own.
 abbrev pub any_pass : CountingPass → Type 0
 any_pass pass = Unit {0}

@@ -6,7 +6,7 @@ use client_scripts::Script;
 use drv_wrapper::ObjectPass;
 use std::alloc::Global;
 
-/// What one caller holds to call an object that asks nothing more of a pass: whose it is, how many
+/// What one caller holds to call an object that needs nothing more of a pass: whose it is, how many
 /// calls were made with it, and how many may be made in all. It tells no list of its calls.
 #[derive(Debug, Drop)]
 pub struct CountingPass {

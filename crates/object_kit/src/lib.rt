@@ -1,4 +1,4 @@
-//! What an object of one's own is written with: its calls as values, a pass that serves most
+//! What one writes an object of one's own with: its calls as values, a pass that serves most
 //! objects, and a lock that no call waits for without end.
 #![tactic(auto)]
 

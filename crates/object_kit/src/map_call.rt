@@ -10,7 +10,7 @@ use seq_objects::Kind;
 /// What a caller asks of a map.
 #[derive(Clone, Copy, Debug, PartialEq, Eq)]
 pub enum MapCall {
-    /// Gives a key a value.
+    /// Gives a key this value.
     Put(u32, u32),
     Get(u32),
     Delete(u32),

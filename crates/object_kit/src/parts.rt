@@ -8,7 +8,7 @@ use book_base::{OpWord, high, low};
 /// How many arguments there are: an argument is below this number.
 const ARGUMENTS: u64 = 1 << 32;
 
-/// The code of an operation word, which tells which one of its kind's operations it is.
+/// The code of an operation word, which says which one of its kind's operations the word is.
 pub(crate) fn code_of(word: OpWord) -> u64
     ensures { result ≡ words.code_of word }
 {

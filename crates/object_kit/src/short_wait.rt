@@ -1,12 +1,11 @@
 use std::sync::{Mutex, MutexGuard};
 use std::thread::yield_now;
 
-/// How often a lock is asked for: while another thread has it, for some minutes.
+/// How often a lock is asked for at most, which takes some minutes while another thread has it.
 const TRIES: u64 = 1 << 32;
 
-/// The lock, once no other thread has it; none, where it doesn't come free for minutes. A call of
-/// an object under test owes that it returns, so it takes no lock for which it may wait without
-/// end.
+/// The lock, once no other thread has it; or none, where it isn't free for some minutes. A call of
+/// an object under test has to return, so it takes no lock for which it may wait without end.
 pub fn lock_or_give_up<T>(value: &Mutex<T>) -> Option<MutexGuard<'_, T>> {
     for _ in 0..TRIES {
         if let Some(guard) = value.try_lock() {

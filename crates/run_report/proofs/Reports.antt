@@ -1,4 +1,4 @@
--- The lines of a lawful report are such as texts can have.
+-- The lines of a lawful report can be those of a text.
 use Rattle.std.proofs.Common.{◌≡◌, sym, subst, ap, refl, inl, inr, ℕ, zero, suc, ◌+◌, ◌<◌, ◌≤◌, ◌^◌, List, [], ◌∷◌, Some, length, map, take, slice_index, arith}
 use Rattle.std.specs.Prelude.{IsSome}
 use Rattle.std.specs.List.{All, AllByRecursion}
@@ -63,7 +63,7 @@ all_lines : (Is : ℕ → Type 0) (own : List Line)
 all_lines Is [] h = tt
 all_lines Is (line ∷ own) h = (h.0, all_lines Is own h.1)
 
--- what a line's record is, and those after it
+-- the record of a line, and the records of the lines after it
 reply_of : (line : Line) (own : List Line) (end : LineEnd) (k : ℕ) (r : Record) → HasWord end
     → ((m : ℕ) → record_of (book_of_lines (own ∷ [])) (record { caller = 0; number = m }) ≡ Some r
     → r.reply < 2 ^ 64)

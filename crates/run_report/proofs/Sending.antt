@@ -1,4 +1,4 @@
--- A judgement may cross to another thread.
+-- A judging ending may be sent to another thread.
 use denote.RattleType.{RattleType}
 use denote.Param.Send.{IsSend, IsSync, sendable}
 use Rattle.std.proofs.Crossing.{crosses}

@@ -1,4 +1,4 @@
--- What the callers leave that are back on their bench is what workers leave.
+-- What callers that are back on their bench leave is what workers leave.
 use Rattle.std.proofs.Common.{◌≡◌, ◌∙◌, sym, subst, ap, refl, ℕ, zero, suc, ◌%◌, ◌<◌, false, List, [], ◌∷◌, Some, None, length, map, arith, slice_get, slice_index}
 use Rattle.std.specs.Prelude.{Option, Result, Ok, Err, slice_index_or, IfSome, IfOk}
 use Rattle.std.proofs.lemmas.Option.{none-some, same_Some, slice_get_within, get_or_from_slice_get}
@@ -30,14 +30,14 @@ use Rattle.client_scripts.specs.Plans.{Plan}
 use Rattle.run_report.specs.Passes.{IsOwnPass, IsUnusedPass, AreUnusedPasses}
 use Rattle.script_workers.specs.Returns.{IsCountOf, IsBack, AreBack, IsBackOn}
 
--- the local of a view at a caller that it has
+-- the local that a view has of a caller
 pub the_local : (v : View) (i : ℕ) (l : Local) → has v i ≡ Some l
     → slice_index_or (map the v) i fresh ≡ l
 the_local [] i l here = absurd (none-some l here)
 the_local (x ∷ v) zero l here = ap the here
 the_local (x ∷ v) (suc i) l here = the_local v i l here
 
--- the lines at a caller
+-- the lines of a caller
 pub lines_here : (lines : List (List Line)) (i : ℕ) (own : List Line) → slice_get lines i ≡ Some own
     → lines_at lines i ≡ own
 lines_here lines i own here = get_or_from_slice_get lines i own [] here
@@ -61,7 +61,7 @@ module _ {P T : Type 0} (meaning : P → ℕ → ℕ → Meaning) (r : Rows P) (
       (judging_clients_have_worked course.object n (operations_at course.operations i)
       (slice_index course.allotments i) h.on.local h.own (h.left refl).left))
 
-  -- so all have
+  -- all callers have worked
   pub have_worked : (n : ℕ) → r.callers ≡ n → length lines ≡ n
       → AreBack meaning r SaysJudged fit count n n course b passes lines false
       → HaveWorked course.object.init course.object.next
@@ -71,14 +71,14 @@ module _ {P T : Type 0} (meaning : P → ℕ → ℕ → Meaning) (r : Rows P) (
     worked = λ i low. has_worked i (h.back i (omega (arith, low, callers)));
   }
 
-  -- it made the phases that its lines tell of
+  -- a caller that is back made the phases that its lines determine
   phases_are : (i : ℕ) (h : IsBack meaning r SaysJudged fit count course b passes lines false i)
       → h.on.phases ≡ phases_of (slice_index course.allotments i) (lines_at lines i)
   phases_are i h =
       (h.left refl).is ∙ ap (λ (own : List Line). phases_of (slice_index course.allotments i) own)
       (sym (lines_here lines i h.own h.lines_here))
 
-  -- and its call under way is as its last phase left it
+  -- the call under way of a caller that is back is as its last phase left it
   pub keeps_asked : (i : ℕ) → IsBack meaning r SaysJudged fit count course b passes lines false i
       → KeepsAsked (shape_of meaning r).program i
       (phases_of (slice_index course.allotments i) (lines_at lines i)) (local_at (locals_on b) i)
@@ -89,7 +89,7 @@ module _ {P T : Type 0} (meaning : P → ℕ → ℕ → Meaning) (r : Rows P) (
       (subst (λ (p : ℕ). KeepsAsked (shape_of meaning r).program i p h.on.local)
       (phases_are i h) h.on.back.asked)
 
-  -- without an error, and between two calls, it is free for its next call
+  -- a caller that is back, without an error and between two calls, is free for its next call
   pub free_again : (kind : Kind) (i : ℕ)
       → IsBack meaning r SaysJudged fit count course b passes lines false i
       → IsFreeAgain b course.allotments (record { kind = kind; lines = lines }) i
@@ -99,7 +99,7 @@ module _ {P T : Type 0} (meaning : P → ℕ → ℕ → Meaning) (r : Rows P) (
       let whole : h.on.phases % 5 ≡ 0 = ap (λ (p : ℕ). p % 5) (phases_are i h) ∙ between in
       h.on.stands.here ∙ ap (λ (s : Stance). Some s) (h.free refl fine whole)
 
-  -- the object was asked for the calls that the lines tell of
+  -- the object was asked for the calls that the lines determine
   pub told_in : (kind : Kind) (i : ℕ) (pass : T) → slice_get passes i ≡ Some pass
       → IsBack meaning r SaysJudged fit count course b passes lines false i
       → IsCountedIn count course.allotments (record { kind = kind; lines = lines }) i pass

@@ -13,11 +13,12 @@ use Rattle.run_report.specs.Reporting.{IsReportOf}
 abbrev pub stops_after : ℕ → List (Option ℕ)
 stops_after phases = Some phases ∷ Some 2 ∷ []
 
+-- The plan of two callers of a queue, with these stops.
 abbrev pub plan_to : ℕ → Plan
 plan_to phases =
     record { kind = Queue; operations = five_and_six; stops = stops_after phases; turns = [] }
 
--- That the first caller has its record, and the second has announced its call, is the report of
+-- The report that the first caller has its record and the second has announced its call is that of
 -- this plan and of the locals after these steps.
 abbrev pub IsStoppedReport : ℕ → List Step → Type 0
 IsStoppedReport phases steps =

@@ -9,7 +9,8 @@ pub record IsOwnPass {T : Type 0} (is_own : T → Type 0) (caller : T → ℕ) (
   pub own : is_own pass
   pub of : caller pass ≡ i
 
--- So it is, with no call made, and with a call for each operation of that caller.
+-- A pass is unused: it is the object's own and the one of caller i, no call was made with it, and
+-- it has a call for each operation of that caller.
 pub record IsUnusedPass {T : Type 0} (is_own : T → Type 0) (caller made cap : T → ℕ)
     (operations : List (List ℕ)) (i : ℕ) (pass : T) : Type 0 where
   pub own : is_own pass
@@ -17,7 +18,7 @@ pub record IsUnusedPass {T : Type 0} (is_own : T → Type 0) (caller made cap : 
   pub none : made pass ≡ 0
   pub enough : length (operations_at operations i) ≤ cap pass
 
--- There is such a pass for each caller, in order.
+-- There is an unused pass for each caller, in order.
 pub record AreUnusedPasses {T : Type 0} (is_own : T → Type 0) (caller made cap : T → ℕ)
     (operations : List (List ℕ)) (passes : List T) : Type 0 where
   pub as_many : length passes ≡ length operations

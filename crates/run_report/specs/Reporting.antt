@@ -17,15 +17,15 @@ use Rattle.client_calls.specs.Asking.{PassCount}
 use Rattle.client_calls.specs.Finishing.{KeepsAsked}
 use Rattle.reports.specs.Findings.{Findings}
 
--- The shape of the world of n callers with the greatest cap, whose object is outside.
+-- The shape of the world of n callers with the greatest cap, whose object is outside the world.
 abbrev pub outside_shape : ℕ → Shape
 outside_shape n = record { callers = n; cap = MAX_CALLS; program = outside }
 
--- Findings are those of a plan's callers that were given these phases and left these locals: of its
--- kind, with the lines of just these locals, which are those of one reachable world, and lawful;
--- and each caller has made just the phases that its lines tell of, so that one which stopped after
--- its publish has published. A call under way that was announced and not asked has no object step,
--- and to one that was asked the program allows a reply.
+-- Findings are those of a plan's callers that were given these phases and left these locals. They
+-- are of the plan's kind, have the lines of just these locals, which are those of one reachable
+-- world, and are lawful. Each caller has made just the phases that its lines determine, so that one
+-- which stopped after its publish has published. A call under way that was announced and not asked
+-- has no object step, and to one that was asked the program allows a reply.
 pub record IsReportOf (init : List ℕ) (next : List ℕ → ℕ → List ℕ × ℕ) (s : Shape)
     (locals : List Local) (plan : Plan) (allotments : List ℕ) (findings : Findings) : Type 0 where
   pub kind : findings.kind ≡ plan.kind
@@ -37,16 +37,17 @@ pub record IsReportOf (init : List ℕ) (next : List ℕ → ℕ → List ℕ ×
       (phases_of (slice_index allotments i) (lines_at findings.lines i)) (local_at locals i)
   pub lawful : IsLawful init next s plan.operations allotments findings.lines
 
--- Where no line of caller i is an error, and its lines tell that it stopped between two calls, or
--- made all of its calls, it stands on the bench free for its next call.
+-- Where no line of caller i is an error, and by its lines it stopped between two calls, or made all
+-- of its calls, it is on the bench, free for its next call.
 abbrev pub IsFreeAgain : {P : Type 0} → Bench P → List ℕ → Findings → ℕ → Type 0
 IsFreeAgain b allotments findings i =
     any_error (lines_at findings.lines i) ≡ false
     → phases_of (slice_index allotments i) (lines_at findings.lines i) % 5 ≡ 0
     → stance_on b i ≡ Some fresh_stance
 
--- The pass of caller i was asked for exactly the calls that the caller's lines tell of, and tells,
--- where it tells anything, an operation and a reply for each of them.
+-- With the pass of caller i the object was asked exactly for the calls that the caller's lines
+-- determine, and the pass tells, where it tells anything, an operation and a reply for each of
+-- them.
 pub record IsToldIn {T : Type 0} (made : T → ℕ) (told : T → Option (List (ℕ × ℕ)))
     (allotments : List ℕ) (findings : Findings) (i : ℕ) (pass : T) : Type 0 where
   pub asked_for : made pass
@@ -55,9 +56,12 @@ pub record IsToldIn {T : Type 0} (made : T → ℕ) (told : T → Option (List (
       (IsTold (phases_of (slice_index allotments i) (lines_at findings.lines i))
       (map made_of (lines_at findings.lines i)))
 
--- So is what the pass of caller i counts, where it counts.
+-- The count of caller i's pass is that of exactly the calls that the caller's lines determine, and
+-- tells, where it tells anything, an operation and a reply for each of them.
 abbrev pub IsCountIn : List ℕ → Findings → ℕ → PassCount → Type 0
 IsCountIn = IsToldIn (λ (count : PassCount). count.made) (λ (count : PassCount). count.told)
 
+-- The pass of caller i, where it counts its calls, counts exactly those that the caller's lines
+-- determine.
 abbrev pub IsCountedIn : {T : Type 0} → (T → Option PassCount) → List ℕ → Findings → ℕ → T → Type 0
 IsCountedIn count allotments findings i pass = IfSome (count pass) (IsCountIn allotments findings i)

@@ -22,9 +22,9 @@ use world_core::Program;
 ///
 /// Whatever the answer, the bench holds all callers again, the passes are in their order, and each
 /// caller has made a prefix of its phases: all of them where a report is answered, but for those
-/// after an error. There each caller without an error that stopped between two calls, or made all
-/// of them, stands free for its next call. Want of memory is answered before the first call, or
-/// where a judgement wanted it.
+/// after an error. Where a report is answered, each caller without an error that stopped between
+/// two calls, or made all of them, is free for its next call. Want of memory is answered before the
+/// first call, or where a judgement wanted it.
 pub fn run_asked<
     R: Threads + Sync,
     P: Program + Send + Sync,
@@ -40,17 +40,16 @@ pub fn run_asked<
     passes: &mut Vec<T>,
     script: &Script,
 ) -> Result<Report, NoMemory>
-    // The passes serve these rows.
+    // These rows are those whose callers may ask the object.
     requires serves { A.serves shared.now.asks.now shared.now.rows.now }
-    // The rows have just the script's callers and room for their calls, and the bench is theirs and
-    // holds each of these callers, ready and idle, without a call.
+    // The rows have just the script's callers, and capacity for their calls; the bench is that of
+    // the rows and holds each of these callers, ready and idle, without a call.
     requires begins { MayBegin P.meaning script.now 0 shared.now.rows.now bench.old }
     // There is a pass for each caller of the script, in order, which fits the caller; where it
     // counts calls, none was made with it, and it has one for each operation.
     requires passes { AreFreshPasses shared.now.rows.now (A.fits shared.now.asks.now) A.count
         script.now.operations passes.old.items }
-    // For every answer.
-    // The bench is still one of these rows, and holds all their callers.
+    // Whatever the answer, the bench is still one of these rows, and holds all their callers.
     ensures bench { IsBenchOf P.meaning shared.now.rows.now bench.new × HoldsAll bench.new }
     // There is one pass for each caller of the script.
     ensures all_passes { vec_len passes.new ≡ length script.now.operations }
@@ -61,20 +60,20 @@ pub fn run_asked<
         → IsBackOn P.meaning shared.now.rows.now
         (A.fits shared.now.asks.now) A.count script.now.operations (run_allotments script.now)
         bench.new passes.new.items i }
-    // Where a report is answered.
-    // The report is of the script's kind, and its lines are those of the locals on the bench, which
-    // are of one reachable world; they are lawful, and each caller has made just the phases that
-    // its lines tell of.
+    // A report that is answered is of the script's kind, and its lines are those of the locals on
+    // the bench, which are of one reachable world; they are lawful, and each caller has made just
+    // the phases that its lines determine.
     ensures report { IfOk result
         (λ report. IsReportOf (S.init sequential.now) (S.next sequential.now)
         (shape_of P.meaning shared.now.rows.now) (locals_on bench.new) script.now
         (run_allotments script.now) report) }
-    // By a report, each caller whose lines have no error and tell that it stopped between two
-    // calls, or made all of them, stands free for its next call.
+    // Where a report is answered, each caller that by its lines has no error and stopped between
+    // two calls, or made all of them, is free for its next call.
     ensures free { IfOk result (λ report. (i : ℕ) → i < length script.now.operations
         → IsFreeAgain bench.new (run_allotments script.now) report i) }
-    // By a report, each pass that counts calls counts exactly those that its caller's lines tell of
-    // as asked, and tells, where it tells anything, an operation and a reply for each of them.
+    // Where a report is answered, each pass that counts calls counts exactly those that by its
+    // caller's lines were asked, and tells, where it tells anything, an operation and a reply for
+    // each of them.
     ensures counted { IfOk result (λ report. AreInOrder
         (IsCountedIn A.count (run_allotments script.now) report) passes.new.items) }
 {

@@ -6,7 +6,7 @@ use client_scripts::Script;
 use drv_wrapper::{BlackBox, ObjectPass};
 use row_table::Rows;
 
-/// Passes with which no call was made tell of none.
+/// Passes with which no call was made tell of no call.
 pub fn passes_are_fresh<B: BlackBox>(
     _rows: &Rows,
     _object: &B,

@@ -21,15 +21,15 @@ use std::marker::Brand;
 use std::sync::ledger::Blank;
 use world_core::{Outside, Program};
 
-/// Runs all callers of a script in one thread, by its turns: at each turn the caller that it names
-/// makes its next phase, where it has one left up to its stop, and isn't halted. Each call is
-/// judged by the sequential object. The answer is the callers' report, which is lawful.
+/// Runs all callers of a script in one thread, by the script's turns: at each turn the caller that
+/// it names makes its next phase, where it has one left up to its stop, and isn't halted. Each call
+/// is judged by the sequential object. The answer is the callers' report, which is lawful.
 ///
 /// Whatever the answer, the bench holds all callers again, the passes are in their order, and each
-/// caller has made a prefix of its phases: all of them where a report is answered, but for
-/// those after an error. There each caller without an error that stopped between two calls, or
-/// made all of them, stands free for its next call. Want of memory is answered before the first
-/// call, or where a judgement wanted it.
+/// caller has made a prefix of its phases: all of them where a report is answered, but for those
+/// after an error. Where a report is answered, each caller without an error that stopped between
+/// two calls, or made all of them, is free for its next call. Want of memory is answered before the
+/// first call, or where a judgement wanted it.
 pub fn replay_over<S: SeqObject, B: BlackBox>(
     alloc: Global,
     rows: &Rows,
@@ -39,15 +39,14 @@ pub fn replay_over<S: SeqObject, B: BlackBox>(
     passes: &mut Vec<B::Pass>,
     script: &Script,
 ) -> Result<Report, NoMemory>
-    // The rows have just the script's callers and room for their calls, and the bench is theirs and
-    // holds each of these callers, ready and idle, without a call.
+    // The rows have just the script's callers, and capacity for their calls; the bench is that of
+    // the rows and holds each of these callers, ready and idle, without a call.
     requires begins { MayBegin ⟦<Outside as Program>⟧.meaning script.now 0 rows.now bench.old }
     // There is a pass of the object's own for each caller of the script, in order, with which no
     // call was made, and which has a call for each operation of its caller.
     requires passes { AreUnusedPasses (B.is_own object.now) B.Pass.caller B.Pass.made B.Pass.cap
         script.now.operations passes.old.items }
-    // For every answer.
-    // The bench is still one of these rows, and holds all their callers.
+    // Whatever the answer, the bench is still one of these rows, and holds all their callers.
     ensures bench { IsBenchOf ⟦<Outside as Program>⟧.meaning rows.now bench.new
         × HoldsAll bench.new }
     // There is one pass for each caller of the script.
@@ -62,20 +61,20 @@ pub fn replay_over<S: SeqObject, B: BlackBox>(
         bench.new passes.new.items i }
     // Each pass is one of this object's, and that of its caller, in order.
     ensures passes { AreInOrder (IsOwnPass (B.is_own object.now) B.Pass.caller) passes.new.items }
-    // Where a report is answered.
-    // The report is of the script's kind, and its lines are those of the locals on the bench, which
-    // are of one reachable world; they are lawful, and each caller has made just the phases that
-    // its lines tell of.
+    // A report that is answered is of the script's kind, and its lines are those of the locals on
+    // the bench, which are of one reachable world; they are lawful, and each caller has made just
+    // the phases that its lines determine.
     ensures report { IfOk result
         (λ report. IsReportOf (S.init sequential.now) (S.next sequential.now)
         (shape_of ⟦<Outside as Program>⟧.meaning rows.now) (locals_on bench.new) script.now
         (replay_allotments script.now) report) }
-    // By a report, each caller whose lines have no error and tell that it stopped between two
-    // calls, or made all of them, stands free for its next call.
+    // Where a report is answered, each caller that by its lines has no error and stopped between
+    // two calls, or made all of them, is free for its next call.
     ensures free { IfOk result (λ report. (i : ℕ) → i < length script.now.operations
         → IsFreeAgain bench.new (replay_allotments script.now) report i) }
-    // By a report, each pass has made exactly the calls that its caller's lines tell of as asked,
-    // and tells, where it tells anything, an operation and a reply for each of them.
+    // Where a report is answered, the object was asked with each pass for exactly the calls that by
+    // its caller's lines were asked, and the pass tells, where it tells anything, an operation and
+    // a reply for each of them.
     ensures told { IfOk result (λ report. AreInOrder (IsToldIn B.Pass.made B.Pass.told
         (replay_allotments script.now) report) passes.new.items) }
 {

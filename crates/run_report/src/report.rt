@@ -18,14 +18,14 @@ use row_table::Bench;
 use script_workers::Pace;
 use world_core::Program;
 
-// A word is one of 64 bits.
+// A word of this type has 64 bits.
 fn read_word(word: &u64)
     ensures { word.now < 2 ^ 64 }
 {
     let _word = *word;
 }
 
-// The reply of a line is a word.
+// The reply of a line is a word of 64 bits.
 fn read_reply(line: &Line)
     ensures { HasWord line.now.end }
 {
@@ -37,7 +37,7 @@ fn read_reply(line: &Line)
     }
 }
 
-// The replies of a caller's lines are words.
+// The replies of a caller's lines are words of 64 bits.
 fn read_own(lines: &[Line])
     ensures { All (λ line. HasWord line.end) lines.now }
 {
@@ -46,7 +46,7 @@ fn read_own(lines: &[Line])
     }
 }
 
-// The replies of all lines are words.
+// The replies of all lines are words of 64 bits.
 fn read_replies(lines: &[Own])
     ensures { All (λ own. All (λ line. HasWord line.end) own.lines.items) lines.now }
 {

@@ -10,7 +10,7 @@ use Rattle.std.proofs.Math.Seq.{take-append_seam}
 use Rattle.list_laws.proofs.Places.{slice_get-push_old, slice_get-push_last, slice_get-push_cases}
 use Rattle.script_workers.specs.Places.{AreDownFrom, AreInOrder}
 
--- what stands in a list that got one more item at its end
+-- an element of a list is at the same place with one more item at the list's end
 pub still_at : {X : Type 0} (xs xs' : List X) (x y : X) (i : ℕ)
     → xs' ≡ xs ++ x ∷ [] → slice_get xs i ≡ Some y → slice_get xs' i ≡ Some y
 still_at xs xs' x y i put there =
@@ -28,7 +28,7 @@ pub none_down : {X : Type 0} (n : ℕ) (Is : ℕ → X → Type 0) (xs : List X)
 none_down n Is xs none i j x place there =
     absurd (none-some x (subst (λ (ys : List _). slice_get ys j ≡ Some x) none there))
 
--- one more item
+-- items of the callers from the last one on, with one more
 pub one_more_down : {X : Type 0} (n : ℕ) (Is : ℕ → X → Type 0) (xs xs' : List X) (k : ℕ) (x : X)
     → xs' ≡ xs ++ x ∷ [] → k + length xs + 1 ≡ n → Is k x → AreDownFrom n Is xs
     → AreDownFrom n Is xs'
@@ -41,18 +41,18 @@ one_more_down n Is xs xs' k x put place one h i j y at there =
           subst (λ (m : ℕ). Is m y) same (subst (λ z. Is k z) (sym new.1) one)
     ]
 
--- one item less
+-- items of the callers from the last one on, without the last item
 pub one_less_down : {X : Type 0} (n : ℕ) (Is : ℕ → X → Type 0) (xs xs' : List X) (x : X)
     → xs ≡ xs' ++ x ∷ [] → AreDownFrom n Is xs → AreDownFrom n Is xs'
 one_less_down n Is xs xs' x took h i j y at there = h i j y at (still_at xs' xs x y j took there)
 
--- the item that is taken
+-- the item that is taken off the end is that of its caller
 pub last_down : {X : Type 0} (n : ℕ) (Is : ℕ → X → Type 0) (xs xs' : List X) (k : ℕ) (x : X)
     → xs ≡ xs' ++ x ∷ [] → k + length xs' + 1 ≡ n → AreDownFrom n Is xs → Is k x
 last_down n Is xs xs' k x took place h =
     h k (length xs') x place (last_at xs' xs x (length xs') took refl)
 
--- items in order, one less
+-- items in order, without the last item
 pub one_less_in_order : {X : Type 0} (Is : ℕ → X → Type 0) (xs xs' : List X) (x : X)
     → xs ≡ xs' ++ x ∷ [] → AreInOrder Is xs → AreInOrder Is xs'
 one_less_in_order Is xs xs' x took h i y there = h i y (still_at xs' xs x y i took there)
@@ -71,7 +71,7 @@ related_at R (x ∷ xs) (y' ∷ ys) zero y h there =
     (x, refl, subst (λ z. R x z) (same_Some y' y there) h.0)
 related_at R (x ∷ xs) (y' ∷ ys) (suc j) y h there = related_at R xs ys j y h.1 there
 
--- each item gone over into another
+-- items of callers, each related to an item of a second list
 pub down_across : {X Y : Type 0} (n : ℕ) (Is : ℕ → X → Type 0) (Then : ℕ → Y → Type 0)
     (R : X → Y → Type 0) (xs : List X) (ys : List Y)
     → ((i : ℕ) (x : X) (y : Y) → Is i x → R x y → Then i y) → AreDownFrom n Is xs → AllZip R xs ys

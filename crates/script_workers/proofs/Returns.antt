@@ -98,7 +98,7 @@ module _ {P T : Type 0} (meaning : P → ℕ → ℕ → Meaning) (r : Rows P) (
             ∙ all.gone i (omega (arith, next, high)) within;
       }
 
-  -- all are back
+  -- all callers are back
   pub all_back : (b : Bench P) (passes : List T) (lines : List (List Line)) (wanted : Bool) (k : ℕ)
       → k ≡ n → wanted ≡ false → Are k b passes lines wanted → Are n b passes lines false
   all_back b passes lines wanted k all none h = subst (λ (w : Bool). Are n b passes lines w) none
@@ -156,7 +156,7 @@ module _ {P T E : Type 0} (meaning : P → ℕ → ℕ → Meaning) (r : Rows P)
         spent = subst (λ (a : ℕ). HasSpent a ran.after) all ran.spent;
       }
 
-  -- and before it ran it was ready
+  -- a worker was ready before it ran
   pub start_ready : (serves : Type 0) (i : ℕ) (w : Worker P T E) → serves
       → IsStart meaning r says object fits count course i w
       → IsReady meaning r says object fits count serves w

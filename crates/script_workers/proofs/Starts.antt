@@ -47,7 +47,7 @@ module _ {P : Type 0} where
         none = ap progress_of (sym same) ∙ unused.none;
       }
 
-  -- it has come as far as a client comes without a phase
+  -- a fresh caller has come as far as a client without a phase
   pub fresh_come : (meaning : P → ℕ → ℕ → Meaning) (r : Rows P) (says : _) (operations : List ℕ)
       (c : Caller P) (own : List Line)
       → IsCallerOf meaning r c → IsFresh c
@@ -110,7 +110,7 @@ module _ {P : Type 0} where
         (other.0 ∙ before.0, other.1 ∙ before.1);
   }
 
--- what a script gives a caller
+-- the allotment of a caller, by the script
 pub allotment_at : (operations : List (List ℕ)) (stops : List (Option ℕ)) (i : ℕ)
     → i < length operations
     → slice_index (allotments_of operations stops) i
@@ -169,7 +169,7 @@ stops_within (ops ∷ operations) (None ∷ stops) zero h = omega arith
 stops_within (ops ∷ operations) (Some phases ∷ stops) zero h = omega (arith, h.0)
 stops_within (ops ∷ operations) (stop ∷ stops) (suc i) h = stops_within operations stops i h.1
 
--- a pass with which no call was made has come along with a caller that has made no phase
+-- a pass with which no call was made agrees with a caller that has made no phase
 pub fresh_counts : {P : Type 0} (c : Caller P) (operations : List ℕ) (own : List Line)
     (count : Option PassCount) → IsFresh c
     → own ≡ [] → IfSome count (IsNewCount (length operations))

@@ -25,7 +25,7 @@ use Rattle.script_workers.specs.Returns.{IsSpent}
 use Rattle.script_workers.specs.Turns.{IsTurned, IsTurning}
 use Rattle.script_workers.specs.declared.worker.Worker.{Worker}
 
--- a caller is halted or goes on
+-- a caller is halted or it isn't
 goes_or_not : {P : Type 0} (s : CallerState P) → GoesOnFrom s ⊎ (GoesOnFrom s → ⊥)
 goes_or_not (Idle c) = inl tt
 goes_or_not (Announced a) = inl tt
@@ -40,7 +40,7 @@ module _ {P T E : Type 0} (meaning : P → ℕ → ℕ → Meaning) (r : Rows P)
   abbrev Turned : ℕ → ℕ → Worker P T E → Type 0
   Turned i turns w = IsTurned meaning r says object fits count course i turns w
 
-  -- before any turn
+  -- a worker before any turn has taken no turn
   pub no_turn : (i : ℕ) (w : Worker P T E) → IsStart meaning r says object fits count course i w
       → Turned i 0 w
   no_turn i w start = record {
@@ -63,7 +63,8 @@ module _ {P T E : Type 0} (meaning : P → ℕ → ℕ → Meaning) (r : Rows P)
     left = λ goes. omega (arith, h.left goes, h.within);
   }
 
-  -- a turn at which nothing is done, since no phase is left or the client is halted
+  -- a turn at which nothing is done, since no phase is left or the client is halted, is one turn
+  -- more
   pub still_turned : (i turns : ℕ) (w d : Worker P T E) → d.client ≡ w.client
       → d.allotment ≡ w.allotment
       → ((c : Client P T E) → w.client ≡ Some c → GoesOnFrom c.stand → w.allotment ≡ 0)
@@ -90,7 +91,7 @@ module _ {P T E : Type 0} (meaning : P → ℕ → ℕ → Meaning) (r : Rows P)
         within = h.within;
       }
 
-  -- a turn at which a phase is made
+  -- a turn at which a phase is made is one turn more
   pub phase_turned : (i turns : ℕ) (w d : Worker P T E) (before after : Client P T E)
       → w.client ≡ Some before → d.client ≡ Some after
       → IsAtWork meaning r says object fits count after → IsSameClient before after
@@ -145,7 +146,7 @@ more_other : (turns : List ℕ) (k i : ℕ) → k < length turns → get_or turn
 more_other turns k i low other =
     count_by_more_no (λ (turn : ℕ). turn == i) turns k 0 low (ne_eqb (get_or turns k 0) i other)
 
--- what stands in a list of which one item was put
+-- an element of a list in which one item was set
 set_cases : {X : Type 0} (xs : List X) (p j : ℕ) (y x : X) → slice_get (set xs p y) j ≡ Some x
     → ((j ≡ p) × (x ≡ y)) ⊎ ((j ≢ p) × (slice_get xs j ≡ Some x))
 set_cases [] p j y x there = absurd (none-some x there)
@@ -187,7 +188,7 @@ module _ {P T E : Type 0} (meaning : P → ℕ → ℕ → Meaning) (r : Rows P)
             (sym (more_other turns k i low unnamed)) (all i j x here other.1)
       ]
 
--- after all turns each worker has spent what it was given
+-- after all turns each worker has spent its allotment
 pub turned_spent : {P T E : Type 0} (meaning : P → ℕ → ℕ → Meaning) (r : Rows P) (says : Says)
     (object : E → Sequential) (fits : Fits T) (count : T → Option PassCount) (plan : Plan)
     (judged : Sequential)

@@ -4,9 +4,9 @@ use Rattle.world_core.specs.Local.{Local, fresh}
 use Rattle.world_core.specs.Programs.{outside}
 use Rattle.script_workers.specs.Returns.{IsBackWith}
 
--- The local of a caller with this second operation, and with this many records published: the first
--- call, which has the operation 5, was answered 50, saw a cut and was judged by it, and the second
--- call is announced.
+-- The local of a caller in its second call, with this operation and this number of published
+-- records. The first call has the operation 5, was answered 50, saw a cut and was judged by it; the
+-- second one is announced.
 abbrev pub in_second_call : ℕ → ℕ → Local
 in_second_call second published = record fresh {
   operations = 5 ∷ second ∷ [];
@@ -17,8 +17,8 @@ in_second_call second published = record fresh {
   seen = (1 ∷ []) ∷ [];
 }
 
--- A pass of the first caller: how many calls were made with it, and which it tells of, where it
--- tells of any.
+-- A pass of the first caller: how many calls were made with it, and the calls that it tells of,
+-- where it tells of any.
 pub record Pass : Type 0 where
   pub made : ℕ
   pub told : Option (List (ℕ × ℕ))
@@ -32,14 +32,15 @@ IsBackAfter given p l pass =
     (λ (pass : Pass). Some (record { made = pass.made; room = 2; told = pass.told }))
     ((5 ∷ 7 ∷ []) ∷ []) (given ∷ []) 0 p l pass
 
--- The same local, whose second call has an object step.
+-- This local, with an object step in its second call.
 abbrev pub with_object_step : Local → Local
 with_object_step l =
     record l { object_steps = [] ∷ (record { place = 0; old = 0; new = 1 } ∷ []) ∷ [] }
 
--- A pass that tells of nothing, and one that tells of these calls.
+-- A pass that tells of no calls, with which this many were made.
 abbrev pub silent_pass : ℕ → Pass
 silent_pass made = record { made = made; told = None }
 
+-- A pass that tells of these calls.
 abbrev pub pass_of : List (ℕ × ℕ) → Pass
 pass_of pairs = record { made = length pairs; told = Some pairs }

@@ -1,4 +1,4 @@
--- What callers leave that are back on their bench.
+-- What callers that are back on their bench leave.
 use Rattle.std.specs.Prelude.{◌≡◌, ℕ, ◌%◌, ◌<◌, ◌≤◌, Bool, false, List, Option, Some, None, IfSome, slice_get, slice_index}
 use Rattle.world_core.specs.Shape.{Meaning, Shape}
 use Rattle.world_core.specs.Local.{Local}
@@ -23,7 +23,7 @@ use Rattle.script_workers.specs.Starts.{Course, IsClientOf}
 use Rattle.script_workers.specs.declared.worker.Worker.{Worker}
 
 module _ {P T E : Type 0} where
-  -- The worker of caller i, with all its phases spent.
+  -- The worker of caller i, whose client has spent all its phases.
   pub record IsSpent (meaning : P → ℕ → ℕ → Meaning) (r : Rows P) (says : Says)
       (object : E → Sequential) (fits : Fits T) (count : T → Option PassCount) (course : Course)
       (i : ℕ) (w : Worker P T E) : Type 0 where
@@ -32,15 +32,15 @@ module _ {P T E : Type 0} where
     pub of : IsClientOf meaning r says object fits count course i client
     pub spent : HasSpent (slice_index course.allotments i) client
 
--- What a pass counts of a caller that has made p phases: it was asked as often as that, and tells
--- of these calls.
+-- What a pass counts of a caller that has made p phases: the object was asked as often as p phases
+-- ask it, and the pass tells of these calls.
 pub record IsCountOf (p : ℕ) (l : Local) (count : PassCount) : Type 0 where
   pub asked_for : count.made ≡ asked p
   pub told_is : IfSome count.told (IsTold p (calls_in l))
 
--- Caller i of a world of this shape is back with this local and this pass: it has made this many
--- first phases of its allotment, which its pass counts, where it counts any, and the pass fits it
--- as it stands now.
+-- Caller i of a world of this shape is back with this local and this pass: it has made the first p
+-- phases of its allotment, which its pass counts, where it counts any, and the pass fits it with
+-- the object steps that it has made.
 pub record IsBackWith {T : Type 0} (s : Shape) (fits : Fits T) (count : T → Option PassCount)
     (operations : List (List ℕ)) (allotments : List ℕ) (i p : ℕ) (l : Local)
     (pass : T) : Type 0 where
@@ -50,14 +50,15 @@ pub record IsBackWith {T : Type 0} (s : Shape) (fits : Fits T) (count : T → Op
   pub asked : KeepsAsked s.program i p l
   pub counts : IfSome (count pass) (IsCountOf p l)
 
--- It left these lines: those of its allotment, and it made exactly the phases that they tell of.
+-- Caller i of this course left these lines: those of its allotment, and it made exactly the phases
+-- that they determine.
 abbrev pub HasLeftLines : Says → ℕ → Course → ℕ → ℕ → Local → List Line → Type 0
 HasLeftLines says n course i p l own =
     HasLeftAt (says course.object) n (operations_at course.operations i)
     (slice_index course.allotments i) p l own
 
--- How caller i stands on the bench that has made this many phases: within a call it is halted, and
--- where it is live it is free for its next call.
+-- The stance on the bench of caller i, which has made this many phases: within a call it is halted,
+-- and where it is live it is free for its next call.
 pub record StandsAgain {P : Type 0} (b : Bench P) (i phases : ℕ) (l : Local) : Type 0 where
   pub stance : Stance
   pub here : stance_on b i ≡ Some stance

@@ -22,18 +22,19 @@ use Rattle.script_workers.specs.declared.worker.Worker.{Worker}
 use Rattle.script_workers.specs.declared.pace.Pace.{Pace}
 use Rattle.script_workers.specs.declared.pace.Pace.TheVariants.{Alone, ByTurns}
 
--- A sequential object of some type, by how it begins and goes on.
+-- A sequential object of some type, by its first list and its transition function.
 abbrev pub object_by : {S : Type 0} → (S → List ℕ) → (S → List ℕ → ℕ → List ℕ × ℕ) → S → Sequential
 object_by init next sequential = record { init = init sequential; next = next sequential }
 
--- How many phases each of a plan's callers may make, where they go on by themselves, where they
--- take the plan's turns, and at either pace.
+-- How many phases each of a plan's callers may make where each works by itself.
 abbrev pub run_allotments : Plan → List ℕ
 run_allotments plan = allotments_of plan.operations plan.stops
 
+-- How many phases each of a plan's callers may make where they take the plan's turns.
 abbrev pub replay_allotments : Plan → List ℕ
 replay_allotments plan = allotments_by_turns plan.operations plan.stops plan.turns
 
+-- How many phases each of a plan's callers may make at this pace.
 abbrev pub allotments_by : Pace → Plan → List ℕ
 allotments_by Alone plan = run_allotments plan
 allotments_by ByTurns plan = replay_allotments plan
@@ -51,8 +52,8 @@ course_of plan allotments object =
     record { operations = plan.operations; allotments = allotments; object = object }
 
 module _ {P : Type 0} where
-  -- These rows have room for the callers of a plan, and for the calls of each. They may have more
-  -- callers.
+  -- These rows have capacity for the callers of a plan, and for the calls of each. They may have
+  -- more callers.
   pub record HaveCapacityFor (plan : Plan) (r : Rows P) : Type 0 where
     pub callers : length plan.operations ≤ r.callers
     pub cap : (i : ℕ) → length (operations_at plan.operations i) ≤ r.cap
@@ -71,8 +72,8 @@ module _ {P : Type 0} where
     pub idle : IsIdle local
     pub none : progress_of local ≡ no_progress
 
-  -- The callers of a plan may start on these rows, with this bench: the rows have room for them,
-  -- and the bench is theirs and holds each of the plan's callers, unused.
+  -- The callers of a plan may start on these rows, with this bench: the rows have capacity for
+  -- them, and the bench is that of the rows and holds each of the plan's callers, unused.
   pub record MayStart (meaning : P → ℕ → ℕ → Meaning) (plan : Plan) (r : Rows P)
       (b : Bench P) : Type 0 where
     pub rows_for : HaveCapacityFor plan r
@@ -87,13 +88,13 @@ module _ {P : Type 0} where
     pub callers : r.callers ≡ length plan.operations + beside
     pub others : (i : ℕ) → length plan.operations ≤ i → i < r.callers → IsUnused b i
 
-  -- From caller n on both benches hold the same callers, standing the same.
+  -- The two benches hold the same callers from caller n on, with the same stances.
   abbrev pub AreAlikeFrom : ℕ → Bench P → Bench P → Type 0
   AreAlikeFrom n b c = (i : ℕ) → n ≤ i → (on_bench c i ≡ on_bench b i)
       × (stance_on c i ≡ stance_on b i)
 
-  -- Of the first n callers the second bench holds those below k, each as the first has it, and no
-  -- other; and what is there of callers from n on is on both alike.
+  -- Of the first n callers the second bench holds just those below k, each as the first bench has
+  -- it; from caller n on both benches hold the same callers.
   pub record HoldsBelow (n k : ℕ) (b c : Bench P) : Type 0 where
     pub below : (i : ℕ) → i < k → (on_bench c i ≡ on_bench b i) × (stance_on c i ≡ stance_on b i)
     pub gone : (i : ℕ) → k ≤ i → i < n → on_bench c i ≡ None
@@ -104,8 +105,8 @@ pub record IsCapacityFor (operations : List (List ℕ)) (i : ℕ) (own : Own) : 
   pub none : own.lines.items ≡ []
   pub has_capacity : length (operations_at operations i) ≤ vec_capacity own.lines
 
--- With a pass that counts no call was made, it has a call for each of this many operations, and it
--- tells of none.
+-- A pass that counts its calls is new: no call was made with it, it has a call for each of this
+-- many operations, and it tells of none.
 pub record IsNewCount (operations : ℕ) (count : PassCount) : Type 0 where
   pub none : count.made ≡ 0
   pub has_capacity : operations ≤ count.room
@@ -118,7 +119,7 @@ pub record IsFreshPass {P T : Type 0} (r : Rows P) (fits : Fits T) (count : T �
   pub fits_caller : fits r.callers r.cap pass i []
   pub counts : IfSome (count pass) (IsNewCount (length (operations_at operations i)))
 
--- There is such a pass for each caller, in order.
+-- There is a new pass for each caller, in order.
 pub record AreFreshPasses {P T : Type 0} (r : Rows P) (fits : Fits T) (count : T → Option PassCount)
     (operations : List (List ℕ)) (passes : List T) : Type 0 where
   pub as_many : length passes ≡ length operations
@@ -127,7 +128,7 @@ pub record AreFreshPasses {P T : Type 0} (r : Rows P) (fits : Fits T) (count : T
 module _ {P T E : Type 0} (meaning : P → ℕ → ℕ → Meaning) (r : Rows P) (says : Says)
     (object : E → Sequential) (fits : Fits T) (count : T → Option PassCount)
     (course : Course) (i : ℕ) where
-  -- The client of caller i, at work on its course.
+  -- The client of caller i, which is at work on this course.
   pub record IsClientOf (c : Client P T E) : Type 0 where
     pub work : IsAtWork meaning r says object fits count c
     pub who : c.sheet.who ≡ i

@@ -14,8 +14,8 @@ use Rattle.script_workers.specs.declared.worker.Worker.{Worker}
 module _ {P T E : Type 0} (meaning : P → ℕ → ℕ → Meaning) (r : Rows P) (says : Says)
     (object : E → Sequential) (fits : Fits T) (count : T → Option PassCount) where
   -- The worker of caller i, after this many turns that named it: its client has spent a phase at
-  -- each, but none beyond its allotment, and where it isn't halted it has the rest of its allotment
-  -- left.
+  -- each, but none beyond its allotment, and where it isn't halted it has the other phases of its
+  -- allotment left.
   pub record IsTurned (course : Course) (i turns : ℕ) (w : Worker P T E) : Type 0 where
     pub client : Client P T E
     pub here : w.client ≡ Some client
@@ -25,8 +25,8 @@ module _ {P T E : Type 0} (meaning : P → ℕ → ℕ → Meaning) (r : Rows P)
         → phases_by client + w.allotment ≡ slice_index course.allotments i
     pub within : slice_index course.allotments i ≤ 5 * length client.sheet.operations.now
 
-  -- A worker may take a turn: it has its client, at work, and no more phases left than the client
-  -- has.
+  -- A worker may take a turn: its client is at work and isn't halted, and the worker has no more
+  -- phases left than the client.
   pub record IsTurning (w : Worker P T E) : Type 0 where
     pub client : Client P T E
     pub here : w.client ≡ Some client

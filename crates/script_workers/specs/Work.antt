@@ -13,24 +13,25 @@ use Rattle.client_calls.specs.Keeping.{KeepsStanding}
 use Rattle.client_calls.specs.declared.client.Client.{Client}
 use Rattle.script_workers.specs.declared.worker.Worker.{Worker}
 
--- What the ends of lines say, by a sequential object.
+-- What the end of a line says, by a sequential object.
 abbrev pub Says : Type 1
 Says = Sequential → ℕ → Local → Record → List ℕ → LineEnd → Type 0
 
--- In all of these: the meaning of the program, the rows; what the ends of lines say, and by which
--- object an ending judges; whom a pass fits, and what it counts.
+-- The parameters of all definitions below: the meaning of the program, and the rows; what the ends
+-- of lines say, and by which object an ending judges; whom a pass fits, and what it counts.
 module _ {P T E : Type 0} (meaning : P → ℕ → ℕ → Meaning) (r : Rows P) (says : Says)
     (object : E → Sequential) (fits : Fits T) (count : T → Option PassCount) where
-  -- A client is at work: it has come as far as it stands, its pass fits its caller and has come
-  -- along, there is room for all its calls, and the order that it keeps is one of its object's.
+  -- A client is at work: it has come to its state and its lines, its pass fits its caller and
+  -- agrees with them, there is capacity for all its calls, and the order that it keeps is one of
+  -- its object's.
   pub record IsAtWork (c : Client P T E) : Type 0 where
     pub course : IsUnderWay meaning r (says (object c.sheet.ending)) c
     pub pass : HasPass fits count c
     pub has_capacity : HasCapacity r c
     pub stands : KeepsStanding (object c.sheet.ending) c.sheet
 
-  -- A worker is ready: the object serves its caller, and its client is at work, goes on and has
-  -- that many phases left.
+  -- A worker is ready: the object serves its caller, and its client is at work, isn't halted, and
+  -- has as many phases left as the worker says.
   pub record IsReady (serves : Type 0) (w : Worker P T E) : Type 0 where
     pub served : serves
     pub client : Client P T E
@@ -39,7 +40,7 @@ module _ {P T E : Type 0} (meaning : P → ℕ → ℕ → Meaning) (r : Rows P)
     pub goes : GoesOnFrom client.stand
     pub left : phases_by client + w.allotment ≤ 5 * length client.sheet.operations.now
 
-  -- A worker has run: its client has spent its phases, and is at work still.
+  -- A worker has run: its client has spent its phases, and is still at work.
   pub record HasRun (w d : Worker P T E) : Type 0 where
     pub before : Client P T E
     pub after : Client P T E

@@ -1,19 +1,19 @@
-//! Worked cases: how far a caller has come that is back.
+//! Worked cases: which phases a caller that is back has made.
 
 ghost use Rattle.std.specs.Prelude.{[], ◌∷◌};
 ghost use Rattle.script_workers.specs.Cases.{in_second_call, with_object_step, silent_pass, pass_of, IsBackAfter};
 
-/// A caller that is in its second call has made its sixth phase, or its seventh as well, in which
-/// the object was asked. It was given as many phases or more; its calls have the operations that it
-/// was given, and its record is published. Before the object was asked, its call has no object
-/// step.
+/// A caller in its second call has made its sixth phase, or its seventh as well, in which the
+/// object was asked. It was given at least as many phases; its calls have the operations that it
+/// was given, and the record of its first call is published. Its second call has no object step
+/// before the object was asked.
 pub fn callers_are_back_after_their_phases()
     // A caller in its second call whose pass tells of its first call alone has made 6 of 6 phases.
     ensures announced { IsBackAfter 6 6 (in_second_call 7 1) (pass_of ((5, 50) ∷ [])) }
     // A caller in its second call whose pass tells of both calls has made 7 of 7 phases.
     ensures asked { IsBackAfter 7 7 (in_second_call 7 1) (pass_of ((5, 50) ∷ (7, 4) ∷ [])) }
-    // A caller that was given 10 phases has made 6 of them, where its pass was asked once and tells
-    // of no call.
+    // A caller that was given 10 phases has made 6 of them, where the object was asked once with
+    // its pass, which tells of no call.
     ensures given_more { IsBackAfter 10 6 (in_second_call 7 1) (silent_pass 1) }
     // A caller that was given 5 phases hasn't made 6.
     ensures given_fewer { ¬ IsBackAfter 5 6 (in_second_call 7 1) (silent_pass 1) }
@@ -28,6 +28,6 @@ pub fn callers_are_back_after_their_phases()
     // A caller whose second call has an object step hasn't made just 6 phases.
     ensures a_step_before_it_asked { ¬ IsBackAfter 6 6 (with_object_step (in_second_call 7 1))
         (pass_of ((5, 50) ∷ [])) }
-    // A caller whose pass was asked twice hasn't made just 6 phases.
+    // A caller with whose pass the object was asked twice hasn't made just 6 phases.
     ensures asked_too_soon { ¬ IsBackAfter 6 6 (in_second_call 7 1) (silent_pass 2) }
 {}

@@ -16,8 +16,9 @@ use reports::Own;
 use row_table::Bench;
 use world_core::Program;
 
-// Finishes the client of a caller, which comes back to its bench, and puts its pass and its lines
-// after those of the callers before it. Whether its last call wasn't judged for want of memory.
+// Finishes the client of a caller, brings the caller back to its bench, and puts its pass and its
+// lines after those of the callers before it. The answer is whether the caller's last call wasn't
+// judged for want of memory.
 fn bring_back<'a, P: Program, T, E: Ending + Drop, A: Asks<Program = P, Pass = T>>(
     shared: &Shared<A, P>,
     _script: &Script,
@@ -66,11 +67,11 @@ fn bring_back<'a, P: Program, T, E: Ending + Drop, A: Asks<Program = P, Pass = T
     wants_memory
 }
 
-/// Finishes the clients of all workers, whose callers come back to their bench with their passes
-/// and lines, in order, whatever the answer.
+/// Finishes the clients of all workers, and brings their callers back to their bench, with their
+/// passes and lines in order, whatever the answer.
 ///
-/// The answer is the lines of each caller, in order. Want of memory is answered where it was wanted
-/// for a judgement. The pace says how many phases each caller was given.
+/// The answer is the lines of each caller, in order, or want of memory where a judgement wanted it.
+/// The pace says how many phases each caller was given.
 pub fn end_all<'a, P: Program, T, E: Ending + Drop, A: Asks<Program = P, Pass = T>>(
     shared: &Shared<A, P>,
     script: &Script,
@@ -90,17 +91,17 @@ pub fn end_all<'a, P: Program, T, E: Ending + Drop, A: Asks<Program = P, Pass = 
         (IsSpent P.meaning shared.now.rows.now E.says E.object (A.fits shared.now.asks.now) A.count
         (course_of script.now (allotments_by pace script.now) (E.object ending.now)))
         workers.items }
-    // No lines are in their list yet.
+    // The list of lines is empty.
     requires no_lines { lines.items ≡ [] }
-    // The list of lines has room for those of each caller of the script.
+    // The list of lines has capacity for those of each caller of the script.
     requires lines { length script.now.operations ≤ vec_capacity lines }
     // The bench is one of these rows.
     requires bench { IsBenchOf P.meaning shared.now.rows.now bench.old }
     // The bench holds none of the script's callers.
     requires gone { (i : ℕ) → i < length script.now.operations → on_bench bench.old i ≡ None }
-    // No pass is in the list yet.
+    // The list of passes is empty.
     requires no_passes { passes.old.items ≡ [] }
-    // The list of passes has room for one for each caller of the script.
+    // The list of passes has capacity for one for each caller of the script.
     requires passes { length script.now.operations ≤ vec_capacity passes.old }
     // The bench is still one of these rows.
     ensures bench { IsBenchOf P.meaning shared.now.rows.now bench.new }
@@ -116,11 +117,11 @@ pub fn end_all<'a, P: Program, T, E: Ending + Drop, A: Asks<Program = P, Pass = 
     ensures back { (i : ℕ) → i < length script.now.operations
         → IsBackOn P.meaning shared.now.rows.now (A.fits shared.now.asks.now) A.count
         script.now.operations (allotments_by pace script.now) bench.new passes.new.items i }
-    // With lines there is one list of them for each caller of the script.
+    // Where lines are answered, there is one list of them for each caller of the script.
     ensures all_lines { IfOk result (λ lines. vec_len lines ≡ length script.now.operations) }
-    // With lines each caller's are those of its allotment and tell of just the phases that it has
-    // made; where none of them is an error and it stopped between two calls, or made all of them,
-    // it is free for its next call.
+    // Where lines are answered, each caller's lines are those of its allotment and of just the
+    // phases that it has made; where none of them is an error and the caller stopped between two
+    // calls, or made all of them, it is free for its next call.
     ensures lines { IfOk result (λ lines. AreBack P.meaning shared.now.rows.now E.says
         (A.fits shared.now.asks.now) A.count
         (length script.now.operations) (length script.now.operations)

@@ -1,4 +1,5 @@
-//! All callers of a bench at work: off the bench into clients, through their work, and back.
+//! All callers of a bench at work: they are taken off the bench into clients, work, and are brought
+//! back.
 #![tactic(auto)]
 
 pub mod cases;

@@ -22,7 +22,7 @@ pub fn allotment_of(script: &Script, who: u32) -> u64
     requires plan { IsPlan Second script.now }
     // The caller is one of the script's.
     requires who { who < length script.now.operations }
-    // The answer is how many phases the caller may make by the script, where it goes on by itself.
+    // The answer is how many phases the caller may make by the script, where it works by itself.
     ensures allotment { result ≡ slice_index (run_allotments script.now) who }
     // The answer is at most five phases for each of the caller's operations.
     ensures within { result ≤ 5 * length (operations_at script.now.operations who) }
@@ -79,7 +79,7 @@ fn begin<'a, P: Program, T, E: Ending, A: Asks<Program = P, Pass = T>>(
     }
 }
 
-// An empty list of lines for each caller, with capacity for one of each of its operations.
+// Makes an empty list of lines for each caller, with capacity for one of each of its operations.
 fn make_capacity(alloc: Global, script: &Script) -> Result<Vec<Own>, NoMemory>
     ensures all { IfOk result (λ room. vec_len room ≡ length script.now.operations) }
     ensures capacity { IfOk result (λ room. length script.now.operations ≤ vec_capacity room) }
@@ -96,11 +96,11 @@ fn make_capacity(alloc: Global, script: &Script) -> Result<Vec<Own>, NoMemory>
 }
 
 /// Takes the callers of a script off their bench, from the last to the first, each into a worker
-/// for the phases up to its stop. Beside the workers stands an empty list for the lines of all
+/// for the phases up to its stop. It answers the workers, and an empty list for the lines of all
 /// callers.
 ///
-/// The passes are the callers', in order, and each gets an ending such as this one. Want of memory
-/// is answered before anything is done.
+/// The passes are the callers', in order, and each worker gets an ending such as this one. Where
+/// memory is wanted, nothing is done.
 pub fn start_all<'a, P: Program, T, E: Ending, A: Asks<Program = P, Pass = T>>(
     alloc: Global,
     shared: &Shared<A, P>,
@@ -109,8 +109,8 @@ pub fn start_all<'a, P: Program, T, E: Ending, A: Asks<Program = P, Pass = T>>(
     script: &'a Script,
     ending: &E,
 ) -> Result<(Vec<Worker<'a, P, T, E>>, Vec<Own>), NoMemory>
-    // The rows have room for the script's callers and their calls, and the bench is theirs and
-    // holds each of these callers, ready and idle, without a call.
+    // The rows have capacity for the script's callers and their calls, and the bench is that of the
+    // rows and holds each of these callers, ready and idle, without a call.
     requires starts { MayStart P.meaning script.now shared.now.rows.now bench.old }
     // There is a pass for each caller of the script, in order, which fits the caller; where it
     // counts calls, none was made with it, and it has one for each operation.
@@ -127,10 +127,10 @@ pub fn start_all<'a, P: Program, T, E: Ending, A: Asks<Program = P, Pass = T>>(
     // Where memory is wanted, the passes are still in the list, as they were.
     ensures passes { OnErr result (AreFreshPasses shared.now.rows.now (A.fits shared.now.asks.now)
         A.count script.now.operations passes.new.items) }
-    // Else the bench holds none of the script's callers any more.
+    // Where workers are answered, the bench holds none of the script's callers any more.
     ensures gone { OnOk result
         ((i : ℕ) → i < length script.now.operations → on_bench bench.new i ≡ None) }
-    // No pass is left in the list.
+    // Where workers are answered, no pass is left in the list.
     ensures no_passes { OnOk result (passes.new.items ≡ []) }
     // There is one worker for each caller of the script.
     ensures all { IfOk result (λ r. vec_len r.0 ≡ length script.now.operations) }
@@ -139,9 +139,9 @@ pub fn start_all<'a, P: Program, T, E: Ending, A: Asks<Program = P, Pass = T>>(
     ensures workers { IfOk result (λ r. AreDownFrom (length script.now.operations)
         (IsStart P.meaning shared.now.rows.now E.says E.object (A.fits shared.now.asks.now) A.count
         (course_of script.now (run_allotments script.now) (E.object ending.now))) r.0.items) }
-    // No lines are in their list yet.
+    // The list of lines is empty.
     ensures no_lines { IfOk result (λ r. r.1.items ≡ []) }
-    // The list of lines has room for those of each caller of the script.
+    // The list of lines has capacity for those of each caller of the script.
     ensures room { IfOk result (λ r. length script.now.operations ≤ vec_capacity r.1) }
 {
     let mut left = script.callers();

@@ -12,7 +12,7 @@ use std::sync::ledger::{Blank, Ledger};
 use world_core::Program;
 
 impl<'a, P: Program, T, E: Ending> Worker<'a, P, T, E> {
-    // Makes one further phase, where one is left and the client isn't halted.
+    // Makes one further phase of the client, where one is left and the client isn't halted.
     fn take_turn<A: Asks<Program = P, Pass = T>, L: Ledger>(
         &mut self,
         shared: &Shared<A, P>,
@@ -46,7 +46,7 @@ impl<'a, P: Program, T, E: Ending> Worker<'a, P, T, E> {
 
 /// Lets the workers of a script's callers make their phases in the order of its turns, in one
 /// thread: at each turn the worker of the caller that it names makes its next phase, where one is
-/// left up to its stop, and it isn't halted. Steps are counted by themselves.
+/// left up to its stop, and it isn't halted. Each caller's steps are counted on their own.
 pub fn take_turns<'a, P: Program, T, E: Ending, A: Asks<Program = P, Pass = T>, L: Ledger>(
     shared: &Shared<A, P>,
     script: &Script,
@@ -54,9 +54,9 @@ pub fn take_turns<'a, P: Program, T, E: Ending, A: Asks<Program = P, Pass = T>, 
     workers: &mut Vec<Worker<'a, P, T, E>>,
     blank: Blank,
 )
-    // The blank is of this ledger, and has a part.
+    // The blank is of this ledger, and has a part left.
     requires blank { (blank.name ≡ L.name) × (blank.parts ≡ L.parts) × (0 < blank.parts) }
-    // The passes serve these rows.
+    // These rows are those whose callers may ask the object.
     requires serves { A.serves shared.now.asks.now shared.now.rows.now }
     // There is one worker for each caller of the script.
     requires all { length workers.old.items ≡ length script.now.operations }
@@ -69,7 +69,7 @@ pub fn take_turns<'a, P: Program, T, E: Ending, A: Asks<Program = P, Pass = T>, 
     // There is still one worker for each caller of the script.
     ensures all { length workers.new.items ≡ length script.now.operations }
     // Each worker's client has made as many phases as turns name its caller, up to its stop, or was
-    // halted before.
+    // halted before it had made them.
     ensures workers { AreDownFrom (length script.now.operations)
         (IsSpent P.meaning shared.now.rows.now E.says E.object (A.fits shared.now.asks.now) A.count
         (course_of script.now (replay_allotments script.now) (E.object _ending.now)))

@@ -18,8 +18,8 @@ pub struct Worker<'a, P, T, E> {
     pub allotment: u64,
 }
 
-// The client makes this many further phases, or is halted within them. Its steps are counted by
-// themselves.
+// Makes this many further phases of the client, or those up to where it is halted. Its steps are
+// counted on their own.
 fn run_counted<'a, P: Program, T, E: Ending, A: Asks<Program = P, Pass = T>, L: Ledger>(
     client: Client<'a, P, T, E>,
     shared: &Shared<A, P>,
@@ -82,12 +82,12 @@ pub fn run_workers<
     E: Ending + Send,
     A: Asks<Program = P, Pass = T> + Sync,
 >(rt: &R, shared: &Shared<A, P>, workers: &mut Vec<Worker<'a, P, T, E>>)
-    // Each worker is ready: the passes serve these rows, and its client is at work, goes on and has
-    // as many phases left as it is to make.
+    // Each worker is ready: the object serves these rows, and its client is at work, isn't halted,
+    // and has as many phases left as it is to make.
     requires { All (IsReady P.meaning shared.now.rows.now E.says E.object
         (A.fits shared.now.asks.now) A.count
         (A.serves shared.now.asks.now shared.now.rows.now)) workers.old.items }
-    // Each worker's client has made these phases, or was halted before.
+    // Each worker's client has made these phases, or was halted within them.
     ensures { AllZip (HasRun P.meaning shared.now.rows.now E.says E.object
         (A.fits shared.now.asks.now) A.count) workers.old.items workers.new.items }
 {

@@ -12,7 +12,7 @@ all_zip-append R (x ∷ xs) suffix [] suffix' at_prefix at_after = absurd at_pre
 all_zip-append R (x ∷ xs) suffix (y ∷ ys) suffix' at_prefix at_after =
     (at_prefix.0, all_zip-append R xs suffix ys suffix' at_prefix.1 at_after)
 
--- so it is where the whole is said to be the two parts
+-- what holds place by place of the two parts holds of a whole that is said to be the two parts
 pub all_zip-of_parts : {X Y : Type 0} (R : X → Y → Type 0) (whole prefix suffix : List X)
     (prefix' suffix' : List Y) → whole ≡ prefix ++ suffix
     → AllZip R prefix prefix' → AllZip R suffix suffix' → AllZip R whole (prefix' ++ suffix')

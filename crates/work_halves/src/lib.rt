@@ -1,4 +1,5 @@
-//! Workers side by side: each works once over what all share, half of them beside the other half.
+//! Workers side by side: each works once over what all of them share, half of them beside the other
+//! half.
 #![tactic(auto)]
 
 ghost use Rattle.std.specs.Prelude.{◌≡◌, ◌+◌, ◌<◌, ◌≤◌, length};
@@ -12,23 +13,22 @@ pub trait Work<C>: Send {
     /// The worker may work over this context.
     ghost ready: { Self → C → Type 0 };
 
-    /// The worker that was so, over this context, is now so: its work is done.
+    /// The worker has done its work over this context: it has become the second worker.
     ghost done: { Self → C → Self → Type 0 };
 
-    /// Does the work, once.
+    /// Does the worker's work, once.
     fn work(&mut self, shared: &C)
         requires { ready self.old shared.now }
         ensures { done self.old shared.now self.new };
 }
 
 /// Each of the workers works once, in no order: the first half in a thread of its own, beside the
-/// second one, and so on within each half. Where a thread can't be had, one half works after the
-/// other.
+/// second one, and each half likewise. Where a thread can't be had, one half works after the other.
 ///
 /// All have worked when it returns.
 #[cycle(halves)]
 pub fn work_all<R: Threads + Sync, C: Sync, W: Work<C>>(rt: &R, shared: &C, all: &mut [W])
-    // Each worker is ready for what they share.
+    // Each worker is ready for what the workers share.
     requires { All (λ w. W.ready w shared.now) all.old }
     // Each worker has done its work.
     ensures { AllZip (λ before after. W.done before shared.now after) all.old all.new }
@@ -43,7 +43,7 @@ pub fn work_all<R: Threads + Sync, C: Sync, W: Work<C>>(rt: &R, shared: &C, all:
     }
 }
 
-// The workers of both parts work, those of one part beside those of the other.
+// Lets the workers of both parts work, those of one part beside those of the other.
 #[cycle(halves)]
 fn work_beside<R: Threads + Sync, C: Sync, W: Work<C>>(
     rt: &R,
@@ -72,8 +72,8 @@ fn work_beside<R: Threads + Sync, C: Sync, W: Work<C>>(
     join_mut(rt, &mut in_prefix, &mut from_suffix);
 }
 
-/// The workers of a list work, and beside them two workers of another kind, each kind over what its
-/// own share.
+/// Lets the workers of a list work, and beside them two workers of another kind, each kind over
+/// what its workers share.
 ///
 /// All have worked when it returns.
 pub fn work_with_two<R: Threads + Sync, C: Sync, W: Work<C>, D: Sync, V: Work<D>>(
@@ -84,13 +84,13 @@ pub fn work_with_two<R: Threads + Sync, C: Sync, W: Work<C>, D: Sync, V: Work<D>
     one: &mut V,
     other: &mut V,
 )
-    // Each worker is ready for what they share.
+    // Each worker of the list is ready for what these workers share.
     requires all { All (λ w. W.ready w shared.now) all.old }
-    // Both workers beside them are ready for what these two share.
+    // The one worker beside them is ready for what the two workers beside them share.
     requires one { V.ready one.old aside.now }
-    // Both workers beside them are ready for what these two share.
+    // The other worker beside them is ready for what the two workers beside them share.
     requires other { V.ready other.old aside.now }
-    // Each worker has done its work.
+    // Each worker of the list has done its work.
     ensures all { AllZip (λ before after. W.done before shared.now after) all.old all.new }
     // The one worker beside them has done its work.
     ensures one { V.done one.old aside.now one.new }
@@ -112,7 +112,7 @@ pub fn work_with_two<R: Threads + Sync, C: Sync, W: Work<C>, D: Sync, V: Work<D>
     join_mut(rt, &mut list, &mut two);
 }
 
-// Two workers work side by side.
+// Lets two workers work side by side.
 fn work_two<R: Threads, C: Sync, W: Work<C>>(rt: &R, shared: &C, one: &mut W, other: &mut W)
     requires one { W.ready one.old shared.now }
     requires other { W.ready other.old shared.now }

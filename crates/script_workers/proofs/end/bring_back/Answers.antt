@@ -29,7 +29,7 @@ returns-clause-passes g c =
     pushed (c.finish-caller.result.pass ∷ []) refl c.unwrap.ensures c.push.ensures.items
     ∙ ap (λ pass. c.args.passes.now.items ++ pass ∷ []) c.finish-caller.ensures.pass
 
--- the lines of the caller stand after those that were there
+-- the lines of the caller come after the lines of earlier callers
 lines_put : (old new : List Own) (own : Own)
     → new ≡ old ++ own ∷ [] → lines_in new ≡ lines_in old ++ own.lines.items ∷ []
 lines_put old new own put = ap (λ (all : List Own). lines_in all) put
