@@ -1,5 +1,5 @@
--- The parts of a call after its reply is handed in, one after the other: what its caller has
--- published in the end.
+-- What a call's caller has published, by the steps of the call after its reply is handed in, one
+-- after the other.
 use Rattle.std.proofs.Common.{◌≡◌, ◌∙◌, ℕ, false, List, Option, None, Some, Result, Ok, Err, IfOk, IfErr, length, slice_index, refl, sym, ap, subst}
 use Rattle.book_base.specs.declared.call.Record.{Record}
 use Rattle.world_core.specs.Shape.{Meaning}
@@ -33,14 +33,14 @@ use Rattle.enforcer.specs.States.{caller_published, reply_published, view_publis
 use Rattle.enforcer.proofs.WholeCalls.{peeks_grow}
 use Rattle.call_handles.specs.Ends.{record_seen, IsPublishedBy, IsJudgedAs}
 
--- peeks leave a caller's calls
+-- peeks don't change a caller's progress
 peeks_leave : (l m : Local) (before after : ℕ) → HasOnlyPeeked l m before after
     → progress_of m ≡ progress_of l
 peeks_leave l m before after h = ap progress_of h.local
 
 module _ {P : Type 0} (meaning : P → ℕ → ℕ → Meaning) (r : Rows P) (call : Announced P) (reply : ℕ)
     (a : Answered P) (v : Viewed P) (p : Published P) (s : Seen P) where
-  -- What the parts before a judgement say of one another.
+  -- The steps of a call before its judgement, and how each begins where the one before ended.
   pub record Course : Type 0 where
     pub same : IsSame (caller_announced call) (caller_answered a)
     pub handed : reply_answered a ≡ reply
@@ -103,7 +103,7 @@ module _ {P : Type 0} (meaning : P → ℕ → ℕ → Meaning) (r : Rows P) (ca
 module _ {P : Type 0} (meaning : P → ℕ → ℕ → Meaning) (r : Rows P) (call : Announced P) (reply : ℕ)
     (s : Seen P)
     (h : IsPublishedBy meaning r call reply (caller_seen s) (record_seen s) (cut_seen s)) where
-  -- what is published stays so where its caller isn't judged
+  -- what is published stays so where the call isn't judged
   pub deferred : (c : Caller P) → IsSame (caller_seen s) c
       → IsPublishedBy meaning r call reply c (record_seen s) (cut_seen s)
   deferred c same =
@@ -117,7 +117,7 @@ module _ {P : Type 0} (meaning : P → ℕ → ℕ → Meaning) (r : Rows P) (ca
         grows = subst (λ (l : Local). Grows (announced_local call) l) (sym same.local) h.grows;
       }
 
-  -- and where it peeks
+  -- what is published stays so where the caller peeks
   peeked : (c : Caller P) (told : Record) (cut : List ℕ) (before after : ℕ)
       → IsStill meaning r (caller_seen s) c
       → HasOnlyPeeked (local_with (caller_seen s)) (local_with c) before after
@@ -144,7 +144,7 @@ module _ {P : Type 0} (meaning : P → ℕ → ℕ → Meaning) (r : Rows P) (ca
             (peeks_grow (local_with (caller_seen s)) (local_with c) before after peeks);
       }
 
-  -- what a judgement says of the outcome that it is with the order of what stands
+  -- what a judgement says of its outcome, with the order of what stands
   judged_with : (init : List ℕ) (next : List ℕ → ℕ → List ℕ × ℕ) (before after : ℕ)
       (standing : Option KeptOrder) (c : Caller P) (judged : Judged)
       → IsStill meaning r (caller_seen s) c
@@ -176,7 +176,8 @@ module _ {P : Type 0} (meaning : P → ℕ → ℕ → Meaning) (r : Rows P) (ca
         verdict = verdict;
       }
 
-  -- what a judgement says, where there is one, and of the call's record, where it isn't judged
+  -- what a judgement says, where there is one, and what then holds of the call's record, where
+  -- there is none
   pub judged_as : (init : List ℕ) (next : List ℕ → ℕ → List ℕ × ℕ) (before after : ℕ)
       (standing : Option KeptOrder) (result : Result (Caller P × Judged) (Unjudged P))
       → IfOk result (λ x. IsStill meaning r (caller_seen s) x.0)
@@ -207,7 +208,7 @@ module _ {P : Type 0} (meaning : P → ℕ → ℕ → Meaning) (r : Rows P) (ca
       peeked u.caller (record_unjudged u) u.seen before after still peeks
       (λ i. record { reply = told.0 i; view = told.1 i }) told.2 own
 
--- A reply that is delivered is, with the order of what stands, an outcome that is no error.
+-- A delivered reply is, with the order of what stands, an outcome that is no error.
 pub delivered_with : (holds : Outcome → Type 0) (standing : Option KeptOrder) (reply : ℕ)
     (view seen : List ℕ) → IsOutcome (Delivered reply view seen) standing holds
     → (found : Outcome) × (is_illegal found ≡ false) × holds found

@@ -20,7 +20,7 @@ use Rattle.call_handles.specs.declared.monitor_handle.MonitorHandle.{MonitorHand
 use Rattle.call_handles.specs.Callers.{every_reply}
 use Rattle.call_handles.specs.Monitors.{rows_watched, IsRightOfRound}
 
--- what is found holds for what was looked for
+-- what holds of the witness that an option has holds of that witness
 pub own_has : (P : Witness → Type 0) (own : Option Witness) (w : Witness) → own ≡ Some w
     → IfSome own P → P w
 own_has P own w is h = subst (λ (o : Option Witness). IfSome o P) is h
@@ -44,7 +44,7 @@ module _ (init : List ℕ) (next : List ℕ → ℕ → List ℕ × ℕ) where
   unmoved : (l : Local) → Grows l l
   unmoved l = record { looked = λ x h. h; peeked = λ x h. h; cuts = λ place given h. h }
 
-  -- a round is right of the calls of all callers
+  -- a round is right for the calls of all callers
   right_in_worlds : (s : Shape) (i : ℕ) (l m : Local) (own : Option Witness) (made : Round)
       → i < s.callers → HasFound init next s.callers l m own made
       → (locals : List Local) → AreTogether s locals → local_at locals i ≡ m

@@ -1,5 +1,5 @@
--- The handle of a caller: what it has, when its parts belong together, and what its calls leave of
--- it.
+-- The handle of a caller: its parts, when these belong together, and what becomes of it by its
+-- calls.
 use Rattle.std.specs.Prelude.{◌≡◌, ℕ, ◌<◌, false, List, Option}
 use Rattle.std.specs.Arc.{arc_value}
 use Rattle.book_base.specs.declared.call.Record.{Record}
@@ -32,29 +32,31 @@ use Rattle.call_handles.specs.declared.caller_handle.CallerHandle.{CallerHandle}
 use Rattle.call_handles.specs.declared.kept.Kept.{Kept}
 use Rattle.call_handles.specs.Ends.{IsAnnouncedBy, IsPublishedBy, IsJudgedAs}
 
--- The object of these callers is outside the world, which allows every reply.
+-- The meaning of a program whose object is outside the world, which allows every reply.
 abbrev pub every_reply : Outside → ℕ → ℕ → Meaning
 every_reply program n cap = outside
 
--- The rows of the table, the kind by which calls are judged, and where the caller stands.
+-- The rows of a caller's handle.
 abbrev pub rows_of : CallerHandle → Rows Outside
 rows_of h = arc_value h.kept.rows
 
+-- The kind by which the calls of a handle are judged.
 abbrev pub kind_of : CallerHandle → Kind
 kind_of h = h.kept.kind
 
+-- Between which of its calls a handle is.
 abbrev pub stage_of : CallerHandle → Stage
 stage_of h = h.stage
 
--- The caller that stands so.
+-- The caller of a handle in this stage.
 abbrev pub caller_in : Stage → Caller Outside
 caller_in (Idle c) = c
 caller_in (Announced call) = caller_announced call
 caller_in (Wrong w) = w.caller
 caller_in (Unjudged c) = c
 
--- The caller is one of these rows and stands as the stage says, what is kept it has gathered
--- itself, and the book of an error has no legal order.
+-- The caller of a handle in this stage is one of these rows and is as the stage says; it has
+-- gathered the kept book itself; and the book of an error has no legal order.
 abbrev pub IsSoundAt : Rows Outside → Kind → Option Gathered → Stage → Type 0
 IsSoundAt r kind gathered (Idle c) = IsCallerOf every_reply r c × IsFree c
     × IsGatheredBy (local_with c) gathered
@@ -64,7 +66,7 @@ IsSoundAt r kind gathered (Wrong w) = IsCallerOf every_reply r w.caller
     × ¬ HasLegalOrder (kind_init kind) (kind_next kind) w.book
 IsSoundAt r kind gathered (Unjudged c) = IsCallerOf every_reply r c
 
--- What is kept of an order stands, for the kind that is kept, in the book that is kept.
+-- The kept order of a handle stands, for the handle's kind, in its kept book.
 abbrev pub KeepsStanding : Kept → Type 0
 KeepsStanding kept =
     StandsIn (kind_init kept.kind) (kind_next kept.kind) kept.gathered kept.standing
@@ -77,19 +79,21 @@ IsSoundCaller h = IsSoundAt (rows_of h) h.kept.kind h.kept.gathered h.stage × K
 abbrev pub IsOfSameTable : CallerHandle → CallerHandle → Type 0
 IsOfSameTable h k = (rows_of k ≡ rows_of h) × (kind_of k ≡ kind_of h)
 
--- The caller stands between two calls and has a call left; it has announced a call; its last call
--- was an error.
+-- The caller is between two calls and has a call left.
 abbrev pub MayAnnounce : CallerHandle → Type 0
 MayAnnounce h = (c : Caller Outside) × (h.stage ≡ Idle c)
     × ((local_with c).announced < (rows_of h).cap)
 
+-- The caller has announced a call.
 abbrev pub HasAnnounced : CallerHandle → Type 0
 HasAnnounced h = (call : announced.Announced Outside) × (h.stage ≡ Announced call)
 
+-- The caller's last call was an error.
 abbrev pub IsInError : CallerHandle → Type 0
 IsInError h = (w : wrong.Wrong) × (h.stage ≡ Wrong w)
 
--- The caller of the one handle announced a call with this operation, and stands so at the other.
+-- The caller of the handle h announced a call with this operation, which is under way at the handle
+-- k.
 abbrev pub HasBegun : ℕ → CallerHandle → CallerHandle → Type 0
 HasBegun op h k =
     (c : Caller Outside) × (call : announced.Announced Outside) × (h.stage ≡ Idle c)
@@ -100,10 +104,10 @@ HasBegun op h k =
 abbrev pub outcome_of : wrong.Wrong → Outcome
 outcome_of w = outcome.Illegal w.reply w.view w.seen w.book
 
--- What the answer to a call that was announced says, by where its caller stands afterwards:
--- delivered, with a legal order of the published records at the seen cut; wrong, with their book,
--- which has none; or not judged, and then the record is published all the same, and the caller
--- halted.
+-- What the answer to an announced call says, with the stage of the call's caller afterwards: that
+-- the call is delivered, with a legal order of the published records at the seen cut; that it is
+-- wrong, with their book, which has no legal order; or that it isn't judged, and then its record is
+-- published all the same, and the caller is halted.
 abbrev pub AnswersFor : Rows Outside → Kind → announced.Announced Outside → ℕ → Stage
     → Answer → Type 0
 AnswersFor r kind call reply stage answer.Delivered =
@@ -117,15 +121,15 @@ AnswersFor r kind call reply stage answer.Unjudged =
     × IsPublishedBy every_reply r call reply c told seen
     × (stance_of c ≡ record ready { live = false })
 
--- The call that was announced at the one handle has this reply and this answer, and its caller
--- stands so at the other.
+-- The call that was announced at the handle h has this reply and this answer, and its caller is
+-- then as the handle k says.
 abbrev pub HasEnded : ℕ → CallerHandle → Answer → CallerHandle → Type 0
 HasEnded reply h found k =
     (call : announced.Announced Outside) × (h.stage ≡ Announced call)
     × AnswersFor (rows_of h) (kind_of h) call reply k.stage found
 
--- The call that was announced at the one handle is published with this reply, and nothing is
--- judged: its caller stands between two calls at the other.
+-- The call that was announced at the handle h is published with this reply, and nothing is judged:
+-- its caller is between two calls at the handle k.
 abbrev pub HasPublished : ℕ → CallerHandle → CallerHandle → Type 0
 HasPublished reply h k =
     (call : announced.Announced Outside) × (c : Caller Outside) × (told : Record) × (seen : List ℕ)

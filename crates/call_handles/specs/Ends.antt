@@ -33,7 +33,7 @@ module _ {P : Type 0} (meaning : P → ℕ → ℕ → Meaning) (r : Rows P) whe
     pub grows : Grows (local_with c) (announced_local call)
 
   -- The caller has published this record of the announced call, with the reply that was handed in,
-  -- and has seen this cut since, in which all its own records are. It has made no other call.
+  -- and has seen since a cut that holds all its own records. It has made no other call.
   pub record IsPublishedBy (call : Announced P) (reply : ℕ) (c : Caller P) (told : Record)
       (seen : List ℕ) : Type 0 where
     pub still : IsStill meaning r (caller_announced call) c

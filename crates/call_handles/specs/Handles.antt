@@ -5,7 +5,7 @@ use Rattle.call_handles.specs.Callers.{IsSoundCaller}
 use Rattle.call_handles.specs.Monitors.{IsSoundMonitor}
 use Rattle.call_handles.specs.Tables.{IsSoundTable}
 
--- The parts of the table, of the caller or of the monitor belong together.
+-- The parts of a handle belong together: those of the table, of the caller or of the monitor.
 abbrev pub IsSound : Handle → Type 0
 IsSound Spare = Unit {0}
 IsSound (Table t) = IsSoundTable t

@@ -1,5 +1,5 @@
--- The handle of a monitor: what it has, when its parts belong together, and what its rounds leave
--- of it.
+-- The handle of a monitor: its parts, when these belong together, and what becomes of it by its
+-- rounds.
 use Rattle.std.specs.Prelude.{◌≡◌, ℕ, List, None, Some, IfSome}
 use Rattle.std.specs.Arc.{arc_value}
 use Rattle.book_base.specs.Book.{Page}
@@ -25,13 +25,15 @@ use Rattle.call_handles.specs.declared.monitor_handle.Judgement.TheVariants.{Leg
 use Rattle.call_handles.specs.declared.monitor_handle.MonitorHandle.{MonitorHandle}
 use Rattle.call_handles.specs.Callers.{every_reply}
 
--- The rows of the table, the kind by which is judged, and the monitor.
+-- The rows of a monitor's handle.
 abbrev pub rows_watched : MonitorHandle → Rows Outside
 rows_watched h = arc_value h.rows
 
+-- The kind by which a monitor judges.
 abbrev pub kind_watched : MonitorHandle → Kind
 kind_watched h = h.kind
 
+-- The monitor of a monitor's handle.
 abbrev pub monitor_in : MonitorHandle → Monitor Outside
 monitor_in h = h.monitor
 
@@ -39,8 +41,9 @@ monitor_in h = h.monitor
 abbrev pub IsLegalFor : MonitorHandle → List Page → Type 0
 IsLegalFor h book = HasLegalOrder (kind_init h.kind) (kind_next h.kind) book
 
--- The monitor is one of these rows and of the handle's board, what is kept of an order stands in
--- the book that the monitor keeps, and the book of a witness has no legal order.
+-- The parts of a monitor's handle belong together: the monitor is one of its rows and of its board,
+-- the kept order stands in the book that the monitor keeps, and the book of a witness has no legal
+-- order.
 pub record IsSoundMonitor (h : MonitorHandle) : Type 0 where
   pub of : IsMonitorOf every_reply (rows_watched h) h.monitor
   pub on : IsOn h.board h.monitor
@@ -51,16 +54,17 @@ pub record IsSoundMonitor (h : MonitorHandle) : Type 0 where
 abbrev pub IsOfSameWatch : MonitorHandle → MonitorHandle → Type 0
 IsOfSameWatch h k = (rows_watched k ≡ rows_watched h) × (kind_watched k ≡ kind_watched h)
 
--- No round was illegal yet; and one was.
+-- The monitor has found no illegal round.
 abbrev pub MayJudge : MonitorHandle → Type 0
 MayJudge h = own_of h.monitor ≡ None
 
+-- The monitor has found an illegal round.
 abbrev pub HasFoundWrong : MonitorHandle → Type 0
 HasFoundWrong h = (w : Witness) × (own_of h.monitor ≡ Some w)
 
--- A round by which the handle's monitor became this one is right: by what its caller has peeked,
--- and for the book of all callers' calls at its cut, in whatever reachable world has the local that
--- the caller has then.
+-- The round by which the handle's monitor became the monitor m is right: by what the monitor's
+-- caller has peeked, and for the book of all callers' calls at the round's cut, in whatever
+-- reachable world has the local that this caller has then.
 pub record IsRightOfRound (h : MonitorHandle) (m : Monitor Outside) (made : Round) : Type 0 where
   pub found : HasFound (kind_init h.kind) (kind_next h.kind) (rows_watched h).callers
       (local_of h.monitor) (local_of m) (own_of m) made
@@ -68,9 +72,9 @@ pub record IsRightOfRound (h : MonitorHandle) (m : Monitor Outside) (made : Roun
       → local_at locals (who_of (caller_of m)) ≡ local_of m
       → IsRightRound (kind_init h.kind) (kind_next h.kind) locals (own_of m) made
 
--- What a judgement of the monitor says: a round at a cut where the published records have a legal
--- order; one where they have none, with their book as the witness; or a scan, and no verdict and no
--- witness.
+-- What a judgement of the monitor says: that a round was made at a cut where the published records
+-- have a legal order; that one was made where they have none, with their book as the witness; or
+-- that M was scanned, without a verdict and without a witness.
 abbrev pub HasJudged : MonitorHandle → Judgement → MonitorHandle → Type 0
 HasJudged h Legal k = (cut : List ℕ) × IsRightOfRound h k.monitor (round.Legal cut)
 HasJudged h Illegal k = (cut : List ℕ) × IsRightOfRound h k.monitor (round.Illegal cut)

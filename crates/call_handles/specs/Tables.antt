@@ -1,4 +1,4 @@
--- The handle of a table: what it has, when its parts belong together, and which callers it gives.
+-- The handle of a table: its parts, when these belong together, and which callers it gives.
 use Rattle.std.specs.Prelude.{◌≡◌, ℕ, ◌<◌, ◌≤◌, None, Some}
 use Rattle.std.specs.Arc.{arc_value}
 use Rattle.world_core.specs.declared.program.Outside.{Outside}
@@ -16,25 +16,27 @@ use Rattle.call_handles.specs.declared.table_handle.TableHandle.{TableHandle}
 use Rattle.call_handles.specs.Callers.{every_reply, rows_of, kind_of, stage_of}
 use Rattle.call_handles.specs.Monitors.{rows_watched, kind_watched, monitor_in}
 
--- The rows of the table, the kind by which calls are judged, and the number of the caller that it
--- gives next.
+-- The rows of a table's handle.
 abbrev pub rows_in : TableHandle → Rows Outside
 rows_in t = arc_value t.rows
 
+-- The kind by which the calls of a table are judged.
 abbrev pub kind_in : TableHandle → Kind
 kind_in t = t.kind
 
+-- The number of the caller that a table's handle gives next.
 abbrev pub next_of : TableHandle → ℕ
 next_of t = t.next
 
--- The bench is that of the rows, and has each caller that wasn't given, as it is at the start.
+-- The parts of a table's handle belong together: its bench is that of its rows, and has each caller
+-- that wasn't given, as a caller is at the start.
 pub record IsSoundTable (t : TableHandle) : Type 0 where
   pub bench : IsBenchOf every_reply (rows_in t) t.bench
   pub few : t.next ≤ (rows_in t).callers
   pub fresh_from : (i : ℕ) → t.next ≤ i → i < (rows_in t).callers
       → (on_bench t.bench i ≡ Some fresh) × (stance_on t.bench i ≡ Some ready)
 
--- It is of the same table, and gives next the caller of this number.
+-- The handle u is of the table of t, and gives the caller of this number next.
 abbrev pub GivesNext : ℕ → TableHandle → TableHandle → Type 0
 GivesNext n t u = (rows_in u ≡ rows_in t) × (kind_in u ≡ kind_in t) × (next_of u ≡ n)
 

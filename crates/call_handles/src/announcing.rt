@@ -9,7 +9,8 @@ use std::marker::Brand;
 use std::sync::ledger::{Blank, Ledger};
 use world_core::{Outside, Program};
 
-// Announces a call of a caller that is free and has one left. Its steps are counted by themselves.
+// Announces a call of a caller that is free and has a call left. It makes a counter of steps for
+// this.
 fn announce_counted<L: Ledger>(rows: &Rows, caller: Caller, op: OpWord, blank: Blank) -> Announced
     requires blank { (blank.name ≡ L.name) × (blank.parts ≡ L.parts) × (0 < blank.parts) }
     requires rows { IsCallerOf ⟦<Outside as Program>⟧.meaning rows.now caller }
@@ -21,7 +22,7 @@ fn announce_counted<L: Ledger>(rows: &Rows, caller: Caller, op: OpWord, blank: B
     announce(caller, rows, op, &mut steps)
 }
 
-/// Announces a call of a caller that is free and has one left.
+/// Announces a call of a caller that is free and has a call left.
 pub(crate) fn announce_alone(rows: &Rows, caller: Caller, op: OpWord) -> Announced
     requires rows { IsCallerOf ⟦<Outside as Program>⟧.meaning rows.now caller }
     requires free { IsFree caller }

@@ -18,7 +18,8 @@ use std::sync::Arc;
 ///
 /// It makes one call at a time: [`announce`](CallerHandle::announce), then the object's own call,
 /// wherever that is made, then with its reply [`answered`](CallerHandle::answered), which judges
-/// the call, or [`publish`](CallerHandle::publish), which leaves that to the monitors of the table.
+/// the call, or [`publish`](CallerHandle::publish), which leaves the judgement to the monitors of
+/// the table.
 #[derive(Drop)]
 pub struct CallerHandle {
     pub(crate) kept: Kept,
@@ -30,7 +31,7 @@ pub struct CallerHandle {
 pub enum Answer {
     /// The reply is delivered: the published records at the seen cut have a legal order.
     Delivered,
-    /// The object is wrong: they have none.
+    /// The object is wrong: the published records at the seen cut have no legal order.
     Illegal,
     /// Memory was refused, and nobody has checked the reply.
     Unjudged,
@@ -44,7 +45,7 @@ impl CallerHandle {
     pub fn new(rows: Arc<Rows, Global>, kind: Kind, caller: Caller) -> CallerHandle
         // The caller is one of these rows.
         requires caller { IsCallerOf every_reply (arc_value rows) caller }
-        // The caller stands between two calls.
+        // The caller is between two calls.
         requires free { IsFree caller }
         // The parts of the handle belong together.
         ensures sound { IsSoundCaller result }
@@ -64,8 +65,8 @@ impl CallerHandle {
         }
     }
 
-    /// The caller, which may go back to its bench. A call that is announced stays unanswered, and
-    /// then the caller is halted.
+    /// The caller of the handle, which may go back to its bench. A call that is announced stays
+    /// unanswered, and then the caller is halted.
     pub fn into_caller(self) -> Caller
         // The parts of the handle belong together.
         requires sound { IsSoundCaller self }
@@ -98,16 +99,16 @@ impl CallerHandle {
         }
     }
 
-    /// Announces a call with this operation, where the caller stands between two calls and has a
-    /// call left: whether it does. Else the handle is as it was.
+    /// Announces a call with this operation, where the caller is between two calls and has a call
+    /// left. The answer is whether it does; where it doesn't, the handle is as it was.
     pub fn announce(self, op: OpWord) -> (CallerHandle, bool)
         // The parts of the handle belong together.
         requires sound { IsSoundCaller self }
         // The parts of the handle that comes back belong together.
         ensures sound { IsSoundCaller result.0 }
-        // The handle that comes back is of the same table and kind.
+        // The handle that comes back is of this handle's table and kind.
         ensures same { IsOfSameTable self result.0 }
-        // The answer is true exactly where the caller stands between two calls and has a call left.
+        // The answer is true exactly where the caller is between two calls and has a call left.
         ensures when { IsTrue result.1 ↔ MayAnnounce self }
         // With true the caller has announced a call with this operation.
         ensures begun { IsTrue result.1 → HasBegun op self result.0 }
@@ -128,14 +129,14 @@ impl CallerHandle {
         }
     }
 
-    /// Hands in the reply of the object to the call that is announced, which is judged. There is no
-    /// answer where none is announced, and then the handle is as it was.
+    /// Hands in the object's reply to the call that is announced, and judges the call. Where no
+    /// call is announced there is no answer, and the handle is as it was.
     pub fn answered(self, alloc: Global, reply: u64) -> (CallerHandle, Option<Answer>)
         // The parts of the handle belong together.
         requires sound { IsSoundCaller self }
         // The parts of the handle that comes back belong together.
         ensures sound { IsSoundCaller result.0 }
-        // The handle that comes back is of the same table and kind.
+        // The handle that comes back is of this handle's table and kind.
         ensures same { IsOfSameTable self result.0 }
         // There is an answer exactly where the caller has announced a call.
         ensures when { IsSome result.1 ↔ HasAnnounced self }
@@ -156,18 +157,19 @@ impl CallerHandle {
         }
     }
 
-    /// Hands in the reply of the object to the call that is announced, which is published with its
-    /// view, and judges nothing: whether one was announced. Else the handle is as it was.
+    /// Hands in the object's reply to the call that is announced, and publishes the call with its
+    /// view, without a judgement. The answer is whether a call was announced; where none was, the
+    /// handle is as it was.
     pub fn publish(self, reply: u64) -> (CallerHandle, bool)
         // The parts of the handle belong together.
         requires sound { IsSoundCaller self }
         // The parts of the handle that comes back belong together.
         ensures sound { IsSoundCaller result.0 }
-        // The handle that comes back is of the same table and kind.
+        // The handle that comes back is of this handle's table and kind.
         ensures same { IsOfSameTable self result.0 }
         // The answer is true exactly where the caller has announced a call.
         ensures when { IsTrue result.1 ↔ HasAnnounced self }
-        // With true the call is published with this reply, nothing is judged, and the caller stands
+        // With true the call is published with this reply, nothing is judged, and the caller is
         // between two calls.
         ensures published { IsTrue result.1 → HasPublished reply self result.0 }
         // With false the handle is as it was.

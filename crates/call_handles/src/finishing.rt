@@ -20,11 +20,10 @@ use std::alloc::Global;
 use std::sync::ledger::Ledger;
 use world_core::{Outside, Program};
 
-/// What an announced call comes to whose reply is handed in: it is published, and the book at the
-/// cut that its caller has seen since is judged.
+/// Takes an announced call whose reply is handed in up to its end: publishes it, and judges the
+/// book at the cut that its caller has seen since.
 ///
-/// It is all of [`enforce_after`](enforcer::enforce_after) that comes after the object has
-/// answered.
+/// It does all that [`enforce_after`](enforcer::enforce_after) does after the object has answered.
 pub(crate) fn finish<L: Ledger>(
     alloc: Global,
     rows: &Rows,

@@ -5,14 +5,13 @@ ghost use Rattle.drv_wrapper.specs.States.{caller_announced, op_announced, calle
 use book_base::OpWord;
 use drv_wrapper::{Announced, Answered, BlackBox, ObjectPass, ask};
 
-/// An object outside the library, which has been asked there: it answers the reply that was handed
-/// in.
+/// An object outside the library, which was asked outside: it answers the reply that was handed in.
 #[derive(Drop)]
 pub struct Handed {
     pub reply: u64,
 }
 
-/// The pass for the one call of such an object. It tells the call.
+/// The pass for the one call of an object outside the library. It tells the call.
 #[derive(Drop)]
 pub struct HandedPass {
     pub caller: u32,

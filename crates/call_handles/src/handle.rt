@@ -3,7 +3,7 @@ use crate::monitor_handle::MonitorHandle;
 use crate::table_handle::TableHandle;
 
 /// What a program in another language holds: a table, one of its callers, or one of its monitors.
-/// `Spare` stands where there is none of them yet: room that is taken before a caller leaves the
+/// `Spare` is in a box that has none of them yet: the box is taken before a caller leaves the
 /// table.
 #[derive(Drop)]
 pub enum Handle {

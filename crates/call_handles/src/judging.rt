@@ -16,7 +16,7 @@ use std::alloc::Global;
 use std::marker::Brand;
 use std::sync::ledger::{Blank, Ledger};
 
-// Judges a call whose reply is handed in. Its steps are counted by themselves.
+// Judges a call whose reply is handed in. It makes a counter of steps for this.
 fn judge_counted<L: Ledger>(
     alloc: Global,
     kept: &mut Kept,
@@ -75,7 +75,8 @@ fn judge_counted<L: Ledger>(
     }
 }
 
-/// Judges a call whose reply is handed in: where its caller stands afterwards, and the answer.
+/// Judges a call whose reply is handed in. The answer is that of the judgement, with the stage of
+/// the call's caller afterwards.
 pub(crate) fn judge_alone(
     alloc: Global,
     kept: &mut Kept,

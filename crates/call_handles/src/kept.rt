@@ -6,7 +6,7 @@ use std::alloc::Global;
 use std::sync::Arc;
 
 /// What the handle of a caller keeps from call to call: the table, the kind by which calls are
-/// judged, and for the next judgement the book that was gathered last and what stands in it, for
+/// judged, and for the next judgement the book that was gathered last, and what stands in it, for
 /// this kind, of the order that was found last.
 #[derive(Drop)]
 pub struct Kept {

@@ -1,6 +1,6 @@
-//! A table of callers and each of its callers as values that are handed round, for objects outside
-//! the library: a call is announced, its reply is handed in, and the call is judged, by its caller
-//! or by monitors of the table.
+//! A table of callers and each of its callers as values, for objects outside the library: a call is
+//! announced, its reply is handed in, and the call is judged, by its caller or by monitors of the
+//! table.
 #![tactic(auto)]
 
 mod announcing;

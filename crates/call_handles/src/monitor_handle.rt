@@ -26,14 +26,14 @@ pub struct MonitorHandle {
     pub(crate) standing: Option<KeptOrder>,
 }
 
-/// What a round of a monitor came to.
+/// What a round of a monitor found.
 #[derive(Clone, Copy, Debug, PartialEq, Eq)]
 pub enum Judgement {
     /// The published records at the round's cut have a legal order.
     Legal,
-    /// The object is wrong: they have none.
+    /// The object is wrong: the published records at the round's cut have no legal order.
     Illegal,
-    /// Memory was refused, and nobody has judged them.
+    /// Memory was refused, and nobody has judged the published records at the round's cut.
     Unjudged,
 }
 
@@ -42,12 +42,12 @@ impl MonitorHandle {
     ghost use Rattle.call_handles.specs.Callers.{every_reply};
     ghost use Rattle.call_handles.specs.Monitors.{rows_watched, kind_watched, monitor_in, IsSoundMonitor, IsOfSameWatch, MayJudge, HasFoundWrong, HasJudged, IsFoundWitness};
 
-    /// The handle of a caller of this table, which is between two calls, as a monitor. It judges by
-    /// this kind, and has made no round. It takes no memory.
+    /// The handle of a caller of this table, which is between two calls, as a monitor. The monitor
+    /// judges by this kind, and has made no round. It takes no memory.
     pub fn new(alloc: Global, rows: Arc<Rows, Global>, kind: Kind, caller: Caller) -> MonitorHandle
         // The caller is one of these rows.
         requires caller { IsCallerOf every_reply (arc_value rows) caller }
-        // The caller stands between two calls.
+        // The caller is between two calls.
         requires free { IsFree caller }
         // The parts of the handle belong together.
         ensures sound { IsSoundMonitor result }
@@ -69,7 +69,7 @@ impl MonitorHandle {
         }
     }
 
-    // Whether a round was illegal.
+    // Whether a round of the monitor was illegal.
     fn has_found(&self) -> bool
         ensures { result ≡ is_some (own_of (monitor_in self.now)) }
     {
@@ -79,15 +79,15 @@ impl MonitorHandle {
         }
     }
 
-    /// Makes a round, where none was illegal yet: scans what is published, and judges the book at
-    /// that cut. There is no answer after an illegal round, and then the handle is as it was. After
-    /// want of memory it may make a further one.
+    /// Makes a round, where no earlier one was illegal: scans M, and judges the book at the scan's
+    /// cut. After an illegal round there is no answer, and the handle is as it was. Where memory
+    /// was wanted, the monitor may make a further round.
     pub fn judge(self, alloc: Global) -> (MonitorHandle, Option<Judgement>)
         // The parts of the handle belong together.
         requires sound { IsSoundMonitor self }
         // The parts of the handle that comes back belong together.
         ensures sound { IsSoundMonitor result.0 }
-        // The handle that comes back is of the same table and kind.
+        // The handle that comes back is of this handle's table and kind.
         ensures same { IsOfSameWatch self result.0 }
         // There is an answer exactly where the monitor has made no illegal round.
         ensures when { IsSome result.1 ↔ MayJudge self }

@@ -13,8 +13,8 @@ use std::marker::Brand;
 use std::sync::ledger::{Blank, Ledger};
 use world_core::{Outside, Program};
 
-/// What an announced call comes to whose reply is handed in, before anybody judges it: the view is
-/// taken, reply and view are published, and the published records are seen.
+/// Takes an announced call whose reply is handed in up to its judgement: takes the view, publishes
+/// the reply and the view, and sees the published records.
 pub(crate) fn publish_reply<L: Ledger>(
     rows: &Rows,
     announced: Announced,
@@ -32,8 +32,8 @@ pub(crate) fn publish_reply<L: Ledger>(
     seen(published, rows, steps)
 }
 
-// Publishes a call whose reply is handed in, and judges nothing. Its steps are counted by
-// themselves.
+// Publishes a call whose reply is handed in, and judges nothing. It makes a counter of steps for
+// this.
 fn publish_counted<L: Ledger>(rows: &Rows, call: Announced, reply: u64, blank: Blank) -> Caller
     requires blank { (blank.name ≡ L.name) × (blank.parts ≡ L.parts) × (0 < blank.parts) }
     requires rows { IsCallerOf ⟦<Outside as Program>⟧.meaning rows.now (caller_announced call) }
@@ -45,8 +45,8 @@ fn publish_counted<L: Ledger>(rows: &Rows, call: Announced, reply: u64, blank: B
     publish_reply(rows, call, reply, &mut steps).defer()
 }
 
-/// Publishes a call whose reply is handed in, and judges nothing: its caller, which may make its
-/// next call.
+/// Publishes a call whose reply is handed in, and judges nothing. The answer is the call's caller,
+/// which may make its next call.
 pub(crate) fn publish_alone(rows: &Rows, call: Announced, reply: u64) -> Caller
     requires rows { IsCallerOf ⟦<Outside as Program>⟧.meaning rows.now (caller_announced call) }
     ensures published { (told : Record) × (seen : List ℕ)

@@ -2,10 +2,10 @@ use book_base::{Book, Cut};
 use drv_wrapper::Announced;
 use row_table::Caller;
 
-/// Where a caller stands between the calls of its handle.
+/// Between which of its calls the caller of a handle is.
 #[derive(Drop)]
 pub enum Stage {
-    /// Between two calls.
+    /// The caller is between two calls.
     Idle(Caller),
     /// A call is announced, and its reply isn't handed in yet.
     Announced(Announced),

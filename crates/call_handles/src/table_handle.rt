@@ -16,7 +16,7 @@ use world_core::Outside;
 /// A table, which gives the handles of its callers one by one, each to make calls or as a monitor.
 /// All of them judge by one kind.
 ///
-/// The table goes with the last of these handles and its own.
+/// The table is freed with the last of these handles and its own.
 #[derive(Drop)]
 pub struct TableHandle {
     pub(crate) rows: Arc<Rows, Global>,
@@ -37,17 +37,17 @@ impl TableHandle {
         callers: u32,
         calls: u64,
     ) -> Result<TableHandle, NoMemory>
-        // There is a caller.
+        // There is at least one caller.
         requires some_callers { 1 ≤ callers }
         // There are at most 16 callers.
         requires few_callers { callers ≤ MAX_CALLERS }
-        // There is a call for each caller.
+        // Each caller has at least one call.
         requires some_calls { 1 ≤ calls }
-        // There are at most 256 calls for each caller.
+        // Each caller has at most 256 calls.
         requires few_calls { calls ≤ MAX_CALLS }
         // The parts of the handle belong together.
         ensures sound { IfOk result IsSoundTable }
-        // The table has these callers, with these calls each.
+        // The table has this many callers, with this many calls each.
         ensures sized { IfOk result (λ t.
             ((rows_in t).callers ≡ callers) × ((rows_in t).cap ≡ calls)) }
         // The table is of this kind.
@@ -65,8 +65,8 @@ impl TableHandle {
         })
     }
 
-    /// The handle of the next caller, while there is one. For want of memory the table is as it
-    /// was.
+    /// The handle of the next caller, while there is one. Where memory is wanted, the table is as
+    /// it was.
     pub fn caller(&mut self) -> Result<Option<CallerHandle>, NoMemory>
         // The parts of the table belong together.
         requires sound { IsSoundTable self.old }
@@ -80,10 +80,10 @@ impl TableHandle {
             (λ found. IfSome found (IsFreshOf self.old (next_of self.old))) }
         // The parts of the handle belong together.
         ensures given_sound { IfOk result (λ found. IfSome found IsSoundCaller) }
-        // With a handle the table is the same one, and gives the caller after this one next.
+        // With a handle the table stays, and gives the caller after this one next.
         ensures next { IfOk result (λ found. IfSome found (λ _.
             GivesNext (next_of self.old + 1) self.old self.new)) }
-        // Without a handle the table is as it was.
+        // Without a handle the table's handle is as it was.
         ensures none { IfOk result (λ found. IfNone found (self.new ≡ self.old)) }
         // After want of memory the table is as it was.
         ensures unchanged { IfErr result (λ _. self.new ≡ self.old) }
@@ -96,8 +96,8 @@ impl TableHandle {
         Ok(Some(CallerHandle::new(rows, self.kind, caller)))
     }
 
-    /// The handle of the next caller as a monitor, while there is one. For want of memory the table
-    /// is as it was.
+    /// The handle of the next caller as a monitor, while there is one. Where memory is wanted, the
+    /// table is as it was.
     pub fn monitor(&mut self, alloc: Global) -> Result<Option<MonitorHandle>, NoMemory>
         // The parts of the table belong together.
         requires sound { IsSoundTable self.old }
@@ -111,10 +111,10 @@ impl TableHandle {
             (λ found. IfSome found (IsFreshMonitorOf self.old (next_of self.old))) }
         // The parts of the handle belong together.
         ensures given_sound { IfOk result (λ found. IfSome found IsSoundMonitor) }
-        // With a handle the table is the same one, and gives the caller after this one next.
+        // With a handle the table stays, and gives the caller after this one next.
         ensures next { IfOk result (λ found. IfSome found (λ _.
             GivesNext (next_of self.old + 1) self.old self.new)) }
-        // Without a handle the table is as it was.
+        // Without a handle the table's handle is as it was.
         ensures none { IfOk result (λ found. IfNone found (self.new ≡ self.old)) }
         // After want of memory the table is as it was.
         ensures unchanged { IfErr result (λ _. self.new ≡ self.old) }
@@ -127,7 +127,7 @@ impl TableHandle {
         Ok(Some(MonitorHandle::new(alloc, rows, self.kind, caller)))
     }
 
-    // Takes the next caller off the bench, where there is one.
+    // Takes the next caller of the table off its bench.
     fn take_next(&mut self) -> Caller
         requires sound { IsSoundTable self.old }
         requires left { next_of self.old < (rows_in self.old).callers }

@@ -42,7 +42,7 @@ module _ (R Z : RattleType) (L : Laws Z) (g : Ghosts Z.Denot) where
 
   module _ {M : Type 1} {𝓤 : Ura M} {𝓛 : Logic 𝓤} {K : Type 0} {Γ : List (Item 𝓤)}
       {G : Goal 𝓤 𝓛.H} where
-    -- it is what the box owns, at a block, and the handle
+    -- the parts of a box that was taken apart own what the box owns, at a block, and the handle
     pub taken_out : K → (d : Row.Denot) (vs : List Val)
         → ((b o : ℕ) (h : Val) → d.at ≡ block_ptr b o
         → vs ≡ pair (vptr b o) h ∷ [] → Good (layout Z) h
@@ -61,7 +61,7 @@ module _ (R Z : RattleType) (L : Laws Z) (g : Ghosts Z.Denot) where
         (subst (λ (ps : List Val). vs ≡ vstruct (of_list (ps ++ (vss.1.0 ++ []))) ∷ []) at is)))
         fits)))))
 
-    -- it is made of these
+    -- the parts of a box are made of what the box owns and the handle
     pub put_in : K → (b o : ℕ) (h : Val) (a : Z.Denot) (x : R.Denot)
         → Step K 𝓛 (‵ (Row.own_val (record { at = block_ptr b o; alloc = a; value = x })
         (pair (vptr b o) h ∷ [])) ∷ Γ) G

@@ -1,4 +1,4 @@
--- Which handle a place has: a caller's, a monitor's or a table's, and what holds for it then.
+-- Which handle a place has: a caller's, a monitor's or a table's, and what then holds of it.
 use Rattle.std.proofs.Common.{◌≡◌, ◌↔◌, IsSome, IsNone, IfSome, IfOk, Option, Some, None, Result, Ok, Err, refl, sym, subst, ap, ◌∙◌}
 use mathlib.Core.Bool.{true≢false}
 use Rattle.call_handles.specs.declared.caller_handle.CallerHandle.{CallerHandle}
@@ -9,7 +9,8 @@ use Rattle.call_handles.specs.declared.handle.Handle.TheVariants.{Spare, Table, 
 use Rattle.call_handles.specs.Tables.{rows_in, next_of}
 use Rattle.handle_slots.specs.Slots.{IsCallers, IsMonitors, MayGive}
 
--- the caller, the monitor or the table whose handle it is, or else the one that is given
+-- the caller whose handle is in the place, or else the given one; and likewise the monitor, and the
+-- table
 abbrev caller_or : CallerHandle → Option Handle → CallerHandle
 caller_or h (Some (Caller k)) = k
 caller_or h (Some (Table t)) = h
@@ -43,7 +44,7 @@ pub same_table : (t u : TableHandle)
     → ◌≡◌ {A = Option Handle} (Some (Table t)) (Some (Table u)) → t ≡ u
 same_table t u e = ap (table_or t) e
 
--- what is asked of the caller is asked of its handle
+-- what holds of the caller exactly where an answer is given holds of its handle exactly there
 pub callers_iff : (Yes : Type 0) (Is : CallerHandle → Type 0) (found : Option Handle)
     (h : CallerHandle) → found ≡ Some (Caller h) → (Yes ↔ Is h) → (Yes ↔ IsCallers Is found)
 callers_iff Yes Is found h is iff = (
@@ -51,7 +52,7 @@ callers_iff Yes Is found h is iff = (
   λ held. iff.1 (subst Is (same_caller held.0 h (sym held.1 ∙ is)) held.2),
 )
 
--- and of a monitor
+-- what holds of the monitor exactly where an answer is given holds of its handle exactly there
 pub monitors_iff : (Yes : Type 0) (Is : MonitorHandle → Type 0) (found : Option Handle)
     (m : MonitorHandle) → found ≡ Some (Monitor m) → (Yes ↔ Is m) → (Yes ↔ IsMonitors Is found)
 monitors_iff Yes Is found m is iff = (
@@ -71,7 +72,7 @@ gives_iff None found t is iff = (
 gives_iff (Some x) found t is iff =
     (λ some. (t, is, λ all. absurd (true≢false (iff.1 all))), λ may. refl)
 
--- what follows from two clauses on the value that is found
+-- what follows from two facts on the value that is found
 pub found_then : {X Y : Type 0} (r : Result (Option X) Y) (P Q R : X → Type 0)
     → IfOk r (λ found. IfSome found P) → IfOk r (λ found. IfSome found Q)
     → ((x : X) → P x → Q x → R x) → IfOk r (λ found. IfSome found R)

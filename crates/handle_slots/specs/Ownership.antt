@@ -1,4 +1,4 @@
--- What lies at the pointer by which a program in another language holds a handle.
+-- What the pointer by which a program in another language holds a handle points to.
 use Rattle.std.specs.Prelude.{Option, Some, None}
 use Rattle.std.specs.Coded.{Coded, coded_option}
 use base.Fml.{Fml, ftrue, fsep, fex}
@@ -10,11 +10,12 @@ use Rattle.call_handles.specs.declared.handle.Handle.{Handle}
 use Rattle.call_handles.specs.contracts.handle.Handle.{the_row}
 use Rattle.call_handles.specs.Handles.{IsSound}
 
--- How the logic stores which handle there is, if any.
+-- How the logic encodes a handle, or none.
 abbrev pub coded_handle : Coded (Option Handle)
 coded_handle = coded_option the_row.coded
 
--- A box with this handle, whose parts belong together; or nothing.
+-- The pointer is to a box with this handle, whose parts belong together; or, where there is no
+-- handle, to nothing.
 abbrev pub held_at : Ptr → Option Handle → Fml
 held_at p None = ftrue
 held_at p (Some h) = fsep (fex Global (λ heap. box_owns (ghosts.dealloc_token heap) the_row p h))

@@ -1,4 +1,5 @@
--- A program's place for a handle: what is in it, and what the calls on it find and leave there.
+-- A place for a handle in a program in another language: what is in it, and what the calls on it
+-- find and leave there.
 use Rattle.std.specs.Prelude.{◌≡◌, ℕ, ◌≤◌, ◌+◌, List, Option, None, Some}
 use Rattle.book_base.specs.declared.TheConstants.{MAX_CALLERS, MAX_CALLS}
 use Rattle.seq_objects.specs.declared.kind.Kind.{Kind}
@@ -20,8 +21,8 @@ use Rattle.handle_slots.specs.declared.slot.Slot.{Slot}
 abbrev pub handle_in : Slot → Option Handle
 handle_in s = s.held.value
 
--- A table is asked for that there is: the kind has this name, and there are not too few and not too
--- many callers and calls.
+-- A table that there can be is asked for: the kind has this name, and the numbers of callers and of
+-- calls are neither too small nor too great.
 pub record IsSized (name : List ℕ) (callers calls : ℕ) : Type 0 where
   pub kind : Kind
   pub named : kind_name kind ≡ name
@@ -31,14 +32,14 @@ pub record IsSized (name : List ℕ) (callers calls : ℕ) : Type 0 where
   pub few_calls : calls ≤ MAX_CALLS
 
 -- The handle is that of a table of this kind for this many callers with this many calls each, which
--- has given none of them.
+-- has given none of its callers.
 abbrev pub IsOpened : List ℕ → ℕ → ℕ → Option Handle → Type 0
 IsOpened name callers calls found =
     (t : TableHandle) × (found ≡ Some (Table t)) × (kind_name (kind_in t) ≡ name)
     × ((rows_in t).callers ≡ callers)
     × ((rows_in t).cap ≡ calls) × (next_of t ≡ 0)
 
--- The handle is that of a table which has callers left to give.
+-- The handle is that of a table that has callers left to give.
 abbrev pub MayGive : Option Handle → Type 0
 MayGive found = (t : TableHandle) × (found ≡ Some (Table t)) × ¬ (next_of t ≡ (rows_in t).callers)
 

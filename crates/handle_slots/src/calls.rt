@@ -10,7 +10,7 @@ use call_handles::{Answer, Handle, Judgement};
 use core::mem::replace_with;
 use std::alloc::Global;
 
-// The handle with a call of this operation announced, where its caller may announce one, and
+// The handle, with a call of this operation announced where its caller may announce one, and
 // whether it did.
 fn announced_by(handle: Handle, op: OpWord) -> (Handle, bool)
     requires sound { IsSound handle }
@@ -40,11 +40,11 @@ fn announced_in(slot: Slot, given: (Global, OpWord)) -> (Slot, bool)
     (Slot::of(handle), begun)
 }
 
-/// Announces a call with this operation of the caller whose handle is in the slot, where it may
-/// announce one: whether it did. Else the handle is as it was.
+/// Announces a call with this operation of the caller whose handle is in the slot, where this
+/// caller may announce one. The answer is whether it did; where it didn't, the handle is as it was.
 pub fn announce(alloc: Global, slot: &mut Slot, op: OpWord) -> bool
-    // The answer is true exactly where the slot has a caller that stands between two calls and has
-    // a call left.
+    // The answer is true exactly where the slot has a caller that is between two calls and has a
+    // call left.
     ensures when { IsTrue result ↔ IsCallers MayAnnounce (handle_in slot.old) }
     // With true the slot's caller has announced a call with this operation.
     ensures begun { IsTrue result → Begins op (handle_in slot.old) (handle_in slot.new) }
@@ -57,7 +57,8 @@ pub fn announce(alloc: Global, slot: &mut Slot, op: OpWord) -> bool
     replace_with(slot, (alloc, op), announced_in)
 }
 
-// The handle after the reply to its announced call, where one is announced, and the answer.
+// The handle after the reply to its announced call is handed in, where one is announced, and the
+// answer.
 fn answered_by(handle: Handle, given: (Global, u64)) -> (Handle, Option<Answer>)
     requires sound { IsSound handle }
     ensures sound { IsSound result.0 }
@@ -88,9 +89,8 @@ fn answered_in(slot: Slot, given: (Global, u64)) -> (Slot, Option<Answer>)
     (Slot::of(handle), answer)
 }
 
-/// Hands in the reply to the call that the caller has announced whose handle is in the slot, and
-/// judges the call. There is no answer where it has announced none, and then the handle is as it
-/// was.
+/// Hands in the reply to the call announced by the caller whose handle is in the slot, and judges
+/// the call. Where this caller has announced none there is no answer, and the handle is as it was.
 pub fn answered(alloc: Global, slot: &mut Slot, reply: u64) -> Option<Answer>
     // There is an answer exactly where the slot has a caller that has announced a call.
     ensures when { IsSome result ↔ IsCallers HasAnnounced (handle_in slot.old) }
@@ -109,7 +109,7 @@ pub fn answered(alloc: Global, slot: &mut Slot, reply: u64) -> Option<Answer>
 }
 
 // The handle after its announced call is published with this reply, where one is announced, and
-// whether it was.
+// whether one was.
 fn published_by(handle: Handle, reply: u64) -> (Handle, bool)
     requires sound { IsSound handle }
     ensures sound { IsSound result.0 }
@@ -138,8 +138,9 @@ fn published_in(slot: Slot, given: (Global, u64)) -> (Slot, bool)
     (Slot::of(handle), published)
 }
 
-/// Hands in the reply to the call that the caller has announced whose handle is in the slot, and
-/// publishes it without a judgement: whether it has announced one. Else the handle is as it was.
+/// Hands in the reply to the call announced by the caller whose handle is in the slot, and
+/// publishes the call without a judgement. The answer is whether a call was announced; where none
+/// was, the handle is as it was.
 pub fn publish(alloc: Global, slot: &mut Slot, reply: u64) -> bool
     // The answer is true exactly where the slot has a caller that has announced a call.
     ensures when { IsTrue result ↔ IsCallers HasAnnounced (handle_in slot.old) }
@@ -154,7 +155,7 @@ pub fn publish(alloc: Global, slot: &mut Slot, reply: u64) -> bool
     replace_with(slot, (alloc, reply), published_in)
 }
 
-// The handle after a round of its monitor, where it may make one, and the judgement.
+// The handle after a round of its monitor, where the monitor may make one, and the judgement.
 fn judged_by(handle: Handle, alloc: Global) -> (Handle, Option<Judgement>)
     requires sound { IsSound handle }
     ensures sound { IsSound result.0 }
@@ -182,8 +183,9 @@ fn judged_in(slot: Slot, alloc: Global) -> (Slot, Option<Judgement>)
     (Slot::of(handle), found)
 }
 
-/// Makes a round of the monitor whose handle is in the slot, where none was illegal yet: what it
-/// found. There is no answer where the slot has no such monitor, and then the handle is as it was.
+/// Makes a round of the monitor whose handle is in the slot, where no earlier round was illegal.
+/// The answer is what the round found; there is none where the slot has no such monitor, and then
+/// the handle is as it was.
 pub fn judge(alloc: Global, slot: &mut Slot) -> Option<Judgement>
     // There is an answer exactly where the slot has a monitor that has made no illegal round.
     ensures when { IsSome result ↔ IsMonitors MayJudge (handle_in slot.old) }
@@ -225,8 +227,8 @@ fn witness_in(slot: Slot, alloc: Global) -> (Slot, Result<Option<Vec<u8>>, NoMem
     (Slot::of(handle), found)
 }
 
-/// The text of the book of the error that the last call of the slot's caller was, or of the illegal
-/// round that the slot's monitor has made, where there is one.
+/// The text of the book of the last call of the slot's caller, where this call was an error, or of
+/// the illegal round of the slot's monitor, where it made one.
 pub fn witness(alloc: Global, slot: &mut Slot) -> Result<Option<Vec<u8>>, NoMemory>
     // There is a text exactly where the last call of the slot's caller was an error, or the slot's
     // monitor has made an illegal round.
@@ -252,8 +254,8 @@ fn closed(slot: Slot, alloc: Global) -> (Slot, ())
     (empty, ())
 }
 
-/// Lets the handle go that is in the slot: whether there was one. A call that is announced stays
-/// unanswered.
+/// Drops the handle that is in the slot. The answer is whether there was one. A call that is
+/// announced stays unanswered.
 pub fn close(alloc: Global, slot: &mut Slot) -> bool
     // The answer says whether the slot had a handle.
     ensures when { result ≡ is_some (handle_in slot.old) }

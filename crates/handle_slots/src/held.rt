@@ -8,8 +8,8 @@ use call_handles::Handle;
 use std::alloc::Global;
 use std::marker::Model;
 
-/// The pointer by which a program in another language holds a handle: a box lies there, or nothing
-/// does.
+/// The pointer by which a program in another language holds a handle: it points to a box, or to
+/// nothing.
 #[repr(C)]
 #[derive(Drop)]
 pub struct Held {
@@ -31,7 +31,7 @@ impl Held {
         Held { at: at as *mut u8 }
     }
 
-    /// The box that lies there, and the pointer with nothing.
+    /// The box that the pointer points to, and a pointer to nothing.
     pub(crate) fn take(self, alloc: Global) -> (Loose<Handle, Global>, Held)
         requires some { IsSome self.value }
         ensures { (self.value ≡ Some result.0.value) × IsSound result.0.value

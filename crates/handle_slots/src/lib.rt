@@ -1,5 +1,5 @@
-//! Handles in places of a program in another language: a pointer to a box in each, and the calls on
-//! what lies there.
+//! Handles in places of a program in another language: each place has a pointer to a box, or to
+//! nothing; and the calls on what is in such a place.
 #![tactic(auto)]
 
 mod calls;

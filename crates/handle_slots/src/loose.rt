@@ -24,7 +24,7 @@ impl<T: Drop, A: Allocator> Loose<T, A> {
         Loose { at, alloc }
     }
 
-    /// The box again.
+    /// The box of which this is the pointer and the allocator.
     pub fn into_box(self) -> Box<T, A>
         ensures { result.value ≡ self.value }
     {

@@ -12,8 +12,8 @@ use seq_objects::Kind;
 use std::alloc::Global;
 
 /// Opens a table for this many callers, 1 to 16, with 1 to 256 calls each, which are judged by the
-/// kind of this name, and puts its handle into the slot: whether it does. It doesn't where there is
-/// no such table, or the slot has a handle.
+/// kind of this name, and puts its handle into the slot. The answer is whether it does; it doesn't
+/// where there can be no such table, or the slot has a handle.
 pub fn open(
     alloc: Global,
     kind: &[u8],
@@ -51,7 +51,7 @@ pub fn open(
     Ok(true)
 }
 
-// The handle of the next caller of a table in this role, while there is one.
+// The handle in this role of the next caller of a table, while there is one.
 fn next_in(table: &mut TableHandle, given: (Global, Role)) -> Result<Option<Handle>, NoMemory>
     requires sound { IsSoundTable table.old }
     ensures sound { IsSoundTable table.new }
@@ -78,7 +78,8 @@ fn next_in(table: &mut TableHandle, given: (Global, Role)) -> Result<Option<Hand
     }
 }
 
-// What the table gives whose handle this is: its next caller in this role, where it has one left.
+// The handle, and what it gives where it is a table's: the handle in this role of the table's next
+// caller, where one is left.
 fn given_by(handle: Handle, given: (Global, Role)) -> (Handle, Result<Option<Handle>, NoMemory>)
     requires sound { IsSound handle }
     ensures sound { IsSound result.0 }
@@ -113,7 +114,7 @@ fn given_in(slot: Slot, given: (Global, Role)) -> (Slot, Result<Option<Handle>, 
     (Slot::of(handle), next)
 }
 
-// The box with this handle in it.
+// The box, with this handle in it.
 fn filled(mut place: Box<Handle>, handle: Handle) -> Box<Handle>
     ensures { result.value ≡ handle }
 {
@@ -121,9 +122,9 @@ fn filled(mut place: Box<Handle>, handle: Handle) -> Box<Handle>
     place
 }
 
-/// Puts the handle of the next caller of a table into the slot, in this role: whether it does. It
-/// doesn't where the first slot has no table, where this has given all its callers, or where the
-/// second slot has a handle.
+/// Puts the handle in this role of the next caller of a table into the slot. The answer is whether
+/// it does; it doesn't where the first slot has no table, where this table has given all its
+/// callers, or where the second slot has a handle.
 pub fn give(alloc: Global, role: Role, table: &mut Slot, slot: &mut Slot) -> Result<bool, NoMemory>
     // The answer is true exactly where the first slot has a table with a caller left to give, and
     // the second slot had no handle.

@@ -5,8 +5,8 @@ use crate::loose::Loose;
 use call_handles::Handle;
 use std::alloc::Global;
 
-/// A place of a program in another language for one handle. It has one where `in_use` is 1; all
-/// zero, it has none.
+/// A place for one handle in a program in another language. It has a handle where `in_use` is 1;
+/// where all of it is zero, it has none.
 #[repr(C)]
 #[derive(Drop)]
 pub struct Slot {
@@ -30,14 +30,14 @@ impl Slot {
         }
     }
 
-    /// Whether it has a handle.
+    /// Whether the slot has a handle.
     pub(crate) fn is_taken(&self) -> bool
         ensures { result ≡ is_some (handle_in self.now) }
     {
         self.in_use == 1
     }
 
-    /// The box with its handle, which it has, and the slot with none.
+    /// The box with the slot's handle, and the slot without it.
     pub(crate) fn take(self, alloc: Global) -> (Box<Handle>, Slot)
         requires { IsTrue (is_some (handle_in self)) }
         ensures value { handle_in self ≡ Some result.0.value }

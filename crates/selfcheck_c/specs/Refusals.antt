@@ -1,4 +1,4 @@
--- What is told of texts that are refused.
+-- What a program in another language is told of a text that is refused.
 use Rattle.std.specs.Prelude.{◌≡◌, ℕ, List}
 use Rattle.book_base.specs.declared.fault.TextFault.{TextFault}
 use Rattle.book_text.specs.BookRules.{IsFirstBookFault}

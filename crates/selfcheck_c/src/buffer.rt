@@ -1,6 +1,7 @@
 ghost use Rattle.std.specs.Prelude.{◌≡◌, ◌↔◌, ◌≤◌, IsTrue, drop, length, take};
 
-/// Puts a text at the beginning of a buffer, where the buffer can hold it: whether it can.
+/// Puts a text at the beginning of a buffer, where the buffer can hold it. The answer is whether it
+/// can.
 pub(crate) fn put(buffer: &mut [u8], text: &[u8]) -> bool
     ensures held { IsTrue result ↔ length text.now ≤ length buffer.old }
     ensures put { IsTrue result → take (length text.now) buffer.new ≡ text.now }

@@ -12,13 +12,13 @@ use call_handles::{Answer, Judgement};
 use handle_slots::{Role, Slot, announce, answered, close, give, judge, open, publish, witness};
 use std::alloc::Global;
 
-/// The call did what it is for; a reply is delivered.
+/// The call did what it is for; where a reply was handed in, it is delivered.
 pub const DONE: u32 = 0;
-/// What was given isn't as the call wants it, and nothing has changed.
+/// The call can't be made with what it was given, and nothing has changed.
 pub const UNFIT: u32 = 9;
 
 /// Opens a table for this many callers, 1 to 16, with 1 to 256 calls each, which are judged by the
-/// kind of this name, and puts its handle into the slot, which has none.
+/// kind of this name, and puts its handle into the slot, which is to have none.
 #[unsafe(no_mangle)]
 pub extern "C" fn selfcheck_open(
     alloc: Global,
@@ -33,12 +33,13 @@ pub extern "C" fn selfcheck_open(
     // With `DONE` the slot has the handle of a table of this kind with these callers and calls,
     // which has given no caller.
     ensures opened { result ≡ DONE → IsOpened kind.now callers calls (handle_in slot.new) }
-    // With `UNFIT` there is no such table, or the slot had a handle.
+    // With `UNFIT` there is no kind of this name, the callers or the calls aren't within the
+    // limits, or the slot had a handle.
     ensures unfit { result ≡ UNFIT →
         ¬ (IsSized kind.now callers calls × (handle_in slot.old ≡ None)) }
     // With each status but `DONE` the slot is as it was.
     ensures unchanged { ¬ (result ≡ DONE) → slot.new ≡ slot.old }
-    // The status is one of these three.
+    // The status is `DONE`, `NO_MEMORY` or `UNFIT`.
     ensures ends { (result ≡ DONE) ⊎ (result ≡ NO_MEMORY) ⊎ (result ≡ UNFIT) }
 {
     match open(alloc, kind, callers, calls, slot) {
@@ -48,8 +49,8 @@ pub extern "C" fn selfcheck_open(
     }
 }
 
-/// Puts the handle of the next caller of a table, which has callers left, into the slot, which has
-/// no handle.
+/// Puts the handle of the next caller of a table, which is to have callers left, into the slot,
+/// which is to have no handle.
 #[unsafe(no_mangle)]
 pub extern "C" fn selfcheck_caller(alloc: Global, table: &mut Slot, slot: &mut Slot) -> u32
     // With `DONE` the table had a caller left to give, and the slot had no handle.
@@ -64,7 +65,7 @@ pub extern "C" fn selfcheck_caller(alloc: Global, table: &mut Slot, slot: &mut S
     // With each status but `DONE` the table and the slot are as they were.
     ensures unchanged { ¬ (result ≡ DONE) →
         (handle_in table.new ≡ handle_in table.old) × (slot.new ≡ slot.old) }
-    // The status is one of these three.
+    // The status is `DONE`, `NO_MEMORY` or `UNFIT`.
     ensures ends { (result ≡ DONE) ⊎ (result ≡ NO_MEMORY) ⊎ (result ≡ UNFIT) }
 {
     match give(alloc, Role::Caller, table, slot) {
@@ -74,8 +75,8 @@ pub extern "C" fn selfcheck_caller(alloc: Global, table: &mut Slot, slot: &mut S
     }
 }
 
-/// Puts the handle of the next caller of a table, which has callers left, as a monitor into the
-/// slot, which has no handle.
+/// Puts the handle of the next caller of a table, which is to have callers left, as a monitor into
+/// the slot, which is to have no handle.
 #[unsafe(no_mangle)]
 pub extern "C" fn selfcheck_monitor(alloc: Global, table: &mut Slot, slot: &mut Slot) -> u32
     // With `DONE` the table had a caller left to give, and the slot had no handle.
@@ -90,7 +91,7 @@ pub extern "C" fn selfcheck_monitor(alloc: Global, table: &mut Slot, slot: &mut 
     // With each status but `DONE` the table and the slot are as they were.
     ensures unchanged { ¬ (result ≡ DONE) →
         (handle_in table.new ≡ handle_in table.old) × (slot.new ≡ slot.old) }
-    // The status is one of these three.
+    // The status is `DONE`, `NO_MEMORY` or `UNFIT`.
     ensures ends { (result ≡ DONE) ⊎ (result ≡ NO_MEMORY) ⊎ (result ≡ UNFIT) }
 {
     match give(alloc, Role::Monitor, table, slot) {
@@ -100,12 +101,12 @@ pub extern "C" fn selfcheck_monitor(alloc: Global, table: &mut Slot, slot: &mut 
     }
 }
 
-/// Announces a call of the slot's caller, which stands between two calls and has one left, with the
-/// operation word that has this low and this high word.
+/// Announces a call of the slot's caller, which is to be between two calls and have one left, with
+/// the operation word of this low and this high word.
 #[unsafe(no_mangle)]
 pub extern "C" fn selfcheck_announce(alloc: Global, slot: &mut Slot, low: u64, high: u64) -> u32
-    // The status is `DONE` exactly where the slot has a caller that stands between two calls and
-    // has a call left.
+    // The status is `DONE` exactly where the slot has a caller that is between two calls and has a
+    // call left.
     ensures when { (result ≡ DONE) ↔ IsCallers MayAnnounce (handle_in slot.old) }
     // With `DONE` the slot's caller has announced a call with this operation word.
     ensures begun { result ≡ DONE
@@ -142,7 +143,7 @@ pub extern "C" fn selfcheck_answered(alloc: Global, slot: &mut Slot, reply: u64)
     ensures unfit { (result ≡ UNFIT) ↔ ¬ IsCallers HasAnnounced (handle_in slot.old) }
     // With `UNFIT` the handle is as it was.
     ensures unchanged { result ≡ UNFIT → handle_in slot.new ≡ handle_in slot.old }
-    // The status is one of these four.
+    // The status is `DONE`, `ILLEGAL`, `NO_MEMORY` or `UNFIT`.
     ensures ends { (result ≡ DONE) ⊎ (result ≡ ILLEGAL) ⊎ (result ≡ NO_MEMORY) ⊎ (result ≡ UNFIT) }
 {
     match answered(alloc, slot, reply) {
@@ -154,7 +155,7 @@ pub extern "C" fn selfcheck_answered(alloc: Global, slot: &mut Slot, reply: u64)
 }
 
 /// Hands in the object's reply to the call that the slot's caller has announced, and publishes the
-/// call. Nobody judges it here: that is for monitors of the table.
+/// call. It judges nothing: the table's monitors judge the call.
 #[unsafe(no_mangle)]
 pub extern "C" fn selfcheck_publish(alloc: Global, slot: &mut Slot, reply: u64) -> u32
     // The status is `DONE` exactly where the slot has a caller that has announced a call.
@@ -173,8 +174,8 @@ pub extern "C" fn selfcheck_publish(alloc: Global, slot: &mut Slot, reply: u64) 
     }
 }
 
-/// Makes a round of the slot's monitor, which has found no error yet: judges what is published.
-/// With `NO_MEMORY` nothing is judged, and a further round may be made.
+/// Makes a round of the slot's monitor, which is to have found no error yet: judges the published
+/// records. With `NO_MEMORY` nothing is judged, and a further round may be made.
 #[unsafe(no_mangle)]
 pub extern "C" fn selfcheck_judge(alloc: Global, slot: &mut Slot) -> u32
     // With `LEGAL` the slot's monitor has made a round, and the book at its cut has a legal order.
@@ -192,7 +193,7 @@ pub extern "C" fn selfcheck_judge(alloc: Global, slot: &mut Slot) -> u32
     ensures unfit { (result ≡ UNFIT) ↔ ¬ IsMonitors MayJudge (handle_in slot.old) }
     // With `UNFIT` the handle is as it was.
     ensures unchanged { result ≡ UNFIT → handle_in slot.new ≡ handle_in slot.old }
-    // The status is one of these four.
+    // The status is `LEGAL`, `ILLEGAL`, `NO_MEMORY` or `UNFIT`.
     ensures ends { (result ≡ LEGAL) ⊎ (result ≡ ILLEGAL) ⊎ (result ≡ NO_MEMORY) ⊎ (result ≡ UNFIT) }
 {
     match judge(alloc, slot) {
@@ -203,9 +204,9 @@ pub extern "C" fn selfcheck_judge(alloc: Global, slot: &mut Slot) -> u32
     }
 }
 
-/// Writes into a buffer the text of the book of the error that the last call of the slot's caller
-/// was, or of the illegal round of the slot's monitor. `written` is its length, also where the
-/// buffer can't hold it and nothing is written.
+/// Writes into a buffer the text of the book of the last call of the slot's caller, where this call
+/// was an error, or of the illegal round of the slot's monitor. `written` is the text's length,
+/// even where the buffer can't hold the text and nothing is written.
 #[unsafe(no_mangle)]
 pub extern "C" fn selfcheck_witness(
     alloc: Global,
@@ -234,7 +235,7 @@ pub extern "C" fn selfcheck_witness(
     ensures uncounted { ¬ (result ≡ DONE) → ¬ (result ≡ NO_ROOM) → written.new ≡ written.old }
     // The slot's handle is as it was.
     ensures kept { handle_in slot.new ≡ handle_in slot.old }
-    // The status is one of these four.
+    // The status is `DONE`, `NO_MEMORY`, `NO_ROOM` or `UNFIT`.
     ensures ends { (result ≡ DONE) ⊎ (result ≡ NO_MEMORY) ⊎ (result ≡ NO_ROOM) ⊎ (result ≡ UNFIT) }
 {
     match witness(alloc, slot) {
@@ -247,7 +248,7 @@ pub extern "C" fn selfcheck_witness(
     }
 }
 
-/// Lets the slot's handle go. A call that is announced stays unanswered.
+/// Drops the slot's handle. A call that is announced stays unanswered.
 #[unsafe(no_mangle)]
 pub extern "C" fn selfcheck_drop(alloc: Global, slot: &mut Slot) -> u32
     // The status is `DONE` exactly where the slot had a handle.

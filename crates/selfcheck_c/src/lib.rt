@@ -24,19 +24,19 @@ use book_base::ReadFault;
 use book_verdicts::{BookVerdict, OrderVerdict, certify, order, verify};
 use std::alloc::Global;
 
-/// The book, or the order, is legal.
+/// The book is legal, or the order of the certificate is.
 pub const LEGAL: u32 = 0;
-/// It isn't.
+/// The book is illegal, or the order of the certificate is.
 pub const ILLEGAL: u32 = 1;
 /// The bytes are no text of the wanted form.
 pub const REFUSED: u32 = 3;
-/// Want of memory.
+/// Memory was wanted.
 pub const NO_MEMORY: u32 = 6;
-/// There is such a text, but the buffer can't hold it.
+/// There is such a text as the call writes, but the buffer can't hold it.
 pub const NO_ROOM: u32 = 8;
 
-/// Judges the book that the bytes are the text of. Where it is refused, `refusal` tells why; else
-/// it stays as it was.
+/// Judges the book that the bytes are the text of. Where the text is refused, `refusal` says why;
+/// otherwise it stays as it was.
 #[unsafe(no_mangle)]
 pub extern "C" fn selfcheck_verify(alloc: Global, text: &[u8], refusal: &mut Refusal) -> u32
     // With `LEGAL` the bytes are the text of a book that has a legal order.
@@ -46,7 +46,7 @@ pub extern "C" fn selfcheck_verify(alloc: Global, text: &[u8], refusal: &mut Ref
     // With `REFUSED` the bytes are no book's text, and the refusal has the line and the number of
     // their first fault.
     ensures refused { result ≡ REFUSED → IsBookRefusal text.now refusal.new }
-    // The status is one of these four.
+    // The status is `LEGAL`, `ILLEGAL`, `REFUSED` or `NO_MEMORY`.
     ensures ends { (result ≡ LEGAL) ⊎ (result ≡ ILLEGAL) ⊎ (result ≡ REFUSED)
         ⊎ (result ≡ NO_MEMORY) }
     // With each status but `REFUSED` the refusal is as it was.
@@ -70,8 +70,8 @@ pub extern "C" fn selfcheck_verify(alloc: Global, text: &[u8], refusal: &mut Ref
     }
 }
 
-/// Judges the certificate that the bytes are the text of. Where it is refused, `refusal` tells why;
-/// else it stays as it was.
+/// Judges the certificate that the bytes are the text of. Where the text is refused, `refusal` says
+/// why; otherwise it stays as it was.
 #[unsafe(no_mangle)]
 pub extern "C" fn selfcheck_order(alloc: Global, text: &[u8], refusal: &mut Refusal) -> u32
     // With `LEGAL` the bytes are the text of a certificate whose order is a legal order of its
@@ -83,7 +83,7 @@ pub extern "C" fn selfcheck_order(alloc: Global, text: &[u8], refusal: &mut Refu
     // With `REFUSED` the bytes are no certificate's text, and the refusal has the line and the
     // number of their first fault.
     ensures refused { result ≡ REFUSED → IsCertificateRefusal text.now refusal.new }
-    // The status is one of these four.
+    // The status is `LEGAL`, `ILLEGAL`, `REFUSED` or `NO_MEMORY`.
     ensures ends { (result ≡ LEGAL) ⊎ (result ≡ ILLEGAL) ⊎ (result ≡ REFUSED)
         ⊎ (result ≡ NO_MEMORY) }
     // With each status but `REFUSED` the refusal is as it was.
@@ -109,8 +109,8 @@ pub extern "C" fn selfcheck_order(alloc: Global, text: &[u8], refusal: &mut Refu
 }
 
 /// Writes into a buffer the certificate of the book that the bytes are the text of: the book's text
-/// with a legal order of it. `written` is its length, also where the buffer can't hold it and
-/// nothing is written. Where the text is refused, `refusal` tells why.
+/// with a legal order of it. `written` is the certificate's length, even where the buffer can't
+/// hold it and nothing is written. Where the text is refused, `refusal` says why.
 #[unsafe(no_mangle)]
 pub extern "C" fn selfcheck_certify(
     alloc: Global,
@@ -136,7 +136,7 @@ pub extern "C" fn selfcheck_certify(
     // With `NO_ROOM` there is a certificate of the book that has the length written.
     ensures unheld { result ≡ NO_ROOM → (wanted : List ℕ) × Certifies text.now wanted
         × (length wanted ≡ written.new) }
-    // The status is one of these five.
+    // The status is `LEGAL`, `ILLEGAL`, `REFUSED`, `NO_MEMORY` or `NO_ROOM`.
     ensures ends { (result ≡ LEGAL) ⊎ (result ≡ ILLEGAL) ⊎ (result ≡ REFUSED) ⊎ (result ≡ NO_MEMORY)
         ⊎ (result ≡ NO_ROOM) }
     // With each status but `LEGAL` the buffer is as it was.

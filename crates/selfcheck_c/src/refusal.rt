@@ -5,7 +5,7 @@ ghost use Rattle.selfcheck_c.specs.Refusals.{TellsFault};
 use book_base::{TextFault, What};
 
 /// Why a text was refused: the line that is wrong, counted from 1, and the number of what is wrong
-/// there.
+/// in it.
 #[repr(C)]
 #[derive(Clone, Copy)]
 pub struct Refusal {

@@ -16,10 +16,11 @@ use book_base::ReadFault;
 use std::alloc::Global;
 use witness_texts::{picture_text, smaller_text};
 
-/// Writes into a buffer the text of a smaller book of the book that the bytes give, which is
-/// illegal as that is: the bytes are a book's text in either version, or what a run or monitors
-/// have written with its witness. `written` is its length, also where the buffer can't hold it and
-/// nothing is written. Where the text is refused, `refusal` tells why.
+/// Writes into a buffer the text of a smaller book of the book that the bytes give, where this book
+/// is illegal; the smaller one is illegal too. The bytes are a book's text in either version, or
+/// what a run or monitors have written with its witness. `written` is the text's length, even where
+/// the buffer can't hold it and nothing is written. Where the bytes are refused, `refusal` says
+/// why.
 #[unsafe(no_mangle)]
 pub extern "C" fn selfcheck_smaller(
     alloc: Global,
@@ -42,10 +43,11 @@ pub extern "C" fn selfcheck_smaller(
     ensures refused { result ≡ REFUSED → IsGivenRefusal text.now refusal.new }
     // With `NO_ROOM` the length written is greater than the buffer's.
     ensures no_room { result ≡ NO_ROOM → length buffer.old < written.new }
-    // With `NO_ROOM` there is a text of such a part that has the length written.
+    // With `NO_ROOM` there is a text of a part of the book that has no legal order and that no rule
+    // makes smaller, and it has the length written.
     ensures unheld { result ≡ NO_ROOM → (wanted : List ℕ) × IsSmallerWitness text.now wanted
         × (length wanted ≡ written.new) }
-    // The status is one of these five.
+    // The status is `LEGAL`, `ILLEGAL`, `REFUSED`, `NO_MEMORY` or `NO_ROOM`.
     ensures ends { (result ≡ LEGAL) ⊎ (result ≡ ILLEGAL) ⊎ (result ≡ REFUSED) ⊎ (result ≡ NO_MEMORY)
         ⊎ (result ≡ NO_ROOM) }
     // With each status but `ILLEGAL` the buffer is as it was.
@@ -83,8 +85,8 @@ pub extern "C" fn selfcheck_smaller(
 }
 
 /// Writes into a buffer the picture, as SVG, of the book that the bytes give, as
-/// `selfcheck_smaller` reads them. `written` is its length, also where the buffer can't hold it and
-/// nothing is written. Where the text is refused, `refusal` tells why.
+/// `selfcheck_smaller` reads them. `written` is the picture's length, even where the buffer can't
+/// hold it and nothing is written. Where the bytes are refused, `refusal` says why.
 #[unsafe(no_mangle)]
 pub extern "C" fn selfcheck_picture(
     alloc: Global,
@@ -108,7 +110,7 @@ pub extern "C" fn selfcheck_picture(
     // With `NO_ROOM` there is a picture of the book that has the length written.
     ensures unheld { result ≡ NO_ROOM → (wanted : List ℕ) × IsPictureOf text.now wanted
         × (length wanted ≡ written.new) }
-    // The status is one of these four.
+    // The status is `DONE`, `REFUSED`, `NO_MEMORY` or `NO_ROOM`.
     ensures ends { (result ≡ DONE) ⊎ (result ≡ REFUSED) ⊎ (result ≡ NO_MEMORY)
         ⊎ (result ≡ NO_ROOM) }
     // With each status but `DONE` the buffer is as it was.

@@ -1,4 +1,4 @@
--- `of` takes over what lies at the pointer. Assumes `Logic`.
+-- `of` takes over the box that the pointer points to. Assumes `Logic`.
 use Rattle.std.proofs.Common.{◌≡◌, List, [], ◌∷◌, ◌++◌, Some, refl}
 use mir.Val.{Val}
 use base.Logic.{SProp, emp}
@@ -46,7 +46,7 @@ of_spec 𝓤 𝓛 𝓜 𝓡 wired =
     (types_at ended.signature.params z.0.0) z.0.3 z.0.4)) ∷ raw (fact 𝓤 (IsSound v.value)) ∷ []) ∵
     move ! (1 ∷ []) $ heard ! (IsSound v.value)
     (λ sound. split ! $ move ! (1 ∷ []) $ fsplit ! $ fsplit ! $ drop ! $ move ! (1 ∷ []) $ drop ! $
-    -- [what lies there; nothing of lifetimes]
+    -- [what is at the pointer; nothing of lifetimes]
     regoal ! (λ (us : List Val). prop (WpFn 𝓤 𝓛.H 𝓣.C 𝓣.Λ fn us Post))
     (λ i. beside_told p v.alloc z.0.4.0 are.0.0 i ++ []) refl $
     enter ! 𝓣.C 𝓣.Λ fn (beside p ∷ []) Post $ alloc_all ! (λ l. pass_all ! refl

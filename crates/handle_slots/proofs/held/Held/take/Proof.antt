@@ -1,4 +1,5 @@
--- `take` gives back what lies at the pointer, which keeps nothing. Assumes `Logic`.
+-- `take` gives back the box that the pointer points to, and keeps a pointer to nothing. Assumes
+-- `Logic`.
 use Rattle.std.proofs.Common.{◌≡◌, List, [], ◌∷◌, ◌++◌, Option, None, Some, IsSome, refl, subst}
 use mir.Val.{Val}
 use base.Logic.{SProp, emp}
@@ -41,7 +42,7 @@ stays = (
   (stay_dropped (slot_of 1 ended.signature.params) ended.kept.1.0, tt),
 )
 
--- the row of what a box is taken apart into
+-- the type of what a box is taken apart into
 abbrev row : RattleType
 row = loose.the_row handle.the_row global.the_row ghosts
 
