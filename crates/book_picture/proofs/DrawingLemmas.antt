@@ -13,7 +13,7 @@ use Rattle.book_picture.specs.declared.row.Row.{Row}
 use Rattle.book_picture.specs.Sheets.{IsDrawable, AreDrawable, AreAllDrawable}
 use Rattle.book_picture.specs.Elements.{IsElementOf, AreElementsOf, AreLanesElements}
 
--- the lane that stands at a place
+-- the lane at a place
 row_at : (lanes : List (Vec Interval Global)) (i : ℕ) (lane : Vec Interval Global)
     → slice_get lanes i ≡ Some lane → get_or (rows_of lanes) i [] ≡ lane.items
 row_at lanes i lane at =
@@ -21,7 +21,7 @@ row_at lanes i lane at =
     get_or_from_slice_get (rows_of lanes) i
     lane.items [] (slice_get-map items lanes i ∙ ap (option_map items) at)
 
--- an interval of this lane stands on it
+-- an interval of the lane at a place is one of that place's lane
 at_lane : (lanes : List (Vec Interval Global)) (i : ℕ) (lane : Vec Interval Global)
     (items : List Interval) → i < length lanes → lane ≡ get_or lanes i lane
     → items ≡ lane.items → (k : ℕ) (interval : Interval) → slice_get items k ≡ Some interval
@@ -31,7 +31,7 @@ at_lane lanes i lane items less here same k interval at =
     row_at lanes i lane (slice_get_read lanes (length lanes) i lane refl less here) ∙ sym same in
     ap (λ (xs : List Interval). slice_get xs k) row ∙ at
 
--- what holds of an interval of some lane holds of one of this lane
+-- what holds of an interval of some lane holds of one of the lane at a place
 pub drawable_lane : (book : List Page) (lanes : List (Vec Interval Global)) (i : ℕ)
     (lane : Vec Interval Global) (items : List Interval) → i < length lanes
     → lane ≡ get_or lanes i lane → items ≡ lane.items → AreAllDrawable book (rows_of lanes)
@@ -39,12 +39,12 @@ pub drawable_lane : (book : List Page) (lanes : List (Vec Interval Global)) (i :
 drawable_lane book lanes i lane items less here same all =
     λ k interval at. all i k interval (at_lane lanes i lane items less here same k interval at)
 
--- an interval of a lane
+-- an interval at a place of a lane can be drawn
 pub drawable_at : (book : List Page) (lane : List Interval) (i : ℕ) (d : Interval) → i < length lane
     → AreDrawable book lane → IsDrawable book (get_or lane i d)
 drawable_at book lane i d less all = all i (get_or lane i d) (slice_get-get_or lane i d less)
 
--- what the events of a book tell of its calls can be drawn
+-- the intervals of a book's events can be drawn
 pub told_is_drawable : (book : List Page) (events : List Event) (lanes : List (List Interval))
     → AreTold book events lanes → AreAllDrawable book lanes
 told_is_drawable book events lanes told caller k interval at =
@@ -58,7 +58,7 @@ told_is_drawable book events lanes told caller k interval at =
     }
 
 module _ (class : Call → List ℕ) (rows : List Row) where
-  -- one more element
+  -- the elements of a lane, with one element more
   elements_more : (lane : List Interval) (interval : Interval) (text more : List ℕ)
       → AreElementsOf class rows lane text → IsElementOf class rows interval more
       → AreElementsOf class rows (lane ++ interval ∷ []) (text ++ more)

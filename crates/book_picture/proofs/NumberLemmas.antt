@@ -5,14 +5,14 @@ use Rattle.book_base.specs.declared.call.Call.{Call}
 use Rattle.book_base.specs.declared.call.Place.{Place}
 use Rattle.book_base.specs.Order.{StandsAt, call_at}
 
--- the call that stands at an index is that of the place there
+-- the call at an index of an order is that of the place at this index
 pub call_there : (order : List Place) (k : ℕ) (d : Place) (call : Call) → k < length order
     → StandsAt order k call → call_at (get_or order k d) ≡ call
 call_there order k d call less (place, at, same) =
     ap call_at (same_Some (get_or order k d) place (sym (slice_get-get_or order k d less) ∙ at))
     ∙ same
 
--- a call stands at no index past the order
+-- a call has no index past the order
 pub stands_within : (order : List Place) (k : ℕ) (call : Call) → StandsAt order k call
     → k < length order
 stands_within order k call (place, at, same) = slice_get_within order k place at

@@ -17,7 +17,7 @@ use Rattle.book_picture.specs.Groups.{HasNoGroup, is_of_no_group, is_plain, Grow
 use Rattle.book_picture.specs.declared.sheet.TheConstants.{STYLE}
 use Rattle.book_picture.specs.Titles.{line_text, title, error_text, error_line, first_lines, opening, IsOpening, GrowsByLines, SaysFirst}
 
--- what is of no group is so whatever follows
+-- bytes that begin no tag of a group begin none whatever follows them
 still_of_none : (a b : List ℕ) → is_of_no_group a ≡ true → is_of_no_group (a ++ b) ≡ true
 still_of_none [] b e = absurd cc
 still_of_none (x ∷ []) [] e = e
@@ -123,7 +123,7 @@ no_close (x ∷ prefix) rest e = no_close prefix rest
     (and_parts (not (x == 60) || is_of_no_group (prefix ++ 60 ∷ 47 ∷ 103 ∷ rest))
     (is_plain (prefix ++ 60 ∷ 47 ∷ 103 ∷ rest)) e).1
 
--- such a text has no group
+-- a plain text has no group
 pub has_no_group : (text : List ℕ) → is_plain text ≡ true → HasNoGroup text
 has_no_group text plain = record {
   opened = λ prefix rest e. no_open prefix rest (ap is_plain (sym e) ∙ plain);
@@ -142,7 +142,7 @@ grows_then a b d h k = (
   k.2 ∙ ap (λ (t : List ℕ). t ++ k.0) h.2 ∙ append_assoc a h.0 k.0,
 )
 
--- a line of text grows it
+-- a text grown by a line of text has grown by a plain text
 pub grows_line : (a b class text : List ℕ) (x y : ℕ) → is_plain class ≡ true → x < 2 ^ 64
     → y < 2 ^ 64 → b ≡ a ++ line_text class x y text → GrowsPlain a b
 grows_line a b class text x y word across down e =
@@ -179,12 +179,12 @@ plain_first_lines legal marks error =
 pub plain_from : (a b : List ℕ) → a ≡ [] → GrowsPlain a b → is_plain b ≡ true
 plain_from a b e h = ap is_plain (h.2 ∙ ap (λ (t : List ℕ). t ++ h.0) e) ∙ h.1
 
--- what a call leaves where it succeeds
+-- what follows from a fact on success holds on success
 pub on_ok : {T E : Type 0} (r : Result T E) (P Q : Type 0) → OnOk r P → (P → Q) → OnOk r Q
 on_ok (Ok x) P Q h f = f h
 on_ok (Err e) P Q h f = h
 
--- a bar, and what has no group after it
+-- a text grown by a bar, and then by a plain text, has grown by a bar
 pub bar_then : (a b d : List ℕ) → GrowsByBar a b → GrowsPlain b d → GrowsByBar a d
 bar_then a b d h k = (
   h.0 ++ k.0,
@@ -231,7 +231,7 @@ by_lines first second a b d f e is k = (
       ∙ append_assoc a (first ++ second) k.0,
 )
 
--- what follows leaves what a text says first
+-- a text that says something first says it still with more after it
 pub says_more : (lines other head more text : List ℕ) → lines ≡ other → SaysFirst lines head
     → text ≡ head ++ more → SaysFirst other text
 says_more lines other head more text same h e =

@@ -33,7 +33,7 @@ module _ (places first : ℕ) (rows new : List Row) (row : Row) (is_new : new �
     (place : first ≡ length rows * 24)
     (each : (k : ℕ) (r : Row) → slice_get rows k ≡ Some r → IsRow places k r)
     (last : IsRow places (length rows) row) where
-  -- with a row more, the next begins a row later
+  -- with one row more, the next place is one row later
   pub next_place : first + 24 ≡ length new * 24
   next_place = omega (arith, count_more rows new row is_new, place)
 
@@ -45,7 +45,7 @@ module _ (places first : ℕ) (rows new : List Row) (row : Row) (is_new : new �
             (subst (IsRow places (length rows)) (sym added.1) last)
       ]
 
-  -- and the rows have all places where no more are left than it has
+  -- the rows have all places where no more places are left than the last row has
   pub all_folded : first ≤ places → (0 < length rows → first < places) → places - first ≤ 24
       → AreFolded places new
   all_folded within started few =
@@ -58,14 +58,14 @@ module _ (places first : ℕ) (rows new : List Row) (row : Row) (is_new : new �
         each = each_new;
       }
 
--- a bar stands where the interval has a part
+-- a bar is drawn where the interval has a part in the row
 pub with_part : (row : Row) (interval : Interval) (a b : List ℕ)
     → has_part row.first (length row.edges.items - 1) interval ≡ true → GrowsByBar a b
     → GrowsByPart row interval a b
 with_part row interval a b has h =
     (h.0, h.1.0, subst (λ (t : Bool). MatchBool t (IsBar h.0) (h.0 ≡ [])) (sym has) h.1, h.2)
 
--- and nothing where it has none
+-- nothing is drawn where the interval has no part in the row
 pub without_part : (row : Row) (interval : Interval) (a : List ℕ)
     → has_part row.first (length row.edges.items - 1) interval ≡ false
     → GrowsByPart row interval a a
@@ -89,7 +89,7 @@ parts_more (x ∷ xs) row interval text more (first, rest, has, are, e) is = (
   ap (λ (t : List ℕ). t ++ more) e ∙ append_assoc first rest more,
 )
 
--- what the first rows have, and one more
+-- the parts in the first rows, and in one row more
 pub parts_turn : (rows : List Row) (i : ℕ) (row : Row) (interval : Interval) (a b d : List ℕ)
     → i < length rows → row ≡ get_or rows i row
     → GrowsByParts (take i rows) interval a b → GrowsByPart row interval b d

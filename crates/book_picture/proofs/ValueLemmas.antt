@@ -19,7 +19,7 @@ use Rattle.sketch.specs.Sketch.{StandsIn}
 use Rattle.book_picture.specs.Marks.{numbers_in}
 use Rattle.book_picture.specs.Values.{has_argument, takes_number, value_of_call, with_value, with_event, values_after, place_among, colour_of}
 
--- which operations have an argument is what the tables say
+-- the operations with an argument are those that the tables have with one
 pub by_table : (kind : Kind) → AllByRecursion
     (λ entry. has_argument kind entry.code ≡ takes_number entry.arity) (entries kind)
 unfolding entries
@@ -49,7 +49,7 @@ named_at rows i row inside is =
     let items : Vec ℕ Global → List ℕ = λ r. r.items in
     get_or-map items rows i row [] inside ∙ ap items (sym is)
 
--- there is none past the end
+-- there is no list past the end
 pub named_past : (rows : List (Vec ℕ Global)) (i : ℕ) → length rows ≤ i
     → get_or (numbers_in rows) i [] ≡ []
 named_past rows i past = get_or_past
@@ -120,13 +120,13 @@ inside values v (k, within, is) = elim (cases_lt (first_place values v) (length 
       (fails_before_first (λ x. x == v) values k v (omega (arith, within, past))) is)
 ]
 
--- where it is
+-- the place of a value has this value
 there : (values : List ℕ) (v : ℕ) → first_place values v < length values
     → get_or values (first_place values v) 0 ≡ v
 there values v less = eqb-true (get_or values (first_place values v) 0) v
     (passes_at_first (λ x. x == v) values 0 less)
 
--- and that place counts
+-- the place of a value that appears is its first place
 counts : (values : List ℕ) (v : ℕ) → first_place values v < length values
     → place_among values v ≡ first_place values v
 counts values v less =

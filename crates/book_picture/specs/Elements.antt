@@ -18,32 +18,34 @@ use Rattle.book_picture.specs.Values.{values_after, class_of_call}
 abbrev pub IsBar : List ℕ → Type 0
 IsBar text = (is_plain text ≡ true) × ((rest : List ℕ) × (text ≡ codes "<path class=\"bar" ++ rest))
 
--- A text is what a row has of an interval: a bar where the interval has a part in it, and else
--- nothing.
+-- A text is the part of an interval in a row: a bar where the interval has a part in the row, and
+-- else nothing.
 abbrev pub IsPartIn : Row → Interval → List ℕ → Type 0
 IsPartIn row interval text =
     MatchBool (has_part row.first (length row.edges.items - 1) interval) (IsBar text) (text ≡ [])
 
--- A text is what these rows have of an interval, in their order.
+-- A text is the parts of an interval in these rows, in their order.
 abbrev pub ArePartsIn : List Row → Interval → List ℕ → Type 0
 ArePartsIn [] interval text = text ≡ []
 ArePartsIn (row ∷ rows) interval text = (first rest : List ℕ) × IsPartIn row interval first
     × ArePartsIn rows interval rest × (text ≡ first ++ rest)
 
--- A text has grown by a bar; by what a row has of an interval; and by what these rows have of it.
+-- A text has grown by a bar.
 abbrev pub GrowsByBar : List ℕ → List ℕ → Type 0
 GrowsByBar before after = (text : List ℕ) × IsBar text × (after ≡ before ++ text)
 
+-- A text has grown by the part of an interval in a row.
 abbrev pub GrowsByPart : Row → Interval → List ℕ → List ℕ → Type 0
 GrowsByPart row interval before after = (text : List ℕ) × (is_plain text ≡ true)
     × IsPartIn row interval text × (after ≡ before ++ text)
 
+-- A text has grown by the parts of an interval in these rows, in their order.
 abbrev pub GrowsByParts : List Row → Interval → List ℕ → List ℕ → Type 0
 GrowsByParts rows interval before after = (text : List ℕ) × (is_plain text ≡ true)
     × ArePartsIn rows interval text × (after ≡ before ++ text)
 
--- A text is an element that names the call of an interval, with the call's classes: in it stands
--- what these rows have of the interval, and no other element of a call.
+-- A text is an element that names the call of an interval, with the call's classes, and has the
+-- parts of the interval in these rows inside, and no other element of a call.
 abbrev pub IsElementOf : (Call → List ℕ) → List Row → Interval → List ℕ → Type 0
 IsElementOf class rows interval text = (inside : List ℕ) × HasNoGroup inside
     × ArePartsIn rows interval inside
@@ -68,8 +70,8 @@ AreLanesElements class rows (lane ∷ lanes) text =
 
 -- The text of a picture shows each call of a book: after its head, which has no element of a call,
 -- it has one element for the one interval of each call, by lanes. The places of the sketch are
--- folded into rows, and a call's classes are the colour of the value that it shows, by the order in
--- which these appear, and whether it is marked.
+-- folded into rows. A call's classes are the colour of the value that it shows, by the order in
+-- which values appear, and whether the call is marked.
 pub record ShowsEachCall (kind : Kind) (book : List Page) (marks : Marks)
     (text : List ℕ) : Type 0 where
   pub events : List Event

@@ -1,4 +1,4 @@
--- Groups in a text of SVG: where a tag opens one or closes one.
+-- Groups in a text of SVG: where a tag opens or closes one.
 use Rattle.std.specs.Prelude.{◌≡◌, ◌≢◌, ℕ, Bool, true, false, not, ◌&&◌, ◌||◌, ◌==◌, List, [], ◌∷◌, ◌++◌, codes}
 
 -- No group is opened in the text, and none is closed.
@@ -6,17 +6,17 @@ pub record HasNoGroup (text : List ℕ) : Type 0 where
   pub opened : (prefix rest : List ℕ) → text ≢ prefix ++ (codes "<g" ++ rest)
   pub closed : (prefix rest : List ℕ) → text ≢ prefix ++ (codes "</g" ++ rest)
 
--- Whether what follows a '<' begins with neither 'g' nor '/g', whatever follows it.
+-- Whether the bytes after a '<' begin with neither 'g' nor '/g', whatever bytes follow them.
 abbrev pub is_of_no_group : List ℕ → Bool
 is_of_no_group [] = false
 is_of_no_group (x ∷ []) = not (x == 103) && not (x == 47)
 is_of_no_group (x ∷ y ∷ rest) = not (x == 103) && not ((x == 47) && (y == 103))
 
--- Whether each '<' of the text is of no group, whatever follows the text.
+-- Whether each '<' of the text belongs to no tag of a group, whatever follows the text.
 abbrev pub is_plain : List ℕ → Bool
 is_plain [] = true
 is_plain (x ∷ rest) = (not (x == 60) || is_of_no_group rest) && is_plain rest
 
--- A text has grown by one that has no group.
+-- A text has grown by a text that has no group.
 abbrev pub GrowsPlain : List ℕ → List ℕ → Type 0
 GrowsPlain before after = (text : List ℕ) × (is_plain text ≡ true) × (after ≡ before ++ text)

@@ -6,7 +6,7 @@ use Rattle.book_base.specs.declared.call.Call.{Call}
 use Rattle.book_picture.specs.declared.marks.Marks.{Marks}
 use Rattle.book_picture.specs.declared.marks.Marks.TheVariants.{Unasked, Smaller, TooLarge, NoMemory}
 
--- the lists that these lists in memory hold
+-- the lists that these vectors hold
 abbrev pub numbers_in : List (Vec ℕ Global) → List (List ℕ)
 numbers_in rows = map (λ row. row.items) rows
 

@@ -1,4 +1,4 @@
--- Rows: how the places of a sketch are folded, and what of an interval stands in a row.
+-- Rows: how the places of a sketch are folded into them, and whether an interval has a part in one.
 use Rattle.std.specs.Prelude.{◌≡◌, ℕ, ◌+◌, ◌-◌, ◌*◌, ◌<◌, ◌≤◌, min, Bool, nat_lt, List, length, Some, slice_get}
 use Rattle.call_intervals.specs.declared.interval.Interval.{Interval}
 use Rattle.book_picture.specs.declared.row.Row.{Row}
@@ -8,13 +8,13 @@ use Rattle.book_picture.specs.declared.row.TheConstants.{ROW_PLACES}
 abbrev pub places_in : ℕ → ℕ → ℕ
 places_in places k = min ROW_PLACES (places - k * ROW_PLACES)
 
--- A row has the places that are its by its number, with an edge before each and one after the last.
+-- A row has the places of its number, with an edge before each and one after the last.
 pub record IsRow (places k : ℕ) (row : Row) : Type 0 where
   pub first : row.first ≡ k * ROW_PLACES
   pub edges : length row.edges.items ≡ places_in places k + 1
 
--- The rows have all of this many places, and there are no more rows than these take; a picture has
--- one row at least.
+-- The rows have all of this many places, and there are as few of them as these places take, but at
+-- least one.
 pub record AreFolded (places : ℕ) (rows : List Row) : Type 0 where
   pub some : 1 ≤ length rows
   pub all : places ≤ length rows * ROW_PLACES
@@ -26,6 +26,7 @@ abbrev pub ADozenStayOnOneRow : Type 0
 ADozenStayOnOneRow = (places : ℕ) (rows : List Row) → places ≤ 12 * 2 → AreFolded places rows
     → length rows ≡ 1
 
--- whether an interval has a part in a row of this many places, of which this is the first
+-- whether an interval has a part in a row that begins with the place `first` and has this many
+-- places
 abbrev pub has_part : ℕ → ℕ → Interval → Bool
 has_part first places interval = nat_lt (interval.begin - first) (min (interval.end - first) places)

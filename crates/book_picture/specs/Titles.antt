@@ -1,4 +1,4 @@
--- The lines of text in a picture, and the first ones, which say what the picture is of.
+-- The lines of text in a picture, and its first lines, which say what the picture is of.
 use Rattle.std.specs.Prelude.{◌≡◌, ℕ, ◌<◌, ◌^◌, Bool, true, false, List, [], ◌++◌, codes, decimal, Option, Some, None}
 use Rattle.book_base.specs.declared.call.Call.{Call}
 use Rattle.frontier_check.specs.declared.verdict.Verdict.{Verdict}
@@ -9,7 +9,7 @@ use Rattle.book_picture.specs.declared.sheet.TheConstants.{STYLE}
 use Rattle.book_picture.specs.Escape.{escaped}
 use Rattle.book_picture.specs.Groups.{is_plain}
 
--- a line of text, of a class of the style, at a place
+-- a line of text in a class of the style, at a place
 abbrev pub line_text : List ℕ → ℕ → ℕ → List ℕ → List ℕ
 line_text class x y text =
     codes "<text class=\"" ++ (class ++ (codes "\" x=\"" ++ (decimal x
@@ -41,7 +41,7 @@ abbrev pub error_text : Call → List ℕ
 error_text call = codes "the first error line of the run is that of call "
     ++ (decimal call.number ++ (codes " of caller " ++ decimal call.caller))
 
--- the line that says it, where there is one
+-- the line of a picture on the first error line of a run, where there is one
 abbrev pub error_line : Option Call → List ℕ
 error_line None = []
 error_line (Some call) = line_text (codes "note") 12 80 (error_text call)
@@ -51,25 +51,24 @@ abbrev pub first_lines : Bool → Marks → Option Call → List ℕ
 first_lines legal marks error =
     line_text (codes "title") 12 24 (title legal marks) ++ error_line error
 
--- what stands before the first line of text
+-- what comes before the first line of text in a picture
 abbrev pub opening : ℕ → ℕ → List ℕ
 opening width height =
     codes "<svg xmlns=\"http://www.w3.org/2000/svg\" width=\""
     ++ (decimal width ++ (codes "\" height=\"" ++ (decimal height ++ (codes "\">\n"
     ++ (STYLE.now ++ codes "<rect width=\"100%\" height=\"100%\" fill=\"#ffffff\"/>\n")))))
 
--- a text is what stands before the first line of text in a picture of some size
+-- a text is what comes before the first line of text in a picture of some size
 abbrev pub IsOpening : List ℕ → Type 0
 IsOpening text = (width : ℕ) × (height : ℕ) × (width < 2 ^ 64) × (height < 2 ^ 64)
     × (text ≡ opening width height)
 
--- A text has grown by these lines, and by what has no group.
+-- A text has grown by these lines, and then by a text that has no group.
 abbrev pub GrowsByLines : List ℕ → List ℕ → List ℕ → Type 0
 GrowsByLines lines before after = (rest : List ℕ) × (is_plain rest ≡ true)
     × (after ≡ before ++ (lines ++ rest))
 
--- The text of a picture begins with what stands before the first line of text, and with these
--- lines.
+-- The text of a picture begins with what comes before its first line of text, and with these lines.
 pub record SaysFirst (lines text : List ℕ) : Type 0 where
   pub width : ℕ
   pub height : ℕ

@@ -55,19 +55,19 @@ abbrev pub value_of_call : Kind → List Page → Call → Option ℕ
 value_of_call kind book call = value_of_step kind (unwrap_or (operation_of book call) 0)
     (option_map (λ r. r.reply) (record_of book call))
 
--- the values so far, and this one at the end where it is a new one
+-- the values so far, with this one at the end where it is none of them
 abbrev pub with_value : List ℕ → Option ℕ → List ℕ
 with_value values None = values
 with_value values (Some value) =
     if list_any (λ x. x == value) values then values else values ++ value ∷ []
 
--- the values after an event: the value that the invoked call shows has appeared
+-- the values so far after an event, where the value that an invoked call shows appears
 abbrev pub with_event : Kind → List Page → List ℕ → Event → List ℕ
 with_event kind book values (Invoke call) = with_value values (value_of_call kind book call)
 with_event kind book values (Return call) = values
 
--- the values that the calls of these events show, each once, in the order in which calls that show
--- them are invoked; after the values so far
+-- the values so far after these events: those that the events' calls show, each once, in the order
+-- in which calls that show them are invoked
 abbrev pub values_after : Kind → List Page → List ℕ → List Event → List ℕ
 values_after kind book values [] = values
 values_after kind book values (event ∷ events) =
@@ -83,13 +83,13 @@ EachValueAppears = (kind : Kind) (book : List Page) (events : List Event) (call 
 abbrev pub place_among : List ℕ → ℕ → ℕ
 place_among values value = unwrap_or (position (λ x. x == value) values) 0
 
--- the colour of a value: its place among the values, and the colours come again where there are
--- more values
+-- the colour of a value: its place among the values, where the colours begin again after the last
+-- one
 abbrev pub colour_of : List ℕ → Option ℕ → Option ℕ
 colour_of values None = None
 colour_of values (Some value) = Some (place_among values value % COLOURS)
 
--- Where no more values appear than there are colours, two of them have two colours.
+-- Where no more values appear than there are colours, any two values have different colours.
 abbrev pub FewValuesAreToldApart : Type 0
 FewValuesAreToldApart = (values : List ℕ) (v w : ℕ) → length values ≤ COLOURS → Contains values v
     → Contains values w

@@ -37,7 +37,7 @@ pub(crate) fn column_edges(
     Ok(edges)
 }
 
-// The edge after these, of which this is the last.
+// The edge that comes after these edges, the last of which is this one.
 fn next_edge(
     alloc: Global,
     kind: Kind,
@@ -56,7 +56,7 @@ fn next_edge(
     Ok(edge)
 }
 
-// How far the bars of a lane reach that end after these edges.
+// How far the bars of a lane that end after these edges reach.
 fn lane_edge(
     alloc: Global,
     kind: Kind,
@@ -79,7 +79,7 @@ fn lane_edge(
     Ok(edge)
 }
 
-// How far a bar reaches that begins here.
+// How far a bar that begins at this edge reaches.
 fn bar_end(
     alloc: Global,
     kind: Kind,

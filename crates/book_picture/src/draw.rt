@@ -16,7 +16,7 @@ use seq_objects::Kind;
 use sketch::sketch;
 use std::alloc::Global;
 
-/// Where the lanes of the first row begin, in pixels.
+/// The height at which the lanes of the first row begin, in pixels.
 const TOP: usize = 84;
 
 /// The height of a line of text, in pixels.
@@ -24,11 +24,11 @@ const LINE: usize = 18;
 
 /// The picture of a book of an object of this kind, with this verdict, as SVG.
 ///
-/// A legal order numbers its calls. Where there is none, nothing in the picture orders the calls
-/// but the places of their bars. The places are folded into rows, which are read one after the
-/// other: a call has a bar in each row in which it has a place. Calls that show the same value have
-/// the same colour, and some are marked. Where the book is the witness of a run, the picture says
-/// of which error line.
+/// A legal order numbers its calls. Where there is no legal order, nothing in the picture orders
+/// the calls but the places of their bars. The places are folded into rows, which are read one
+/// after the other: a call has a bar in each row in which it has a place. Calls that show the same
+/// value have the same colour, and some are marked. Where the book is the witness of a run, the
+/// picture says of which error line it is the witness.
 pub fn draw_book(
     alloc: Global,
     kind: Kind,
@@ -66,7 +66,7 @@ pub fn draw_book(
     Ok(out)
 }
 
-// Where the first row begins: below the line that tells the first error, where there is one.
+// The height at which the first row begins: below the line on the first error, where there is one.
 fn top_of(error: Option<Call>) -> usize {
     match error {
         Some(_) => TOP + LINE,

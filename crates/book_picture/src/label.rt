@@ -9,11 +9,11 @@ use std::alloc::Global;
 /// The width of a letter, in pixels.
 const LETTER: usize = 8;
 
-/// The room beside a line of letters, in pixels: its margins, and the number of the call in an
-/// order.
+/// The space beside a line of letters, in pixels: the margins of a bar, and the number of the call
+/// in an order.
 const BESIDE: usize = 48;
 
-/// What stands in the bar of a call: its operation, and below it its reply.
+/// The label in the bar of a call: the call's operation, and below it its reply.
 #[derive(Debug, Drop)]
 pub(crate) struct Label {
     pub operation: Vec<u8>,

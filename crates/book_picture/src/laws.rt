@@ -19,7 +19,8 @@ pub fn a_dozen_calls_stay_on_one_row()
     ensures { ADozenStayOnOneRow }
 {}
 
-/// Which operations have an argument, by their codes, is what the tables of the kinds say.
+/// The operations that have an argument, by their codes, are those with a number in the tables of
+/// the kinds.
 pub fn arguments_are_of_the_table()
     ensures { ArgumentsAreOfTheTable }
 {}
@@ -29,7 +30,7 @@ pub fn each_value_appears()
     ensures { EachValueAppears }
 {}
 
-/// Where no more values appear than there are colours, two of them have two colours.
+/// Where no more values appear than there are colours, any two values have different colours.
 pub fn few_values_have_colours_of_their_own()
     ensures { FewValuesAreToldApart }
 {}

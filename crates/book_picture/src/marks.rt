@@ -4,17 +4,17 @@ ghost use Rattle.book_picture.specs.Titles.{marks_text};
 
 use book_base::Call;
 
-/// Which calls of a picture are marked, and why no others are.
+/// Which calls of a picture are marked, or why none are.
 #[derive(Debug, Drop)]
 pub enum Marks {
-    /// None are, and the picture says nothing of marks.
+    /// No calls are marked, and the picture says nothing of marks.
     Unasked,
     /// The calls of a smaller book that has no legal order either are marked: for each caller,
     /// their numbers.
     Smaller(Vec<Vec<u64>>),
-    /// None are, since no smaller book is sought of a book with this many calls.
+    /// No calls are marked, since no smaller book is sought of a book with this many calls.
     TooLarge,
-    /// None are, since there was no memory for a smaller book.
+    /// No calls are marked, since there was no memory for a smaller book.
     NoMemory,
 }
 

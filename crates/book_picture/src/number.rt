@@ -3,7 +3,7 @@ ghost use Rattle.book_base.specs.Order.{StandsAt};
 
 use book_base::{Call, Place};
 
-/// The number of a call in an order, counted from 1, where it stands in it.
+/// The number of a call in an order, counted from 1, where the call is in it.
 pub(crate) fn number_in(order: &[Place], call: Call) -> Option<usize>
     ensures found { IfSome result
         (λ number. (k : ℕ) × (number ≡ k + 1) × StandsAt order.now k call) }

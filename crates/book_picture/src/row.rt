@@ -1,4 +1,4 @@
-//! A row of a picture, and what of an interval stands in it.
+//! A row of a picture, and the part of an interval in it.
 
 ghost use Rattle.std.specs.Prelude.{◌≡◌, ◌-◌, ◌<◌, ◌≤◌, length, is_some, IfSome};
 ghost use Rattle.book_picture.specs.Rows.{has_part};
@@ -15,7 +15,8 @@ pub(crate) struct Stretch {
     pub places: usize,
 }
 
-/// A row: the first of its places, where its lanes begin, and the edges of its columns, in pixels.
+/// A row: its first place, the height at which its lanes begin, and the edges of its columns, in
+/// pixels.
 #[derive(Debug, Drop)]
 pub(crate) struct Row {
     pub first: usize,
@@ -23,8 +24,8 @@ pub(crate) struct Row {
     pub edges: Vec<usize>,
 }
 
-/// The part of an interval that stands in a row: the edges at which it begins and ends, and whether
-/// the interval begins and ends there too.
+/// The part of an interval in a row: the edges at which it begins and ends, and whether the
+/// interval begins and ends at them too.
 #[derive(Clone, Copy, Debug)]
 pub(crate) struct Part {
     pub begin: usize,
@@ -34,7 +35,7 @@ pub(crate) struct Part {
 }
 
 impl Stretch {
-    /// The part of an interval that stands on these places, if it has one there.
+    /// The part of an interval on these places, if it has one.
     pub fn part_of(self, interval: &Interval) -> Option<Part>
         ensures some { is_some result ≡ has_part self.first self.places interval.now }
         ensures place { IfSome result (λ part. (part.begin < part.end) × (part.end ≤ self.places)) }
@@ -56,7 +57,7 @@ impl Stretch {
 }
 
 impl Row {
-    /// The part of an interval that stands in the row, if it has one there.
+    /// The part of an interval in the row, if it has one.
     pub fn part_of(&self, interval: &Interval) -> Option<Part>
         ensures some { is_some result
             ≡ has_part self.now.first (length self.now.edges.items - 1) interval.now }

@@ -12,10 +12,10 @@ use call_intervals::Interval;
 use seq_objects::Kind;
 use std::alloc::Global;
 
-/// From one lane to the next, in pixels.
+/// The distance from one lane to the next, in pixels.
 pub(crate) const LANE: usize = 56;
 
-/// From the lanes of a row to those of the next, in pixels.
+/// The distance from the lanes of a row to those of the next, in pixels.
 const BETWEEN: usize = 20;
 
 /// The rows of this many places, of which the first begins at this height, in pixels.

@@ -21,10 +21,10 @@ use std::alloc::Global;
 /// The height of a bar, in pixels.
 const BAR: usize = 44;
 
-/// From an edge of a column to a bar that begins or ends there, in pixels.
+/// The distance from an edge of a column to a bar that begins or ends at it, in pixels.
 const GAP: usize = 3;
 
-/// The room at the edges of a sheet, in pixels.
+/// The margin at the edges of a sheet, in pixels.
 const MARGIN: usize = 12;
 
 /// The least width of a sheet, in pixels: that of its legend.
@@ -68,8 +68,8 @@ pub(crate) struct Sheet<'a> {
     pub error: Option<Call>,
 }
 
-/// Where a bar stands, in pixels, and which edges of it are drawn: the left one where its call is
-/// invoked, and the right one where it returns.
+/// The place of a bar, in pixels, and which of its edges are drawn: the left one where its call is
+/// invoked, and the right one where the call returns.
 #[derive(Clone, Copy)]
 struct Bar {
     left: usize,
@@ -81,7 +81,8 @@ struct Bar {
 }
 
 impl Sheet<'_> {
-    /// What stands before the bars: the legend, and in each row the lanes with their callers.
+    /// The text before the bars of a picture: the legend, and in each row the lanes with their
+    /// callers.
     pub fn head(&self) -> Result<String, NoMemory>
         ensures plain { IfOk result (λ text. HasNoGroup (string_bytes text)) }
         ensures says { IfOk result (λ text.
@@ -96,7 +97,7 @@ impl Sheet<'_> {
         Ok(out)
     }
 
-    // What stands before the legend of a sheet of this size: the style, and the ground.
+    // The text before the legend of a sheet of this size: the style, and the background.
     fn opening(&self, width: usize, height: usize) -> Result<String, NoMemory>
         ensures { IfOk result (λ text. IsOpening (string_bytes text)) }
     {
@@ -110,7 +111,7 @@ impl Sheet<'_> {
         Ok(out)
     }
 
-    // Appends what the picture says of the book, and how it is read.
+    // Appends what the picture says of the book, and how a picture is read.
     fn put_legend(&self, out: &mut String) -> Result<(), NoMemory>
         ensures { OnOk result (GrowsByLines
             (first_lines (is_some self.now.order) self.now.marks.now self.now.error)
@@ -122,7 +123,7 @@ impl Sheet<'_> {
         put_notes(out, self.kind)
     }
 
-    // The title: what is said of the verdict, and of the marks.
+    // The title of the picture, on the verdict and on the marks.
     fn title(&self) -> Result<String, NoMemory>
         ensures { IfOk result (λ text.
             string_bytes text ≡ title (is_some self.now.order) self.now.marks.now) }
@@ -133,7 +134,7 @@ impl Sheet<'_> {
         Ok(text)
     }
 
-    // What is said of the verdict.
+    // The title's words on the verdict.
     fn verdict(&self) -> &'static str
         ensures { result.now ≡ verdict_text (is_some self.now.order) }
     {
@@ -183,7 +184,7 @@ impl Sheet<'_> {
         class_of(self.alloc, colour, is_marked)
     }
 
-    // What stands in the element of a call: in each row its bar, if it has a part there.
+    // The inside of a call's element: in each row the call's bar, if it has a part in the row.
     fn inside(&self, interval: &Interval) -> Result<String, NoMemory>
         requires { IsDrawable self.now.book.now interval.now }
         ensures plain { IfOk result (λ text. IsTrue (is_plain (string_bytes text))) }
@@ -197,7 +198,7 @@ impl Sheet<'_> {
         Ok(out)
     }
 
-    // The number of a call in the order, where it stands in it.
+    // The number of a call in the order, where the call is in it.
     fn number(&self, call: Call) -> Option<usize> {
         match self.order {
             Some(order) => number_in(order, call),
@@ -207,8 +208,8 @@ impl Sheet<'_> {
 }
 
 impl Bar {
-    // The class of its outline. That of a part which goes on from the row before to the next has
-    // none.
+    // The class of the bar's outline. That of a part that continues from the row before into the
+    // next one has no class.
     fn class(self) -> &'static str
         ensures { is_plain result.now ≡ true }
     {
@@ -221,7 +222,7 @@ impl Bar {
         }
     }
 
-    // Where its outline begins and ends: right, where the right edge isn't drawn.
+    // The point at which the bar's outline begins and ends: its right edge, where this isn't drawn.
     fn start(self) -> usize {
         if self.begins && !self.ends {
             self.right
@@ -230,7 +231,7 @@ impl Bar {
         }
     }
 
-    // Where its outline turns.
+    // The point at which the bar's outline turns.
     fn turn(self) -> usize {
         if self.begins && !self.ends {
             self.left
@@ -239,7 +240,7 @@ impl Bar {
         }
     }
 
-    // What closes its outline, where both edges are drawn or neither.
+    // The command that closes the bar's outline, where both edges are drawn or neither is.
     fn close(self) -> &'static str
         ensures { is_plain result.now ≡ true }
     {
@@ -266,7 +267,7 @@ fn height_of(rows: &[Row], callers: u32) -> usize {
     height
 }
 
-// Where the lane of a caller begins, in pixels, in a row that begins here.
+// The height at which the lane of a caller begins, in pixels, in a row that begins at this height.
 fn lane_top(top: usize, caller: u32) -> usize {
     (caller as usize).saturating_mul(LANE).saturating_add(top)
 }
@@ -308,7 +309,7 @@ fn put_rows(out: &mut String, rows: &[Row], callers: u32, right: usize) -> Resul
     Ok(())
 }
 
-// Appends the lanes of this many callers, in a row that begins here.
+// Appends the lanes of this many callers, in a row that begins at this height.
 fn put_lanes(out: &mut String, top: usize, callers: u32, right: usize) -> Result<(), NoMemory>
     ensures { OnOk result (GrowsPlain (string_bytes out.old) (string_bytes out.new)) }
 {
@@ -335,7 +336,7 @@ fn put_lane(out: &mut String, top: usize, caller: u32, right: usize) -> Result<(
     Ok(())
 }
 
-// Appends what these rows have of an interval.
+// Appends the parts of an interval in these rows.
 fn put_parts(
     out: &mut String,
     rows: &[Row],
@@ -352,7 +353,7 @@ fn put_parts(
     Ok(())
 }
 
-// Appends what a row has of an interval: its bar, if it has a part there.
+// Appends the part of an interval in a row: its bar, if it has a part in the row.
 fn put_part(
     out: &mut String,
     row: &Row,
@@ -369,7 +370,7 @@ fn put_part(
     }
 }
 
-// Where the bar of a part stands.
+// The bar of a part in a row.
 fn bar_of(row: &Row, interval: &Interval, part: Part) -> Bar
     requires begin { part.begin < length row.now.edges.items }
     requires end { part.end < length row.now.edges.items }
@@ -384,7 +385,7 @@ fn bar_of(row: &Row, interval: &Interval, part: Part) -> Bar
     }
 }
 
-// Appends a bar, with its label and the number of its call in the order, where it stands in it.
+// Appends a bar, with its label and the number of its call in the order, where the call is in it.
 fn put_bar(out: &mut String, bar: Bar, label: &Label, number: Option<usize>) -> Result<(), NoMemory>
     ensures { OnOk result (GrowsByBar (string_bytes out.old) (string_bytes out.new)) }
 {
@@ -419,7 +420,7 @@ fn put_label(out: &mut String, bar: Bar, label: &Label) -> Result<(), NoMemory>
     put_line(out, "call", x, bar.top.saturating_add(36), &label.reply)
 }
 
-// Appends the number of a call in the order, where it stands in it.
+// Appends the number of a call in the order, where the call is in it.
 fn put_number(out: &mut String, bar: Bar, number: Option<usize>) -> Result<(), NoMemory>
     ensures { OnOk result (GrowsPlain (string_bytes out.old) (string_bytes out.new)) }
 {

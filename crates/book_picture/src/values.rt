@@ -1,4 +1,4 @@
-//! The values that calls show, and the classes that these give to the elements of calls.
+//! The values that calls show, and the classes that elements of calls have by these values.
 
 ghost use Rattle.std.specs.Prelude.{◌≡◌, ◌==◌, [], ◌++◌, option_map, string_bytes, IfOk, OnOk};
 ghost use Rattle.std.specs.List.{position};
@@ -18,7 +18,7 @@ const COLOURS: usize = 8;
 /// How many values there are: a value is below this number.
 const VALUES: u64 = 1 << 32;
 
-/// What a reply word has above a value.
+/// The high word of a reply word that shows a value.
 const VALUE_TAG: u64 = 2;
 
 /// The values that the calls of these events show, each once, in the order in which calls that show
@@ -39,7 +39,8 @@ pub(crate) fn values_of(
     Ok(values)
 }
 
-// Appends the value of the call that is invoked, where it shows a new one.
+// Appends the value of the call that is invoked, where the call shows a value that isn't in the
+// list.
 fn add_event(values: &mut Vec<u64>, kind: Kind, book: &Book, event: Event) -> Result<(), NoMemory>
     requires { IsEventOf book.now event }
     ensures { OnOk result (values.new.items ≡ with_event kind book.now values.old.items event) }
@@ -50,7 +51,7 @@ fn add_event(values: &mut Vec<u64>, kind: Kind, book: &Book, event: Event) -> Re
     }
 }
 
-// Appends a value where it is a new one.
+// Appends a value where it isn't in the list.
 fn add_value(values: &mut Vec<u64>, value: Option<u64>) -> Result<(), NoMemory>
     ensures { OnOk result (values.new.items ≡ with_value values.old.items value) }
 {
@@ -135,7 +136,7 @@ fn value_in_reply(reply: Option<u64>) -> Option<u64>
     }
 }
 
-/// The colour of a value, of which these are all in the order in which they appear.
+/// The colour of a value, where these are all values in the order in which they appear.
 pub(crate) fn colour_of(values: &[u64], value: Option<u64>) -> Option<usize>
     ensures { result ≡ colour_of values.now value }
 {
@@ -150,7 +151,7 @@ fn place_among(values: &[u64], value: u64) -> usize
     place_of(values, value).unwrap_or(0)
 }
 
-// The first place of a value among these, if it stands there.
+// The first place of a value among these, if it is one of them.
 fn place_of(values: &[u64], value: u64) -> Option<usize>
     ensures { result ≡ position (λ x. x == value) values.now }
 {
@@ -183,7 +184,7 @@ fn put_colour(class: &mut String, colour: Option<usize>) -> Result<(), NoMemory>
     Ok(())
 }
 
-// The class of what is marked.
+// The class of an element that is marked, or of one that isn't.
 fn mark_of(is_marked: bool) -> &'static str
     ensures { result.now ≡ mark_class is_marked }
 {

@@ -18,7 +18,7 @@ Appends-take a b c text at count before now =
     rw take_rest (sym (take-add at count text)) in
     subst (Appends a c) both (Appends-trans a b c _ _ before now)
 
--- a source that gave as many bytes as it is asked for
+-- a source that gave as many bytes as a read to the limit asks for was read
 pub HasRead-full : (old new : Option (List ℕ)) (bytes : List ℕ) → Consumes old new bytes
     → length bytes ≡ INPUT_LIMIT + 1 → HasRead old new bytes
 HasRead-full None new bytes given full = tt
@@ -28,7 +28,7 @@ HasRead-full (Some held) (Some left) bytes given full = (
   ap Some (sym (ap (drop (INPUT_LIMIT + 1)) given ∙ drop_at bytes left _ full)),
 )
 
--- a source that gave all that it held
+-- a source that gave all that it held was read to its end
 pub HasRead-end : (old new : Option (List ℕ)) (bytes : List ℕ) → Consumes old new bytes
     → IsAtEnd new → length bytes ≤ INPUT_LIMIT + 1 → HasRead old new bytes
 HasRead-end None new bytes given end few = tt

@@ -1,4 +1,4 @@
--- Lemmas on how a call ends that writes an output.
+-- Lemmas on how a call that writes an output ends.
 use Rattle.std.proofs.Common.{ℕ, List, Option}
 use Rattle.byte_streams.specs.declared.status.Status.{Status}
 use Rattle.byte_streams.specs.declared.status.Status.TheVariants.{Fine, Found, Usage, Refused, ReadFault, WriteFault, NoMemory}

@@ -3,18 +3,18 @@ use Rattle.std.specs.Prelude.{◌≡◌, ◌⊎◌, ℕ, ◌+◌, ◌-◌, ◌^�
 use Rattle.byte_streams.specs.declared.status.Status.{Status}
 use Rattle.byte_streams.specs.declared.status.Status.TheVariants.{WriteFault, NoMemory}
 
--- the number that follows in a counter, which stands still at its last value
+-- the count after this one, in a counter that stays at its greatest value
 abbrev pub next_count : ℕ → ℕ
 next_count n = min (n + 1) (2 ^ 64 - 1)
 
--- A count rose in a call where it is greater after the call than before, or stands after the call
--- at the last value of its counter.
+-- A count rose in a call: it is greater after the call than before, or has the greatest value of
+-- its counter after the call.
 abbrev pub Rose : ℕ → ℕ → Type 0
 Rose before after = (before < after) ⊎ (after ≡ 2 ^ 64 - 1)
 
--- A call that writes to a sink, with this answer, left the sink so, by its count of faults: a fault
--- has its cause in a count that rose in this call, and every other answer comes where none rose;
--- and where memory was wanted, the sink is as it was.
+-- How a call that writes to a sink, with this answer, left the sink's count of faults: a fault is
+-- answered only where the count rose in this call, and every other answer only where it didn't; and
+-- where memory was wanted, the sink is as it was.
 pub record LeavesSink {K : Type 0} (faults : K → ℕ) (answer : Status)
     (sink sink' : K) : Type 0 where
   pub fault : answer ≡ WriteFault → Rose (faults sink) (faults sink')

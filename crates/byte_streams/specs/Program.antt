@@ -12,20 +12,21 @@ use Rattle.byte_streams.specs.declared.status.Status.TheVariants.{Fine, Found, R
 use Rattle.byte_streams.specs.Told.{HasRead}
 use Rattle.byte_streams.specs.Writing.{EndsWriting}
 
--- The text of an answer is one of the first kind where its status is `Fine`, and else one of the
--- second kind.
+-- The text of an answer is as `IsFine` says where its status is `Fine`, and as `IsFound` says where
+-- its status is `Found`.
 abbrev pub IsAnswer : (List ℕ → Type 0) → (List ℕ → Type 0) → Answer → Type 0
 IsAnswer IsFine IsFound (answers.Fine text) = IsFine text.items
 IsAnswer IsFine IsFound (answers.Found text) = IsFound text.items
 
--- An input is refused for a fault: there are too many bytes, or else it is a fault of the bytes.
+-- An input is refused for this fault: it has too many bytes, or else the fault is one of the bytes
+-- as `IsFault` says.
 abbrev pub IsRefusedFor : (List ℕ → TextFault → Type 0) → List ℕ → TextFault → Type 0
 IsRefusedFor IsFault bytes fault =
     ((INPUT_LIMIT < length bytes) × (fault ≡ record { line = 0; what = Long }))
     ⊎ ((length bytes ≤ INPUT_LIMIT) × IsFault bytes fault)
 
 -- The output of an input has this status and this text: an answer with the status `Fine` or `Found`
--- to an input that isn't too long, or the fault that the input is refused for.
+-- to an input that isn't too long, or the fault for which the input is refused.
 abbrev pub IsOutput : (List ℕ → List ℕ → Type 0) → (List ℕ → List ℕ → Type 0)
     → (List ℕ → TextFault → Type 0) → List ℕ
     → Status → List ℕ → Type 0
@@ -35,8 +36,9 @@ IsOutput IsFine IsFound IsFault bytes Refused text =
     (fault : TextFault) × IsRefusedFor IsFault bytes fault × (text ≡ refusal_text fault)
 IsOutput IsFine IsFound IsFault bytes status text = ⊥
 
--- A program with these outputs has ended with a status: a read failed or memory was wanted, and
--- nothing is written, or the output of what was read is written, or a prefix of it.
+-- A program with these outputs has ended with a status: where a read failed or memory was wanted,
+-- nothing is written; else the output of what was read is written, or a prefix of it where a write
+-- failed.
 abbrev pub Ends : (List ℕ → Status → List ℕ → Type 0) → Status → Option (List ℕ) → Option (List ℕ)
     → Option (List ℕ)
     → Option (List ℕ) → Type 0

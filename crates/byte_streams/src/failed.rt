@@ -15,7 +15,7 @@ pub enum ReadAllError {
     /// A read failed.
     #[error("a read failed")]
     Fault,
-    /// Want of memory.
+    /// Memory was wanted.
     #[error("out of memory")]
     NoMemory,
 }

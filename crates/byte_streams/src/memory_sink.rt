@@ -10,7 +10,7 @@ use book_base::NoMemory;
 use std::alloc::Global;
 use std::marker::Model;
 
-/// A sink in memory with a fixed capacity, that fails at the calls that it is told, and takes a
+/// A sink in memory with a fixed capacity, which fails at the calls that it is given, and takes a
 /// limited number of bytes at a time. The capacity is taken when the sink is made, so that no write
 /// takes memory.
 #[derive(Debug, Drop)]
@@ -44,7 +44,7 @@ impl MemorySink {
         fails: Vec<u64>,
         most: usize,
     ) -> Result<MemorySink, NoMemory>
-        // A call may take or give at least one byte.
+        // A write may take at least one byte.
         requires { 1 ≤ most }
         // The sink has taken nothing and counted no call and no fault, and has this capacity, these
         // failing calls and this bound.
@@ -72,7 +72,7 @@ impl MemorySink {
     pub fn bytes(&self) -> &[u8]
         // The answer is the bytes that the sink has taken.
         ensures taken { result.now ≡ self.now.taken }
-        // The sink has taken no more bytes than its capacity.
+        // The sink has taken at most as many bytes as its capacity.
         ensures room { length self.now.taken ≤ self.now.room }
     {
         &self.bytes
@@ -90,12 +90,12 @@ impl Sink for MemorySink {
         // The sink has taken the first bytes of the piece, as many as are answered, and none where
         // the write failed.
         ensures bytes { WriteAppends (Some self.old.taken) (Some self.new.taken) result piece.now }
-        // The sink's count of faults isn't lower than before.
+        // The sink's count of faults is at least what it was before.
         ensures later { self.old.faults ≤ self.new.faults }
         // A write that failed, or took nothing of a piece that isn't empty, raised the count of
         // faults.
         ensures cause { IsRefusal result piece.now → Rose self.old.faults self.new.faults }
-        // A write that wasn't refused left the count of faults.
+        // A write that wasn't refused didn't change the count of faults.
         ensures calm { ¬ IsRefusal result piece.now → self.new.faults ≡ self.old.faults }
 
         // A write fails exactly where the number of the call is one that fails, or where no

@@ -8,7 +8,7 @@ use crate::pieces::fill;
 use crate::source::Source;
 use std::marker::Model;
 
-/// A source in memory that fails at the calls that it is told, and gives a limited number of bytes
+/// A source in memory that fails at the calls that it is given, and gives a limited number of bytes
 /// at a time.
 #[derive(Debug, Drop)]
 pub struct MemorySource {
@@ -35,7 +35,7 @@ impl MemorySource {
     /// A source of these bytes. A read gives at most `most` bytes, and fails exactly where the
     /// number of the call, counted from 1, is in `fails`.
     pub fn new(bytes: Vec<u8>, fails: Vec<u64>, most: usize) -> MemorySource
-        // A call may take or give at least one byte.
+        // A read may give at least one byte.
         requires { 1 ≤ most }
         // The source has all of the bytes left, has counted no call and no fault, and has these
         // failing calls and this bound.
@@ -64,11 +64,11 @@ impl Source for MemorySource {
         // The source has lost the bytes that are given to the piece, which are none only at its end
         // or of an empty piece; a failed read loses none.
         ensures bytes { ReadConsumes (Some self.old.left) (Some self.new.left) result piece.new }
-        // The source's count of faults isn't lower than before.
+        // The source's count of faults is at least what it was before.
         ensures later { self.old.faults ≤ self.new.faults }
         // A read that failed raised the count of faults.
         ensures cause { OnErr result (Rose self.old.faults self.new.faults) }
-        // A read that didn't fail left the count of faults.
+        // A read that didn't fail didn't change the count of faults.
         ensures calm { OnOk result (self.new.faults ≡ self.old.faults) }
 
         // A read fails exactly where the number of the call is one that fails.
@@ -78,7 +78,7 @@ impl Source for MemorySource {
 
         // A read gives as many bytes as the piece, the bound and the bytes left allow.
         ensures count { IfOk result (λ count. count ≡ given_count self.old (length piece.old)) }
-        // The piece begins with the bytes that are given, and is as before besides.
+        // The piece begins with the bytes that are given, and is as before after them.
         ensures given { IfOk result
             (λ count. piece.new ≡ take count self.old.left ++ drop count piece.old) }
         // A read takes as many bytes off the source as are answered, and counts as a call.

@@ -17,12 +17,12 @@ use book_base::{NoMemory, ReadFault, TextFault, What};
 use std::alloc::Global;
 use text_fields::refusal;
 
-/// What a program answers to an input that it doesn't refuse.
+/// The answer of a program to an input that it doesn't refuse.
 #[derive(Drop)]
 pub enum Answer {
-    /// A text for the status `Fine`: a picture, a certificate, or that nothing was found.
+    /// A text with the status `Fine`: a picture, a certificate, or that nothing was found.
     Fine(Vec<u8>),
-    /// A text for the status `Found`, which says what was found.
+    /// A text with the status `Found`, which says what was found.
     Found(Vec<u8>),
 }
 
@@ -37,7 +37,7 @@ pub trait TextProgram {
     /// This input is refused for this fault.
     ghost is_fault: { Self → List ℕ → TextFault → Type 0 };
 
-    /// What the program answers to an input.
+    /// The answer of the program to an input, or why the input is refused.
     fn answer(&self, alloc: Global, bytes: &[u8]) -> Result<Answer, ReadFault>
         // The text of an answer is one to this input with the answer's status.
         ensures told { IfOk result
@@ -47,15 +47,15 @@ pub trait TextProgram {
 }
 
 /// Reads a source, and writes a program's output: its answer with the status `Fine` or `Found`, or
-/// why the input is refused, as when it is longer than [`INPUT_LIMIT`].
+/// why it refuses the input. An input longer than [`INPUT_LIMIT`] is refused.
 pub fn run_program<P: TextProgram, S: Source, K: Sink>(
     program: &P,
     alloc: Global,
     source: &mut S,
     sink: &mut K,
 ) -> Status
-    // The output of what was read is written with its status, or a prefix of it after a failed
-    // write; or the status says that a read failed or that memory was wanted, and nothing is
+    // The output of what was read is written with its status, or a prefix of it where a write
+    // failed; or the status is that a read failed or that memory was wanted, and nothing is
     // written.
     ensures ends { Ends
         (IsOutput (P.is_fine program.now) (P.is_found program.now) (P.is_fault program.now)) result
@@ -66,9 +66,9 @@ pub fn run_program<P: TextProgram, S: Source, K: Sink>(
     // `WriteFault` is answered only where the sink's count of faults rose in this call.
     ensures write_fault { result ≡ Status.WriteFault
         → Rose (K.faults sink.old) (K.faults sink.new) }
-    // An answer other than `ReadFault` left the source's count of faults.
+    // A status other than `ReadFault` is answered only where the source's count of faults stayed.
     ensures read_calm { ¬ (result ≡ Status.ReadFault) → S.faults source.new ≡ S.faults source.old }
-    // An answer other than `WriteFault` left the sink's count of faults.
+    // A status other than `WriteFault` is answered only where the sink's count of faults stayed.
     ensures write_calm { ¬ (result ≡ Status.WriteFault) → K.faults sink.new ≡ K.faults sink.old }
 {
     match read_all(alloc, source) {
@@ -78,7 +78,7 @@ pub fn run_program<P: TextProgram, S: Source, K: Sink>(
     }
 }
 
-// Writes the output for the bytes read, where there is memory for it.
+// Writes the output for the bytes read, where there is memory for the output.
 fn write_output<P: TextProgram, K: Sink>(
     program: &P,
     alloc: Global,

@@ -5,9 +5,9 @@ ghost use Rattle.byte_streams.specs.Told.{IsRefusal};
 
 use crate::failed::Failed;
 
-/// What the program writes to.
+/// A sink of bytes, which a program writes to.
 pub trait Sink {
-    /// The bytes that were taken, where the sink tells them.
+    /// The bytes that the sink has taken, where it tells them.
     ghost taken: { Self → Option (List ℕ) };
 
     /// How often the sink has failed. The count never falls, and rises at a refusal alone.
@@ -20,11 +20,11 @@ pub trait Sink {
         // The sink has taken the first bytes of the piece, as many as are answered, and none where
         // the write failed.
         ensures bytes { WriteAppends (taken self.old) (taken self.new) result piece.now }
-        // The sink's count of faults isn't lower than before.
+        // The sink's count of faults is at least what it was before.
         ensures later { faults self.old ≤ faults self.new }
         // A write that failed, or took nothing of a piece that isn't empty, raised the count of
         // faults.
         ensures cause { IsRefusal result piece.now → Rose (faults self.old) (faults self.new) }
-        // A write that wasn't refused left the count of faults.
+        // A write that wasn't refused didn't change the count of faults.
         ensures calm { ¬ IsRefusal result piece.now → faults self.new ≡ faults self.old };
 }

@@ -4,7 +4,7 @@ ghost use Rattle.byte_streams.specs.Fault.{Rose};
 
 use crate::failed::Failed;
 
-/// What the program reads.
+/// A source of bytes, which a program reads.
 pub trait Source {
     /// The bytes that are left, where the source tells them.
     ghost left: { Self → Option (List ℕ) };
@@ -12,18 +12,18 @@ pub trait Source {
     /// How often the source has failed. The count never falls, and rises at a failure alone.
     ghost faults: { Self → ℕ };
 
-    /// Fills the first places of the piece, and answers how many bytes it gave: none of a piece
-    /// that isn't empty is the end of input.
+    /// Fills the first places of the piece, and answers how many bytes it gave. Where it gives none
+    /// for a piece that isn't empty, the input is at its end.
     fn read(&mut self, piece: &mut [u8]) -> Result<usize, Failed>
         // A read gives no more bytes than the piece has.
         ensures bound { IfOk result (λ count. count ≤ length piece.old) }
         // The source has lost the bytes that are given to the piece, which are none only at its end
         // or of an empty piece; a failed read loses none.
         ensures bytes { ReadConsumes (left self.old) (left self.new) result piece.new }
-        // The source's count of faults isn't lower than before.
+        // The source's count of faults is at least what it was before.
         ensures later { faults self.old ≤ faults self.new }
         // A read that failed raised the count of faults.
         ensures cause { OnErr result (Rose (faults self.old) (faults self.new)) }
-        // A read that didn't fail left the count of faults.
+        // A read that didn't fail didn't change the count of faults.
         ensures calm { OnOk result (faults self.new ≡ faults self.old) };
 }

@@ -1,21 +1,21 @@
 ghost use Rattle.std.specs.Prelude.{◌≡◌};
 
-/// What the program ends with.
+/// The status that a program ends with.
 #[derive(Clone, Copy, Debug, PartialEq, Eq)]
 pub enum Status {
-    /// The output was written, and found nothing.
+    /// The output was written, and nothing was found.
     Fine,
     /// The output was written, and says what was found.
     Found,
-    /// The command words aren't right.
+    /// The command words name no command.
     Usage,
     /// The input isn't a text of the wanted form, or is too long.
     Refused,
     /// A read failed. Nothing was written.
     ReadFault,
-    /// A write failed. The first bytes of the output may have been written.
+    /// A write failed. A prefix of the output may have been written.
     WriteFault,
-    /// Want of memory. Nothing was written.
+    /// Memory was wanted. Nothing was written.
     NoMemory,
 }
 

@@ -5,7 +5,8 @@ use crate::sink::Sink;
 use std::io;
 use std::io::{Printer, Write};
 
-/// A writer, with a count of the writes that failed. It tells the bytes that its writer tells.
+/// A writer, with a count of the writes that failed. It tells its bytes where its writer tells
+/// them.
 #[derive(Debug, Drop)]
 pub struct StdSink<W> {
     output: W,

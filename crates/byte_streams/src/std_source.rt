@@ -4,7 +4,8 @@ use crate::failed::Failed;
 use crate::source::Source;
 use std::io::Read;
 
-/// Standard input, with a count of the reads that failed. It tells the bytes that its reader tells.
+/// Standard input, with a count of the reads that failed. It tells its bytes where its reader tells
+/// them.
 #[derive(Debug, Drop)]
 pub struct StdSource<I> {
     input: I,

@@ -39,7 +39,7 @@ impl Source for SteadySource {
     fn read(&mut self, piece: &mut [u8]) -> Result<usize, Failed>
         // A read never fails, and gives as many bytes as the piece and the bytes left allow.
         ensures count { IsOkAnd result (λ count. count ≡ min (length piece.old) (length self.old)) }
-        // The piece begins with the bytes that are given, and is as before besides.
+        // The piece begins with the bytes that are given, and is as before after them.
         ensures given { IfOk result
             (λ count. piece.new ≡ take count self.old ++ drop count piece.old) }
         // The source has lost as many bytes as are answered.

@@ -13,7 +13,8 @@ use std::alloc::Global;
 /// The greatest number of bytes that one read asks for.
 const PIECE: usize = 4096;
 
-/// Reads once, into the piece, and appends what came: how much, or 0 at the end of input.
+/// Reads once, into the piece, and appends what was read. The answer is how many bytes these are: 0
+/// at the end of input.
 fn read_more<S: Source>(
     source: &mut S,
     bytes: &mut Vec<u8>,
@@ -49,12 +50,12 @@ pub fn read_all<S: Source>(alloc: Global, source: &mut S) -> Result<Vec<u8>, Rea
     // After an error, the bytes that are left are a suffix of those that were left.
     ensures err { OnErr result
         ((given : List ℕ) × Consumes (S.left source.old) (S.left source.new) given) }
-    // The source's count of faults isn't lower than before.
+    // The source's count of faults is at least what it was before.
     ensures later { S.faults source.old ≤ S.faults source.new }
     // An answer `Fault` comes only where the source's count of faults rose in this call.
     ensures cause { IsErrOf result ReadAllError.Fault
         → Rose (S.faults source.old) (S.faults source.new) }
-    // An answer other than `Fault` left the source's count of faults.
+    // An answer other than `Fault` comes only where the source's count of faults stayed.
     ensures calm { ¬ IsErrOf result ReadAllError.Fault → S.faults source.new ≡ S.faults source.old }
 {
     let mut bytes = Vec::new(alloc);
@@ -68,17 +69,17 @@ pub fn read_all<S: Source>(alloc: Global, source: &mut S) -> Result<Vec<u8>, Rea
     Ok(bytes)
 }
 
-/// Writes a whole text, and offers all that is left of it at each write.
+/// Writes a whole text: each write is offered all that is left of it.
 pub fn write_all<K: Sink>(sink: &mut K, text: &[u8]) -> Result<(), Failed>
     // After an answer Ok the sink has taken the whole text.
     ensures whole { OnOk result (Appends (K.taken sink.old) (K.taken sink.new) text.now) }
     // After an error the sink has taken a prefix of the text, and not all of it.
     ensures part { OnErr result (AppendsPart (K.taken sink.old) (K.taken sink.new) text.now) }
-    // The sink's count of faults isn't lower than before.
+    // The sink's count of faults is at least what it was before.
     ensures later { K.faults sink.old ≤ K.faults sink.new }
     // An error comes only where the sink's count of faults rose in this call.
     ensures cause { OnErr result (Rose (K.faults sink.old) (K.faults sink.new)) }
-    // An answer Ok left the sink's count of faults.
+    // An answer Ok comes only where the sink's count of faults stayed.
     ensures calm { OnOk result (K.faults sink.new ≡ K.faults sink.old) }
 {
     let mut at = 0;
@@ -94,14 +95,14 @@ pub fn write_all<K: Sink>(sink: &mut K, text: &[u8]) -> Result<(), Failed>
 
 /// Writes a text, and answers its status where the sink took all of it.
 pub fn write_text<K: Sink>(sink: &mut K, status: Status, text: &[u8]) -> Status
-    // The status is answered where the sink took the whole text, and `WriteFault` where it took a
-    // prefix of it and its count of faults rose.
+    // The status is answered where the sink took the whole text; `WriteFault` is answered where the
+    // sink took a prefix of it, and its count of faults rose.
     ensures written { ((result ≡ status) × Appends (K.taken sink.old) (K.taken sink.new) text.now)
         ⊎ ((result ≡ Status.WriteFault) × AppendsPart (K.taken sink.old) (K.taken sink.new) text.now
         × Rose (K.faults sink.old) (K.faults sink.new)) }
-    // The sink's count of faults isn't lower than before.
+    // The sink's count of faults is at least what it was before.
     ensures later { K.faults sink.old ≤ K.faults sink.new }
-    // An answer other than `WriteFault` left the sink's count of faults.
+    // A status other than `WriteFault` is answered only where the sink's count of faults stayed.
     ensures calm { ¬ (result ≡ Status.WriteFault) → K.faults sink.new ≡ K.faults sink.old }
 {
     match write_all(sink, text) {

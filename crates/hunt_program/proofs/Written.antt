@@ -1,4 +1,4 @@
--- How a call ends that writes the text of an output.
+-- How a call that writes the text of an output ends.
 use Rattle.std.proofs.Common.{◌≡◌, ◌⊎◌, ℕ, List, Option, inl, inr, sym, subst}
 use Rattle.std.specs.Io.KnownBytes.{Appends}
 use Rattle.byte_streams.specs.declared.status.Status.{Status}
@@ -20,7 +20,7 @@ module _ (IsOne : Status → List ℕ → Type 0) (text : List ℕ) (taken taken
   whole WriteFault is appends = absurd (no_write is)
   whole NoMemory is appends = absurd (no_memory is)
 
-  -- so it was, or a part of it, and the sink counted a fault
+  -- the text was written whole, or a part of it, and then the sink counted a fault
   pub written_ends : (Risen : Type 0) (status result : Status) → IsOne status text
       → ((result ≡ status) × Appends taken taken' text)
       ⊎ ((result ≡ WriteFault) × AppendsPart taken taken' text × Risen)

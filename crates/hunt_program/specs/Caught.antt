@@ -23,8 +23,8 @@ use Rattle.hunts.specs.Watching.{Hears}
 use Rattle.hunt_program.specs.declared.shown.Shown.{Shown}
 use Rattle.hunt_program.specs.declared.shown.Shown.TheVariants.{Smaller, Report, Picture}
 
--- A book made small: a part of it without a legal order, which shows that the book has none either,
--- and which no rule makes smaller.
+-- A smaller witness of a book: a part of it without a legal order, which shows that the book has
+-- none either, and which no rule makes smaller.
 pub record IsSmallerWitness (kind : Kind) (book part : List Page) : Type 0 where
   pub names : List (List ℕ)
   pub is_part : IsPart book names part
@@ -32,12 +32,12 @@ pub record IsSmallerWitness (kind : Kind) (book part : List Page) : Type 0 where
   pub illegal : ¬ HasLegalOrder (kind_init kind) (kind_next kind) part
   pub minimal : IsMinimal kind part
 
--- The text is that of a book made small.
+-- The text is that of a smaller witness of a book.
 abbrev pub IsSmallerText : Kind → List Page → List ℕ → Type 0
 IsSmallerText kind book text = (part : List Page) × IsSmallerWitness kind book part
     × books.IsWrittenText Second text kind part
 
--- The text is a picture of a book made small, which says that it has no legal order.
+-- The text is a picture of a smaller witness of a book, which says that this has no legal order.
 abbrev pub IsSmallerPicture : Kind → List Page → List ℕ → Type 0
 IsSmallerPicture kind book text =
     (part : List Page) × IsSmallerWitness kind book part × ShowsEachCall kind part Unasked text

@@ -1,4 +1,4 @@
--- Which command words ask for what to be shown.
+-- Which command words say what is to be shown.
 use Rattle.std.specs.Prelude.{ℕ, List, [], ◌∷◌, codes}
 use Rattle.hunt_program.specs.declared.shown.Shown.{Shown}
 use Rattle.hunt_program.specs.declared.shown.Shown.TheVariants.{Smaller, Report, Picture}

@@ -39,8 +39,7 @@ pub fn hunt_and_write<R: Threads + Sync, B: BlackBox + Sync + Drop, M: Maker<B>,
 ) -> Status
 where
     B::Pass: Send + Drop,
-    // The settings' workload is one that texts of scripts have room for, with a value and an
-    // operation to draw.
+    // The settings' workload fits the texts of scripts, and has a value and an operation to draw.
     requires { IsWorkload settings.now.workload }
 
     // What was written, by the status: what is shown of the catch of the last run that was made, of
@@ -50,8 +49,8 @@ where
     ensures ends { EndsHunt B.Pass.made B.Pass.told settings.now shown result
         (K.taken sink.old) (K.taken sink.new) (W.heard watch.old) (W.heard watch.new) }
 
-    // A fault has its cause in a count that rose in this call, and every other answer comes where
-    // none rose.
+    // The status is `WriteFault` only where the sink's count of faults rose in this call, and
+    // another one only where that count stayed; with `NoMemory` the sink is as it was.
     ensures faults { LeavesSink K.faults result sink.old sink.new }
 {
     match hunted_output(rt, alloc, maker, settings, shown, watch) {
@@ -60,7 +59,7 @@ where
     }
 }
 
-// Hunts: the text of what is to be shown, and its status.
+// Makes a hunt, and answers the text of what is to be shown, with its status.
 fn hunted_output<R: Threads + Sync, B: BlackBox + Sync + Drop, M: Maker<B>, W: Watch>(
     rt: &R,
     alloc: Global,

@@ -1,5 +1,5 @@
-//! What a program does that hunts over an object of one's own: it writes what was caught, in one of
-//! three forms.
+//! The program that hunts over an object of one's own: it writes what was caught, in one of three
+//! forms.
 #![tactic(auto)]
 
 mod caught;

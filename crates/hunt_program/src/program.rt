@@ -1,4 +1,4 @@
-//! What the `main` of a crate with an object of one's own hands everything to.
+//! The call to which the `main` of a crate with an object of one's own hands everything.
 
 ghost use Rattle.std.specs.Prelude.{None};
 ghost use Rattle.random_scripts.specs.Drawn.{IsWorkload};
@@ -15,10 +15,10 @@ use std::process::ExitCode;
 use std::rt::Env;
 use std::thread::Threads;
 
-/// The code where the system does not hand over the command words.
+/// The code that the program ends with where the system doesn't hand over the command words.
 const NO_WORDS: u8 = 7;
 
-/// What is written where the words ask for nothing that there is.
+/// The output for words that are those for nothing that can be shown.
 const USAGE: &[u8] = b"usage: [report | picture]\n";
 
 // How many runs were made, and the seed of the last one.
@@ -39,8 +39,8 @@ impl Watch for RunCount {
 
 /// Hunts over the objects that a maker makes, and writes the catch to standard output: its witness
 /// made small, or by the command word `report` the report of its run with the whole witness after
-/// it, or by `picture` the picture of the small one. How many runs that took goes to standard
-/// error.
+/// it, or by `picture` the picture of the small one. It writes to standard error how many runs were
+/// made.
 pub fn run_hunt<
     R: Env + Print + Eprint + AllocGlobal + Threads + Sync,
     B: BlackBox + Sync + Drop,
@@ -48,8 +48,7 @@ pub fn run_hunt<
 >(rt: &R, maker: &M, settings: &Settings) -> ExitCode
 where
     B::Pass: Send + Drop,
-    // The settings' workload is one that texts of scripts have room for, with a value and an
-    // operation to draw.
+    // The settings' workload fits the texts of scripts, and has a value and an operation to draw.
     requires { IsWorkload settings.now.workload }
 {
     ExitCode::from(match command_words(rt) {
@@ -58,7 +57,7 @@ where
     })
 }
 
-// Hunts, and writes what the words ask for.
+// Makes a hunt, and writes what the words say is to be shown.
 fn hunt_by_words<
     R: Print + Eprint + AllocGlobal + Threads + Sync,
     B: BlackBox + Sync + Drop,
@@ -86,7 +85,7 @@ where
     status
 }
 
-// Tells on standard error how many runs were made. Whoever reads the output alone misses nothing.
+// Writes to standard error how many runs were made. The output alone is complete without it.
 fn tell<R: Eprint>(rt: &R, settings: &Settings, tally: &RunCount, status: Status) {
     let most = settings.runs;
     let RunCount { runs, seed } = tally;

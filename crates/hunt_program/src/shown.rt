@@ -7,20 +7,20 @@ ghost use Rattle.hunt_program.specs.Words.{words_of};
 /// What is written of a catch.
 #[derive(Clone, Copy, Debug, PartialEq, Eq)]
 pub enum Shown {
-    /// The text of its witness made small.
+    /// The text of the catch's witness made small.
     Smaller,
-    /// The text of its report, and after it that of its witness.
+    /// The text of the catch's report, and after it that of its witness.
     Report,
-    /// The picture of its witness made small.
+    /// The picture of the catch's witness made small.
     Picture,
 }
 
 impl Shown {
-    /// What the words of a program ask for: the smaller book where there is none.
+    /// What the words of a program say is to be shown: the smaller book where there are no words.
     pub(crate) fn from_words(words: &[String]) -> Option<Shown>
-        // The words are those that ask for what is answered.
+        // The words are those for what is answered.
         ensures shown { IfSome result (λ shown. map string_bytes words.now ≡ words_of shown) }
-        // Where nothing is answered, the words ask for nothing that there is.
+        // Where nothing is answered, the words are those for nothing that can be shown.
         ensures none { IfNone result ((shown : TheShown)
             → map string_bytes words.now ≢ words_of shown) }
     {

@@ -1,4 +1,4 @@
--- What is written of an answer is right of the callers' calls.
+-- What is written of an answer is right for the callers' calls.
 use Rattle.std.proofs.Common.{◌≡◌, refl, sym, subst, ℕ, List, Option, Some, None}
 use Rattle.std.specs.Prelude.{◌⊎◌}
 use Rattle.std.proofs.lemmas.Option.{none-some}
@@ -17,7 +17,7 @@ use Rattle.monitor_writer.specs.MonitorTexts.{IsAnswerOutput, IsLegalRun, IsMoni
 abbrev IsExactFor : Kind → List Local → Option Witness → Type 0
 IsExactFor kind locals answer = IsExactAnswer (kind_init kind) (kind_next kind) locals answer
 
--- what is written of it, by the kind of the script
+-- the text of an exact answer, by the kind of the script
 text_of_run : (kind : Kind) (locals : List Local) (answer : Option Witness)
     → IsExactFor kind locals answer
     → (status : Status) (text : List ℕ) → IsAnswerOutput kind answer status text
@@ -47,7 +47,7 @@ fine_status : (kind : Kind) (locals : List Local) (answer : Option Witness)
 fine_status kind locals None exact legal = refl
 fine_status kind locals (Some w) exact legal = absurd (none-some w (sym (exact.exact.1 legal)))
 
--- the status that an answer comes with is that of the run
+-- the status of an answer is that of the run
 abbrev Ended : Status → Status → Type 0
 Ended result status = (result ≡ status) ⊎ ((result ≡ WriteFault) ⊎ (result ≡ NoMemory))
 

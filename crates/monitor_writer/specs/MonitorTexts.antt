@@ -31,8 +31,8 @@ IsAnswerOutput kind answer status text = IsAnswerText kind answer text × (statu
 abbrev pub IsLegalRun : Kind → List Local → Type 0
 IsLegalRun kind locals = HasLegalOrder (kind_init kind) (kind_next kind) (published_book locals)
 
--- What is written of these callers' calls, with a status: that the book of all published records
--- has a legal order; or that it has none, and after it the text of the book of a witness.
+-- The text and the status that are written of these callers' calls: that the book of all published
+-- records has a legal order; or that it has none, and after that the text of the book of a witness.
 abbrev pub IsMonitorText : Kind → List Local → Status → List ℕ → Type 0
 IsMonitorText kind locals Fine text = IsLegalRun kind locals × (text ≡ codes "legal\n")
 IsMonitorText kind locals Found text =

@@ -1,4 +1,4 @@
-//! What is written of what two monitors found.
+//! Writes the answer of a run that two monitors watched.
 
 ghost use Rattle.std.specs.Prelude.{◌≡◌, ◌⊎◌, IfOk};
 ghost use Rattle.byte_streams.specs.Fault.{LeavesSink};
@@ -12,7 +12,7 @@ use monitor::Witness;
 use seq_objects::Kind;
 use std::alloc::Global;
 
-/// Writes the text of an answer. All of it is built before its first byte is written.
+/// Writes the text of an answer. All of the text is built before its first byte is written.
 pub(crate) fn write_answer<K: Sink>(
     alloc: Global,
     kind: Kind,

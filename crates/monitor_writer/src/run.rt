@@ -45,16 +45,16 @@ pub fn monitor_and_write<R: Threads + Sync, B: BlackBox + Sync, K: Sink>(
 ) -> Status
 where
     B::Pass: Send,
-    // The rows have just the script's callers and two more, and room for the calls of the script;
-    // the bench is theirs and holds each of these callers, ready and idle, without a call.
+    // The rows have just the script's callers and two more, and capacity for the calls of the
+    // script; the bench is that of the rows and holds each of these callers, ready and idle,
+    // without a call.
     requires begins { MayBegin ⟦<Outside as Program>⟧.meaning script.now 2 rows.now bench.old }
     // There is a pass of the object's own for each caller of the script, in order, with which no
     // call was made, and which has a call for each operation of its caller.
     requires passes { AreUnusedPasses (B.is_own object.now) B.Pass.caller B.Pass.made B.Pass.cap
         script.now.operations passes.old.items }
 
-    // What stands afterwards, whatever the answer.
-    // The bench is still one of these rows, and holds all their callers.
+    // Whatever the answer, the bench is still one of these rows, and holds all their callers.
     ensures bench { IsBenchOf ⟦<Outside as Program>⟧.meaning rows.now bench.new
         × HoldsAll bench.new }
     // There is one pass for each caller of the script.
@@ -74,34 +74,33 @@ where
     // Both monitors are back on the bench, ready and idle, without a call.
     ensures monitors { (i : ℕ) → IsMonitor script.now i → IsUnused bench.new i }
 
-    // Each caller made its phases up to its stop, or all of them, and each monitor its rounds, want
-    // of memory aside; where a caller stopped between two calls, or made all of them, it stands
-    // free for its next call.
+    // Want of memory aside, each caller of the script has made exactly the phases that the script
+    // gives it, and no monitor has made a call.
     ensures made { ¬ (result ≡ Status.NoMemory) → HaveMadeAll script.now (locals_on bench.new) }
     // Want of memory aside, each caller of the script whose allotment ends between two calls, or
-    // after all of them, stands free for its next call.
+    // after all of them, is free for its next call.
     ensures free { ¬ (result ≡ Status.NoMemory) → AreFreeAgain script.now bench.new }
-    // Want of memory aside, each pass has made exactly the calls that the script lets its caller
-    // ask; what it tells, where it tells anything, begins with the operations and the replies of
-    // the caller's records, and is at most one pair longer.
+    // Want of memory aside, the object was asked with each pass for exactly the calls that the
+    // script lets its caller ask; what the pass tells, where it tells anything, begins with the
+    // operations and the replies of the caller's records, and is at most one pair longer.
     ensures told { ¬ (result ≡ Status.NoMemory)
         → AreInOrder
         (IsToldAll B.Pass.made B.Pass.told script.now (locals_on bench.new)) passes.new.items }
     // Want of memory aside, the cuts that each monitor was given in this run are those of its
     // rounds over the calls of all callers: at most one more than the script has calls; at each but
-    // the last the book has a legal order; and either there are as many as that, or the book at the
-    // last has none.
+    // the last the book has a legal order; and either there is one cut more than calls, or the book
+    // at the last cut has no legal order.
     ensures rounds { ¬ (result ≡ Status.NoMemory)
         → (i : ℕ) (l : Local) → IsMonitor script.now i → on_bench bench.old i ≡ Some l
         → HasMonitored (kind_init script.now.kind) (kind_next script.now.kind) script.now
         (locals_on bench.new) i l }
 
-    // The headline: what was written, by the status, is right of the locals on the bench.
+    // The headline: what was written, with each status, is right for the locals on the bench.
     ensures ends { EndsWriting (IsMonitorText script.now.kind (locals_on bench.new))
         result (K.taken sink.old) (K.taken sink.new) }
 
-    // Whether the book of all published records has a legal order decides the status, failed writes
-    // and want of memory aside.
+    // Where the book of all published records has no legal order, the status is `Found`, failed
+    // writes and want of memory aside.
     ensures found { ¬ IsLegalRun script.now.kind (locals_on bench.new)
         → (result ≡ Status.Found) ⊎ (result ≡ Status.WriteFault) ⊎ (result ≡ Status.NoMemory) }
     // Where the book of all published records has a legal order, the status is `Fine`, failed
@@ -109,8 +108,8 @@ where
     ensures fine { IsLegalRun script.now.kind (locals_on bench.new)
         → (result ≡ Status.Fine) ⊎ (result ≡ Status.WriteFault) ⊎ (result ≡ Status.NoMemory) }
 
-    // A fault has its cause in a count that rose in this call, and every other answer comes where
-    // none rose.
+    // The status is `WriteFault` only where the sink's count of faults rose in this call, and
+    // another one only where that count stayed; with `NoMemory` the sink is as it was.
     ensures faults { LeavesSink K.faults result sink.old sink.new }
 {
     let kind = script.kind();

@@ -22,8 +22,8 @@ use Rattle.named_runs.specs.NamedObjects.{AreTold, IsOfBehaviour}
 use Rattle.named_runs.specs.BehaviourRuns.{IsToldReport, IsNamedReport}
 use Rattle.byte_streams.proofs.WritingLemmas.{EndsWriting-weaker}
 
--- what is written of a run with one of some reports is so of one of any reports that have them
--- among them
+-- what is written of a run with one of some reports is written of a run with one of any reports
+-- that include these
 pub RunEnds-weaker : (object : Sequential) (A B : Findings → Type 0) (form : Form) (result : Status)
     (taken taken' : Option (List ℕ)) → ((report : Findings) → A report → B report)
     → RunEnds object A form result taken taken' → RunEnds object B form result taken taken'
@@ -47,14 +47,15 @@ fresh_report meaning rows bench made told passes plan allotments shape findings 
   told_in = is.told_in;
 }
 
--- what the object of a behaviour answered, it answered under another name for it, for the kind and
--- for the number of callers
+-- an object of a behaviour answered calls also under equal names for the behaviour, the kind and
+-- the number of callers
 pub answered_as : (behaviour named : Behaviour) (kind other : Kind) (n m : ℕ) (phases : ℕ → ℕ)
     (calls : ℕ → List Made) → behaviour ≡ named → other ≡ kind → m ≡ n
     → IsOfBehaviour named other m phases calls → IsOfBehaviour behaviour kind n phases calls
 answered_as behaviour named kind other n m phases calls is same all h = rw (is, ← same, ← all) h
 
--- a report is of a behaviour, where its object answered whatever calls the passes are told in
+-- a report is one of a behaviour, where the behaviour's object answered whatever calls the passes
+-- tell
 pub named_report : {T : Type 0} (made : T → ℕ) (told : T → Option (List (ℕ × ℕ))) (passes : List T)
     (behaviour : Behaviour) (plan : Plan) (allotments : List ℕ)
     → ((phases : ℕ → ℕ) (calls : ℕ → List Made) → AreTold told phases calls passes

@@ -19,7 +19,7 @@ use Rattle.monitor_writer.specs.MonitorTexts.{IsMonitorText}
 use Rattle.run_report.specs.Reporting.{outside_shape}
 use Rattle.named_runs.specs.Monitored.{AreToldMonitored, IsMonitorOutput}
 
--- what holds but where memory was wanted holds of what is written
+-- what holds of a status and a text, unless memory was wanted, holds of what is written
 ends_where : (A B : Status → List ℕ → Type 0) (result : Status) (taken taken' : Option (List ℕ))
     → (¬ (result ≡ NoMemory) → (status : Status) (text : List ℕ) → A status text → B status text)
     → EndsWriting A result taken taken' → EndsWriting B result taken taken'
@@ -36,7 +36,7 @@ ends_where A B Usage taken taken' weaker ends =
 ends_where A B Refused taken taken' weaker ends =
     EndsWriting-weaker A B Refused taken taken' (weaker (λ e. absurd cc)) ends
 
--- what is written of some locals is so of any locals that have them among them
+-- what is written of some locals is written of any locals that include these
 pub monitored-weaker : (A B : List Local → Type 0) (kind : Kind) (result : Status)
     (taken taken' : Option (List ℕ)) → ((locals : List Local) → A locals → B locals)
     → EndsWriting (IsMonitorOutput A kind) result taken taken'
@@ -56,7 +56,8 @@ module _ {P T : Type 0} (meaning : P → ℕ → ℕ → Meaning) (r : Rows P) (
       (whole_is_together (shape_of meaning r) b.seat.me.0 bench.wide
       (λ i low. holds i (omega (arith, low, bench.callers))) bench.together)
 
-  -- what is written of a bench that was opened for the run is of such locals
+  -- what is written of a bench that was opened for the run is written of locals of one reachable
+  -- world
   pub told_ends : (result : Status) (taken taken' : Option (List ℕ))
       → (¬ (result ≡ NoMemory) → HaveMadeAll plan (locals_on b))
       → (¬ (result ≡ NoMemory) → AreInOrder (IsToldAll made told plan (locals_on b)) passes)

@@ -30,7 +30,7 @@ module _ {T : Type 0} (caller : T → ℕ) (passes : List T) (n : ℕ) where
       get_or-range_with_len 0 n i 0 (omega (arith, low, passes_count callers)) in
       omega (arith, at, ap (λ (l : List ℕ). get_or l i 0) callers, own)
 
-  -- new passes are unused, as a run asks for them, where there is one for each caller
+  -- new passes are unused, as a run requires, where there is one for each caller
   pub opened_passes : (is_own : T → Type 0) (made cap : T → ℕ) (plan : Plan)
       → n ≡ length plan.operations → map caller passes ≡ range_with_len 0 n → All is_own passes
       → All (λ pass. (made pass ≡ 0) × (cap pass ≡ 256)) passes → IsPlan Second plan
@@ -60,7 +60,7 @@ callers_from caller a (pass ∷ passes) h =
     callers_from caller (a + 1) passes (λ i other there. omega (arith, h (suc i) other there)) in
     λ j. first j ∷ others j
 
--- passes in order are those that the object was opened with
+-- the passes of a bench, in order, are those that the object was opened with
 pub passes_back : {T : Type 0} (is_own : T → Type 0) (caller : T → ℕ) (passes : List T) (n : ℕ)
     → length passes ≡ n
     → AreInOrder (IsOwnPass is_own caller) passes → AreOwnPasses is_own caller n passes

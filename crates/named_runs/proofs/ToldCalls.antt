@@ -1,4 +1,4 @@
--- From what passes are told to what an object says of the calls that it answered.
+-- From the calls that passes tell to the calls that their object answered.
 use Rattle.std.proofs.Common.{◌≡◌, ◌∙◌, sym, ap, subst, ℕ, ◌<◌, List, [], length, Some, arith}
 use Rattle.std.specs.List.{All}
 use Rattle.std.proofs.lemmas.List.Elements.{All-take}
@@ -34,7 +34,7 @@ module _ {T : Type 0} (is_own : T → Type 0) (caller : T → ℕ) (pairs : T �
         subst Is (get_or_from_slice_get passes i pass.0 pass.0 pass.1) (all i pass.0 within),
       )
 
-  -- the calls were answered from one log, where its closing told so
+  -- the calls were answered from one log, where the log's closing says so of the passes
   pub logged_from_told : (answer : List Entry → ℕ) (log : List Entry) → All (λ e. e.caller < n) log
       → All (λ pass. pairs pass ≡ pairs_of answer log (caller pass)) passes
       → IsLoggedBy answer n phases calls
@@ -51,7 +51,7 @@ module _ {T : Type 0} (is_own : T → Type 0) (caller : T → ℕ) (pairs : T �
         replies = λ i low. (told i low).replies;
       }
 
-  -- the replies have a form, where each pass of the object tells such
+  -- the replies have a form, where each pass of the object has replies of this form
   pub formed_from_told : (form : ℕ → ℕ → Type 0)
       → ((pass : T) → is_own pass → All (λ pair. form pair.0 pair.1) (pairs pass))
       → AreFormed form n calls
@@ -61,8 +61,8 @@ module _ {T : Type 0} (is_own : T → Type 0) (caller : T → ℕ) (pairs : T �
       (All-take (λ pair. form pair.0 pair.1) (answered (phases i)) (pairs pass.0)
       (formed pass.0 pass.3))
 
--- the replies of an object on shared words have a form, where those of calls made of its deeds have
--- it
+-- the replies of an object on shared words have a form, where the replies of calls made of its
+-- deeds have it
 pub words_are_formed : {U : Type 0} (may : ℕ → Deed → Type 0)
     (call : ℕ → ℕ → List Deed → List Deed → Type 0) (form : ℕ → ℕ → Type 0)
     → ((pairs : List (ℕ × ℕ)) (before after : List Deed) → AreCalls call pairs before after

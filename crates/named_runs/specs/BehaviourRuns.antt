@@ -1,4 +1,4 @@
--- What a run reports that opens the table of rows itself.
+-- What the report of a run that opens the table of rows itself is.
 use Rattle.std.specs.Prelude.{◌≡◌, ℕ, false, List, Option, IsSome, length}
 use Rattle.std.specs.List.{list_any}
 use Rattle.seq_objects.specs.Objects.{kind_init, kind_next}
@@ -23,7 +23,7 @@ pub record IsLawfulReport (s : Shape) (plan : Plan) (allotments : List ℕ)
   pub lawful : IsLawful (kind_init plan.kind)
       (kind_next plan.kind) s plan.operations allotments findings.lines
 
--- The report of a run over an object outside the world, and these passes, in order, are told in it.
+-- A report of a run over an object outside the world, in which these passes, in order, are told.
 pub record IsToldReport {T : Type 0} (made : T → ℕ) (told : T → Option (List (ℕ × ℕ)))
     (passes : List T) (plan : Plan) (allotments : List ℕ) (findings : Findings) : Type 0 where
   pub report : IsLawfulReport (outside_shape (length plan.operations)) plan allotments findings
@@ -36,8 +36,8 @@ pub record IsNamedReport (s : Shape) (behaviour : Behaviour) (plan : Plan) (allo
   pub object : IsOfBehaviour behaviour plan.kind (length findings.lines)
       (phases_in allotments findings) (calls_of_lines findings)
 
--- A report of a plan's callers that each went on by themselves, over the object of a behaviour: of
--- the world of that object, and without an error line where that is inside the world.
+-- A report of a plan's callers that each worked by themselves, over the object of a behaviour: it
+-- is of the world of that object, and has no error line where the object is inside the world.
 pub record IsNamedRunReport (behaviour : Behaviour) (plan : Plan)
     (findings : Findings) : Type 0 where
   pub named : IsNamedReport (world_of behaviour plan.kind (length plan.operations)) behaviour plan

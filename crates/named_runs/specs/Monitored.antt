@@ -1,4 +1,4 @@
--- What a run says that two monitors watch, and that opens the table of rows itself.
+-- What is written of a run that opens the table of rows itself and that two monitors watch.
 use Rattle.std.specs.Prelude.{ℕ, ◌+◌, List, Option, length, slice_index}
 use Rattle.seq_objects.specs.declared.kind.Kind.{Kind}
 use Rattle.world_core.specs.Local.{Local}
@@ -12,37 +12,39 @@ use Rattle.monitor_writer.specs.MonitorTexts.{IsMonitorText}
 use Rattle.run_report.specs.Reporting.{outside_shape}
 use Rattle.named_runs.specs.NamedObjects.{AreTold, IsOfBehaviour}
 
--- How many phases a caller of a plan makes; the monitors, which come after them, make none. And the
--- calls of a caller.
+-- How many phases a caller of a plan makes; the monitors, which come after the plan's callers, make
+-- none.
 abbrev pub phases_in : Plan → ℕ → ℕ
 phases_in plan i = slice_index (run_allotments plan) i
 
+-- The calls of a caller with one of these locals.
 abbrev pub calls_at : List Local → ℕ → List Made
 calls_at locals i = calls_in (local_at locals i)
 
 -- These locals are those of one reachable world of a plan's callers and of two monitors, whose
--- object is outside: each of the plan's callers has made exactly the phases up to its stop, or all
--- of its calls, and the monitors have made no call.
+-- object is outside the world: each of the plan's callers has made exactly the phases up to its
+-- stop, or all of its calls, and the monitors have made no call.
 pub record AreMonitored (plan : Plan) (locals : List Local) : Type 0 where
   pub together : AreTogether (outside_shape (length plan.operations + 2)) locals
   pub made : HaveMadeAll plan locals
 
--- So they are, and these passes, in order, tell of the calls of their callers.
+-- These locals are those of monitored callers, and these passes, in order, tell of the calls of
+-- their callers.
 pub record AreToldMonitored {T : Type 0} (told : T → Option (List (ℕ × ℕ))) (passes : List T)
     (plan : Plan) (locals : List Local) : Type 0 where
   pub monitored : AreMonitored plan locals
   pub told_in : AreTold told (phases_in plan) (calls_at locals) passes
 
 -- These locals are those of monitored callers, and the object of a behaviour answered the calls of
--- the plan's callers; the monitors, which come after them, have made none.
+-- the plan's callers; the monitors have made no call.
 pub record AreNamedMonitored (behaviour : Behaviour) (plan : Plan)
     (locals : List Local) : Type 0 where
   pub monitored : AreMonitored plan locals
   pub object : IsOfBehaviour behaviour plan.kind (length plan.operations) (phases_in plan)
       (calls_at locals)
 
--- The output of a run that left such locals: a status and a text, right of the records that they
--- have published.
+-- The output of a run that left locals as `Are` says: a status and a text that are right for the
+-- records that their callers have published.
 abbrev pub IsMonitorOutput : (List Local → Type 0) → Kind → Status → List ℕ → Type 0
 IsMonitorOutput Are kind status text = (locals : List Local) × Are locals
     × IsMonitorText kind locals status text

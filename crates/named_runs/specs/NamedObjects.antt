@@ -1,4 +1,4 @@
--- Which object answered the calls of its callers.
+-- Which object answered the calls of a run's callers.
 use Rattle.std.specs.Prelude.{◌≡◌, ℕ, List, Option, IfSome, map, All}
 use Rattle.std.specs.List.{range_with_len}
 use Rattle.shared_log.specs.declared.entry.Entry.{Entry}
@@ -24,16 +24,16 @@ pub record AreOwnPasses {T : Type 0} (is_own : T → Type 0) (caller : T → ℕ
   pub callers : map caller passes ≡ range_with_len 0 n
   pub own : All is_own passes
 
--- Each of these passes, in order, tells the calls of its caller, of which these phases are made,
--- where it tells any.
+-- Each of these passes, in order, tells the calls of its caller, of which this many phases are
+-- made, where it tells any.
 abbrev pub AreTold : {T : Type 0} → (T → Option (List (ℕ × ℕ))) → (ℕ → ℕ) → (ℕ → List Made)
     → List T → Type 0
 AreTold told phases calls passes =
     AreInOrder (λ i pass. IfSome (told pass) (IsTold (phases i) (calls i))) passes
 
 -- The object of a behaviour, for scripts of a kind, answered the calls of n callers, each of which
--- made this many phases: a log object answers from its log, by the object of the kind; of the
--- others the replies have the form that each gives for an operation.
+-- made its number of phases: a log object answers from its log, by the object of the kind; the
+-- replies of another object have the form that it gives to the reply to an operation.
 abbrev pub IsOfBehaviour : Behaviour → Kind → ℕ → (ℕ → ℕ) → (ℕ → List Made) → Type 0
 IsOfBehaviour Lawful kind n phases calls =
     IsLoggedBy (last_reply (kind_next kind) (kind_init kind)) n phases calls
@@ -51,7 +51,7 @@ IsOfBehaviour Split kind n phases calls = AreFormed IsTallyReply n calls
 IsOfBehaviour Onepass kind n phases calls = AreFormed IsQueueReply n calls
 
 -- An object that was opened for scripts of a kind and for n callers is the object of a behaviour
--- which answered their calls, whatever calls these passes of theirs are told in.
+-- and answered the calls of these callers, whatever the calls that these passes tell.
 abbrev pub HasAnswered : {T : Type 0} → Behaviour → (Kind → ℕ → Type 0) → (T → Type 0) → (T → ℕ)
     → (T → Option (List (ℕ × ℕ))) → List T → Type 0
 HasAnswered behaviour is_opened_for is_own caller told passes =
@@ -59,8 +59,8 @@ HasAnswered behaviour is_opened_for is_own caller told passes =
     → AreOwnPasses is_own caller n passes → AreTold told phases calls passes
     → IsOfBehaviour behaviour kind n phases calls
 
--- A log was opened for n callers of scripts of a kind: these are its callers, and where all is
--- answered from one log by its answer, the object of a behaviour answered.
+-- A log was opened for n callers of scripts of a kind: it has n callers, and wherever all calls are
+-- answered from one log by its answer, the object of a behaviour answered them.
 abbrev pub IsLogFor : Behaviour → (List Entry → ℕ) → ℕ → Kind → ℕ → Type 0
 IsLogFor behaviour answer callers kind n =
     (callers ≡ n) × ((phases : ℕ → ℕ) (calls : ℕ → List Made) → IsLoggedBy answer n phases calls

@@ -76,17 +76,17 @@ pub fn run_behaviour<R: Threads + Sync, K: Sink>(
     form: Form,
     sink: &mut K,
 ) -> Status
-    // The headline: what was written, by the status, is of a lawful report, whose calls the object
-    // of the behaviour answered.
+    // The headline: what was written, with each status, is that of a lawful report, whose calls the
+    // object of the behaviour answered.
     ensures ends { RunEnds (object_of_kind script.now.kind) (IsNamedRunReport behaviour script.now)
         form result (K.taken sink.old) (K.taken sink.new) }
 
-    // Over an object inside the world all is fine, failed writes and want of memory aside.
+    // Over an object inside the world the status is `Fine`, failed writes and want of memory aside.
     ensures fine { IsSome (inside_of behaviour script.now.kind)
         → (result ≡ Status.Fine) ⊎ (result ≡ Status.WriteFault) ⊎ (result ≡ Status.NoMemory) }
 
-    // A fault has its cause in a count that rose in this call, and every other answer comes where
-    // none rose.
+    // The status is `WriteFault` only where the sink's count of faults rose in this call, and
+    // another one only where that count stayed; with `NoMemory` the sink is as it was.
     ensures faults { LeavesSink K.faults result sink.old sink.new }
 {
     let kind = script.kind();
@@ -109,14 +109,14 @@ pub fn replay_behaviour<K: Sink>(
     form: Form,
     sink: &mut K,
 ) -> Status
-    // The headline: what was written, by the status, is of a lawful report, whose calls the object
-    // of the behaviour answered.
+    // The headline: what was written, with each status, is that of a lawful report, whose calls the
+    // object of the behaviour answered.
     ensures ends { RunEnds (object_of_kind script.now.kind)
         (IsNamedReplayReport behaviour script.now)
         form result (K.taken sink.old) (K.taken sink.new) }
 
-    // A fault has its cause in a count that rose in this call, and every other answer comes where
-    // none rose.
+    // The status is `WriteFault` only where the sink's count of faults rose in this call, and
+    // another one only where that count stayed; with `NoMemory` the sink is as it was.
     ensures faults { LeavesSink K.faults result sink.old sink.new }
 {
     over_behaviour!(
@@ -138,17 +138,17 @@ pub fn monitor_behaviour<R: Threads + Sync, K: Sink>(
     script: &Script,
     sink: &mut K,
 ) -> Status
-    // The table has place for two callers more than the script has.
+    // A table can have two callers more than the script has.
     requires few { length script.now.operations + 2 ≤ MAX_CALLERS }
 
-    // The headline: what was written, by the status, is right of callers whose calls the object of
-    // the behaviour answered.
+    // The headline: what was written, with each status, is right for callers whose calls the object
+    // of the behaviour answered.
     ensures ends { EndsWriting
         (IsMonitorOutput (AreNamedMonitored behaviour script.now) script.now.kind)
         result (K.taken sink.old) (K.taken sink.new) }
 
-    // A fault has its cause in a count that rose in this call, and every other answer comes where
-    // none rose.
+    // The status is `WriteFault` only where the sink's count of faults rose in this call, and
+    // another one only where that count stayed; with `NoMemory` the sink is as it was.
     ensures faults { LeavesSink K.faults result sink.old sink.new }
 {
     over_behaviour!(

@@ -25,7 +25,7 @@ use world_core::Outside;
 
 /// Runs all callers of a script over an object, each in a thread of its own where one can be had,
 /// and writes what the form shows of their report, which is lawful. The table of rows is opened for
-/// the run, with the greatest cap, and closed after it.
+/// the run, with the greatest cap, and closed after the run.
 ///
 /// Each caller has its pass of the object, unused. Afterwards the passes are in their order,
 /// whatever the answer.
@@ -44,20 +44,20 @@ where
     requires passes { AreUnusedPasses (B.is_own object.now) B.Pass.caller B.Pass.made B.Pass.cap
         script.now.operations passes.old.items }
 
-    // What stands afterwards, whatever the answer.
+    // Whatever the answer, there is one pass for each caller of the script.
     ensures all_passes { vec_len passes.new ≡ length script.now.operations }
     // The passes are those of the callers, in order.
     ensures passes { AreInOrder (IsOwnPass (B.is_own object.now) B.Pass.caller) passes.new.items }
 
-    // The headline: what was written, by the status, is of a lawful report, in which the passes are
-    // told.
+    // The headline: what was written, with each status, is that of a lawful report, in which the
+    // passes are told.
     ensures ends { RunEnds (object_of_kind script.now.kind)
         (IsToldReport B.Pass.made B.Pass.told passes.new.items script.now
         (run_allotments script.now))
         form result (K.taken sink.old) (K.taken sink.new) }
 
-    // A fault has its cause in a count that rose in this call, and every other answer comes where
-    // none rose.
+    // The status is `WriteFault` only where the sink's count of faults rose in this call, and
+    // another one only where that count stayed; with `NoMemory` the sink is as it was.
     ensures faults { LeavesSink K.faults result sink.old sink.new }
 {
     let Ok((rows, mut bench)) = Rows::open(alloc, Outside, script.callers(), MAX_CALLS) else {
@@ -66,14 +66,14 @@ where
     let status = run_and_write(
         rt, alloc, &rows, &mut bench, object, passes, script, form, sink,
     );
-    // What was written stands, also where no memory is left for the words of the closed table.
+    // The status is answered even where no memory is left for the words of the closed table.
     let _world = rows.close(alloc, bench);
     status
 }
 
 /// Lets all callers of a script take its turns over an object, in one thread, and writes what the
 /// form shows of their report, which is lawful. The table of rows is opened for the replay, with
-/// the greatest cap, and closed after it.
+/// the greatest cap, and closed after the replay.
 ///
 /// Each caller has its pass of the object, unused. Afterwards the passes are in their order,
 /// whatever the answer.
@@ -89,35 +89,35 @@ pub fn replay_fresh<B: BlackBox, K: Sink>(
     requires passes { AreUnusedPasses (B.is_own object.now) B.Pass.caller B.Pass.made B.Pass.cap
         script.now.operations passes.old.items }
 
-    // What stands afterwards, whatever the answer.
+    // Whatever the answer, there is one pass for each caller of the script.
     ensures all_passes { vec_len passes.new ≡ length script.now.operations }
     // The passes are those of the callers, in order.
     ensures passes { AreInOrder (IsOwnPass (B.is_own object.now) B.Pass.caller) passes.new.items }
 
-    // The headline: what was written, by the status, is of a lawful report, in which the passes are
-    // told.
+    // The headline: what was written, with each status, is that of a lawful report, in which the
+    // passes are told.
     ensures ends { RunEnds (object_of_kind script.now.kind)
         (IsToldReport B.Pass.made B.Pass.told passes.new.items script.now
         (replay_allotments script.now))
         form result (K.taken sink.old) (K.taken sink.new) }
 
-    // A fault has its cause in a count that rose in this call, and every other answer comes where
-    // none rose.
+    // The status is `WriteFault` only where the sink's count of faults rose in this call, and
+    // another one only where that count stayed; with `NoMemory` the sink is as it was.
     ensures faults { LeavesSink K.faults result sink.old sink.new }
 {
     let Ok((rows, mut bench)) = Rows::open(alloc, Outside, script.callers(), MAX_CALLS) else {
         return Status::NoMemory;
     };
     let status = replay_and_write(alloc, &rows, &mut bench, object, passes, script, form, sink);
-    // What was written stands, also where no memory is left for the words of the closed table.
+    // The status is answered even where no memory is left for the words of the closed table.
     let _world = rows.close(alloc, bench);
     status
 }
 
 /// Runs all callers of a script over an object, each in a thread of its own where one can be had,
-/// while two monitors watch them, and writes what is right of the records that they published. The
+/// while two monitors watch them, and writes what is right for the records that they published. The
 /// table of rows is opened for the run, with two callers more and the greatest cap, and closed
-/// after it.
+/// after the run.
 ///
 /// Each of the script's callers has its pass of the object, unused. Afterwards the passes are in
 /// their order, whatever the answer.
@@ -131,34 +131,34 @@ pub fn monitor_fresh<R: Threads + Sync, B: BlackBox + Sync, K: Sink>(
 ) -> Status
 where
     B::Pass: Send,
-    // The table has place for two callers more than the script has.
+    // A table can have two callers more than the script has.
     requires few { length script.now.operations + 2 ≤ MAX_CALLERS }
     // Each of the script's callers has its pass of the object, in order, and none was used.
     requires passes { AreUnusedPasses (B.is_own object.now) B.Pass.caller B.Pass.made B.Pass.cap
         script.now.operations passes.old.items }
 
-    // What stands afterwards, whatever the answer.
+    // Whatever the answer, there is one pass for each caller of the script.
     ensures all_passes { vec_len passes.new ≡ length script.now.operations }
-    // The list of passes has no less memory than before.
+    // The list of passes has at least the capacity that it had.
     ensures capacity { vec_capacity passes.old ≤ vec_capacity passes.new }
     // The passes are those of the callers, in order.
     ensures passes { AreInOrder (IsOwnPass (B.is_own object.now) B.Pass.caller) passes.new.items }
 
-    // The headline: what was written, by the status, is right of callers in whose calls the passes
-    // are told.
+    // The headline: what was written, with each status, is right for callers in whose calls the
+    // passes are told.
     ensures ends { EndsWriting
         (IsMonitorOutput (AreToldMonitored B.Pass.told passes.new.items script.now)
         script.now.kind) result (K.taken sink.old) (K.taken sink.new) }
 
-    // A fault has its cause in a count that rose in this call, and every other answer comes where
-    // none rose.
+    // The status is `WriteFault` only where the sink's count of faults rose in this call, and
+    // another one only where that count stayed; with `NoMemory` the sink is as it was.
     ensures faults { LeavesSink K.faults result sink.old sink.new }
 {
     let Ok((rows, mut bench)) = Rows::open(alloc, Outside, script.callers() + 2, MAX_CALLS) else {
         return Status::NoMemory;
     };
     let status = monitor_and_write(rt, alloc, &rows, &mut bench, object, passes, script, sink);
-    // What was written stands, also where no memory is left for the words of the closed table.
+    // The status is answered even where no memory is left for the words of the closed table.
     let _world = rows.close(alloc, bench);
     status
 }

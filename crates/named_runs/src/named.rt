@@ -20,7 +20,7 @@ use run_writer::Form;
 use std::alloc::Global;
 use std::thread::Threads;
 
-/// Runs a script over the object that this behaviour names.
+/// Runs a script over the object of this behaviour.
 pub(crate) fn run_named<O: NamedObject + Sync, R: Threads + Sync, K: Sink>(
     rt: &R,
     alloc: Global,
@@ -45,7 +45,7 @@ where
     status
 }
 
-/// Replays a script over the object that this behaviour names.
+/// Replays a script over the object of this behaviour.
 pub(crate) fn replay_named<O: NamedObject, K: Sink>(
     alloc: Global,
     _behaviour: Behaviour,
@@ -67,7 +67,7 @@ pub(crate) fn replay_named<O: NamedObject, K: Sink>(
     status
 }
 
-/// Runs a script over the object that this behaviour names, while two monitors watch.
+/// Runs a script over the object of this behaviour, while two monitors watch.
 pub(crate) fn monitor_named<O: NamedObject + Sync, R: Threads + Sync, K: Sink>(
     rt: &R,
     alloc: Global,

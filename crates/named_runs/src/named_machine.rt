@@ -13,7 +13,7 @@ use seq_objects::Kind;
 
 /// A machine that is made for the object of a kind.
 pub(crate) trait NamedMachine: Machine + Drop + Sized {
-    /// The behaviour of a log object that answers by it.
+    /// The behaviour of the log object that answers by the machine.
     ghost behaviour: { TheBehaviour };
 
     /// The machine for the object of this kind.

@@ -16,11 +16,11 @@ use seq_objects::Kind;
 use shared_words::WordsPass;
 use std::alloc::Global;
 
-/// An object that a name stands for. It is opened with a pass for each of its callers, and once
-/// they are through it is closed with these passes: then it is the object of its behaviour that
-/// answered their calls.
+/// An object that a name stands for. It is opened with a pass for each of its callers, and closed
+/// with these passes once all calls are made: then it is the object of its behaviour that answered
+/// their calls.
 pub(crate) trait NamedObject: BlackBox + Sized {
-    /// The behaviour that names it.
+    /// The behaviour whose name the object has.
     ghost behaviour: { TheBehaviour };
 
     /// The object was opened for scripts of this kind, and for this many callers.
@@ -37,7 +37,7 @@ pub(crate) trait NamedObject: BlackBox + Sized {
         ensures fresh { IfOk result (λ r. All
             (λ pass. (Self.Pass.made pass ≡ 0) × (Self.Pass.cap pass ≡ MAX_CALLS)) r.1.items) };
 
-    /// Takes the passes of all callers back. Whatever calls the passes are told in, the object
+    /// Takes the passes of all callers back. Whatever the calls that the passes tell, the object
     /// answered them.
     fn close_with(self, passes: Vec<Self::Pass>)
         requires { (kind : TheKind) × (n : ℕ) × is_opened_for self kind n

@@ -1,4 +1,4 @@
--- Puts and takes are told by the code of an operation.
+-- Whether an operation is a put or a take depends on its code alone.
 use Rattle.std.proofs.Common.{◌≡◌, ℕ, true, Bool, ◌==◌, ap, ◌∙◌}
 use Rattle.std.proofs.lemmas.Bool.{and_parts, eqb-true}
 use Rattle.seq_objects.specs.Words.{OperationEntry, code_of, has_arguments, is_operation_of}

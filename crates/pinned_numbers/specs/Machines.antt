@@ -1,4 +1,4 @@
--- Worked logs of faulty machines, and what they take for puts and takes.
+-- Worked logs of faulty machines, and which operations these machines take for puts and takes.
 use Rattle.std.specs.Prelude.{◌≡◌, ℕ, true, false, List, map}
 use Rattle.std.specs.List.{AllByRecursion}
 use Rattle.shared_log.specs.declared.entry.Entry.{Entry}
@@ -17,12 +17,12 @@ abbrev pub ArePuts : List words.OperationEntry → Type 0
 ArePuts table = AllByRecursion (λ e. (word : ℕ) → is_operation_of word e ≡ true
     → (is_put word ≡ true) × (is_take word ≡ false)) table
 
--- Each is a take, and no put.
+-- Each operation of these entries is a take, and no put.
 abbrev pub AreTakes : List words.OperationEntry → Type 0
 AreTakes table = AllByRecursion (λ e. (word : ℕ) → is_operation_of word e ≡ true
     → (is_put word ≡ false) × (is_take word ≡ true)) table
 
--- Each is neither.
+-- Each operation of these entries is neither a put nor a take.
 abbrev pub AreNeither : List words.OperationEntry → Type 0
 AreNeither table = AllByRecursion (λ e. (word : ℕ) → is_operation_of word e ≡ true
     → (is_put word ≡ false) × (is_take word ≡ false)) table

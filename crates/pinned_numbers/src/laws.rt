@@ -29,17 +29,17 @@ pub fn limits_of_books()
     ensures room { MAX_ROOM ≡ 8192 }
 {}
 
-/// The reply `bad`: the word of a table's rows and of texts.
+/// The word of the reply `bad`, as in a table's rows and in texts.
 pub fn the_reply_bad()
     // The reply word `bad` is 4 times 2^32.
     ensures word { BAD ≡ 17179869184 }
-    // The reply `bad` of the objects is that word.
+    // The reply `bad` of the objects is the word `BAD`.
     ensures of_objects { reply_bad ≡ BAD }
-    // The text of that word is `bad`.
+    // The text of the word `BAD` is `bad`.
     ensures text { reply_word BAD ≡ codes "bad" }
 {}
 
-/// The phases of a call: the five that lines count.
+/// The five phases of a call, which the lines of reports count.
 pub fn phases_of_a_call()
     // A call has five phases.
     ensures number { PHASES ≡ 5 }
@@ -69,17 +69,18 @@ pub fn limits_of_texts()
 
 /// The codes that the program ends with.
 pub fn codes_of_statuses()
-    // The program ends with 0 where all is fine, and with 1 where an error was found.
+    // The program ends with 0 where nothing was found, and with 1 where something was found.
     ensures written { (code_of statuses.Fine ≡ 0) × (code_of statuses.Found ≡ 1) }
-    // The program ends with 2 where the words aren't right, and with 3 where the input is refused.
+    // The program ends with 2 where its words name no command, and with 3 where the input is
+    // refused.
     ensures refused { (code_of statuses.Usage ≡ 2) × (code_of statuses.Refused ≡ 3) }
-    // The program ends with 4 where reading failed, and with 5 where writing did.
+    // The program ends with 4 where a read failed, and with 5 where a write did.
     ensures failed { (code_of statuses.ReadFault ≡ 4) × (code_of statuses.WriteFault ≡ 5) }
-    // The program ends with 6 for want of memory.
+    // The program ends with 6 where memory was wanted.
     ensures no_memory { code_of statuses.NoMemory ≡ 6 }
 {}
 
-/// What the faulty machines take for a put and for a take, by the table of operations.
+/// The operations that faulty machines take for puts and for takes, by the table of operations.
 pub fn codes_of_puts_and_takes()
     // An enqueue, a push, a write, an increment, an add, an insert and a put are puts.
     ensures puts { ArePuts (words.enq ∷ words.push ∷ words.write ∷ words.inc
@@ -93,15 +94,15 @@ pub fn codes_of_puts_and_takes()
 
 /// A late queue: the put of a caller waits for that caller's next call.
 pub fn late_puts_wait()
-    // The put of a caller is there for that caller's next take.
+    // A caller's put is made before that caller's next take.
     ensures own { late_text ((0, words.enq, 7) ∷ (0, words.deq, 0) ∷ []) ≡ codes "=7" }
-    // The put of a caller isn't there for another caller's take.
+    // A caller's put isn't made before another caller's take.
     ensures other { late_text ((0, words.enq, 7) ∷ (1, words.deq, 0) ∷ []) ≡ codes "none" }
-    // The first put of a caller is there for another caller's take once the caller has made its
-    // second.
+    // A caller's first put is made before another caller's take once the caller has made its second
+    // put.
     ensures woken { late_text ((0, words.enq, 7) ∷ (0, words.enq, 8)
         ∷ (1, words.deq, 0) ∷ []) ≡ codes "=7" }
-    // A take finds the put of its own caller, and not an earlier one of another caller that still
+    // A take finds the put of its own caller, and not an earlier put of another caller that still
     // waits.
     ensures in_order { late_text ((0, words.enq, 7) ∷ (1, words.enq, 8)
         ∷ (1, words.deq, 0) ∷ []) ≡ codes "=8" }
@@ -121,7 +122,7 @@ pub fn third_calls_are_answered_99()
     ensures third_of_another { invented_text (1 ∷ 0 ∷ 1 ∷ 0 ∷ 1 ∷ []) ≡ codes "=99" }
 {}
 
-/// How often a caller of a meeting loads the other's flag at most.
+/// How often a caller of a meeting loads the other caller's flag at most.
 pub fn loads_of_a_meeting()
     ensures { most_loads ≡ 100000000 }
 {}

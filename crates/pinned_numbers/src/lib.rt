@@ -1,4 +1,5 @@
-//! The numbers that clauses cite by their names, each written out. Nothing stands on these laws.
+//! The numbers that clauses cite by their names, each written out. No other law depends on these
+//! laws.
 #![tactic(auto)]
 
 pub mod laws;

@@ -21,7 +21,8 @@ use Rattle.report_laws.proofs.Lines.{from_delivered_cuts, seen_from_delivered}
 use Rattle.reports.specs.Findings.{Findings, IsInBook, IsReport}
 use Rattle.run_writer.specs.Certificates.{delivered_cuts_in, delivered_cut_of}
 
--- the count in what a line saw, which is 0 where it isn't delivered
+-- the count of a caller in the seen cut of a line with this end, which is 0 where the line isn't
+-- delivered
 abbrev pub count_of : LineEnd → ℕ → ℕ
 count_of Pending i = 0
 count_of (Unchecked r) i = 0
@@ -43,7 +44,7 @@ count_of_undelivered (Unchecked r) none i = refl
 count_of_undelivered (Delivered r cut) none i = absurd (none r cut refl)
 count_of_undelivered (Error r cut) none i = refl
 
--- one line more
+-- the greatest counts with one line more
 pub counts-more_lines : (own : List Line) (k : ℕ) (line : Line) (i : ℕ)
     → slice_get own k ≡ Some line
     → greatest_count (delivered_cuts_in (take (k + 1) own)) i
@@ -59,7 +60,7 @@ counts-more_lines own k line i there =
     ∙ ap (λ (n : ℕ). max (greatest_count (delivered_cuts_in (take k own)) i) n)
     (count_of_one line.op line.end i)
 
--- one caller more
+-- the greatest counts with the lines of one caller more
 pub counts-more_callers : (lines : List (List Line)) (n i : ℕ) → n < length lines
     → greatest_count (delivered_cuts (take (n + 1) lines)) i
     ≡ max (greatest_count (delivered_cuts (take n lines)) i)
@@ -73,7 +74,7 @@ counts-more_callers lines n i low =
     (flat_map-cons delivered_cuts_in own [] ∙ append-nil (delivered_cuts_in own)))
     ∙ greatest_count-append (delivered_cuts (take n lines)) (delivered_cuts_in own) i
 
--- what a delivered line saw is a seen cut
+-- the cut of a delivered line is its seen cut
 pub seen_by_delivered : (lines : List (List Line)) (call : Call) (line : Line) (r : Record)
     (cut : List ℕ) → line_at lines call ≡ Some line → line.end ≡ Delivered r cut
     → seen_at lines call ≡ Some cut

@@ -26,7 +26,7 @@ use Rattle.byte_streams.proofs.WritingLemmas.{EndsWriting-weaker}
 use Rattle.client_calls.specs.Ends.{Sequential}
 use Rattle.run_writer.specs.Runs.{IsWitnessText, IsRunOutput, RunEnds, object_of_kind, FormsWriteOneText, CertificatesAreLegal, CertificatesAreOfTheirKind, CertificatesTellOneBook}
 
--- what is written of a report is written of a run with such a report, by an object that is the same
+-- what is written of a report is written of a run with such a report, by an equal object
 pub RunEnds-from_report : (object other : Sequential) (IsReportOf : Findings → Type 0) (form : Form)
     (report : Findings) (result : Status) (taken taken' : Option (List ℕ)) → object ≡ other
     → IsReportOf report
@@ -40,7 +40,7 @@ RunEnds-from_report object other IsReportOf form report result taken taken' same
 
 -- ---- a form but the certificate writes one text of a report
 
--- where none of some lines is an error, none of them saw a cut as one
+-- where none of some lines is an error, none has a seen cut as an error
 no_error_in : (own : List Line) (k : ℕ) → any_error own ≡ false
     → option_and_then (λ (line : Line). error_in line.end) (slice_get own k) ≡ None
 no_error_in [] k none = refl
@@ -63,11 +63,11 @@ no_witness lines book none witness =
     none-some witness.cut (sym (no_error_in (lines_at lines witness.call.caller) witness.call.number
     (no_error_of lines witness.call.caller none)) ∙ witness.error.error)
 
--- of two calls one stands before the other, or they are one
+-- of two calls one comes before the other, or they are one call
 order_of : (a b : Call) → StandsBefore a b ⊎ (StandsBefore b a ⊎ (a ≡ b))
 order_of a b = grind (arith)
 
--- the first error saw one cut
+-- the first error has one seen cut
 one_first_error : (lines : List (List Line)) (a b : Call) (cut other : List ℕ)
     → IsFirstError lines a cut → IsFirstError lines b other → cut ≡ other
 one_first_error lines a b cut other first second =
@@ -107,7 +107,7 @@ forms_write_one_text object Report report a b other_form one other =
 forms_write_one_text object Counts report a b other_form one other = one ∙ sym other
 forms_write_one_text object Certificate report a b other_form one other = absurd (other_form refl)
 
--- ---- certificates are legal, and tell one book
+-- ---- certificates are legal, and are of one book
 
 pub certificates_are_legal : CertificatesAreLegal
 certificates_are_legal object report text kind book order written read =

@@ -1,4 +1,4 @@
--- A bench has one report, and that has each form.
+-- A bench has one report, and this can be shown in each form.
 use Rattle.std.proofs.Common.{◌≡◌, ◌∙◌, refl, ap, subst, inr, ◌⊎◌, List, ℕ, ◌<◌, length, true, false}
 use Rattle.std.specs.List.{list_any}
 use Rattle.world_core.specs.Shape.{Meaning, Shape}
@@ -32,7 +32,7 @@ module _ (s : Shape) (locals : List Local) (plan : Plan) (allotments : List ℕ)
   by_its_kind kind f same is = subst
       (λ (k : Kind). IsReportOf (kind_init k) (kind_next k) s locals plan allotments f) same is
 
-  -- one report alone decides whether a line is an error
+  -- one report determines whether a line is an error in each report of the bench
   pub one_report : (init : List ℕ) (next : List ℕ → ℕ → List ℕ × ℕ) (f g : Findings)
       → IsReportOf init next s locals plan allotments f
       → IsReportOf init next s locals plan allotments g
@@ -41,7 +41,7 @@ module _ (s : Shape) (locals : List Local) (plan : Plan) (allotments : List ℕ)
       ap (λ (lines : List (List Line)). list_any any_error lines)
       (locals_determine_lines init next locals f.lines g.lines a.lines b.lines)
 
-  -- one report alone decides who stands free for its next call
+  -- one report determines which callers are free for their next calls
   pub one_standing : {P : Type 0} (b : Bench P) (init : List ℕ) (next : List ℕ → ℕ → List ℕ × ℕ)
       (f g : Findings)
       → IsReportOf init next s locals plan allotments f
@@ -53,7 +53,7 @@ module _ (s : Shape) (locals : List Local) (plan : Plan) (allotments : List ℕ)
       IsFreeAgain b allotments (record { kind = g.kind; lines = lines }) i)
       (locals_determine_lines init next locals f.lines g.lines a.lines other.lines) (free i low)
 
--- a lawful report has each form, by an object that is the same
+-- a lawful report can be shown in each form, by an equal object
 pub has_form : {s : Shape} {operations : List (List ℕ)} {allotments : List ℕ}
     (object other : Sequential) (form : Form) (f : Findings) → object ≡ other
     → IsLawful object.init object.next s operations allotments f.lines → HasForm other form f
@@ -63,7 +63,7 @@ has_form object other Certificate f same lawful =
     subst (λ (o : Sequential). HasForm o Certificate f) same
     (lawful_reports_have_an_order object.init object.next _ _ _ f.lines lawful)
 
--- where memory was wanted, no report decides
+-- where memory was wanted, no report determines the status
 pub no_memory_ends : {P : Type 0} (object : Sequential) (meaning : P → ℕ → ℕ → Meaning)
     (rows : Rows P) (bench : Bench P) (plan : Plan) (allotments : List ℕ)
     → EndsByReport object meaning rows bench plan allotments NoMemory
@@ -74,7 +74,7 @@ no_memory_ends object meaning rows bench plan allotments =
       free = λ some. absurd (some refl);
     }
 
--- what is written of one report of a bench ends by it
+-- a run ends by its report where it ends by one report of its bench
 pub ends_by_one : {P : Type 0} (object : Sequential) (meaning : P → ℕ → ℕ → Meaning) (rows : Rows P)
     (bench : Bench P) (plan : Plan) (allotments : List ℕ) (status : Status) (one : Findings)
     → IsBenchReport object meaning rows bench plan allotments one

@@ -47,7 +47,8 @@ pub record IsCertified (init : List ℕ) (next : List ℕ → ℕ → List ℕ �
   pub at : IsDeliveredBook report.lines book
   pub legal : IsLegalOrder init next book order
 
--- Whoever reads a certificate of a report reads this.
+-- Whoever reads a certificate of a report reads the report's kind, the book of what was delivered,
+-- and a legal order of it.
 abbrev pub CertificatesAreRead : Type 0
 CertificatesAreRead = (init : List ℕ) (next : List ℕ → ℕ → List ℕ × ℕ) (report : Findings)
     (bytes : List ℕ) (kind : Kind) (book : List Page) (order : List Place)

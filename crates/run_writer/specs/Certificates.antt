@@ -11,16 +11,16 @@ use Rattle.report_lines.specs.Lawful.{delivered_cut}
 use Rattle.reports.specs.Findings.{Findings}
 use Rattle.certificate_text.specs.Grammar.{IsWrittenCertificate}
 
--- What the delivered ones of a caller's lines saw.
+-- The seen cuts of a caller's delivered lines.
 abbrev pub delivered_cuts_in : List Line → List (List ℕ)
 delivered_cuts_in own = filter_map (λ (line : Line). delivered_in line.end) own
 
--- The greatest seen cut of a delivered line, by all callers of these lines: the cut of zeros where
--- no line is delivered.
+-- The greatest seen cut of the delivered lines of all callers, which is all zeros where no line is
+-- delivered.
 abbrev pub delivered_cut_of : List (List Line) → List ℕ
 delivered_cut_of lines = delivered_cut (length lines) lines
 
--- The book is the one at the greatest seen cut of a delivered line.
+-- The book is the one at the greatest seen cut of the delivered lines.
 abbrev pub IsDeliveredBook : List (List Line) → List Page → Type 0
 IsDeliveredBook lines book = IsBookAt (book_of_lines lines) (delivered_cut_of lines) book
 

@@ -1,4 +1,4 @@
--- What a run of a script's callers reports, by the bench that it leaves.
+-- What the report of a run of a script's callers is, by the bench that the run leaves.
 use Rattle.std.specs.Prelude.{◌≡◌, ◌⊎◌, ℕ, ◌<◌, List, Option, true, false, length}
 use Rattle.std.specs.List.{list_any}
 use Rattle.world_core.specs.Shape.{Meaning}
@@ -22,25 +22,25 @@ IsBenchReport object meaning rows bench plan allotments findings =
     IsReportOf object.init object.next (shape_of meaning rows)
     (locals_on bench) plan allotments findings
 
--- So is this report, and no line of it is an error.
+-- The report of a plan's callers, of the locals that are on this bench, with no error line.
 pub record IsCoreReport {P : Type 0} (object : Sequential) (meaning : P → ℕ → ℕ → Meaning)
     (rows : Rows P) (bench : Bench P) (plan : Plan) (allotments : List ℕ)
     (findings : Findings) : Type 0 where
   pub report : IsBenchReport object meaning rows bench plan allotments findings
   pub no_error : list_any any_error findings.lines ≡ false
 
--- So is this report, and these passes, in order, are told in it: each was asked for just the calls
--- that its caller's lines tell of, and where it tells a list, that has their operations and their
--- replies.
+-- The report of a plan's callers, of the locals that are on this bench, in which these passes, in
+-- order, are told: with each the object was asked for just the calls that its caller's lines
+-- determine, and where the pass tells a list, this has their operations and their replies.
 pub record IsToldBenchReport {P T : Type 0} (object : Sequential) (meaning : P → ℕ → ℕ → Meaning)
     (rows : Rows P) (bench : Bench P) (made : T → ℕ) (told : T → Option (List (ℕ × ℕ)))
     (passes : List T) (plan : Plan) (allotments : List ℕ) (findings : Findings) : Type 0 where
   pub report : IsBenchReport object meaning rows bench plan allotments findings
   pub told_in : AreInOrder (IsToldIn made told allotments findings) passes
 
--- A run ended with this status by its report: with an error found where a line of it is an error,
--- and fine where none is, failed writes and want of memory aside. Each caller without an error line
--- that stopped between two calls, or made all of its calls, stands free for its next one, want of
+-- A run ended with this status by its report, failed writes and want of memory aside: `Found` where
+-- a line of the report is an error, and `Fine` where none is. Each caller without an error line
+-- that stopped between two calls, or made all of its calls, is free for its next one, want of
 -- memory aside.
 pub record EndsByReport {P : Type 0} (object : Sequential) (meaning : P → ℕ → ℕ → Meaning)
     (rows : Rows P) (bench : Bench P) (plan : Plan) (allotments : List ℕ)

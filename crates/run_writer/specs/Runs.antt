@@ -23,8 +23,8 @@ use Rattle.byte_streams.specs.declared.status.Status.{Status}
 use Rattle.byte_streams.specs.declared.status.Status.TheVariants.{Fine, Found}
 use Rattle.byte_streams.specs.Writing.{EndsWriting}
 
--- The rest of what is written after a report: where a line is an error, the text of the book that
--- the first error saw, else nothing.
+-- What is written after a report: where one of its lines is an error, the text of the book at the
+-- seen cut of the first error line, else nothing.
 abbrev pub IsWitnessText : Findings → List ℕ → Type 0
 IsWitnessText report rest =
     ((list_any any_error report.lines ≡ false) × (rest ≡ []))
@@ -41,15 +41,15 @@ counts_text counts =
 abbrev pub object_of_kind : Kind → Sequential
 object_of_kind kind = object_by kind_init kind_next kind
 
--- What a form writes of a report whose lines are judged by a sequential object.
+-- The text that a form shows of a report whose lines are judged by a sequential object.
 abbrev pub IsWritten : Sequential → Form → Findings → List ℕ → Type 0
 IsWritten object Report report text = (shown : List ℕ) × (rest : List ℕ)
     × reports.IsWrittenText shown report × IsWitnessText report rest × (text ≡ shown ++ rest)
 IsWritten object Numbers report text = text ≡ counts_text (counts_of report.lines)
 IsWritten object Certificate report text = IsCertificate object.init object.next report text
 
--- A report has a form: a certificate wants a legal order of what was delivered, as every lawful
--- report has.
+-- A report can be shown in a form: a certificate needs a legal order of what was delivered, as
+-- every lawful report has one.
 abbrev pub HasForm : Sequential → Form → Findings → Type 0
 HasForm object Report report = Unit {0}
 HasForm object Numbers report = Unit {0}
@@ -72,7 +72,7 @@ abbrev pub RunEnds : Sequential → (Findings → Type 0) → Form → Status �
 RunEnds object IsReportOf form status taken taken' =
     EndsWriting (IsRunOutput object IsReportOf form) status taken taken'
 
--- The status of an output tells whether a line of its report is an error.
+-- The status of an output says whether a line of its report is an error.
 abbrev pub StatusesTellErrors : Type 0
 StatusesTellErrors =
     (object : Sequential) (report : Findings) (form : Form) (status : Status) (text : List ℕ)
@@ -93,8 +93,8 @@ CertificatesAreLegal = (object : Sequential) (report : Findings) (text : List �
     → IsWritten object Certificate report text → IsCertificateText text kind book order
     → (kind ≡ report.kind) × IsLegalOrder object.init object.next book order
 
--- Where that is the object of the report's kind, the order is legal for the kind that the
--- certificate names.
+-- Where a report's lines are judged by the object of the report's kind, the order in its
+-- certificate is legal for the kind that the certificate names.
 abbrev pub CertificatesAreOfTheirKind : Type 0
 CertificatesAreOfTheirKind =
     (report : Findings) (text : List ℕ) (kind : Kind) (book : List Page) (order : List Place)

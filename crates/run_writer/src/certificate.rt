@@ -10,7 +10,7 @@ use frontier_check::{Verdict, check};
 use reports::Report;
 use std::alloc::Global;
 
-/// A certificate of a report: the text of the book at the greatest seen cut of a delivered line,
+/// A certificate of a report: the text of the book at the greatest seen cut of the delivered lines,
 /// and of an order of it that is legal for the sequential object. There is none exactly where that
 /// book has no legal order, which no lawful report leaves.
 pub fn report_certificate<S: SeqObject>(

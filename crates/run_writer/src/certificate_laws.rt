@@ -2,8 +2,8 @@
 
 ghost use Rattle.run_writer.specs.CertificateLaws.{LawfulReportsHaveAnOrder, CertificatesNeedAnOrder, DeliveredRepliesStandInTheOrder, CertificatesAreRead, CertificatesHaveOneBook};
 
-/// A lawful report has a certificate, in whose order each delivered reply stands. A report without
-/// a legal order of what was delivered has none.
+/// A lawful report has a certificate, and each delivered reply stands in the certificate's order. A
+/// report has no certificate where what was delivered has no legal order.
 pub fn lawful_reports_have_certificates()
     // The book of what a lawful report delivered has a legal order.
     ensures order { LawfulReportsHaveAnOrder }
@@ -14,9 +14,9 @@ pub fn lawful_reports_have_certificates()
 {}
 
 /// Whoever reads a certificate of a report reads the report's kind, the book of what was delivered,
-/// which is one book, and a legal order of it.
+/// of which there is one, and a legal order of this book.
 pub fn certificates_tell_of_what_was_delivered()
-    // A text that is a certificate of a report tells the report's kind, the book of what was
+    // A text that is a certificate of a report has the report's kind, the book of what was
     // delivered, and a legal order of it.
     ensures read { CertificatesAreRead }
     // All certificates of a report are of one book.

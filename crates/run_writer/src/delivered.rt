@@ -1,4 +1,5 @@
-//! What was delivered in a report: the greatest seen cut of a delivered line, and the book there.
+//! What was delivered in a report: the greatest seen cut of the delivered lines, and the book at
+//! that cut.
 
 ghost use Rattle.std.specs.Prelude.{◌≡◌, ◌<◌, ℕ, max, length, slice_index, IfOk};
 ghost use Rattle.book_base.specs.BookAt.{greatest_count};
@@ -11,10 +12,10 @@ use report_lines::LineEnd;
 use reports::Report;
 use std::alloc::Global;
 
-/// The greatest seen cut of a delivered line, of each caller the greatest count: the cut of zeros
-/// where no line is delivered.
+/// The greatest seen cut of the delivered lines, which has for each caller the greatest count, and
+/// is all zeros where no line is delivered.
 pub fn delivered_cut(report: &Report) -> Cut
-    // The answer is the greatest seen cut of a delivered line.
+    // The answer is the greatest seen cut of the delivered lines.
     ensures greatest { result ≡ delivered_cut_of report.now.lines }
     // The answer is a cut of the book of the report's lines.
     ensures fits { IsInBook report.now.lines result }
@@ -26,8 +27,8 @@ pub fn delivered_cut(report: &Report) -> Cut
     greatest
 }
 
-/// The book at the greatest seen cut of a delivered line: the records that it holds, and the calls
-/// that their views hold.
+/// The book at the greatest seen cut of the delivered lines: the records that this cut holds, and
+/// the calls that their views hold.
 pub fn delivered_book(alloc: Global, report: &Report) -> Result<Book, NoMemory>
     ensures { IfOk result (λ book. IsDeliveredBook report.now.lines book) }
 {

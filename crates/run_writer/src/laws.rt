@@ -13,15 +13,15 @@ pub fn a_report_and_its_counts_have_one_text()
     ensures { FormsWriteOneText }
 {}
 
-/// Whoever reads a certificate of a report reads the report's kind, and an order of its book that
-/// is legal for the object by which it was judged: the object of the kind that it names, where that
-/// is the one. Two certificates of a report may differ in their orders alone.
+/// Whoever reads a certificate of a report reads the report's kind, and an order of the report's
+/// book that is legal for the object by which the report was judged, which may be the object of the
+/// kind that the certificate names. Two certificates of a report may differ in their orders alone.
 pub fn certificates_are_legal_and_tell_one_book()
     // Whoever reads a certificate of a report reads the report's kind, and an order of its book
     // that is legal for the object that the report was judged by.
     ensures legal { CertificatesAreLegal }
-    // Where that is the object of the report's kind, the order is legal for the kind that the
-    // certificate names.
+    // Where a report was judged by the object of its kind, the order in its certificate is legal
+    // for the kind that the certificate names.
     ensures of_their_kind { CertificatesAreOfTheirKind }
     // Whoever reads two certificates of a report reads one kind and one book.
     ensures one_book { CertificatesTellOneBook }
@@ -34,7 +34,7 @@ pub fn statuses_tell_errors()
 {}
 
 /// Worked outputs: the counts of a report with an error, and of one without, each with its status
-/// and with no other; no other text; and nothing where there is no report.
+/// and with no other one and no other text; and no output where there is no report.
 #[tactic(auto, using(crate::proofs::Statuses::found, crate::proofs::Statuses::not_fine, crate::proofs::Statuses::fine, crate::proofs::Statuses::not_found, crate::proofs::Statuses::no_text, crate::proofs::Statuses::no_report))]
 pub fn outputs_have_their_status()
     ensures found { IsRunOutput (object_of_kind Queue) (λ report. report ≡ worked) Numbers Found

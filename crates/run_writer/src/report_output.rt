@@ -1,4 +1,4 @@
-//! What is written of a run.
+//! Writes what a form shows of a report.
 
 ghost use Rattle.std.specs.Prelude.{◌≡◌, ◌⊎◌, ◌≤◌, ◌++◌, ℕ, List, true, false, IfOk, OnOk};
 ghost use Rattle.std.specs.List.{list_any};
@@ -17,8 +17,9 @@ use reports::{Counts, Report};
 use seq_objects::put_number;
 use std::alloc::Global;
 
-/// Writes what a form shows of a report that was judged by a sequential object, which every lawful
-/// report has. All of it is built before its first byte is written.
+/// Writes what a form shows of a report that was judged by a sequential object. Every lawful report
+/// has a certificate, as the form for it needs. All of the text is built before its first byte is
+/// written.
 pub fn write_report<S: SeqObject, K: Sink>(
     alloc: Global,
     form: Form,
@@ -26,14 +27,15 @@ pub fn write_report<S: SeqObject, K: Sink>(
     report: &Report,
     sink: &mut K,
 ) -> Status
-    // For a certificate, what was delivered by the report has a legal order.
+    // Where the form is a certificate, what was delivered by the report has a legal order.
     requires form { HasForm (object_by S.init S.next sequential.now) form report.now }
 
-    // What was written, by the status.
+    // What was written, with each status, is that of this report.
     ensures ends { RunEnds (object_by S.init S.next sequential.now)
         (λ other. other ≡ report.now) form result (K.taken sink.old) (K.taken sink.new) }
 
-    // Whether a line is an error decides the status, failed writes and want of memory aside.
+    // Where a line of the report is an error, the status is `Found`, failed writes and want of
+    // memory aside.
     ensures found { list_any any_error report.now.lines ≡ true →
         (result ≡ Status.Found) ⊎ (result ≡ Status.WriteFault) ⊎ (result ≡ Status.NoMemory) }
     // Where no line of the report is an error, the status is `Fine`, failed writes and want of
@@ -41,8 +43,8 @@ pub fn write_report<S: SeqObject, K: Sink>(
     ensures fine { list_any any_error report.now.lines ≡ false →
         (result ≡ Status.Fine) ⊎ (result ≡ Status.WriteFault) ⊎ (result ≡ Status.NoMemory) }
 
-    // A fault has its cause in a count that rose in this call, and every other answer comes where
-    // none rose.
+    // The status is `WriteFault` only where the sink's count of faults rose in this call, and
+    // another one only where that count stayed; with `NoMemory` the sink is as it was.
     ensures faults { LeavesSink K.faults result sink.old sink.new }
 {
     match shown(alloc, form, sequential, report) {

@@ -50,16 +50,15 @@ pub fn run_and_write<R: Threads + Sync, B: BlackBox + Sync, K: Sink>(
 ) -> Status
 where
     B::Pass: Send,
-    // The rows have just the script's callers and room for their calls, and the bench is theirs and
-    // holds each of these callers, ready and idle, without a call.
+    // The rows have just the script's callers, and capacity for their calls; the bench is that of
+    // the rows and holds each of these callers, ready and idle, without a call.
     requires begins { MayBegin ⟦<Outside as Program>⟧.meaning script.now 0 rows.now bench.old }
     // There is a pass of the object's own for each caller of the script, in order, with which no
     // call was made, and which has a call for each operation of its caller.
     requires passes { AreUnusedPasses (B.is_own object.now) B.Pass.caller B.Pass.made B.Pass.cap
         script.now.operations passes.old.items }
 
-    // What stands afterwards, whatever the answer.
-    // The bench is still one of these rows, and holds all their callers.
+    // Whatever the answer, the bench is still one of these rows, and holds all their callers.
     ensures bench { IsBenchOf ⟦<Outside as Program>⟧.meaning rows.now bench.new
         × HoldsAll bench.new }
     // There is one pass for each caller of the script.
@@ -75,22 +74,22 @@ where
         (run_allotments script.now)
         bench.new passes.new.items i }
 
-    // The headline: what was written, by the status, is of a lawful report of the locals on the
-    // bench.
+    // The headline: what was written, with each status, is that of a lawful report of the locals on
+    // the bench.
     ensures ends { RunEnds (object_of_kind script.now.kind)
         (IsToldBenchReport (object_of_kind script.now.kind) ⟦<Outside as Program>⟧.meaning
         rows.now bench.new
         B.Pass.made B.Pass.told passes.new.items script.now (run_allotments script.now))
         form result (K.taken sink.old) (K.taken sink.new) }
 
-    // Whether a line of that report is an error decides the status, and who stands free for its
-    // next call.
+    // The report determines the status, by whether one of its lines is an error, and which callers
+    // are free for their next calls.
     ensures reported { EndsByReport (object_of_kind script.now.kind)
         ⟦<Outside as Program>⟧.meaning rows.now
         bench.new script.now (run_allotments script.now) result }
 
-    // A fault has its cause in a count that rose in this call, and every other answer comes where
-    // none rose.
+    // The status is `WriteFault` only where the sink's count of faults rose in this call, and
+    // another one only where that count stayed; with `NoMemory` the sink is as it was.
     ensures faults { LeavesSink K.faults result sink.old sink.new }
 {
     let kind = script.kind();
@@ -115,16 +114,15 @@ pub fn replay_and_write<B: BlackBox, K: Sink>(
     form: Form,
     sink: &mut K,
 ) -> Status
-    // The rows have just the script's callers and room for their calls, and the bench is theirs and
-    // holds each of these callers, ready and idle, without a call.
+    // The rows have just the script's callers, and capacity for their calls; the bench is that of
+    // the rows and holds each of these callers, ready and idle, without a call.
     requires begins { MayBegin ⟦<Outside as Program>⟧.meaning script.now 0 rows.now bench.old }
     // There is a pass of the object's own for each caller of the script, in order, with which no
     // call was made, and which has a call for each operation of its caller.
     requires passes { AreUnusedPasses (B.is_own object.now) B.Pass.caller B.Pass.made B.Pass.cap
         script.now.operations passes.old.items }
 
-    // What stands afterwards, whatever the answer.
-    // The bench is still one of these rows, and holds all their callers.
+    // Whatever the answer, the bench is still one of these rows, and holds all their callers.
     ensures bench { IsBenchOf ⟦<Outside as Program>⟧.meaning rows.now bench.new
         × HoldsAll bench.new }
     // There is one pass for each caller of the script.
@@ -140,22 +138,22 @@ pub fn replay_and_write<B: BlackBox, K: Sink>(
         (replay_allotments script.now)
         bench.new passes.new.items i }
 
-    // The headline: what was written, by the status, is of a lawful report of the locals on the
-    // bench.
+    // The headline: what was written, with each status, is that of a lawful report of the locals on
+    // the bench.
     ensures ends { RunEnds (object_of_kind script.now.kind)
         (IsToldBenchReport (object_of_kind script.now.kind) ⟦<Outside as Program>⟧.meaning
         rows.now bench.new
         B.Pass.made B.Pass.told passes.new.items script.now (replay_allotments script.now))
         form result (K.taken sink.old) (K.taken sink.new) }
 
-    // Whether a line of that report is an error decides the status, and who stands free for its
-    // next call.
+    // The report determines the status, by whether one of its lines is an error, and which callers
+    // are free for their next calls.
     ensures reported { EndsByReport (object_of_kind script.now.kind)
         ⟦<Outside as Program>⟧.meaning rows.now
         bench.new script.now (replay_allotments script.now) result }
 
-    // A fault has its cause in a count that rose in this call, and every other answer comes where
-    // none rose.
+    // The status is `WriteFault` only where the sink's count of faults rose in this call, and
+    // another one only where that count stayed; with `NoMemory` the sink is as it was.
     ensures faults { LeavesSink K.faults result sink.old sink.new }
 {
     let kind = script.kind();
@@ -191,16 +189,15 @@ where
     O::Pass: Send,
     // The rows were opened with the program of this object.
     requires program { AreOpenedWith O.P.meaning (O.program_of object.now) rows.now }
-    // The rows have just the script's callers and room for their calls, and the bench is theirs and
-    // holds each of these callers, ready and idle, without a call.
+    // The rows have just the script's callers, and capacity for their calls; the bench is that of
+    // the rows and holds each of these callers, ready and idle, without a call.
     requires begins { MayBegin O.P.meaning script.now 0 rows.now bench.old }
     // There is one pass for each caller of the rows, in order, which fits the caller, the number of
     // callers, the cap, and no object steps.
     requires passes { ArePassesFor (O.fits object.now) rows.now.callers rows.now.cap
         passes.old.items }
 
-    // What stands afterwards, whatever the answer.
-    // The bench is still one of these rows, and holds all their callers.
+    // Whatever the answer, the bench is still one of these rows, and holds all their callers.
     ensures bench { IsBenchOf O.P.meaning rows.now bench.new × HoldsAll bench.new }
     // There is one pass for each caller of the script.
     ensures all_passes { vec_len passes.new ≡ length script.now.operations }
@@ -211,29 +208,29 @@ where
         → IsBackOn O.P.meaning rows.now (fits_inside (O.fits object.now)) (λ pass. None)
         script.now.operations (run_allotments script.now) bench.new passes.new.items i }
 
-    // The headline: what was written, by the status, is of a lawful report of the locals on the
-    // bench, which has no error line.
+    // The headline: what was written, with each status, is that of a lawful report of the locals on
+    // the bench, which has no error line.
     ensures ends { RunEnds (object_by O.S.init O.S.next (O.sequential_of object.now))
         (IsCoreReport (object_by O.S.init O.S.next (O.sequential_of object.now)) O.P.meaning
         rows.now bench.new script.now (run_allotments script.now))
         form result (K.taken sink.old) (K.taken sink.new) }
 
-    // So no error is found, and all is fine, failed writes and want of memory aside.
+    // The status is never that an error was found.
     ensures right { ¬ (result ≡ Status.Found) }
     // The status is `Fine`, `WriteFault` or `NoMemory`.
     ensures fine { (result ≡ Status.Fine) ⊎ (result ≡ Status.WriteFault)
         ⊎ (result ≡ Status.NoMemory) }
 
-    // By that report, each caller that stopped between two calls, or made all of its calls, stands
-    // free for its next one, want of memory aside.
+    // Want of memory aside, each caller that by the report stopped between two calls, or made all
+    // of its calls, is free for its next one.
     ensures free { ¬ (result ≡ Status.NoMemory) → (report : Findings)
         → IsBenchReport (object_by O.S.init O.S.next (O.sequential_of object.now)) O.P.meaning
         rows.now bench.new script.now (run_allotments script.now) report
         → (i : ℕ) → i < length script.now.operations
         → IsFreeAgain bench.new (run_allotments script.now) report i }
 
-    // A fault has its cause in a count that rose in this call, and every other answer comes where
-    // none rose.
+    // The status is `WriteFault` only where the sink's count of faults rose in this call, and
+    // another one only where that count stayed; with `NoMemory` the sink is as it was.
     ensures faults { LeavesSink K.faults result sink.old sink.new }
 {
     match run_core(rt, alloc, rows, bench, object, passes, script) {

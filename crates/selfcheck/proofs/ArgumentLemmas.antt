@@ -14,7 +14,7 @@ use Rattle.selfcheck.specs.Arguments.{behaviours, behaviour_named, soak_number}
 
 -- ---- behaviours
 
--- a behaviour that is found among some has the name
+-- a behaviour that is found by a name among some has this name
 found_has_name : (all : List Behaviour) (name : List ℕ) (behaviour : Behaviour)
     → find (λ (b : Behaviour). bytes_eq (behaviour_name b) name) all ≡ Some behaviour
     → behaviour_name behaviour ≡ name
@@ -70,7 +70,7 @@ behaviour_read name None found none = here (behaviour_named name) refl
 
 -- ---- numbers
 
--- the choice of a number
+-- the number that a choice by two tests answers
 chosen : (a b : Bool) (n number : ℕ) → (if a && b then Some n else None) ≡ Some number → (a ≡ true)
     × (b ≡ true) × (n ≡ number)
 chosen true true n number e = (refl, refl, cc)

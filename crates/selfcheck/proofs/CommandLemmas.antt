@@ -26,7 +26,7 @@ by_row : (test : Bool) (mine command : Command) (rest : Option Command)
 by_row true mine command rest e = inl (refl, cc)
 by_row false mine command rest e = inr e
 
--- a command that is found in rows of this kind has this one word
+-- a command that is found in rows of one word has the row's word
 named_in-is : (rows : List (List ℕ × Command)) (word : List ℕ) (command : Command)
     → AllByRecursion IsLone rows → named_in rows word ≡ Some command
     → AreWordsOf (word ∷ []) command
@@ -66,7 +66,7 @@ abbrev IsArgued : List ℕ × (List ℕ → Option Command) → Type 0
 IsArgued row = (argument : List ℕ) (command : Command) → row.1 argument ≡ Some command
     → AreWordsOf (row.0 ∷ argument ∷ []) command
 
--- a command that rows of this kind give has these two words
+-- a command that is found in rows of two words has the row's word and the argument
 argued_in-is : (rows : List (List ℕ × (List ℕ → Option Command))) (word argument : List ℕ)
     (command : Command) → AllByRecursion IsArgued rows
     → argued_in rows word argument ≡ Some command → AreWordsOf (word ∷ argument ∷ []) command
@@ -168,7 +168,7 @@ argued_command-from word argument (Soak number) can e =
     rw same (ap (λ (a : List ℕ). option_map Soak (soak_number a)) spelled
     ∙ ap (option_map Soak) (soak_number-from number can))
 
--- no word is, or three words are, of no command
+-- no command has no words, or three
 no_words : (command : Command) → [] ≡ words_of command → ⊥
 no_words Verify e = cc
 no_words Sketch e = cc

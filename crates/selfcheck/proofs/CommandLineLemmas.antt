@@ -1,4 +1,4 @@
--- What clap makes of the command words.
+-- Which command clap finds in the command words.
 use Rattle.std.proofs.Common.{◌≡◌, ◌∷◌, ◌++◌, ◌&&◌, ℕ, Bool, true, false, not, List, [], codes, map, Option, Some, None, String, Global, string_bytes, option_map, if◌then◌else◌, refl, sym, ap, ◌∙◌, subst, true≢false}
 use Rattle.std.specs.Prelude.{find, Box, IsTrue}
 use Rattle.std.specs.Box.{box_value}
@@ -23,8 +23,8 @@ use Rattle.selfcheck.specs.CommandLine.{line_app, begins_with_hyphen, is_parsed,
 
 -- ---- the table of commands
 
--- a command that is found in rows is found at one of them, and so its word has what all words of
--- the rows have
+-- a command that is found in rows is found at one of them, so its word has what the words of all
+-- rows have
 at_row : (P : List ℕ → Type 0) (rows : List (List ℕ × Command)) (word : List ℕ) (command : Command)
     → AllByRecursion (λ (row : List ℕ × Command). P row.0) rows
     → named_in rows word ≡ Some command → P word
@@ -39,7 +39,7 @@ at_row P (row ∷ rows) word command all e =
     here later true same e = subst P (same refl) all.0
     here later false same e = later e
 
--- two words of which one isn't found to be the other
+-- equality of two words fails both ways
 apart : (a b : List ℕ) → bytes_eq a b ≡ false → bytes_eq b a ≡ false
 apart a b e = here (bytes_eq b a) refl
   where
@@ -132,7 +132,7 @@ at_argued_row P (row ∷ rows) word all e =
     here later true same e = subst P (same refl) all.0
     here later false same e = later e
 
--- what no row of one list and no row of another has, none of both has
+-- an element that is in neither of two lists of names is found in neither's concatenation
 find_in_both : (p : Text × List Text → Bool) (a b : Names) → find p a ≡ None → find p b ≡ None
     → find p (a ++ b) ≡ None
 find_in_both p [] b none other = other
@@ -151,7 +151,7 @@ line_is_simple : is_simple line_app ≡ true
 unfolding clap_on_literals
 line_is_simple = refl
 
--- its subcommands are those of the tables
+-- the subcommands of the command line are those of the tables
 names_are : names_of (built line_app) ≡ map (λ (row : List ℕ × Command). (row.0, [])) lone_commands
     ++ map (λ (row : List ℕ × (List ℕ → Option Command)). (row.0, [])) argued_commands
 unfolding clap_on_literals
@@ -273,7 +273,7 @@ unknown_met word plain e lone =
 
 -- ---- what clap answers
 
--- one word: the command of the subcommand that is met is the command that the word names
+-- for one word, the command of the subcommand that clap meets is the command that the word names
 one_word : (word : List ℕ) → begins_with_hyphen word ≡ false → has_argument word ≡ false
     → command_met (met_by_words (word ∷ [])) ≡ lone_command word
 one_word word plain lone = here (lone_command word) refl
@@ -283,7 +283,8 @@ one_word word plain lone = here (lone_command word) refl
     here (Some command) e = ap command_met (known_met word command e)
     here None e = ap command_met (unknown_met word plain e lone) ∙ sym e
 
--- a word that is to have an argument, and one
+-- for a word and an argument, the command of the subcommand that clap meets is the command that the
+-- two name
 two_words : (word argument : List ℕ) → has_argument word ≡ true
     → begins_with_hyphen argument ≡ false
     → command_met (met_by_words (word ∷ argument ∷ [])) ≡ argued_command word argument
@@ -321,7 +322,7 @@ taken_is (word ∷ argument ∷ []) matches parsed told =
     ∙ two_words (string_bytes word) (string_bytes argument) tests.0 tests.1
 taken_is (word ∷ argument ∷ third ∷ rest) matches parsed told = cc
 
--- words that clap refuses, though memory was there, name no command
+-- words that clap refuses, though there was memory, name no command
 pub refused_is : (words : List (String Global)) → IsTrue (is_parsed words)
     → (takes line_app (map string_bytes words) ≡ true → ⊥) → command_of words ≡ None
 unfolding is_parsed command_of
@@ -339,7 +340,7 @@ refused_is (word ∷ argument ∷ []) parsed refused =
     (text_is_plain (string_bytes argument) tests.1)))
 refused_is (word ∷ argument ∷ third ∷ rest) parsed refused = refl
 
--- an argument that begins with a hyphen is none of a command: one part a row
+-- no argument that begins with a hyphen is one of a command: one part a row
 hyphens_are_none : AllByRecursion
     (λ (row : List ℕ × (List ℕ → Option Command)). (bytes : List ℕ) → row.1 (45 ∷ bytes) ≡ None)
     argued_commands

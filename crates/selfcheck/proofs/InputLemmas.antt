@@ -3,7 +3,7 @@ use Rattle.std.proofs.Common.{◌≡◌, ℕ, List, sym, ◌∙◌, arith, inl, 
 use Rattle.book_base.specs.declared.fault.TextFault.{TextFault}
 use Rattle.selfcheck.specs.Input.{IsRefusedFor}
 
--- the first fault of the bytes is one, so the fault is
+-- the first fault of the bytes is one fault, and so is the fault for which an input is refused
 pub one_refusal : (IsFirst : List ℕ → TextFault → Type 0) (bytes : List ℕ) (a b : TextFault)
     → ((p q : TextFault) → IsFirst bytes p → IsFirst bytes q → p ≡ q) → IsRefusedFor IsFirst bytes a
     → IsRefusedFor IsFirst bytes b → a ≡ b

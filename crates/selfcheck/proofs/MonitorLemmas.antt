@@ -33,7 +33,7 @@ use Rattle.monitor_writer.specs.MonitorTexts.{IsMonitorText}
 use Rattle.selfcheck.specs.Refusal.{IsReadFault}
 use Rattle.selfcheck.specs.MonitorInput.{LeavesTwo, IsMonitorInput, IsOpening, IsCrowded, IsFirstMonitorFault}
 
--- what is written of a run has one of the two statuses that say that the work is done
+-- what is written of a run has one of the statuses `Fine` and `Found`
 pub monitor_statuses : (kind : Kind) (locals : List Local) (status : Status) (text : List ℕ)
     → IsMonitorText kind locals status text → (status ≡ Fine) ⊎ (status ≡ Found)
 monitor_statuses kind locals Fine text told = inl refl
@@ -58,7 +58,7 @@ same_line_at text a b left right one other = here (sym one ∙ other)
         let pair : ◌≡◌ {A = List ℕ × Unread} (a, left) (b, right) = cc in
         (ap (λ (p : List ℕ × Unread). p.0) pair, ap (λ (p : List ℕ × Unread). p.1) pair)
 
--- the bytes tell of one number of callers
+-- the first three lines of bytes have one number of callers
 pub one_opening : (bytes : List ℕ) (n m : ℕ) → IsOpening bytes n → IsOpening bytes m → n ≡ m
 one_opening bytes n m a b =
     let first = same_line_at
@@ -77,7 +77,7 @@ one_opening bytes n m a b =
     same_number n m (omega (arith, a.may.few)) (omega (arith, b.may.few))
     (same_first (decimal n) (decimal m) [] [] numbers.1).0
 
--- three lines that are read, and of which the third tells a number, are an opening
+-- three lines that are read, the third of which has a number of callers, are an opening
 pub opening_read : (bytes title object callers : List ℕ) (a b d : Unread) (result : Option ℕ)
     → line_at (whole_text bytes) ≡ Ok (title, a) → line_at a ≡ Ok (object, b)
     → line_at b ≡ Ok (callers, d)
@@ -178,7 +178,7 @@ opening_of_script bytes plan told =
     written.writable.kind_known (written.text ∙ three_lines (title_words Second (codes "script"))
     (object_words plan.kind) (callers_words (length counts)) rest))
 
--- so a script that leaves two callers isn't crowded
+-- a script that leaves two callers for the monitors isn't crowded
 pub capacious_script : (bytes : List ℕ) (plan : Plan) → IsScriptText Second bytes plan
     → LeavesTwo plan
     → IsCrowded bytes → ⊥
@@ -191,7 +191,7 @@ capacious_script bytes plan told few crowded =
           (opening_of_script bytes plan told),
     )
 
--- and one that isn't crowded leaves two
+-- a script that isn't crowded leaves two callers for the monitors
 pub leaves_two : (bytes : List ℕ) (plan : Plan) → IsScriptText Second bytes plan → ¬ IsCrowded bytes
     → LeavesTwo plan
 leaves_two bytes plan told roomy =
@@ -226,7 +226,7 @@ pub monitored_few : (bytes : List ℕ) (result : Result Plan ReadFault) → ¬ I
 monitored_few bytes (Ok script) roomy told = leaves_two bytes script told roomy
 monitored_few bytes (Err fault) roomy told = tt
 
--- and the fault that it finds is the first one
+-- the fault that this reader finds is the first one
 pub monitored_refused : (bytes : List ℕ) (result : Result Plan ReadFault)
     → length bytes ≤ INPUT_LIMIT → ¬ IsCrowded bytes
     → IfErr result (λ e. (e ≡ NoMemory) ⊎ ((fault : TextFault) × (e ≡ Text fault)

@@ -70,7 +70,7 @@ one_fault_of NoForm bytes a b p q = absurd p
 
 -- ---- what commands answer: one case a command
 
--- an answer has one of the two statuses that say that the work is done
+-- an answer has one of the statuses `Fine` and `Found`
 answer_statuses : (command : Command) (bytes : List ℕ) (status : Status) (text : List ℕ)
     → IsAnswerOf command bytes status text → (status ≡ Fine) ⊎ (status ≡ Found)
 answer_statuses Verify bytes Fine text answer = inl refl
@@ -99,7 +99,7 @@ answer_statuses (Monitor behaviour) bytes status text answer =
 answer_statuses (Soak number) bytes status text answer = run_statuses (object_of_kind Queue)
     (IsNamedRunReport Lawful (soak_plan number)) Counts status text answer.1
 
--- what is answered is an input of the wanted form
+-- an input that is answered is a text of the wanted form
 answered_is_wanted : (command : Command) (bytes : List ℕ) (status : Status) (text : List ℕ)
     → IsAnswerOf command bytes status text → IsTextOf (form_of command) bytes
 answered_is_wanted Verify bytes Fine text answer = IsTextOfBook-from_legal bytes answer.0
@@ -137,7 +137,7 @@ output_cases : (command : Command) (bytes : List ℕ) (status : Status) (text : 
 output_cases command bytes Refused text output = inr (refl, output)
 output_cases command bytes _ text output = inl output
 
--- what is taken isn't refused
+-- an input that is taken isn't refused
 taken_or_refused : (command : Command) (bytes text : List ℕ) → IsTaken command bytes
     → IsRefusal command bytes text → ⊥
 taken_or_refused command bytes text taken refusal =
@@ -160,7 +160,7 @@ refuse_what_is_not_taken command bytes status text output =
       | inr a ↦ (λ _ taken. taken_or_refused command bytes text taken a.1, λ _. a.0)
     ]
 
--- an output has been written where the program ends with its status
+-- an output has no status of an unfinished program
 finished : (command : Command) (bytes : List ℕ) (status : Status) (text : List ℕ)
     → IsOutputOf command bytes status text → IsUnfinished status → ⊥
 finished command bytes ReadFault text output unfinished =
@@ -300,7 +300,8 @@ sets_is_determined = IsDetermined-from_answers Sets one_set_verdict
 
 -- ---- runs over objects inside the world
 
--- what is said of such a run is fine: one case a command that makes one
+-- the answer of a command that makes a run over an object inside the world has the status `Fine`:
+-- one case a command
 fine_answer : (command : Command) (bytes : List ℕ) (status : Status) (text : List ℕ)
     → RunsInside command bytes → IsAnswerOf command bytes status text → status ≡ Fine
 fine_answer (Run behaviour) bytes status text inside answer =
@@ -314,7 +315,7 @@ fine_answer (Soak number) bytes status text inside answer =
     status text (λ report is. is.no_error refl) answer.1
 fine_answer command bytes status text inside answer = absurd inside
 
--- so all outputs for a script that is taken are fine
+-- all outputs for a script that is taken, over an object inside the world, have the status `Fine`
 pub inside_is_fine : (command : Command) (bytes : List ℕ) → IsTaken command bytes
     → RunsInside command bytes → HasOneStatus command bytes Fine
 inside_is_fine command bytes taken inside other text output =
@@ -326,7 +327,7 @@ inside_is_fine command bytes taken inside other text output =
 soak_is_taken : (number : ℕ) → IsTaken (Soak number) []
 soak_is_taken number = (omega arith, refl)
 
--- what a soak says is that all calls of its script are delivered
+-- the answer of a soak is that all calls of its script are delivered
 soak_says : (number : ℕ) (bytes : List ℕ) (status : Status) (text : List ℕ)
     → IsAnswerOf (Soak number) bytes status text → (status ≡ Fine)
     × (text ≡ codes "calls 128 delivered 128 errors 0\n")
@@ -509,7 +510,7 @@ Ends-usage words result left taken taken' unnamed (inr part) =
 
 -- ---- what the bytes of a source that tells them decide
 
--- the bytes that a command works on are those of the source that it is for
+-- the bytes that a command works on are those of its source, up to one past the limit
 input_is : (command : Command) (held : List ℕ) (new : Option (List ℕ)) (bytes : List ℕ)
     → ReadsFor command (Some held) new bytes → bytes ≡ input_of command held
 input_is Verify held new bytes reads = reads.0
@@ -548,8 +549,8 @@ exact-from_ends command left left' taken taken' bytes held status result reads e
     one_status (IsOutputOf command bytes) status result taken taken' ends
     (subst (λ b. HasOneStatus command b status) (sym same) one)
 
--- a call that wrote an output for an input that the command takes has answered it, where no write
--- failed
+-- a call that wrote an output for an input that the command takes has an answer's status, where no
+-- write failed
 done : (command : Command) (bytes : List ℕ) (result : Status) (taken taken' : Option (List ℕ))
     → EndsWriting (IsOutputOf command bytes) result taken taken'
     → IsTaken command bytes → (result ≡ WriteFault → ⊥) → (result ≡ Fine)
@@ -580,7 +581,7 @@ complete-from_ends command left left' taken taken' bytes held result reads ends 
     done command bytes result taken taken' ends
     (subst (λ b. IsTaken command b) (sym same) wanted) calm
 
--- a soak is fine, where its output was written whole
+-- a soak is answered `Fine`, where its output was written whole
 pub soak-from_ends : (number : ℕ) (command : Command) (left left' taken taken' : Option (List ℕ))
     (bytes : List ℕ) (result : Status) → command ≡ Soak number
     → ReadsFor command left left' bytes → EndsWriting (IsOutputOf command bytes) result taken taken'

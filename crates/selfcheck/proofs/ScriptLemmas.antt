@@ -20,7 +20,7 @@ pub script_input_or_fault : (bytes : List ℕ) (fault : TextFault) → IsScriptI
 unfolding IsScriptInput
 script_input_or_fault bytes fault told first = no_first_fault Second bytes told.0 fault told.1 first
 
--- what is shown of an input's script is of a script
+-- the bytes of which a script's run is shown are the text of a script
 pub IsScriptInput-from_shown : (IsReportFor : Plan → Findings → Type 0) (form : Form)
     (bytes : List ℕ) (status : Status) (text : List ℕ)
     → IsShownOf IsReportFor form bytes status text → IsScriptInput bytes
@@ -33,13 +33,13 @@ by_error : (error : Bool) (status : Status) → status ≡ (if error then Found 
 by_error true status e = inr e
 by_error false status e = inl e
 
--- a run that is told of has found an error, or none
+-- a run of which a report is shown has found an error, or none
 pub run_statuses : (object : Sequential) (IsOne : Findings → Type 0) (form : Form) (status : Status)
     (text : List ℕ) → IsRunOutput object IsOne form status text → (status ≡ Fine) ⊎ (status ≡ Found)
 run_statuses object IsOne form status text output =
     by_error (list_any any_error output.0.lines) status output.3
 
--- where no line of its report is an error, all is fine
+-- where no line of a run's report is an error, the status is `Fine`
 pub fine_without_error : (object : Sequential) (IsOne : Findings → Type 0) (form : Form)
     (status : Status) (text : List ℕ)
     → ((report : Findings) → IsOne report → list_any any_error report.lines ≡ false)

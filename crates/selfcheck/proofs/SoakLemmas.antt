@@ -28,7 +28,7 @@ delivered_end (Unchecked r) seen right = cc
 delivered_end (Delivered r cut) seen right = refl
 delivered_end (Error r cut) seen right = cc
 
--- so all lines are of a caller that has made all phases of n calls, none of them an error
+-- all lines are delivered of a caller that has made all phases of n calls, none of them an error
 record AreDelivered (n : ℕ) (own : List Line) : Type 0 where
   all : length own ≡ n
   delivered : count_by is_delivered own ≡ n
@@ -100,7 +100,7 @@ soak_counts number findings is =
     over_four (count_by is_error) 0 findings.lines lawful.callers (λ i low. (each i low).errors) in
     λ j. record { calls = calls j; delivered = delivered j; errors = errors j }
 
--- and the line of these counts
+-- the line of these counts is the output of a soak
 pub soak_line : counts_text (record { calls = 128; delivered = 128; errors = 0 })
     ≡ codes "calls 128 delivered 128 errors 0\n"
 unfolding digits

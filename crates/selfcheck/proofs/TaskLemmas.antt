@@ -1,5 +1,5 @@
--- What is written of a task with a script is an output of its command, and what is written of a
--- soak's run one of the soak.
+-- What is written for a task with a script is an output of its command, and what is written of a
+-- soak's run is an output of the soak.
 use Rattle.std.proofs.Common.{◌≡◌, ℕ, ◌≤◌, List, [], length, Option, refl, subst, arith}
 use Rattle.client_scripts.specs.Plans.{Plan}
 use Rattle.client_scripts.specs.ScriptRules.{IsScriptText}

@@ -89,13 +89,13 @@ one_old_fault bytes a b (inr p) (inr q) = books.one_first_fault First bytes a b 
 
 -- ---- what is written of them
 
--- what is written anew is written of a text of version 1
+-- the bytes of which a text of version 2 is written are a text of version 1
 pub old-from_upgraded : (bytes text : List ℕ) → IsUpgraded bytes text → IsOldInput bytes
 unfolding IsOldInput
 old-from_upgraded bytes text (inl script) = inl (script.0, (script.1.plan, script.1.old))
 old-from_upgraded bytes text (inr book) = inr (book.0, (book.1.kind, book.1.book, book.1.old))
 
--- there is one text to write
+-- there is one text of version 2 to write
 pub one_upgraded : (bytes text text' : List ℕ) → IsUpgraded bytes text → IsUpgraded bytes text'
     → text ≡ text'
 one_upgraded bytes text text' (inl a) (inl b) =
@@ -117,7 +117,7 @@ moved version bytes k l a b same told =
     subst (λ (book : List Page). IsBookText version bytes l book) same.1
     (subst (λ (kind : Kind). IsBookText version bytes kind a) same.0 told)
 
--- what is written anew says the same as what it was written of
+-- the text of version 2 says the same as the bytes
 pub says_the_same : (bytes text : List ℕ) → IsUpgraded bytes text → SaysTheSame bytes text
 says_the_same bytes text (inl script) =
     let written : IsScriptText Second text script.1.plan =
@@ -151,7 +151,7 @@ says_the_same bytes text (inr upgraded) =
       );
     }
 
--- so books that are read from both have the same legal orders
+-- books that are read from the bytes and from the text have the same legal orders
 pub one_order : (bytes text : List ℕ) (kind other : Kind) (book another : List Page)
     → IsUpgraded bytes text → IsBookText First bytes kind book
     → IsBookText Second text other another → (order : List Place)

@@ -59,7 +59,7 @@ abbrev pub names_argued : List (List ℕ × (List ℕ → Option Command)) → L
 names_argued [] word = false
 names_argued (row ∷ rows) word = if bytes_eq word row.0 then true else names_argued rows word
 
--- the command that the first of these with this word has, with this argument
+-- the command that the first of these commands with this word is for this argument
 abbrev pub argued_in : List (List ℕ × (List ℕ → Option Command)) → List ℕ → List ℕ → Option Command
 argued_in [] word argument = None
 argued_in (row ∷ rows) word argument =
@@ -73,7 +73,7 @@ has_argument word = names_argued argued_commands word
 unfoldable pub argued_command : List ℕ → List ℕ → Option Command
 argued_command word argument = argued_in argued_commands word argument
 
--- the command that the command words name, where they are those of one
+-- the command that the command words name, where they name one
 unfoldable pub command_of : List (String Global) → Option Command
 command_of [] = None
 command_of (word ∷ []) = lone_command (string_bytes word)

@@ -6,7 +6,8 @@ use Rattle.clap.specs.Walk.{Row, Text, first_of}
 use Rattle.selfcheck.specs.declared.command.Command.{Command}
 use Rattle.selfcheck.specs.Command.{argued_command, argued_commands, has_argument, lone_command, lone_commands}
 
--- Before it has subcommands: the first word is to be that of a command, and clap adds no help.
+-- The command line without its subcommands: the first word is to be that of a command, and clap
+-- adds no help.
 abbrev pub bare_top : Shape
 bare_top = record (new_shape (codes "selfcheck")) {
   no_binary_name = true;
@@ -15,7 +16,7 @@ bare_top = record (new_shape (codes "selfcheck")) {
   subcommand_required = true;
 }
 
--- a subcommand with an argument, which clap takes for a text
+-- a subcommand with an argument, which clap reads as a text
 abbrev pub argued_shape : List ℕ → Shape
 argued_shape name = record (new_shape name)
     { rules = record (new_rule (codes "argument")) { required = true } ∷ [] }
@@ -33,8 +34,8 @@ abbrev pub begins_with_hyphen : List ℕ → Bool
 begins_with_hyphen [] = false
 begins_with_hyphen (byte ∷ bytes) = byte == 45
 
--- Whether words are handed to clap: there are as many as a command has, and none begins with a
--- hyphen.
+-- Whether words are handed to clap: they are as many as a command of their first word has, and none
+-- begins with a hyphen.
 unfoldable pub is_parsed : List (String Global) → Bool
 is_parsed [] = false
 is_parsed (word ∷ []) =

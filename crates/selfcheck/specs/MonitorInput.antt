@@ -1,4 +1,4 @@
--- Which scripts leave two callers for the monitors, and what is written of a run that these watch.
+-- Which scripts leave two callers for the monitors, and what is written of a run of such a script.
 use Rattle.std.specs.Prelude.{◌≡◌, ◌⊎◌, ℕ, ◌+◌, ◌<◌, ◌≤◌, List, length, codes, Ok}
 use Rattle.book_base.specs.declared.TheConstants.{MAX_CALLERS}
 use Rattle.book_base.specs.declared.fault.TextFault.{TextFault}
@@ -18,7 +18,7 @@ use Rattle.named_runs.specs.Monitored.{AreNamedMonitored, IsMonitorOutput}
 abbrev pub LeavesTwo : Plan → Type 0
 LeavesTwo plan = length plan.operations + 2 ≤ MAX_CALLERS
 
--- the bytes are the text of a script that leaves two callers
+-- the bytes are the text of a script that leaves two callers for the monitors
 unfoldable pub IsMonitorInput : List ℕ → Type 0
 IsMonitorInput bytes = (plan : Plan) × IsScriptText Second bytes plan × LeavesTwo plan
 
@@ -39,19 +39,22 @@ pub record IsOpening (bytes : List ℕ) (callers : ℕ) : Type 0 where
   pub may : AreCallers Second callers
   pub told : words_of callers_line ≡ callers_words callers
 
--- The first three lines are right, and their callers don't leave two.
+-- The first three lines of the bytes are those of a script of too many callers to leave two for the
+-- monitors.
 abbrev pub IsCrowded : List ℕ → Type 0
 IsCrowded bytes = (callers : ℕ) × IsOpening bytes callers × (MAX_CALLERS < callers + 2)
 
--- The first fault of bytes that are no text of a script that leaves two callers: too many callers
--- fail in the third line, whatever follows.
+-- The first fault of bytes that are no text of a script that leaves two callers for the monitors:
+-- in the third line where this has too many callers, whatever follows it, and else the first fault
+-- of a script's text.
 unfoldable pub IsFirstMonitorFault : List ℕ → TextFault → Type 0
 IsFirstMonitorFault bytes fault =
     (IsCrowded bytes × (fault ≡ record { line = 3; what = Callers }))
     ⊎ ((¬ IsCrowded bytes) × IsFirstScriptFault Second bytes fault)
 
--- What `monitor` says of the text of a script: a status and a text, right of the records that its
--- callers published, each in a thread, whose calls the object of the behaviour answered.
+-- What `monitor` says of the text of a script: a status and a text that are right for the records
+-- that the script's callers, each in a thread, published, where the object of the behaviour
+-- answered their calls.
 abbrev pub IsMonitoredOf : Behaviour → List ℕ → Status → List ℕ → Type 0
 IsMonitoredOf behaviour bytes status text =
     (plan : Plan) × IsScriptText Second bytes plan × LeavesTwo plan

@@ -1,4 +1,4 @@
--- The output of a command, and what the program has done where it ends.
+-- The output of a command, and what the program has done when it ends.
 use Rattle.std.specs.Prelude.{◌≡◌, ◌⊎◌, ◌↔◌, ℕ, ◌≤◌, List, [], length, Option, MatchOption, MatchBool, String, codes, if◌then◌else◌}
 use Rattle.std.specs.declared.alloc.Global.{Global}
 use Rattle.std.specs.Io.KnownBytes.{Appends, Keeps}
@@ -143,20 +143,20 @@ IsOutputOf command bytes Refused text = IsRefusal command bytes text
 IsOutputOf command bytes status text = (length bytes ≤ INPUT_LIMIT)
     × IsAnswerOf command bytes status text
 
--- The command runs a script over an object inside the world, that of these bytes or, where it is a
--- soak, its own.
+-- The command makes a run over an object inside the world: of the script that these bytes are, or,
+-- where the command is a soak, of its own script.
 abbrev pub RunsInside : Command → List ℕ → Type 0
 RunsInside (Run behaviour) bytes = IsRunInside behaviour bytes
 RunsInside (Certify behaviour) bytes = IsRunInside behaviour bytes
 RunsInside (Soak number) bytes = Unit {0}
 RunsInside command bytes = ⊥
 
--- all outputs of the command for these bytes have this status
+-- all outputs of the command for these bytes have this one status
 abbrev pub HasOneStatus : Command → List ℕ → Status → Type 0
 HasOneStatus command bytes status = (other : Status) (text : List ℕ)
     → IsOutputOf command bytes other text → other ≡ status
 
--- the bytes leave the command no choice: it has one output for them
+-- the command is determined: it has at most one output for the bytes of an input
 abbrev pub IsDetermined : Command → Type 0
 IsDetermined command = (bytes : List ℕ) (status other : Status) (text text' : List ℕ)
     → IsOutputOf command bytes status text → IsOutputOf command bytes other text' → (status ≡ other)
@@ -168,12 +168,12 @@ SoaksDeliverAll = (number : ℕ) (status : Status) (text : List ℕ)
     → IsOutputOf (Soak number) [] status text
     → (status ≡ Fine) × (text ≡ codes "calls 128 delivered 128 errors 0\n")
 
--- An output refuses the input exactly where the command doesn't take it.
+-- An output is a refusal exactly where the command doesn't take the input.
 abbrev pub RefuseWhatIsNotTaken : Type 0
 RefuseWhatIsNotTaken = (command : Command) (bytes : List ℕ) (status : Status) (text : List ℕ)
     → IsOutputOf command bytes status text → (status ≡ Refused) ↔ ¬ (IsTaken command bytes)
 
--- the output where the command words aren't right
+-- the output for words that name no command
 abbrev pub IsUsage : Status → List ℕ → Type 0
 IsUsage status text = (status ≡ Usage) × (text ≡ codes "usage: selfcheck COMMAND\n")
 
@@ -191,7 +191,7 @@ abbrev pub ReadsFor : Command → Option (List ℕ) → Option (List ℕ) → Li
 ReadsFor command old new bytes =
     MatchBool (reads_source command) (HasRead old new bytes) (Keeps old new × (bytes ≡ []))
 
--- the bytes that the program works on; words that aren't right leave the source as it is
+-- the bytes that the program works on; where the words name no command, the source is left as it is
 abbrev pub Reads : List (String Global) → Option (List ℕ) → Option (List ℕ) → List ℕ → Type 0
 Reads words old new bytes =
     MatchOption (command_of words) (Keeps old new) (λ command. ReadsFor command old new bytes)
@@ -200,14 +200,14 @@ Reads words old new bytes =
 -- what it wrote, after those that the sink had taken.
 abbrev pub Ends : List (String Global) → Status → Option (List ℕ) → Option (List ℕ)
     → Option (List ℕ) → Option (List ℕ) → Type 0
--- nothing is written
+-- nothing is written where a read failed or memory was wanted
 Ends words ReadFault left left' taken taken' = Keeps taken taken'
 Ends words NoMemory left left' taken taken' = Keeps taken taken'
--- the first bytes of the output are written, and not all
+-- where a write failed, a prefix of the output is written, and not all of it
 Ends words WriteFault left left' taken taken' =
     (bytes : List ℕ) × (status : Status) × (text : List ℕ) × Reads words left left' bytes
     × IsOutput words bytes status text × AppendsPart taken taken' text
--- the output with this status is written whole
+-- with any other status the output with this status is written whole
 Ends words status left left' taken taken' =
     (bytes : List ℕ) × (text : List ℕ) × Reads words left left' bytes
     × IsOutput words bytes status text × Appends taken taken' text

@@ -20,7 +20,7 @@ unfoldable pub IsScriptInput : List ℕ → Type 0
 IsScriptInput bytes = (plan : Plan) × IsScriptText Second bytes plan
 
 -- What a form shows of the script that the bytes are the text of: a status and a text, of a report
--- that is one for this script.
+-- that `IsReportFor` allows for this script.
 abbrev pub IsShownOf : (Plan → Findings → Type 0) → Form → List ℕ → Status → List ℕ → Type 0
 IsShownOf IsReportFor form bytes status text =
     (plan : Plan) × IsScriptText Second bytes plan

@@ -1,5 +1,4 @@
--- What `upgrade` takes, and what it writes of it: a text of version 1, and the text of version 2 of
--- what that says.
+-- What `upgrade` takes, and what it writes: the text of version 2 of what a text of version 1 says.
 use Rattle.std.specs.Prelude.{◌≡◌, ◌⊎◌, ℕ, List, ◌++◌, codes}
 use Rattle.book_base.specs.declared.fault.TextFault.{TextFault}
 use Rattle.book_base.specs.Book.{Page}
@@ -15,7 +14,8 @@ use Rattle.text_fields.specs.declared.version.Version.TheVariants.{First, Second
 unfoldable pub BeginsAsScript : List ℕ → Type 0
 BeginsAsScript bytes = (rest : List ℕ) × (bytes ≡ codes "script 1\n" ++ rest)
 
--- The first line says whether the bytes are to be a script's text or else a book's.
+-- The bytes are as a script's text where their first line is the title of a script of version 1,
+-- and else as a book's.
 abbrev pub ByTitle : List ℕ → Type 0 → Type 0 → Type 0
 ByTitle bytes Script Book = (BeginsAsScript bytes × Script) ⊎ (¬ (BeginsAsScript bytes) × Book)
 
@@ -24,7 +24,7 @@ unfoldable pub IsOldInput : List ℕ → Type 0
 IsOldInput bytes = ByTitle bytes ((plan : Plan) × IsScriptText First bytes plan)
     ((kind : Kind) × (book : List Page) × IsBookText First bytes kind book)
 
--- the first fault of bytes that are to be such a text
+-- the first fault of bytes that are to be the text of a script or of a book, in version 1
 abbrev pub IsFirstOldFault : List ℕ → TextFault → Type 0
 IsFirstOldFault bytes fault =
     ByTitle bytes (IsFirstScriptFault First bytes fault) (IsFirstBookFault First bytes fault)

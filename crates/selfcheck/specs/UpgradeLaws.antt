@@ -13,7 +13,7 @@ use Rattle.selfcheck.specs.declared.command.Command.TheVariants.{Upgrade}
 use Rattle.byte_streams.specs.declared.status.Status.TheVariants.{Fine}
 use Rattle.selfcheck.specs.Output.{IsOutputOf}
 
--- What is read in version 2 is what was read in version 1.
+-- What is read of the text in version 2 is what is read of the bytes in version 1.
 pub record SaysTheSame (bytes text : List ℕ) : Type 0 where
   pub books : (kind : Kind) (book : List Page) → IsBookText First bytes kind book
       ↔ IsBookText Second text kind book
@@ -24,7 +24,7 @@ abbrev pub UpgradesSayTheSame : Type 0
 UpgradesSayTheSame = (bytes text : List ℕ) → IsOutputOf Upgrade bytes Fine text
     → SaysTheSame bytes text
 
--- the orders are legal for both books, or for none
+-- the order is legal for both books, or for neither
 abbrev pub HaveOneOrder : Kind → List Page → Kind → List Page → List Place → Type 0
 HaveOneOrder kind book other another order =
     IsLegalOrder (kind_init kind) (kind_next kind) book order

@@ -6,7 +6,7 @@ use book_base::NoMemory;
 use faulty_objects::Behaviour;
 use std::alloc::Global;
 
-/// What the program is to do.
+/// A command: what the program is to do.
 #[derive(Clone, Copy, Debug, PartialEq, Eq)]
 pub enum Command {
     /// Say whether a book has a legal order.
@@ -26,7 +26,7 @@ pub enum Command {
     /// Run a script as [`Command::Run`] does, and write a certificate of what was delivered.
     Certify(Behaviour),
     /// Run a script over the object of a behaviour, each caller in a thread, while two monitors
-    /// watch, and write what they say.
+    /// watch, and write what the monitors found.
     Monitor(Behaviour),
     /// Run the script made from this number over the lawful object, and write the report's counts.
     Soak(u64),
@@ -36,12 +36,12 @@ impl Command {
     ghost use Rattle.selfcheck.specs.Command.{argued_command, command_of, has_argument, lone_command, reads_source};
     ghost use Rattle.selfcheck.specs.CommandLine.{is_parsed};
 
-    /// The command that the words name: those after the program's name. Words that can't be those
-    /// of a command are answered before clap reads them.
+    /// The command that the words after the program's name name. Words that no command can have are
+    /// answered before clap reads them.
     pub fn from_words(alloc: Global, words: &[String]) -> Result<Option<Command>, NoMemory>
         // The answered command is the one that the words name, and None where they name none.
         ensures command { IfOk result (λ command. command ≡ command_of words.now) }
-        // Words that can't be those of a command are answered None without want of memory.
+        // Words that aren't handed to clap are answered None, and never with want of memory.
         ensures unparsed { ¬ IsTrue (is_parsed words.now)
             → IsOkAnd result (λ command. command ≡ None) }
     {
@@ -67,7 +67,8 @@ impl Command {
         }
     }
 
-    /// The command that this word names with this argument: an arm for each command that has one.
+    /// The command that this word names with this argument. It has an arm for each command with an
+    /// argument.
     #[tactic(auto, unfolding(crate::specs::Command::argued_command))]
     pub(crate) fn from_pair(word: &str, argument: &str) -> Option<Command>
         ensures { result ≡ argued_command word.now argument.now }

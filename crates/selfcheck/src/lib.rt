@@ -1,4 +1,4 @@
-//! The top call: what the words ask for, and the program's answer as a status.
+//! The top call: which command the words name, and the program's answer as a status.
 #![tactic(auto)]
 
 mod arguments;

@@ -26,7 +26,7 @@ use std::thread::Threads;
 use text_fields::{Lines, Version, Words, are_words, callers_of};
 
 /// Runs the script that the bytes read are the text of over the object of a behaviour, while two
-/// monitors watch, and writes what they say.
+/// monitors watch, and writes what the monitors found.
 pub(crate) fn monitor_script<R: Threads + Sync, K: Sink>(
     rt: &R,
     alloc: Global,
@@ -62,7 +62,7 @@ fn read_monitored(alloc: Global, bytes: &[u8]) -> Result<Script, ReadFault>
     read_script(alloc, bytes)
 }
 
-/// Whether the first three lines are those of a script whose callers don't leave two for the
+/// Whether the first three lines are those of a script of too many callers to leave two for the
 /// monitors.
 fn is_crowded(bytes: &[u8]) -> bool
     ensures { IsTrue result ↔ IsCrowded bytes.now }
@@ -73,7 +73,7 @@ fn is_crowded(bytes: &[u8]) -> bool
     }
 }
 
-/// The number of callers that the first three lines tell, where they are those of a script.
+/// The number of callers in the first three lines, where these are those of a script.
 fn callers_told(bytes: &[u8]) -> Option<u32>
     ensures found { IfSome result (IsOpening bytes.now) }
     ensures none { IfNone result ((callers : ℕ) → ¬ IsOpening bytes.now callers) }
@@ -94,7 +94,7 @@ fn callers_told(bytes: &[u8]) -> Option<u32>
     callers_of(Version::Second, &mut Words::new(callers))
 }
 
-/// Whether a line is that of the object, with the name of a kind.
+/// Whether a line is an object line with the name of a kind.
 fn names_a_kind(line: &[u8]) -> bool
     ensures yes { IsTrue result → (kind : TheKind) × (words_of line.now ≡ object_words kind) }
     ensures no { ¬ IsTrue result → (kind : TheKind) → words_of line.now ≢ object_words kind }

@@ -14,16 +14,16 @@ use std::thread::Threads;
 /// What a command does with the script of an input.
 #[derive(Clone, Copy, Debug, PartialEq, Eq)]
 pub(crate) enum ScriptTask {
-    /// Run it, each caller in a thread, and write the report.
+    /// Runs the script, each caller in a thread, and writes the report.
     Run,
-    /// Take its turns in one thread, and write the report.
+    /// Takes the script's turns in one thread, and writes the report.
     Replay,
-    /// Run it, each caller in a thread, and write a certificate of what was delivered.
+    /// Runs the script, each caller in a thread, and writes a certificate of what was delivered.
     Certify,
 }
 
 impl ScriptTask {
-    /// Does this with a script, over the object of a behaviour.
+    /// Does this task with a script, over the object of a behaviour.
     pub(crate) fn carry_out<R: Threads + Sync, K: Sink>(
         self,
         rt: &R,

@@ -17,11 +17,11 @@ use std::thread::Threads;
 /// How many callers the script of a soak has.
 const CALLERS: u32 = 4;
 
-/// How many calls each of them makes.
+/// How many calls each caller of a soak makes.
 const CALLS: u64 = 32;
 
-/// Does what `soak` is for: runs the script made from its number over the lawful object, each
-/// caller in a thread, and writes the three counts of the report.
+/// Makes a soak: runs the script made from its number over the lawful object, each caller in a
+/// thread, and writes the three counts of the report.
 pub(crate) fn soak<R: Threads + Sync, K: Sink>(
     rt: &R,
     alloc: Global,

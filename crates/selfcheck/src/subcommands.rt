@@ -12,8 +12,8 @@ use clap::ArgMatches;
 use clap::error::ErrorKind;
 use std::alloc::{AllocError, Global};
 
-/// Whether the words are handed to clap: there are as many as a command has, and none begins with
-/// `-`.
+/// Whether the words are handed to clap: they are as many as a command of their first word has, and
+/// none begins with `-`.
 #[tactic(auto, unfolding(crate::specs::CommandLine::is_parsed))]
 pub(crate) fn may_be_parsed(words: &[String]) -> bool
     ensures { result ≡ is_parsed words.now }
@@ -35,7 +35,7 @@ fn begins_with_hyphen(word: &[u8]) -> bool
     }
 }
 
-/// The command that the words name, where clap takes them.
+/// The command that the words name, where clap reads them as one.
 pub(crate) fn parse(alloc: Global, words: &[String]) -> Result<Option<Command>, NoMemory>
     requires { IsTrue (is_parsed words.now) }
     ensures { IfOk result (λ command. command ≡ command_of words.now) }

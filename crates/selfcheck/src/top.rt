@@ -25,7 +25,7 @@ use byte_streams::{ReadAllError, Sink, Source, Status, read_all, write_text};
 use std::alloc::Global;
 use std::thread::Threads;
 
-/// What is written where the command words aren't right.
+/// The output for words that name no command.
 const USAGE: &[u8] = b"usage: selfcheck COMMAND\n";
 
 /// The bytes that a command works on: the source's where it reads one, else none.
@@ -50,8 +50,8 @@ fn read_for<S: Source>(
     }
 }
 
-/// Does what a command is for with the bytes that it works on, and writes its output. A command
-/// that reads no source has no bytes.
+/// Makes the output of a command for the bytes that it works on, and writes it. A command that
+/// reads no source has no bytes.
 fn answer<R: Threads + Sync, K: Sink>(
     rt: &R,
     alloc: Global,
@@ -101,26 +101,26 @@ pub fn selfcheck<R: Threads + Sync, S: Source, K: Sink>(
     // input.
     ensures usage { IsNone (command_of words.now) →
         (result ≡ Status.Usage) ⊎ (result ≡ Status.WriteFault) ⊎ (result ≡ Status.NoMemory) }
-    // Words that can't be those of a command are answered `Usage` or `WriteFault`.
+    // Words that aren't handed to clap are answered `Usage` or `WriteFault`.
     ensures unparsed { ¬ IsTrue (is_parsed words.now) →
         (result ≡ Status.Usage) ⊎ (result ≡ Status.WriteFault) }
     // The source stays unread where the words name no command that reads one.
     ensures unread { ¬ IsSomeAnd (command_of words.now) (λ command. IsTrue (reads_source command))
         → source.new ≡ source.old }
 
-    // Where all outputs of the command for the input have one status, it is the answer, faults and
-    // want of memory aside.
+    // Where all outputs of the command for the input have one status, this is the answer, faults
+    // and want of memory aside.
     ensures exact { (command : Command) (held : List ℕ) (status : Status)
         → command_of words.now ≡ Some command →
         S.left source.old ≡ Some held → HasOneStatus command (input_of command held) status →
         (result ≡ status) ⊎ IsUnfinished result }
 
-    // A command that runs inside the world on an input that it takes is `Fine`, faults and want of
-    // memory aside.
+    // A command that makes a run over an object inside the world, on an input that it takes, is
+    // answered `Fine`, faults and want of memory aside.
     ensures right { (command : Command) (held : List ℕ) → command_of words.now ≡ Some command →
         S.left source.old ≡ Some held → IsTaken command (input_of command held) →
         RunsInside command (input_of command held) → (result ≡ Status.Fine) ⊎ IsUnfinished result }
-    // A soak is `Fine`, failed reads and writes and want of memory aside.
+    // A soak is answered `Fine`, failed reads and writes and want of memory aside.
     ensures soak { (number : ℕ) → command_of words.now ≡ Some (Command.Soak number) →
         (result ≡ Status.Fine) ⊎ IsUnfinished result }
 
@@ -138,16 +138,16 @@ pub fn selfcheck<R: Threads + Sync, S: Source, K: Sink>(
     // An answer `WriteFault` comes only where the sink's count of faults rose in this call.
     ensures write_fault { result ≡ Status.WriteFault
         → Rose (K.faults sink.old) (K.faults sink.new) }
-    // An answer other than `ReadFault` left the source's count of faults.
+    // A status other than `ReadFault` is answered only where the source's count of faults stayed.
     ensures read_calm { ¬ (result ≡ Status.ReadFault) → S.faults source.new ≡ S.faults source.old }
-    // An answer other than `WriteFault` left the sink's count of faults.
+    // A status other than `WriteFault` is answered only where the sink's count of faults stayed.
     ensures write_calm { ¬ (result ≡ Status.WriteFault) → K.faults sink.new ≡ K.faults sink.old }
     // An answer `ReadFault` or `NoMemory` comes only where nothing was written.
     ensures unwritten { (result ≡ Status.ReadFault) ⊎ (result ≡ Status.NoMemory)
         → sink.new ≡ sink.old }
-    // The source's count of faults isn't lower than before.
+    // The source's count of faults is at least what it was before.
     ensures source_later { S.faults source.old ≤ S.faults source.new }
-    // The sink's count of faults isn't lower than before.
+    // The sink's count of faults is at least what it was before.
     ensures sink_later { K.faults sink.old ≤ K.faults sink.new }
 {
     let named = match Command::from_words(alloc, words) {

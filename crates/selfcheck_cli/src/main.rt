@@ -8,7 +8,7 @@ use std::process::ExitCode;
 use std::rt::Env;
 use std::thread::Threads;
 
-/// The code where the system does not hand over the command words.
+/// The code that the program ends with where the system doesn't hand over the command words.
 const NO_WORDS: u8 = 7;
 
 // The command words without the program's name, or the code that the program ends with.

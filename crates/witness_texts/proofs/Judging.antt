@@ -1,4 +1,4 @@
--- What a right verdict says of a book, and what is told of the first error of a run.
+-- What a right verdict says of a book, and what the first error line of a run is.
 use Rattle.std.proofs.Common.{◌≡◌, ◌<◌, ◌≤◌, ◌∙◌, ◌+◌, ◌*◌, ℕ, List, Option, Some, None, length, get_or, take, sum, IfSome, IfNone, ap, arith}
 use Rattle.book_base.specs.declared.call.Call.{Call}
 use Rattle.book_base.specs.Book.{Page, announced, calls_of}
@@ -24,7 +24,7 @@ pub told_by : (bytes : List ℕ) (error : Option Call) → IfSome error (IsFirst
 told_by bytes (Some call) found none = found
 told_by bytes None found none = none
 
--- the calls of one caller more
+-- the number of calls of the first callers, with one caller more
 pub calls_more : (book : List Page) (i total : ℕ) → i < length book → total
     ≡ sum (take i (announced book)) → total + calls_of book i ≡ sum (take (i + 1) (announced book))
 calls_more book i total inside was =

@@ -21,15 +21,15 @@ pub record AreOfASmallerBook (kind : Kind) (book : List Page) (names : List (Lis
   pub illegal : ¬ HasLegalOrder (kind_init kind) (kind_next kind) part
   pub minimal : IsMinimal kind part
 
--- The marks of a book without a legal order: the calls of a smaller book; none where the book has
--- too many calls, or for want of memory.
+-- The marks of a book without a legal order: the calls of a smaller book are marked, or none where
+-- the book has too many calls or memory was wanted.
 abbrev pub AreMarksOf : Kind → List Page → Marks → Type 0
 AreMarksOf kind book (Smaller numbers) = AreOfASmallerBook kind book (numbers_in numbers.items)
 AreMarksOf kind book TooLarge = MOST_CALLS < size_of book
 AreMarksOf kind book NoMemory = Unit {0}
 AreMarksOf kind book Unasked = ⊥
 
--- The marks of a book, by whether it has a legal order: where it has one, they weren't asked for.
+-- The marks of a book, by whether it has a legal order: where it has one, no marks are asked for.
 abbrev pub AreMarksFor : Kind → List Page → Bool → Marks → Type 0
 AreMarksFor kind book true Unasked = Unit {0}
 AreMarksFor kind book true (Smaller numbers) = ⊥

@@ -45,20 +45,20 @@ pub record IsSmallerWitness (bytes text : List ℕ) : Type 0 where
   pub minimal : IsMinimal kind part
   pub written : IsBookText Second text kind part
 
--- a book of this kind is legal, or it isn't
+-- whether a book of this kind has a legal order
 abbrev pub IsJudged : Kind → List Page → Bool → Type 0
 IsJudged kind book true = HasLegalOrder (kind_init kind) (kind_next kind) book
 IsJudged kind book false = ¬ (HasLegalOrder (kind_init kind) (kind_next kind) book)
 
--- The call is that of the first error line of the report that the bytes begin with, if they begin
--- with one that has an error.
+-- The call is that of the first error line of the report that the bytes begin with; there is none
+-- where they begin with no report that has an error.
 abbrev pub IsErrorTold : List ℕ → Option Call → Type 0
 IsErrorTold bytes (Some call) = IsFirstErrorGiven bytes call
 IsErrorTold bytes None = (call : Call) → ¬ (IsFirstErrorGiven bytes call)
 
 -- The bytes give a book, and the text is a picture of it: its first lines say whether the book is
--- legal, whether calls are marked, and which error line of a run was the first. In a book without a
--- legal order the calls of a smaller one are marked.
+-- legal, whether calls are marked, and which error line of a run was the first. Where the book has
+-- no legal order, the calls of a smaller book are marked.
 pub record IsPictureOf (bytes text : List ℕ) : Type 0 where
   pub kind : Kind
   pub book : List Page

@@ -1,5 +1,5 @@
-//! What is written of the book that an input gives: a smaller book, where it has no legal order,
-//! and its picture.
+//! What is written of the book that an input gives: a smaller book, where the book has no legal
+//! order, and the book's picture.
 #![tactic(auto)]
 
 mod marking;

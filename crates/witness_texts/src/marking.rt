@@ -20,8 +20,8 @@ use std::alloc::Global;
 /// A smaller book is sought of a book of at most this many calls, since each try is a whole check.
 const MOST_CALLS: u64 = 1024;
 
-/// The calls that are marked in the picture of a book, of which this is the verdict: none where it
-/// has a legal order.
+/// The calls that are marked in the picture of a book with this verdict: none where the book has a
+/// legal order.
 pub(crate) fn marks_for(alloc: Global, kind: Kind, book: &Book, verdict: &Verdict) -> Marks
     requires { IsRight (kind_init kind) (kind_next kind) book.now verdict.now }
     ensures { AreMarksFor kind book.now (is_legal verdict.now) result }

@@ -19,7 +19,7 @@ use std::alloc::Global;
 pub fn picture_text(alloc: Global, bytes: &[u8]) -> Result<String, ReadFault>
     // The text is a picture of the book that the bytes give.
     ensures shown { IfOk result (λ text. IsPictureOf bytes.now (string_bytes text)) }
-    // With a fault the bytes give no book, and this is their first fault; or memory ran out.
+    // With a fault the bytes give no book, and this fault is their first one; or memory ran out.
     ensures refused { IfErr result (IsNotGiven bytes.now) }
     // A given book is drawn, unless memory runs out.
     ensures drawn { (kind : Kind) (book : List Page) → IsGiven bytes.now kind book
@@ -32,7 +32,7 @@ pub fn picture_text(alloc: Global, bytes: &[u8]) -> Result<String, ReadFault>
     drawn(alloc, bytes)
 }
 
-// What the reader, the search and the drawing make of the bytes.
+// Reads the bytes, judges the book that they give, and draws it.
 fn drawn(alloc: Global, bytes: &[u8]) -> Result<String, ReadFault>
     ensures shown { IfOk result (λ text. IsPictureOf bytes.now (string_bytes text)) }
     ensures refused { IfErr result (IsNotGiven bytes.now) }

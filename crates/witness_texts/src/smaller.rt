@@ -9,7 +9,7 @@ use given_book::read_given;
 use smaller_book::shrink;
 use std::alloc::Global;
 
-/// The text of the smaller book of the book that the bytes give, where that has no legal order.
+/// The text of a smaller book of the book that the bytes give, where this has no legal order.
 ///
 /// A text fault names the first line that is wrong, counted from the title of the book, and of its
 /// tests the first that it fails.
@@ -19,7 +19,7 @@ pub fn smaller_text(alloc: Global, bytes: &[u8]) -> Result<Option<Vec<u8>>, Read
     ensures smaller { IfOk result (λ found.
         MatchOption found (IsLegalGiven bytes.now)
         (λ text. IsSmallerWitness bytes.now text.items)) }
-    // With a fault the bytes give no book, and this is their first fault; or memory ran out.
+    // With a fault the bytes give no book, and this fault is their first one; or memory ran out.
     ensures refused { IfErr result (IsNotGiven bytes.now) }
     // A given book with a legal order has no smaller text, unless memory runs out.
     ensures legal { IsLegalGiven bytes.now
@@ -35,7 +35,7 @@ pub fn smaller_text(alloc: Global, bytes: &[u8]) -> Result<Option<Vec<u8>>, Read
     written(alloc, bytes)
 }
 
-// What the reader, the rules and the writer make of the bytes.
+// Reads the bytes, makes the book that they give smaller, and writes the smaller one.
 fn written(alloc: Global, bytes: &[u8]) -> Result<Option<Vec<u8>>, ReadFault>
     ensures smaller { IfOk result (λ found.
         MatchOption found (IsLegalGiven bytes.now)

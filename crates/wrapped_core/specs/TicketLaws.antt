@@ -9,18 +9,18 @@ use Rattle.object_orders.specs.OneWord.{Serves, one_word_shape}
 use Rattle.object_orders.proofs.OneWords.{one_words_linearize}
 use Rattle.wrapped_core.specs.Tickets.{take, ticket, after_call, dispenser, taken_by}
 
--- a call that takes a ticket
+-- the list and the reply after a call that takes a ticket
 after_call-take : (first : ℕ) (list : List ℕ) (op : ℕ) → (op == take) ≡ true
     → after_call first list op
     ≡ ((first_or_zero list + 1) % 2 ^ 64 ∷ [], ticket first (first_or_zero list))
 after_call-take first list op takes = cond-true (op == take) _ _ takes
 
--- and one of another operation
+-- the list and the reply after a call with another operation
 pub after_call-unknown : (first : ℕ) (list : List ℕ) (op : ℕ) → (op == take) ≡ false
     → after_call first list op ≡ (list, BAD)
 after_call-unknown first list op other = cond-false (op == take) _ _ other
 
--- no call makes the list longer by more than one
+-- no call makes the list longer by more than one item
 pub length-after_call : (first : ℕ) (list : List ℕ) (op : ℕ)
     → length (after_call first list op).0 ≤ length list + 1
 length-after_call first list op =

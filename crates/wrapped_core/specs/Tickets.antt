@@ -9,7 +9,7 @@ use Rattle.object_orders.specs.OneWord.{OneWord}
 abbrev pub take : ℕ
 take = 2 ^ 32
 
--- The reply that gives the ticket after this many taken ones.
+-- The reply that gives the ticket after this many tickets were taken.
 abbrev pub ticket : ℕ → ℕ → ℕ
 ticket first taken = reply_value (first + taken)
 
@@ -28,6 +28,6 @@ dispenser first =
       replies = λ op taken. ticket first taken;
     }
 
--- The list that a word stands for.
+-- The list of the dispenser that a word represents.
 abbrev pub taken_by : ℕ → List ℕ
 taken_by taken = taken ∷ []

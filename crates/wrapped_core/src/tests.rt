@@ -10,7 +10,7 @@ use std::alloc::Global;
 use std::test::Fail;
 use std::thread::Threads;
 
-// One caller takes two tickets, and between them asks what no dispenser knows.
+// One caller takes two tickets, and between them asks for an operation that no dispenser knows.
 const THREE_CALLS: &[u8] =
     b"script 2\nobject counter\ncallers 1\ncalls 3\n0 0 inc\n0 1 #8589934592\n0 2 inc\nturns\nend\n";
 
@@ -58,7 +58,8 @@ fn each_ticket_is_given_once(rt: HostRuntime) -> Result<(), Fail> {
     Ok(())
 }
 
-// A word that is no taking of a ticket gets `bad` and takes none; after the last number comes 0.
+// An operation word other than that of taking a ticket gets `bad` and takes none; after the last
+// number comes 0.
 #[test]
 fn an_unknown_operation_takes_no_ticket(rt: HostRuntime) -> Result<(), Fail> {
     let script = read_script(rt.alloc(), THREE_CALLS)?;

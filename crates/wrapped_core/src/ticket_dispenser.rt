@@ -20,7 +20,7 @@ pub struct TicketDispenser {
 }
 
 impl TicketDispenser {
-    // The reply that gives the ticket after this many taken ones.
+    // The reply that gives the ticket after this many tickets were taken.
     fn ticket(&self, taken: u64) -> u64
         ensures { result ≡ ticket self.now.first taken }
     {
@@ -28,14 +28,14 @@ impl TicketDispenser {
     }
 }
 
-// How many tickets a state says were taken.
+// How many tickets were taken, by the state of the sequential object.
 fn taken_in(state: &State) -> u64
     ensures { result ≡ first_or_zero state.now.words }
 {
     if state.is_empty() { 0 } else { state.get(0) }
 }
 
-/// What a dispenser is to do: its list has how many tickets were taken, modulo 2^64.
+/// The sequential object of a dispenser: its list has how many tickets were taken, modulo 2^64.
 impl SeqObject for TicketDispenser {
     ghost use Rattle.seq_objects.specs.Items.{length-one};
     ghost use Rattle.wrapped_core.specs.Tickets.{take, after_call};
@@ -73,7 +73,7 @@ impl SeqObject for TicketDispenser {
     }
 }
 
-/// What its callers may do inside the world: taking a ticket adds 1 once to the one object word,
+/// The program of a dispenser inside the world: taking a ticket adds 1 once to the one object word,
 /// and nothing else makes a step.
 impl Program for TicketDispenser {
     ghost use Rattle.object_orders.specs.OneWord.{one_word_program};
@@ -88,7 +88,7 @@ impl Program for TicketDispenser {
 
 impl InWorld for TicketDispenser {}
 
-/// What they do.
+/// The object inside the world: its callers make the steps of this program.
 impl CoreObject for TicketDispenser {
     ghost use Rattle.core_objects.specs.OneWordPasses.{FitsOneWord};
     ghost use Rattle.wrapped_core.specs.TicketLaws.{dispensers_linearize};

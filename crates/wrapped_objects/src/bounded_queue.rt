@@ -15,7 +15,8 @@ pub(crate) struct BoundedQueue<R> {
     items: ArrayQueue<u32>,
 }
 
-// The reply of the kit's queue to an operation. A full queue has none that a queue may give.
+// The reply of the kit's queue to an operation. Where the queue is full there is no reply that a
+// queue may give.
 pub(crate) fn reply_of<R: Wait>(rt: &R, items: &ArrayQueue<u32>, op: OpWord) -> u64 {
     match QueueCall::from_word(op) {
         Some(QueueCall::Enqueue(value)) => match items.push(rt, value) {
@@ -31,7 +32,7 @@ pub(crate) fn reply_of<R: Wait>(rt: &R, items: &ArrayQueue<u32>, op: OpWord) -> 
 }
 
 impl<R: Wait + Copy> BoundedQueue<R> {
-    /// A queue with room for this many values.
+    /// A queue with capacity for this many values.
     pub(crate) fn new(rt: R, alloc: Global, room: usize) -> Result<BoundedQueue<R>, NoMemory>
         requires { 0 < room }
     {

@@ -7,7 +7,7 @@ use drv_wrapper::{Announced, BlackBox};
 use object_kit::CountingPass;
 use seq_objects::{Kind, value_reply};
 
-/// A counter over a cell of the kit, which stands at 0 at first: an increment is one addition.
+/// A counter over a cell of the kit, with the count 0 at first: an increment is one addition.
 #[derive(Default, Drop)]
 pub struct CellCounter {
     count: AtomicCell<u32>,

@@ -19,7 +19,8 @@ use std::thread::{Threads, join_mut};
 const TWO_CALLS: &[u8] =
     b"script 2\nobject queue\ncallers 2\ncalls 1 1\n0 0 enq 5\n1 0 deq\nturns 0 0 0 0 0 1 1 1 1 1\nend\n";
 
-// How a run of a script over an object ends, with each caller in a thread of its own.
+// The status with which a run of a script over an object ends, with each caller in a thread of its
+// own.
 fn run<R: Threads + Sync, B: BlackBox<Pass = CountingPass> + Sync>(
     rt: &R,
     alloc: Global,
@@ -57,7 +58,7 @@ fn run_queue<R: Threads + Wait + Sync + Copy>(rt: &R, alloc: Global) -> Result<S
     run(rt, alloc, &script, &BoundedQueue::new(*rt, alloc, 64)?)
 }
 
-// Whatever the schedule, a cell and a queue that are used as they are meant to be have no error.
+// Whatever the schedule, a run over a cell or a queue that is used rightly has no error.
 #[test]
 fn right_uses_are_not_caught(rt: HostRuntime) -> Result<(), Fail> {
     assert_eq!(rt; run_register(&rt, rt.alloc())?, Status::Fine);
@@ -66,7 +67,8 @@ fn right_uses_are_not_caught(rt: HostRuntime) -> Result<(), Fail> {
     Ok(())
 }
 
-// How a replay of a script's turns over two queues instead of one ends, and what it writes.
+// The status with which a replay of a script's turns over two queues instead of one ends, and what
+// it writes.
 fn replay_twins<R: Wait + Copy>(
     rt: &R,
     alloc: Global,
@@ -79,7 +81,7 @@ fn replay_twins<R: Wait + Copy>(
     Ok((status, sink))
 }
 
-// Caller 0 has enqueued 5 before caller 1 dequeues from the other queue.
+// Caller 0 has enqueued 5 before caller 1 dequeues from the queue that caller 0 doesn't use.
 #[test]
 fn twin_queues_are_caught_by_turns(rt: HostRuntime) -> Result<(), Fail> {
     let script = read_script(rt.alloc(), TWO_CALLS)?;
@@ -94,7 +96,7 @@ fn twin_queues_are_caught_by_turns(rt: HostRuntime) -> Result<(), Fail> {
     Ok(())
 }
 
-// What two counters have in common: an increment.
+// The increment that two counters have in common.
 trait Increments {
     fn increment(&self) -> u64;
 }
@@ -119,7 +121,7 @@ fn increment_often<C: Increments>(counter: &C) {
     }
 }
 
-// What a counter says after two threads that increment it 20,000 times each, side by side.
+// The count of a counter after two threads have incremented it 20,000 times each, side by side.
 fn counted<R: Threads, C: Increments + Sync>(rt: &R, counter: &C) -> u64 {
     join_mut(
         rt,
@@ -129,7 +131,7 @@ fn counted<R: Threads, C: Increments + Sync>(rt: &R, counter: &C) -> u64 {
     counter.increment()
 }
 
-// Whether some increments of a torn counter are lost, at one of many trials.
+// Whether some increments of a torn counter are lost in one of many trials.
 fn loses_some<R: Threads>(rt: &R) -> bool {
     for _ in 0..10_000 {
         if counted(rt, &TornCounter::default()) != value_reply(40_000) {

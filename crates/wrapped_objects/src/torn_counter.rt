@@ -7,8 +7,8 @@ use drv_wrapper::{Announced, BlackBox};
 use object_kit::CountingPass;
 use seq_objects::{Kind, value_reply};
 
-/// A counter that uses its cell wrongly, which stands at 0 at first: an increment is a load, and
-/// then a store of one more. So of increments that overlap some may be lost.
+/// A counter that uses its cell wrongly, with the count 0 at first: an increment is a load, and
+/// then a store of one more. So some of several increments that overlap may be lost.
 #[derive(Default, Drop)]
 pub struct TornCounter {
     count: AtomicCell<u32>,

@@ -8,8 +8,8 @@ use object_kit::CountingPass;
 use std::alloc::Global;
 use std::sync::Wait;
 
-/// Two of the kit's queues instead of one, and each caller keeps to one of them. So what a caller
-/// enqueues is never found by the half of the callers that keep to the other.
+/// Two of the kit's queues instead of one, where each caller uses one of them alone. So what a
+/// caller enqueues is never found by the callers that use the other queue.
 #[derive(Drop)]
 pub(crate) struct TwinQueues<R> {
     rt: R,
@@ -18,7 +18,7 @@ pub(crate) struct TwinQueues<R> {
 }
 
 impl<R: Wait + Copy> TwinQueues<R> {
-    /// Two queues with room for this many values each.
+    /// Two queues with capacity for this many values each.
     pub(crate) fn new(rt: R, alloc: Global, room: usize) -> Result<TwinQueues<R>, NoMemory>
         requires { 0 < room }
     {

@@ -3,7 +3,7 @@ use Rattle.std.specs.Io.KnownBytes.{Consumes}
 use Rattle.byte_streams.specs.declared.TheConstants.{INPUT_LIMIT}
 use Rattle.byte_streams.proofs.transfer.read_all.Given as goal
 
--- the bytes so far are the first that the source held
+-- the bytes so far are the first ones that the source held
 abbrev pub invariant-loop-piece : goal.invariant-loop-piece
 invariant-loop-piece g l = record {
   within : length l.bytes.items ≤ INPUT_LIMIT + 1;
