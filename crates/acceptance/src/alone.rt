@@ -6,12 +6,12 @@ use book_text::read_book;
 use set_order::{SetVerdict, Single, check_sets};
 use std::alloc::Global;
 
-/// The greatest number of callers of a book that is judged so: the search by sets tries the parts
-/// of what may come next.
+/// The greatest number of callers of a book that is judged by sets: the search by sets tries all
+/// subsets of the calls that may come next.
 const MOST_CALLERS: u32 = 3;
 
-/// Whether the book with this text has a legal order of sets of one call each, as it is to have or
-/// not; a book of many callers isn't tried.
+/// Whether the verdict by sets of one call each on the book with this text is the expected one. A
+/// book of many callers isn't tried.
 pub fn agrees(alloc: Global, text: &[u8], is_legal: bool) -> Result<bool> {
     let (kind, book) = read_book(alloc, text).map_err(|_| anyhow!("the book can't be read"))?;
     if book.callers() > MOST_CALLERS {

@@ -13,7 +13,7 @@ const READ_FAULT: u8 = 4;
 /// The status of a failed write.
 const WRITE_FAULT: u8 = 5;
 
-/// What the top call is given, and what it is to answer.
+/// What the top call is given in a case, and what it is to answer.
 #[derive(Drop)]
 pub struct Case {
     pub name: String,
@@ -31,7 +31,7 @@ pub struct Case {
     pub status: u8,
 }
 
-/// How a case went: whether it passed, and what is said where it didn't.
+/// How a case went: whether it passed, and what is printed where it didn't.
 #[derive(Drop)]
 pub struct CaseOutcome {
     pub passed: bool,
@@ -90,8 +90,8 @@ impl Case {
     }
 
     /// Runs the case, and tries its book in two further ways: by sets of calls that stand alone,
-    /// which give the same verdict, and, where it is to be called legal, at each of its smaller
-    /// cuts too.
+    /// which have to give the same verdict, and, where the book is to be legal, at each of its
+    /// smaller cuts.
     pub fn run_with_cuts<R: AllocGlobal + Threads + Sync>(&self, rt: &R) -> Result<CaseOutcome> {
         let outcome = self.run(rt)?;
         if !outcome.passed || self.trial != Trial::Once {
@@ -118,7 +118,7 @@ impl Case {
         Ok(())
     }
 
-    // Whether the case wants `verify` to call its input legal, or illegal.
+    // Whether the case expects `verify` to find its input legal, or illegal, if it expects either.
     fn wanted_verdict(&self) -> Option<bool> {
         let [word] = self.words.as_slice() else {
             return None;
@@ -135,7 +135,7 @@ impl Case {
         None
     }
 
-    /// Runs the top call on the case: as it stands, or in each of the ways of its trial.
+    /// Runs the top call on the case, as it is, or in each of the ways of its trial.
     pub fn run<R: AllocGlobal + Threads + Sync>(&self, rt: &R) -> Result<CaseOutcome> {
         match self.trial {
             Trial::Once => self.run_once(rt),
@@ -150,7 +150,7 @@ impl Case {
         }
     }
 
-    // The output is looked at instead of being compared.
+    // Runs a case whose output is examined instead of being compared.
     fn run_any_schedule<R: AllocGlobal + Threads + Sync>(&self, rt: &R, told: Told) -> Result<()> {
         let mut sink = self.sink(rt.alloc(), &self.sink_fails, self.sink_most)?;
         let mut source = SteadySource::new(self.input.to_vec(rt.alloc())?);
@@ -174,7 +174,8 @@ impl Case {
         self.run_on(rt, &attempt)
     }
 
-    // Each prefix of the input that isn't whole is refused as a text that is cut.
+    // Runs a case with each prefix of the input that isn't whole, which has to be refused as a text
+    // that is cut.
     fn run_prefixes<R: AllocGlobal + Threads + Sync>(&self, rt: &R) -> Result<CaseOutcome> {
         for count in 0..self.input.len() {
             let prefix = &self.input[..count];
@@ -196,8 +197,8 @@ impl Case {
         CaseOutcome::good(rt.alloc())
     }
 
-    // The source gives one byte a read, and the last read finds the end: each of these reads fails
-    // in turn, and then the read after the last, which isn't made.
+    // Runs a case whose source gives one byte a read, so that the last read finds the end. Each of
+    // these reads fails in turn, and then the read after the last, which isn't made.
     fn run_failing_reads<R: AllocGlobal + Threads + Sync>(&self, rt: &R) -> Result<CaseOutcome> {
         let last = (self.input.len() as u64).saturating_add(1);
         for failing in 1..=last.saturating_add(1) {
@@ -219,8 +220,8 @@ impl Case {
         CaseOutcome::good(rt.alloc())
     }
 
-    // The sink takes one byte a write: each write of the wanted output fails in turn, and then the
-    // write after the last, which isn't made.
+    // Runs a case whose sink takes one byte a write. Each write of the expected output fails in
+    // turn, and then the write after the last, which isn't made.
     fn run_failing_writes<R: AllocGlobal + Threads + Sync>(&self, rt: &R) -> Result<CaseOutcome> {
         for taken in 0..=self.wanted.len() {
             let failing = (taken as u64).saturating_add(1);
@@ -245,7 +246,7 @@ impl Case {
         CaseOutcome::good(rt.alloc())
     }
 
-    // A sink with the case's room, in which these writes fail.
+    // A sink with the case's capacity, in which these writes fail.
     fn sink(&self, alloc: Global, fails: &[u64], most: usize) -> Result<MemorySink> {
         let fails = fails.to_vec(alloc)?;
         MemorySink::new(alloc, self.sink_room, fails, most.max(1)).map_err(|_| anyhow!(
@@ -279,7 +280,8 @@ impl Case {
         Ok(CaseOutcome { passed, report })
     }
 
-    // The status, and how many bytes the source has left, where that is wanted.
+    // Calls the top call, and tests its status, and how many bytes the source has left, where the
+    // case says this.
     fn answer<R: AllocGlobal + Threads + Sync, S: Source, K: Sink>(
         &self,
         rt: &R,

@@ -15,8 +15,8 @@ use std::alloc::Global;
 /// The greatest number of cuts of a book that are tried.
 const MOST: u64 = 20_000;
 
-/// The cuts within the record counts of the book with this text, as many as were tried; a cut at
-/// which the book has no legal order is an error.
+/// Tries the cuts within the record counts of the book with this text, and answers how many were
+/// tried. A cut at which the book has no legal order is an error.
 pub fn try_cuts(alloc: Global, text: &[u8]) -> Result<u64> {
     let (kind, book) = read_book(alloc, text).map_err(|_| anyhow!("the book can't be read"))?;
     let mut cut = Cut::zero(book.callers());
@@ -69,8 +69,8 @@ fn is_within_records(book: &Book, cut: &Cut) -> bool
     true
 }
 
-// Goes on to the next cut within the record counts, the count of the first caller rising first;
-// false after the last.
+// Makes a cut the next one within the record counts, where the count of the first caller rises
+// first. The answer is false after the last cut.
 fn step(book: &Book, cut: &mut Cut) -> bool {
     for i in 0..book.callers() {
         if i >= cut.n() {

@@ -1,5 +1,5 @@
-//! What is so of the output of a run whatever the schedule of its callers, where no output can be
-//! wanted byte by byte.
+//! What has to hold of the output of a run, whatever the schedule of its callers, where the output
+//! can't be compared byte by byte.
 
 use crate::trial::Told;
 use anyhow::{Context, Result, anyhow};
@@ -10,10 +10,10 @@ use selfcheck::{MemorySink, SteadySource, selfcheck};
 use std::alloc::Global;
 use std::thread::Threads;
 
-/// The room of a sink for the answer to a certificate or its book.
+/// The capacity of a sink for the verdict on a certificate or on its book.
 const CAPACITY: usize = 1 << 20;
 
-/// What an output doesn't tell, though it should, is an error.
+/// Tries whether an output shows what it is to show. Where it doesn't, that is an error.
 pub fn try_told<R: AllocGlobal + Threads + Sync>(rt: &R, told: Told, output: &[u8]) -> Result<()> {
     match told {
         Told::Delivered(calls) => {
@@ -39,7 +39,8 @@ fn read_delivered(alloc: Global, text: &[u8], calls: u64) -> Result<Report> {
     Ok(report)
 }
 
-// A report in which no call was made amid those of another caller is an error.
+// Tries whether some call of a report overlaps calls of another caller. Where none does, that is an
+// error.
 fn try_overlap(report: &Report) -> Result<()> {
     for caller in 0..report.callers() {
         if has_call_amid_others(report, caller) {
@@ -49,7 +50,7 @@ fn try_overlap(report: &Report) -> Result<()> {
     Err(anyhow!("no call was made amid those of another caller"))
 }
 
-// Whether some view of a caller is amid the calls of another.
+// Whether some view of a caller holds some of another caller's calls, and not all.
 fn has_call_amid_others(report: &Report, caller: u32) -> bool {
     if caller >= report.callers() {
         return false;
@@ -64,7 +65,7 @@ fn has_call_amid_others(report: &Report, caller: u32) -> bool {
     false
 }
 
-// Whether a view of a caller holds some of another one's calls, and not all.
+// Whether this view of a caller holds some of another caller's calls, and not all.
 fn is_amid_others(report: &Report, caller: u32, view: &Cut) -> bool {
     for other in 0..report.callers() {
         if other != caller && other < view.n() {
@@ -77,7 +78,7 @@ fn is_amid_others(report: &Report, caller: u32, view: &Cut) -> bool {
     false
 }
 
-// A certificate whose order or whose book isn't called legal is an error.
+// Tries a certificate. Where its order or its book isn't found legal, that is an error.
 fn try_certificate<R: AllocGlobal + Threads + Sync>(rt: &R, certificate: &[u8]) -> Result<()> {
     let text = str::from_utf8(certificate).context("a text")?;
     let (book, _) = text.split_once("order 2\n").context("an order")?;
@@ -86,7 +87,7 @@ fn try_certificate<R: AllocGlobal + Threads + Sync>(rt: &R, certificate: &[u8]) 
     try_command(rt, "sketch", book.as_bytes())
 }
 
-// A command that doesn't answer an input with status 0 is an error.
+// Tries a command on an input. Where its status isn't 0, that is an error.
 fn try_command<R: AllocGlobal + Threads + Sync>(rt: &R, command: &str, input: &[u8]) -> Result<()> {
     let alloc = rt.alloc();
     let words = vec![in alloc; String::from_str(alloc, command)?]?;

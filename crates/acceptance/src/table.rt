@@ -4,7 +4,7 @@ use anyhow::{Context, Result, anyhow};
 use std::alloc::Global;
 use std::io::Write;
 
-/// Takes a line of the table that says something of a case.
+/// Takes a line of the table into its case.
 pub fn take_line(alloc: Global, case: &mut Case, line: &str) -> Result<()> {
     if line.is_empty() || line.starts_with('#') {
         return Ok(());
@@ -127,7 +127,7 @@ fn take_each(bytes: &mut Vec<u8>, value: &str) -> Result<()> {
     Ok(())
 }
 
-// The lines of a caller's calls, which take the operations in turn.
+// Appends the lines of a caller's calls, which take the operations in turn.
 fn take_operations(bytes: &mut Vec<u8>, caller: u64, count: u64, operations: &str) -> Result<()> {
     let mut rest = operations;
     for number in 0..count {
@@ -138,7 +138,7 @@ fn take_operations(bytes: &mut Vec<u8>, caller: u64, count: u64, operations: &st
     Ok(())
 }
 
-// The line of a call.
+// Appends the line of a call.
 fn take_operation(bytes: &mut Vec<u8>, caller: u64, number: u64, operation: &str) -> Result<()> {
     let own = caller.saturating_mul(256).saturating_add(number);
     match operation.split_once('*') {
@@ -161,7 +161,7 @@ fn take_rounds(bytes: &mut Vec<u8>, value: &str) -> Result<()> {
     Ok(())
 }
 
-// This many turns of each caller, one caller after the other.
+// Appends this many turns of each caller, one caller after the other.
 fn take_round(bytes: &mut Vec<u8>, callers: u64, turns: u64) -> Result<()> {
     for caller in 0..callers {
         for _ in 0..turns {

@@ -1,24 +1,25 @@
-/// What is tried of a case.
+/// How a case is tried.
 #[derive(Clone, Copy, Debug, PartialEq, Eq)]
 pub enum Trial {
-    /// The case as it stands.
+    /// The case as it is, once.
     Once,
     /// Each prefix of the input that isn't whole.
     Prefixes,
-    /// Each read of bytes that come one at a time fails.
+    /// Bytes come one at a time, and each read fails in turn.
     Reads,
-    /// Each write of bytes that go one at a time fails.
+    /// Bytes go one at a time, and each write fails in turn.
     Writes,
-    /// The case as it stands, whose output the schedule decides.
+    /// The case as it is, where the schedule decides the output.
     AnySchedule(Told),
 }
 
-/// What an output tells, whatever the schedule.
+/// What an output is to show, whatever the schedule.
 #[derive(Clone, Copy, Debug, PartialEq, Eq)]
 pub enum Told {
     /// The output is a report of this number of calls, all of them delivered.
     Delivered(u64),
-    /// The output is such a report, and some call was made amid those of another caller.
+    /// The output is a report of this number of calls, all of them delivered, and some call
+    /// overlaps calls of another caller.
     Overlapping(u64),
     /// The output is a certificate of a legal order.
     Certified,

@@ -9,7 +9,8 @@ use object_kit::{CounterCall, CountingPass};
 use seq_objects::value_reply;
 use std::alloc::Global;
 
-/// A counter: an increment is one addition, or, of a torn one, a load and then a store of one more.
+/// A counter: an increment is one addition, or, where the counter is torn, a load and then a store
+/// of one more.
 #[derive(Drop)]
 pub(crate) struct Counter {
     torn: bool,

@@ -23,7 +23,7 @@ use text_fields::{TEXT_CALLERS, TEXT_CALLS};
 use trial::Size;
 use trials::{RIGHT, WRONG, hunt_over};
 
-// How many runs a short hunt makes: over a wrong object at the most, and over a right one.
+// How many runs a short hunt over a wrong object makes at most.
 const MOST: u64 = 100_000;
 
 const FEW: u64 = 5;
@@ -53,7 +53,7 @@ fn size_of(words: &[String]) -> Result<Size> {
     })
 }
 
-// One hunt, as its words ask for it.
+// Makes one hunt, as its words say.
 fn hunt_by_words<R: Print + AllocGlobal + Threads + Sync>(
     rt: &R,
     name: &str,
@@ -64,7 +64,7 @@ fn hunt_by_words<R: Print + AllocGlobal + Threads + Sync>(
     Ok(())
 }
 
-// A short hunt over each object of these names.
+// Makes a short hunt over each object of these names.
 fn hunt_over_all<R: Print + AllocGlobal + Threads + Sync>(
     rt: &R,
     names: &[&str],

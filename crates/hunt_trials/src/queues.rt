@@ -10,9 +10,9 @@ use std::alloc::Global;
 use std::collections::VecDeque;
 use std::sync::Mutex;
 
-/// Two queues behind locks. Of twins, each caller keeps to one of them, so that what a caller
-/// enqueues is never found by the half of the callers that keep to the other; else all keep to the
-/// first.
+/// Two queues behind locks. Where they are twins, each caller uses one of them alone, so what a
+/// caller enqueues is never found by the callers that use the other; where they aren't, all callers
+/// use the first.
 #[derive(Drop)]
 pub(crate) struct TwoQueues {
     twins: bool,
@@ -22,7 +22,8 @@ pub(crate) struct TwoQueues {
 }
 
 impl TwoQueues {
-    // The reply of the queue that this caller keeps to; none, where its lock or memory isn't had.
+    // The reply of the queue that this caller uses, or none where its lock can't be had or memory
+    // is wanted.
     fn answer(&self, caller: u32, op: OpWord) -> Option<u64> {
         let items = if self.twins && caller % 2 == 1 {
             &self.odd

@@ -11,9 +11,10 @@ use seq_objects::{DONE, NONE, value_reply};
 use std::alloc::Global;
 use std::sync::Mutex;
 
-/// A queue over places: an enqueue fills the place at the tail and moves the tail on, a dequeue
-/// takes from the place at the head and moves the head on. Both do it under a lock, or, of a torn
-/// ring, without one. There is a place for each call, so that nothing is filled twice.
+/// A queue over places: an enqueue fills the place at the tail and moves the tail forward, a
+/// dequeue takes from the place at the head and moves the head forward. Each does both under a
+/// lock, or, where the ring is torn, without one. There is a place for each call, so no place is
+/// filled twice.
 #[derive(Drop)]
 pub(crate) struct Ring {
     torn: bool,

@@ -22,7 +22,8 @@ struct Place {
 }
 
 /// A stack of linked places, each used once. Places are numbered from 1, and 0 is none. A call
-/// changes the top where it is still what the call has seen, or, without the check, whatever it is.
+/// changes the top only where it is still the one that the call has seen, or, in a stack without
+/// the check, in any case.
 #[derive(Drop)]
 pub(crate) struct Stack {
     checks: bool,
@@ -38,8 +39,8 @@ impl Stack {
         self.places.get(number.wrapping_sub(1) as usize)
     }
 
-    // Puts another number at the top, instead of the one that was seen there. Whether that is
-    // done.
+    // Puts another number at the top in place of the one that the call has seen. The answer is
+    // whether this is done.
     fn changes(&self, seen: u32, other: u32) -> bool {
         self.noise.pause();
         if self.checks {

@@ -14,8 +14,8 @@ use std::alloc::Global;
 use std::fmt::{self, Display, Formatter};
 use std::thread::Threads;
 
-/// How large a hunt is: the seed of its first run, how many runs it makes at the most, and of each
-/// the callers and how many calls each of them makes; and how loud its noise is.
+/// How large a hunt is: the seed of its first run, how many runs it makes at most, how many callers
+/// each run has, how many calls each caller makes, and how loud the noise is.
 #[derive(Clone, Copy)]
 pub(crate) struct Size {
     pub(crate) seed: u64,
@@ -28,14 +28,14 @@ pub(crate) struct Size {
     ghost within: { calls ≤ TEXT_CALLS },
 }
 
-/// What came of a hunt.
+/// The findings of a hunt.
 #[derive(Clone, Copy)]
 pub(crate) struct HuntFindings {
     runs: u64,
     caught: Option<Calls>,
 }
 
-/// How many calls a witness has, and how many are left of them where it is made small.
+/// How many calls a witness has, and how many of them are left where the witness is made small.
 #[derive(Clone, Copy)]
 struct Calls {
     witness: u64,
@@ -121,7 +121,7 @@ where
     })
 }
 
-// How many calls an illegal book has, and how many where it is made small.
+// How many calls an illegal book has, and how many are left where it is made small.
 fn calls_in(alloc: Global, kind: Kind, witness: &Book) -> Result<Option<Calls>, NoMemory> {
     Ok(match shrink(alloc, kind, witness)? {
         Some(smaller) => Some(Calls {

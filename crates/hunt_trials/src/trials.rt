@@ -11,7 +11,7 @@ use seq_objects::Kind;
 use std::alloc::Global;
 use std::thread::Threads;
 
-/// The wrong objects.
+/// The names of the wrong objects.
 pub(crate) const WRONG: [&str; 4] = [
     "torn_counter",
     "twin_queues",
@@ -19,7 +19,7 @@ pub(crate) const WRONG: [&str; 4] = [
     "unchecked_stack",
 ];
 
-/// The right ones.
+/// The names of the right objects.
 pub(crate) const RIGHT: [&str; 12] = [
     "counter",
     "one_queue",
@@ -75,7 +75,7 @@ pub(crate) fn hunt_over<R: Threads + Sync>(
     Ok(Some(found))
 }
 
-// The kind of the object behind a lock with this name.
+// The kind of the object with this name, which is behind a lock.
 fn kind_behind_a_lock(name: &str) -> Option<Kind> {
     match name {
         "queue_behind_a_lock" => Some(Kind::Queue),

@@ -20,12 +20,12 @@ pub enum TextForm {
     SetBook,
 }
 
-/// What a reader says of bytes.
+/// The answer of a reader to bytes.
 #[derive(Drop)]
 pub enum Answer {
-    /// They are a text, and this is written of what was read.
+    /// The bytes are a text, and this is written of what was read.
     Written(Vec<u8>),
-    /// They are none.
+    /// The bytes are no text of the form.
     Refused(What),
 }
 

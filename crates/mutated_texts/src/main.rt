@@ -26,7 +26,7 @@ use std::process::ExitCode;
 use std::rt::Env;
 use tally::ReadingCounts;
 
-/// What the words say.
+/// What the command words say.
 #[derive(Drop)]
 struct Wish {
     seed: u64,
@@ -53,7 +53,7 @@ fn no_texts(alloc: Global) -> Result<Vec<ReadingCounts>> {
     Ok(tallies)
 }
 
-// Lets each reader read a text, and prints it where one doesn't write it back.
+// Lets each reader read a text, and prints the text where a reader doesn't write it back.
 fn try_text<R: Print + AllocGlobal>(
     rt: &R,
     tallies: &mut Vec<ReadingCounts>,

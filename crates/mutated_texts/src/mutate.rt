@@ -5,10 +5,10 @@ use crate::words::{MARKS, NUMBERS, WORDS};
 use rand_core::Rng;
 use std::alloc::{AllocError, Global};
 
-/// The most changes of one text.
+/// The greatest number of changes of one text.
 const MOST_CHANGES: usize = 3;
 
-/// A number below a bound.
+/// A random number below a bound.
 pub fn pick<R: Rng>(rng: &mut R, bound: usize) -> usize
     requires { 0 < bound }
     ensures { result < bound }
@@ -26,7 +26,7 @@ pub fn mutate<R: Rng>(alloc: Global, rng: &mut R, text: &[u8]) -> Result<Vec<u8>
     Ok(bytes)
 }
 
-// One change. Bytes that are none stay so.
+// Makes one change. Empty bytes stay empty.
 fn change<R: Rng>(alloc: Global, rng: &mut R, mut bytes: Vec<u8>) -> Result<Vec<u8>, AllocError> {
     if bytes.is_empty() {
         return Ok(bytes);
@@ -42,7 +42,7 @@ fn change<R: Rng>(alloc: Global, rng: &mut R, mut bytes: Vec<u8>) -> Result<Vec<
     Ok(bytes)
 }
 
-// A digit is another: the first after a random place, where there is one.
+// Changes a digit to another one: the first digit after a random place, where there is one.
 fn change_digit<R: Rng>(rng: &mut R, bytes: &mut [u8])
     requires { 0 < length bytes.old }
 {
@@ -57,7 +57,7 @@ fn change_digit<R: Rng>(rng: &mut R, bytes: &mut [u8])
     }
 }
 
-// A byte is another, or goes, or one comes in.
+// Changes a byte to another one, removes one, or inserts one.
 fn change_byte<R: Rng>(rng: &mut R, bytes: &mut Vec<u8>) -> Result<(), AllocError>
     requires { 0 < length bytes.old.items }
 {
@@ -77,7 +77,7 @@ fn change_byte<R: Rng>(rng: &mut R, bytes: &mut Vec<u8>) -> Result<(), AllocErro
     Ok(())
 }
 
-// A line or a word goes, is doubled or cut, or two of them change places.
+// Removes, doubles or cuts a line or a word, or exchanges two of them.
 fn change_pieces<R: Rng>(
     alloc: Global,
     rng: &mut R,
@@ -103,8 +103,8 @@ fn change_pieces<R: Rng>(
     join(alloc, &pieces)
 }
 
-// A piece loses what stands between a random byte of it and its separator: a space, where there is
-// one after that byte.
+// Removes from a piece what is between a random byte of it and its separator: a space, where there
+// is one after that byte.
 fn cut_short<R: Rng>(rng: &mut R, piece: &mut Vec<u8>) -> Result<(), AllocError> {
     if piece.is_empty() {
         return Ok(());
@@ -123,7 +123,7 @@ fn cut_short<R: Rng>(rng: &mut R, piece: &mut Vec<u8>) -> Result<(), AllocError>
     Ok(())
 }
 
-// A word is another, or a number at a limit.
+// Changes a word to another one, or to a number at a limit.
 fn change_word<R: Rng>(alloc: Global, rng: &mut R, bytes: &[u8]) -> Result<Vec<u8>, AllocError> {
     let mut pieces = cut_at(alloc, bytes, b" \n")?;
     if pieces.is_empty() {

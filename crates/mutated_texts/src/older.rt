@@ -17,12 +17,12 @@ use std::alloc::Global;
 /// The place of the version's digit in the title of a script.
 const VERSION_AT: usize = 7;
 
-/// What differs between the two forms of books.
+/// The words in which the two older forms of books differ.
 #[derive(Clone, Copy)]
 enum Words {
-    /// Version 1: the operations of a kind, and views as counts.
+    /// A book of version 1 has the operations of a kind, and views as counts.
     First(Kind),
-    /// Set books: joins, and views as pairs.
+    /// A set book has joins, and views as pairs.
     Joins,
 }
 
@@ -45,7 +45,8 @@ pub fn set_book(alloc: Global, bytes: &[u8]) -> Result<Vec<u8>, ReadFault> {
     Ok(out)
 }
 
-/// Reads a script of version 1, and writes what was read: the text of version 2 but for its title.
+/// Reads a script of version 1, and writes what was read: the text of version 2, but with the title
+/// of version 1.
 pub fn old_script(alloc: Global, bytes: &[u8]) -> Result<Vec<u8>, ReadFault> {
     let script = read_script1(alloc, bytes)?;
     let mut out = write_script(alloc, &script)?;
@@ -97,8 +98,8 @@ fn put_call(out: &mut Vec<u8>, words: Words, book: &Book, call: Call) -> Result<
 }
 
 impl Words {
-    // Appends the words of an operation. A counter knows one operation, which is a join, so it has
-    // the words of all others.
+    // Appends the words of an operation. A counter knows one operation, whose words a join has, so
+    // joins are written as words of the other operations.
     fn put_op(self, out: &mut Vec<u8>, op: OpWord) -> Result<(), NoMemory> {
         match self {
             Words::First(kind) => kind.put_op(out, op),

@@ -1,6 +1,6 @@
 use std::alloc::{AllocError, Global};
 
-/// Cuts bytes into pieces, each of which ends with its separator, but maybe the last.
+/// Cuts bytes into pieces, each of which ends with its separator, except perhaps the last.
 pub fn cut_at(alloc: Global, bytes: &[u8], separators: &[u8]) -> Result<Vec<Vec<u8>>, AllocError> {
     let mut pieces = Vec::new(alloc);
     let mut piece = Vec::new(alloc);

@@ -3,20 +3,20 @@ use anyhow::Result;
 use book_base::What;
 use std::alloc::Global;
 
-/// What the reader of a form said of the texts so far.
+/// The answers of a form's reader to the texts so far.
 #[derive(Drop)]
 pub struct ReadingCounts {
     pub form: TextForm,
-    /// How many were read, and written back as they were.
+    /// How many texts were read, and written back as they were.
     pub kept: u64,
-    /// How many were read, and something else was written.
+    /// How many texts were read, and not written back as they were.
     pub changed: u64,
-    /// How many were refused, by the name of the fault.
+    /// How many texts were refused, by the name of the fault.
     pub refused: Vec<(What, u64)>,
 }
 
 impl ReadingCounts {
-    /// No text so far.
+    /// The counts before any text.
     pub fn new(alloc: Global, form: TextForm) -> ReadingCounts {
         ReadingCounts {
             form,
@@ -26,7 +26,8 @@ impl ReadingCounts {
         }
     }
 
-    /// Lets the reader read a text. Whether it was refused, or is what is written of it.
+    /// Lets the reader read a text. The answer is whether the text was refused, or is written back
+    /// as it was.
     pub fn take(&mut self, alloc: Global, bytes: &[u8]) -> Result<bool> {
         match self.form.answer(alloc, bytes)? {
             Answer::Written(text) if text.as_slice() == bytes => {

@@ -1,4 +1,4 @@
-/// Numbers at the limits of what texts take, and beside them, and spellings that are no number's.
+/// Numbers at the limits of texts and next to them, and spellings of no number.
 pub const NUMBERS: [&[u8]; 36] = [
     b"0",
     b"1",
@@ -38,10 +38,10 @@ pub const NUMBERS: [&[u8]; 36] = [
     b"1e1",
 ];
 
-/// What stands before a number in some word of a text.
+/// What comes before a number in some word of a text.
 pub const MARKS: [&[u8]; 10] = [b"", b"", b"", b"=", b"=", b"#", b"#7:", b"0:", b"1:", b"2:"];
 
-/// Words of texts, and some that are nearly one.
+/// Words of texts, and some words that are nearly one of a text.
 pub const WORDS: [&[u8]; 60] = [
     b"",
     b"\r",

@@ -1,19 +1,19 @@
 use std::fmt;
 use std::fmt::{Display, Formatter, Write};
 
-/// What came of a work.
+/// The outcome of a work.
 #[derive(Clone, Copy, Debug, PartialEq, Eq)]
 pub enum Came {
-    /// It wasn't done.
+    /// The work wasn't done.
     Nothing,
-    /// The answer that comes with ample memory.
+    /// The work has the answer that it has with ample memory.
     Ordinary,
-    /// Want of memory. Nothing was written, and the bench holds all callers.
+    /// Memory was wanted: nothing was written, and the bench holds all callers.
     NoMemory,
     /// A call was made, and not judged for want of memory: its reply, its view and its seen cut are
-    /// told, and its caller is halted.
+    /// answered, and its caller is halted.
     Unjudged,
-    /// Anything else.
+    /// The work has any other outcome.
     Wrong,
 }
 

@@ -19,7 +19,7 @@ const BOOK: &[u8] = b"book 2\n\
       1 0 deq =5 view 0:1 1:1\n\
       end\n";
 
-/// The same in version 1.
+/// The two calls of a queue, 5 enqueued and then dequeued, in version 1.
 const OLD_BOOK: &[u8] = b"book 1\n\
       object queue\n\
       callers 2\n\
@@ -78,7 +78,7 @@ const LOST: &[u8] = b"script 2\n\
       turns\n\
       end\n";
 
-/// Its report, and the witness.
+/// The report of the queue that loses each second item, and its witness.
 const LOST_FOUND: &[u8] = b"report 2\n\
       object queue\n\
       callers 1\n\
@@ -98,7 +98,7 @@ const LOST_FOUND: &[u8] = b"report 2\n\
       0 3 deq none view 0:4\n\
       end\n";
 
-/// The same without its last call.
+/// The script of the queue that loses each second item, without its last call.
 const LOST_UNJUDGED: &[u8] = b"script 2\n\
       object queue\n\
       callers 1\n\
@@ -110,7 +110,7 @@ const LOST_UNJUDGED: &[u8] = b"script 2\n\
       turns\n\
       end\n";
 
-/// What two monitors say of it.
+/// What two monitors find of the queue that loses each second item.
 const LOST_SEEN: &[u8] = b"illegal\n\
       book 2\n\
       object queue\n\
@@ -122,7 +122,7 @@ const LOST_SEEN: &[u8] = b"illegal\n\
       0 3 deq none view 0:4\n\
       end\n";
 
-/// The report of the two callers, one after the other.
+/// The report of two callers of a queue that call it one after the other.
 const REPLAYED: &[u8] = b"report 2\n\
       object queue\n\
       callers 2\n\
@@ -131,7 +131,7 @@ const REPLAYED: &[u8] = b"report 2\n\
       1 0 deq =5 view 0:1 1:1 ok seen 0:1 1:1\n\
       end\n";
 
-/// The same over an object that puts late, and the witness.
+/// The report of two callers of the object that puts late, and its witness.
 const REPLAYED_LATE: &[u8] = b"report 2\n\
       object queue\n\
       callers 2\n\
@@ -157,7 +157,7 @@ const CALLS_OF_ONE: &[u8] = b"script 2\n\
       turns\n\
       end\n";
 
-/// The certificate of its run.
+/// The certificate of the run of one caller of a queue.
 const CERTIFIED: &[u8] = b"book 2\n\
       object queue\n\
       callers 1\n\
@@ -170,7 +170,7 @@ const CERTIFIED: &[u8] = b"book 2\n\
       0 1 =5\n\
       end\n";
 
-/// What a command is to write, with ample memory.
+/// The expected output of a command, with ample memory.
 #[derive(Clone, Copy)]
 enum Wanted {
     Text(Status, &'static [u8]),
@@ -260,13 +260,13 @@ impl TriedCommand {
         Ok(Some(TriedCommand::new(alloc, words, input.to_vec(alloc)?, wanted)?))
     }
 
-    // `verify` on a book that has a legal order.
+    // The command `verify` on a book that has a legal order.
     fn verify(alloc: Global, book: Vec<u8>) -> Result<Option<TriedCommand>> {
         let wanted = Wanted::Text(Status::Fine, b"legal\n");
         Ok(Some(TriedCommand::new(alloc, &["verify"], book, wanted)?))
     }
 
-    /// Calls the top call.
+    /// Makes the command by the top call.
     pub fn act<R: AllocGlobal + Threads + Sync>(&mut self, rt: &R) {
         let status = selfcheck::selfcheck(
             rt,
@@ -278,7 +278,7 @@ impl TriedCommand {
         self.status = Some(status);
     }
 
-    /// What came of it.
+    /// The outcome of the command.
     pub fn came(&self, alloc: Global) -> Came {
         let Some(status) = self.status else {
             return Came::Nothing;

@@ -10,14 +10,14 @@ use whole_calls::{CallFindings, Calls, End, Turns, queue_calls};
 /// The reply of a dequeue that finds 5.
 const VALUE_5: u64 = 8_589_934_597;
 
-/// Two callers of a queue call it, one after the other, and each call checks itself.
+/// Two callers of a queue that call it one after the other, where each call checks itself.
 #[derive(Drop)]
 pub struct Enforced {
     turns: Turns,
     found: Option<Result<Calls, NoMemory>>,
 }
 
-/// What one of the two calls is to find.
+/// The expected findings of one of the two calls.
 #[derive(Clone, Copy)]
 struct Wanted {
     caller: u32,
@@ -26,7 +26,7 @@ struct Wanted {
     seen: (u64, u64),
 }
 
-/// An enqueue that comes before the dequeue, and what the dequeue finds.
+/// The expected findings of an enqueue that comes before the dequeue, and of that dequeue.
 const ENQUEUE_FIRST: [Wanted; 2] = [
     Wanted {
         caller: 0,
@@ -42,7 +42,7 @@ const ENQUEUE_FIRST: [Wanted; 2] = [
     },
 ];
 
-/// A dequeue that comes before the enqueue.
+/// The expected findings of a dequeue that comes before the enqueue, and of that enqueue.
 const DEQUEUE_FIRST: [Wanted; 2] = [
     Wanted {
         caller: 1,
@@ -59,19 +59,19 @@ const DEQUEUE_FIRST: [Wanted; 2] = [
 ];
 
 impl Enforced {
-    /// Calls that are made in these turns.
+    /// The calls that are made in these turns, before they are made.
     pub fn new(turns: Turns) -> Enforced {
         Enforced { turns, found: None }
     }
 
-    /// Makes the calls.
+    /// Makes the two calls.
     pub fn act<R: Threads>(&mut self, rt: &R, alloc: Global) {
         let (first, second) = (Blank::new(1), Blank::new(1));
         self.found = Some(queue_calls::<Brand, Brand, _>(rt, alloc, first, second, self.turns));
     }
 
-    /// What came of them. The call after one that wasn't judged has its record in the seen cut and
-    /// in the order.
+    /// The outcome of the two calls. The call after one that wasn't judged has the record of that
+    /// call in its seen cut and in its order.
     pub fn came(&self) -> Came {
         let Some(found) = &self.found else {
             return Came::Nothing;
@@ -91,7 +91,8 @@ impl Enforced {
 }
 
 impl Wanted {
-    // Whether a call found this: its reply is delivered with this order, or it wasn't judged.
+    // Whether the findings of a call are the expected ones: its reply is delivered with this order,
+    // or the call wasn't judged.
     fn is_found(&self, found: &CallFindings, order: &[Place]) -> bool {
         let is_ended = match &found.end {
             End::Delivered(places) => found.live && places.as_slice() == order,
@@ -110,8 +111,8 @@ impl Wanted {
     }
 }
 
-// What came of two calls, the one after the other. Whatever became of the first, its record is in
-// the order of the second.
+// The outcome of two calls that are made one after the other. Whatever the outcome of the first,
+// its record is in the order of the second.
 fn came_of(first: &CallFindings, second: &CallFindings, wanted: [Wanted; 2]) -> Came {
     let [a, b] = wanted;
     let order = [a.place(), b.place()];

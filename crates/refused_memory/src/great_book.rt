@@ -13,7 +13,8 @@ const MOST_CALLS: u64 = 256;
 /// The calls of each caller in the book of rounds.
 const ROUNDS: u64 = 8;
 
-/// The greatest book: all callers of a queue put what they have, and only the last gets replies.
+/// The greatest book: all callers of a queue put values in, and only the last caller's calls have
+/// replies.
 pub fn great_book(alloc: Global) -> Result<Vec<u8>> {
     let mut text = Vec::new(alloc);
     write_head(&mut text, MOST_CALLS)?;
@@ -32,9 +33,9 @@ pub fn great_book(alloc: Global) -> Result<Vec<u8>> {
     Ok(text)
 }
 
-/// A book of rounds: in each all callers of a queue call beside one another, and each view counts
-/// all calls up to its round. In every other round each caller dequeues what it enqueued in the
-/// round before.
+/// A book of rounds: in each round the calls of all callers of a queue overlap, and each view
+/// counts all calls up to its round. In every other round each caller dequeues the value that it
+/// enqueued in the round before.
 pub fn book_of_rounds(alloc: Global) -> Result<Vec<u8>> {
     let mut text = Vec::new(alloc);
     write_head(&mut text, ROUNDS)?;

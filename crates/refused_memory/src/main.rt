@@ -30,7 +30,7 @@ use std::process::ExitCode;
 use std::thread::Threads;
 use work::MemoryWork;
 
-// Does the work that a line names. Whether what came of it is right.
+// Does the work that a line names, and answers whether its outcome is right.
 fn try_line<R: Print + AllocGlobal + Threads + Sync>(rt: &R, line: &str) -> Result<bool> {
     let (name, rest) = line.split_once(' ').context("a number")?;
     let (before, deed) = rest.split_once(' ').context("a deed")?;

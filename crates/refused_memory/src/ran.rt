@@ -23,7 +23,7 @@ pub struct Ran {
 }
 
 impl Ran {
-    /// The worked script.
+    /// The worked script, before its run.
     pub fn new(alloc: Global) -> Result<Ran> {
         let script = read_script(alloc, SCRIPT).map_err(|_| anyhow!("the script can't be read"))?;
         Ok(Ran {
@@ -32,18 +32,18 @@ impl Ran {
         })
     }
 
-    /// Runs it.
+    /// Runs the script.
     pub fn act<R: Threads + Sync>(&mut self, rt: &R, alloc: Global) {
         self.came = run_box(rt, alloc, &self.script).unwrap_or(Came::NoMemory);
     }
 
-    /// What came of it.
+    /// The outcome of the run.
     pub fn came(&self) -> Came {
         self.came
     }
 }
 
-// Runs a script over a log object.
+// Runs a script over a log object, and answers the outcome.
 fn run_box<R: Threads + Sync>(rt: &R, alloc: Global, script: &Script) -> Result<Came, NoMemory> {
     let machine = Plain {
         object: script.kind(),
@@ -54,8 +54,8 @@ fn run_box<R: Threads + Sync>(rt: &R, alloc: Global, script: &Script) -> Result<
     came
 }
 
-// Runs a script over an object, and says what came, which is wrong where a caller isn't back on the
-// bench or a pass not in its place.
+// Runs a script over an object, and answers the outcome, which is wrong where a caller isn't back
+// on the bench or a pass isn't in its place.
 fn run_beside<R: Threads + Sync, B: BlackBox + Sync>(
     rt: &R,
     alloc: Global,
@@ -74,7 +74,7 @@ where
     let kind = script.kind();
     let report = run_over(rt, alloc, &rows, &mut bench, &kind, object, passes, script);
     let is_whole = are_back(&bench, passes, script.callers());
-    // What came stands, also where no memory is left for the words of the closed table.
+    // The outcome is answered even where no memory is left for the words of the closed table.
     let _world = rows.close(alloc, bench);
     Ok(match report {
         Ok(report) if is_whole && is_two_delivered(report.counts()) => Came::Ordinary,

@@ -7,14 +7,14 @@ use std::alloc::Global;
 use std::thread::Threads;
 use whole_calls::Turns;
 
-/// A worked thing that takes memory.
+/// A work that takes memory.
 #[derive(Drop)]
 pub enum MemoryWork {
-    /// A command, by the top call.
+    /// A command, made by the top call.
     Command(TriedCommand),
     /// Two calls that check themselves.
     Enforced(Enforced),
-    /// A whole run on a bench that can be looked at.
+    /// A whole run on a bench that is examined after the run.
     Ran(Ran),
 }
 
@@ -33,7 +33,7 @@ impl MemoryWork {
         }
     }
 
-    /// Does it.
+    /// Does the work.
     pub fn act<R: AllocGlobal + Threads + Sync>(&mut self, rt: &R) {
         match self {
             MemoryWork::Command(command) => command.act(rt),
@@ -42,7 +42,7 @@ impl MemoryWork {
         }
     }
 
-    /// What came of it.
+    /// The outcome of the work.
     pub fn came(&self, alloc: Global) -> Came {
         match self {
             MemoryWork::Command(command) => command.came(alloc),

@@ -30,7 +30,7 @@ fn two(first: u64, second: u64) -> Cut
     cut
 }
 
-// The first caller's call returns before the second one's is invoked.
+// The first caller's call returns before the second caller's call is invoked.
 #[test]
 fn a_book_is_made_and_copied(rt: HostRuntime) -> Result<(), Fail> {
     let mut book = Book::new(rt.alloc(), 2)?;

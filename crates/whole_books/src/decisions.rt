@@ -1,4 +1,4 @@
-//! What stacks say of whole books, without a search of orders.
+//! What objects of stacks decide of whole books, without a search of orders.
 use book_base::{Decision, SeqObject};
 use book_text::read_book;
 use std::alloc::Global;
@@ -8,7 +8,7 @@ use std::test::Fail;
 const TWICE: &[u8] =
     b"book 2\nobject stack\ncallers 3\ncalls 1 1 2\n0 0 push 1 done view 0:1 1:1 2:1\n1 0 push 1 done view 0:1 1:1 2:1\n2 0 pop =1 view 0:1 1:1 2:1\n2 1 pop =1 view 0:1 1:1 2:2\nend\n";
 
-// It is taken once more.
+// One value is put in twice, and taken three times.
 const ONCE_MORE: &[u8] =
     b"book 2\nobject stack\ncallers 3\ncalls 1 1 3\n0 0 push 1 done view 0:1 1:1 2:1\n1 0 push 1 done view 0:1 1:1 2:1\n2 0 pop =1 view 0:1 1:1 2:1\n2 1 pop =1 view 0:1 1:1 2:2\n2 2 pop =1 view 0:1 1:1 2:3\nend\n";
 
@@ -20,14 +20,15 @@ const LOWER: &[u8] =
 const LOST: &[u8] =
     b"book 2\nobject stack\ncallers 2\ncalls 2 2\n0 0 push 1 done view 0:1\n0 1 push 1 done view 0:2\n1 0 pop =1 view 0:2 1:1\n1 1 pop none view 0:2 1:2\nend\n";
 
-// An unanswered call may have taken the other one.
+// A value is put in twice and taken once, and then a take finds nothing, beside an unanswered call
+// that may have taken the other one.
 const TAKEN: &[u8] =
     b"book 2\nobject stack\ncallers 3\ncalls 2 2 1\n0 0 push 1 done view 0:1\n0 1 push 1 done view 0:2\n1 0 pop =1 view 0:2 1:1\n1 1 pop none view 0:2 1:2 2:1\n2 0 pop\nend\n";
 
 // No value is put in twice.
 const APART: &[u8] = b"book 2\nobject stack\ncallers 1\ncalls 1\n0 0 push 1 done view 0:1\nend\n";
 
-// What the object says of the book with this text.
+// What the object decides of the book with this text.
 fn decision(alloc: Global, text: &[u8]) -> Result<Decision, Fail> {
     let (kind, book) = read_book(alloc, text)?;
     Ok(kind.decide(alloc, &book)?)

@@ -1,4 +1,4 @@
-//! Pruning rules that objects find: no clause says that they find any.
+//! Pruning rules that objects find. No clause says that objects find any.
 use book_base::{Book, Call, MAX_CALLERS, PruningRules, SeqObject};
 use book_text::read_book;
 use std::alloc::Global;
@@ -16,14 +16,14 @@ const SIX: Call = Call {
 
 const START: [u64; 4] = [0, 0, 0, 0];
 
-// 5 and 6 are put in beside one another, and 6 is taken before 5.
+// The puts of 5 and 6 overlap, and 6 is taken before 5.
 const SIX_FIRST_OF_A_QUEUE: &[u8] =
     b"book 2\nobject queue\ncallers 4\ncalls 1 1 1 1\n0 0 enq 5 done view 0:1 1:1\n1 0 enq 6 done view 0:1 1:1\n2 0 deq =6 view 0:1 1:1 2:1\n3 0 deq =5 view 0:1 1:1 2:1 3:1\nend\n";
 
 const SIX_FIRST_OF_A_STACK: &[u8] =
     b"book 2\nobject stack\ncallers 4\ncalls 1 1 1 1\n0 0 push 5 done view 0:1 1:1\n1 0 push 6 done view 0:1 1:1\n2 0 pop =6 view 0:1 1:1 2:1\n3 0 pop =5 view 0:1 1:1 2:1 3:1\nend\n";
 
-// 5 and 6 are put in and taken beside one another.
+// The puts of 5 and 6 overlap, and so do their takes.
 const ALL_BESIDE_OF_A_QUEUE: &[u8] =
     b"book 2\nobject queue\ncallers 4\ncalls 1 1 1 1\n0 0 enq 5 done view 0:1 1:1\n1 0 enq 6 done view 0:1 1:1\n2 0 deq =6 view 0:1 1:1 2:1 3:1\n3 0 deq =5 view 0:1 1:1 2:1 3:1\nend\n";
 
@@ -38,7 +38,7 @@ const SIX_TOO_EARLY: &[u8] =
 const TAKEN_TWICE: &[u8] =
     b"book 2\nobject queue\ncallers 4\ncalls 1 0 1 1\n0 0 enq 5 done view 0:1 2:1 3:1\n2 0 deq =5 view 0:1 2:1 3:1\n3 0 deq =5 view 0:1 2:1 3:1\nend\n";
 
-// 5 stays, and a take beside its put finds nothing.
+// 5 is never taken, and a take that overlaps its put finds nothing.
 const FOUND_NOTHING: &[u8] =
     b"book 2\nobject queue\ncallers 4\ncalls 1 0 1 0\n0 0 enq 5 done view 0:1 2:1\n2 0 deq none view 0:1 2:1\nend\n";
 

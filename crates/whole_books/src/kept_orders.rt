@@ -1,4 +1,5 @@
-//! Searches that go on after what stands of an order, in a book that has grown since.
+//! Searches that begin after what stands of an order, in a book that has grown since that order was
+//! found.
 ghost use Rattle.std.specs.Prelude.{◌≡◌, length, IfOk};
 
 use book_base::{Book, Cut, OpWord, Place};
@@ -25,7 +26,7 @@ fn two(first: u64, second: u64) -> Cut
     cut
 }
 
-// The first caller's enqueue of 5 has no answer, and the second caller has made this call and then
+// The first caller's enqueue of 5 has no answer. The second caller has made its first call and then
 // others, each of which has its answer and a view that holds the enqueue.
 fn half_answered(alloc: Global, first: (OpWord, u64), others: (OpWord, u64)) -> Result<Book, Fail>
     ensures { IfOk result (λ book. length book ≡ 2) }
@@ -41,7 +42,8 @@ fn half_answered(alloc: Global, first: (OpWord, u64), others: (OpWord, u64)) -> 
     Ok(book)
 }
 
-// What is found after what stood, once the first caller's call is answered.
+// The order that is found after what stood of an earlier one, once the first caller's call is
+// answered.
 fn found_later(
     alloc: Global,
     mut book: Book,
@@ -56,7 +58,7 @@ fn found_later(
     Ok(check_after(alloc, &Queue, &book, standing)?)
 }
 
-// The first place of an order that is found, and how many it has.
+// The first place of an order that was found, and how many places it has.
 fn begins(found: &Option<KeptOrder>) -> Option<(Place, usize)> {
     let found = found.as_ref()?;
     let first = found.order.first()?;
@@ -71,8 +73,8 @@ fn first_place(reply: u64) -> Place {
     }
 }
 
-// The second caller's enqueues were an order. The first caller's record comes late, with a view that
-// holds none of them, so that its enqueue comes before them all.
+// The second caller's enqueues were an order. The first caller's record comes late, with a view
+// that holds none of them, so its enqueue comes before all of them.
 #[test]
 fn a_late_record_with_an_old_view_leaves_nothing_standing(rt: HostRuntime) -> Result<(), Fail> {
     let enqueue = (ENQUEUE_6, DONE);
@@ -82,8 +84,8 @@ fn a_late_record_with_an_old_view_leaves_nothing_standing(rt: HostRuntime) -> Re
     Ok(())
 }
 
-// The order began with the enqueue that had no answer, since 5 was dequeued. Then it is answered
-// with the reply that it had there.
+// The order began with the enqueue that had no answer, since 5 was dequeued. Then this enqueue is
+// answered with the reply that it had in the order.
 #[test]
 fn an_open_call_of_the_order_is_answered_as_it_stood(rt: HostRuntime) -> Result<(), Fail> {
     let book = half_answered(rt.alloc(), (DEQUEUE, value_reply(5)), (DEQUEUE, NONE))?;
@@ -92,7 +94,7 @@ fn an_open_call_of_the_order_is_answered_as_it_stood(rt: HostRuntime) -> Result<
     Ok(())
 }
 
-// The same call is answered with a reply that no enqueue has.
+// The enqueue that had no answer is answered with a reply that no enqueue has.
 #[test]
 fn an_open_call_of_the_order_has_another_reply(rt: HostRuntime) -> Result<(), Fail> {
     let book = half_answered(rt.alloc(), (DEQUEUE, value_reply(5)), (DEQUEUE, NONE))?;

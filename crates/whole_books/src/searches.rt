@@ -14,11 +14,11 @@ const TAKEN: &[u8] =
 const LOST: &[u8] =
     b"book 2\nobject queue\ncallers 2\ncalls 1 1\n0 0 enq 5 done view 0:1\n1 0 deq none view 0:1 1:1\nend\n";
 
-// A stack of three callers. Its one legal order begins with the second one's call.
+// A stack of three callers, whose one legal order begins with the second caller's call.
 const OF_A_STACK: &[u8] =
     b"book 2\nobject stack\ncallers 3\ncalls 1 1 1\n0 0 push 5 done view 0:1 1:1\n1 0 push 6 done view 0:1 1:1\n2 0 pop =5 view 0:1 1:1 2:1\nend\n";
 
-// Whether the book with this text is said to be legal.
+// Whether the search finds the book with this text legal.
 fn is_legal(alloc: Global, text: &[u8], guide: &mut Guide) -> Result<bool, Fail> {
     let (kind, book) = read_book(alloc, text)?;
     let verdict = check_from(alloc, &kind, &book, guide)?;

@@ -3,9 +3,8 @@ use set_order::{Joins, SetVerdict, check_sets};
 use setbook_text::read_setbook;
 use std::test::Fail;
 
-// One set stands before a set of three calls, and one after it. Of the two calls that are
-// unanswered one has to stand in the set of three, whose replies have its number, and the other may
-// be left out.
+// One set comes before a set of three calls, and one after it. Of the two unanswered calls one has
+// to be in the set of three, whose replies have its number, and the other one may be left out.
 #[test]
 fn three_calls_stand_in_one_set(rt: HostRuntime) -> Result<(), Fail> {
     let book = read_setbook(

@@ -3,7 +3,8 @@ use book_base::OpWord;
 use seq_objects::{Kind, put_number, put_reply, reply_from_word};
 use std::test::Fail;
 
-// An operation word is its code times 2^32 and its first value, and its second value times 2^64.
+// An operation word is the sum of its code times 2^32, its first value, and its second value times
+// 2^64.
 const OPERATIONS: [(Kind, &str, OpWord); 12] = [
     (Kind::Queue, "enq 5", 4294967301),
     (Kind::Queue, "deq", 8589934592),

@@ -52,7 +52,7 @@ module _ {M : Type 0} (reply_to : M → List Entry → ℕ) (has_seen : M → Li
         record { made = z.made; some = omega (arith, z.cap) },
       )
 
-  -- given back in order, they are the passes of the box
+  -- the passes given back in order are the passes of the box
   pub both_back : (p q : LogPass) → callers_in b ≡ 2 → IsFor reply_to has_seen b 0 p
       → IsFor reply_to has_seen b 1 q → ArePassesOf reply_to has_seen b (p ∷ q ∷ [])
   both_back p q two a z =

@@ -18,16 +18,17 @@ module _ {P : Type 0} where
     pub caller : IsCallerOf meaning r c
     pub who : who_of c ≡ i
 
-  -- It has made no step.
+  -- The caller has made no step.
   pub record IsNew (c : Caller P) : Type 0 where
     pub local : local_with c ≡ fresh
     pub stance : stance_of c ≡ ready
 
-  -- There is a caller, with number i; and one that has made no step.
+  -- There is a caller, and it has number i at this table.
   abbrev pub IsThere : (P → ℕ → ℕ → Meaning) → Rows P → ℕ → Option (Caller P) → Type 0
   IsThere meaning r i None = ⊥
   IsThere meaning r i (Some c) = IsAt meaning r i c
 
+  -- There is a caller, it has number i at this table, and it has made no step.
   abbrev pub IsNewAt : (P → ℕ → ℕ → Meaning) → Rows P → ℕ → Option (Caller P) → Type 0
   IsNewAt meaning r i None = ⊥
   IsNewAt meaning r i (Some c) = IsAt meaning r i c × IsNew c

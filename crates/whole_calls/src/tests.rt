@@ -11,8 +11,8 @@ use std::test::Fail;
 use std::thread::Threads;
 use world_core::{Program, Scrap};
 
-// What two callers found who enqueue and dequeue at the log object of a kind. Each call checks
-// itself against a queue.
+// The findings of two callers that enqueue and dequeue at the log object of a kind. Each call
+// checks itself against a queue.
 fn found_on<R: Threads>(
     rt: &R,
     alloc: Global,
@@ -36,7 +36,7 @@ fn calls_in_two_threads_are_delivered(rt: HostRuntime) -> Result<(), Fail> {
     Ok(())
 }
 
-// A counter knows neither operation, and replies that it doesn't.
+// A counter knows neither an enqueue nor a dequeue, and replies `bad`.
 #[test]
 fn calls_of_what_is_no_queue_are_illegal(rt: HostRuntime) -> Result<(), Fail> {
     let (first, second) = found_on(&rt, rt.alloc(), Kind::Counter, Turns::EnqueueFirst)?;
@@ -53,8 +53,8 @@ fn a_call_after_what_stands_is_judged_as_any_other(rt: HostRuntime) -> Result<()
     Ok(())
 }
 
-// The object word of the largest table that has one, when it is closed. The largest table without
-// one is opened by each run.
+// The object word of the largest table that has one, read when the table is closed. Each run opens
+// the largest table without one.
 fn object_word(alloc: Global) -> Result<u64, NoMemory> {
     let (rows, bench) = Rows::open(alloc, Scrap, 16, 256)?;
     let world = rows.close(alloc, bench)?;
@@ -67,10 +67,10 @@ fn the_largest_table_with_an_object_word(rt: HostRuntime) -> Result<(), Fail> {
     Ok(())
 }
 
-// What is handed to another thread.
+// Takes a value that can be sent to another thread.
 fn send<T: Send>(_value: &T) {}
 
-// A caller may go on with its call on another thread, in whichever state the call is.
+// A call of a caller may be continued on another thread, in whichever state it is.
 fn _send_each<P: Program + Send>(
     announced: &Announced<P>,
     answered: &Answered<P>,

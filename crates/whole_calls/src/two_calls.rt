@@ -43,19 +43,20 @@ pub struct CallFindings {
     pub seen: (u64, u64),
 }
 
-/// Which of two callers calls first.
+/// How the calls of two callers are ordered.
 #[derive(Clone, Copy, Debug, PartialEq, Eq)]
 pub enum Turns {
     EnqueueFirst,
     DequeueFirst,
-    /// Both call beside one another, in two threads.
+    /// Both callers call beside one another, in two threads.
     Beside,
-    /// The first calls before the second, and each call goes on after what stands of an order.
+    /// The first caller calls before the second, and each judgement begins after what stands of an
+    /// earlier order.
     AfterWhatStands,
 }
 
 impl CallFindings {
-    /// The reply was delivered, and the caller goes on.
+    /// The reply was delivered, and the caller may make further calls.
     pub fn is_delivered(&self) -> bool {
         self.live && matches!(self.end, End::Delivered(_))
     }
@@ -74,7 +75,7 @@ fn counts(cut: &Cut) -> (u64, u64) {
     (cut.get(0), cut.get(1))
 }
 
-// What a caller found of a call that was judged.
+// The findings of a call that was judged.
 fn found_of(outcome: Outcome, live: bool) -> CallFindings {
     match outcome {
         Outcome::Delivered {
@@ -104,7 +105,7 @@ fn found_of(outcome: Outcome, live: bool) -> CallFindings {
     }
 }
 
-// What a caller found of a call that was judged after what stood, where this stands now.
+// The findings of a call that was judged after what stood of an order, where `standing` stands now.
 fn found_after(
     alloc: Global,
     judged: Judged,
@@ -134,7 +135,7 @@ fn found_after(
     }
 }
 
-// The order that stands; no places where none does.
+// The order that stands, or no places where none does.
 fn order_in(alloc: Global, standing: Option<KeptOrder>) -> Vec<Place> {
     match standing {
         Some(KeptOrder { order, marks: _ }) => order,
@@ -142,7 +143,7 @@ fn order_in(alloc: Global, standing: Option<KeptOrder>) -> Vec<Place> {
     }
 }
 
-// What a caller found of a call that wasn't judged.
+// The findings of a call that wasn't judged.
 fn unjudged(live: bool, reply: u64, view: &Cut, seen: &Cut) -> CallFindings {
     CallFindings {
         end: End::Unjudged,
@@ -153,7 +154,7 @@ fn unjudged(live: bool, reply: u64, view: &Cut, seen: &Cut) -> CallFindings {
     }
 }
 
-// What one caller holds.
+// One caller's seat: the caller and its pass.
 struct Seat<L: Ledger> {
     caller: Option<Caller>,
     pass: LogPass,
@@ -163,7 +164,7 @@ struct Seat<L: Ledger> {
 }
 
 impl<L: Ledger> Seat<L> {
-    // The caller, which is there, and its pass.
+    // The caller of a seat, which has one, and its pass.
     fn leave(self) -> (Caller, LogPass)
         requires { IsSome self.caller }
         ensures { (self.caller ≡ Some result.0) × (result.1 ≡ self.pass) }
@@ -180,8 +181,8 @@ impl<L: Ledger> Seat<L> {
     }
 }
 
-// A caller makes its first call, which checks itself against a queue. It leaves its seat for it,
-// and comes back.
+// Makes the first call of a seat's caller, which checks itself against a queue. The caller leaves
+// its seat for the call, and comes back.
 fn call<M: Machine, L: Ledger>(
     alloc: Global,
     rows: &Rows,
@@ -236,7 +237,8 @@ fn call<M: Machine, L: Ledger>(
     }
 }
 
-// A caller makes its first call as in `call`, after what stands of an order, which is nothing yet.
+// Makes the first call of a seat's caller as `call` does, after what stands of an order, which is
+// nothing yet.
 fn call_after<M: Machine, L: Ledger>(
     alloc: Global,
     rows: &Rows,
@@ -337,7 +339,8 @@ fn call_both<M: Machine + Sync, K: Ledger + Send, L: Ledger + Send, R: Threads>(
     }
 }
 
-// A table for two callers with four calls each, the bench that they left, and both.
+// A table for two callers with four calls each, the bench that both callers have left, and the two
+// callers.
 fn open_rows(alloc: Global) -> Result<(Rows, Bench, Caller, Caller), NoMemory>
     ensures bench { IfOk result
         (λ r. IsBenchOf ⟦<Outside as Program>⟧.meaning r.0 r.1 × (r.0.callers ≡ 2)) }
@@ -351,7 +354,7 @@ fn open_rows(alloc: Global) -> Result<(Rows, Bench, Caller, Caller), NoMemory>
     Ok((rows, bench, a, b))
 }
 
-// Both callers come back to the bench, and the table is closed.
+// Puts both callers back on the bench, and closes the table.
 fn close_rows(
     alloc: Global,
     rows: Rows,
@@ -391,7 +394,7 @@ fn take_passes<M: Machine>(
     (a, b, passes)
 }
 
-// The passes are given back in order, and the box is closed: its log.
+// Gives the passes back in order, and closes the box. The answer is the box's log.
 fn close_box<M: Machine + Drop>(
     object: LogBox<M>,
     mut passes: Vec<LogPass>,
@@ -408,7 +411,7 @@ fn close_box<M: Machine + Drop>(
     object.close(passes)
 }
 
-/// What both callers of a queue found, how many calls each pass made, and the log.
+/// The findings of both callers of a queue, how many calls each pass made, and the log.
 pub type Calls = ((CallFindings, CallFindings), (u64, u64), Vec<Entry>);
 
 /// Two callers of a queue on one log call it once each: the first enqueues 5, and the second
@@ -428,7 +431,8 @@ pub fn queue_calls<K: Ledger + Send, L: Ledger + Send, R: Threads>(
     calls_on::<K, L, R>(rt, alloc, Kind::Queue, first, second, turns)
 }
 
-// The same over the log object of any kind, whose replies may be none that a queue gives.
+// Makes the calls of two callers of a queue on the log object of any kind, whose replies may be
+// none that a queue gives.
 pub(crate) fn calls_on<K: Ledger + Send, L: Ledger + Send, R: Threads>(
     rt: &R,
     alloc: Global,

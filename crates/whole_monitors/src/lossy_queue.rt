@@ -64,7 +64,7 @@ impl BlackBox for LossyQueue {
     }
 }
 
-/// Caller 0 makes a call that nobody judges, where it has one left.
+/// Makes a call of caller 0 that nobody judges, where the caller has one left.
 pub fn call<L: Ledger>(
     rows: &Rows,
     caller: Caller,
@@ -87,8 +87,8 @@ pub fn call<L: Ledger>(
     seen(published, rows, steps).defer()
 }
 
-/// Caller 0 enqueues 1 and 2, and dequeues twice, as far as its pass goes: the second time it finds
-/// nothing.
+/// Lets caller 0 enqueue 1 and 2, and dequeue twice, as far as its pass has calls left: the second
+/// dequeue finds nothing.
 pub fn lose_an_item<L: Ledger>(
     rows: &Rows,
     caller: Caller,

@@ -7,7 +7,8 @@ use row_table::{Bench, Caller, Rows};
 use std::alloc::Global;
 use world_core::{Outside, Program};
 
-/// A table for three callers with five calls each, the bench that they left, and all three.
+/// A table for three callers with five calls each, the bench that they have left, and the three
+/// callers.
 pub fn open_rows(alloc: Global) -> Result<(Rows, Bench, Caller, Caller, Caller), NoMemory>
     ensures bench { IfOk result
         (λ r. IsBenchOf ⟦<Outside as Program>⟧.meaning r.0 r.1 × (r.0.callers ≡ 3)) }
@@ -27,7 +28,7 @@ pub fn open_rows(alloc: Global) -> Result<(Rows, Bench, Caller, Caller, Caller),
     Ok((rows, bench, a, b, c))
 }
 
-/// All three callers come back to the bench, and the table is closed.
+/// Puts all three callers back on the bench, and closes the table.
 pub fn close_rows(
     alloc: Global,
     rows: Rows,

@@ -16,7 +16,8 @@ use std::test::Fail;
 use std::thread::{Threads, join_mut};
 use world_core::{Outside, Program};
 
-// A monitor makes one round: whether it was illegal, where memory was enough.
+// Makes one round of a monitor. The answer is whether the round was illegal, where there was memory
+// enough.
 fn look<L: Ledger>(
     alloc: Global,
     rows: &Rows,
@@ -34,7 +35,7 @@ fn look<L: Ledger>(
     }
 }
 
-// Two monitors make one round each, side by side.
+// Makes one round of each of two monitors, side by side.
 fn look_beside<K: Ledger + Send, L: Ledger + Send, R: Threads>(
     rt: &R,
     alloc: Global,
@@ -60,13 +61,14 @@ fn look_beside<K: Ledger + Send, L: Ledger + Send, R: Threads>(
 // When two monitors make their rounds.
 #[derive(Clone, Copy)]
 enum Turns {
-    // One after the other, and between them caller 0 makes one more call, where it has one left.
+    // Two monitors make their rounds one after the other, and between them caller 0 makes one more
+    // call, where it has one left.
     CallBetween,
-    // In two threads.
+    // Two monitors make their rounds in two threads.
     Beside,
 }
 
-// Each of two monitors makes one round: whether each was illegal.
+// Makes one round of each of two monitors. The answer is whether each was illegal.
 fn make_rounds<K: Ledger + Send, L: Ledger + Send, R: Threads>(
     rt: &R,
     alloc: Global,
@@ -128,7 +130,7 @@ pub fn shown(witness: Option<&Witness>) -> Shown {
     ))
 }
 
-// What two monitors found.
+// The findings of two monitors.
 #[derive(Debug, Drop)]
 struct MonitorFindings {
     illegal: (Option<bool>, Option<bool>),
@@ -220,7 +222,7 @@ fn the_second_monitor_knows_the_witness_of_the_first(rt: HostRuntime) -> Result<
     Ok(())
 }
 
-// The caller has no fifth call, so both monitors see the same four.
+// Caller 0 has no fifth call, so both monitors see its same four calls.
 #[test]
 fn of_two_monitors_in_turn_the_first_is_placed(rt: HostRuntime) -> Result<(), Fail> {
     let found = watch_lossy_queue::<Brand, Brand, _>(
@@ -257,7 +259,7 @@ fn one_of_two_monitors_side_by_side_is_placed(rt: HostRuntime) -> Result<(), Fai
     Ok(())
 }
 
-// Three calls have a legal order: the item isn't missed before the fourth.
+// Caller 0's first three calls have a legal order: that the item is lost shows only in the fourth.
 #[test]
 fn legal_rounds_have_no_witness(rt: HostRuntime) -> Result<(), Fail> {
     let found = watch_lossy_queue::<Brand, Brand, _>(

@@ -14,7 +14,7 @@ use std::thread::Threads;
 use work_halves::Work;
 use world_core::Outside;
 
-// A door that is opened or shut, as all share.
+// A door, open or shut, that all callers share.
 #[derive(Drop)]
 struct Door {
     open: bool,

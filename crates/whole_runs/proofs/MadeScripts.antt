@@ -18,12 +18,12 @@ module _ (number calls : ℕ) (kind : Kind) where
   calls_of_all [] most le = tt
   calls_of_all (i ∷ callers) most le = (omega (arith, calls_of_one i), calls_of_all callers most le)
 
-  -- no caller makes more calls than each was to make
+  -- no caller makes more calls than the number of calls of each
   pub made_calls : (n most : ℕ) → calls ≤ most
       → AreAtMost most (sizes (generated number n calls kind).operations)
   made_calls n most le = calls_of_all (range_with_len 0 n) most le
 
-  -- there are as many callers as there were to be
+  -- the script has as many callers as it is made for
   pub made_callers : (n : ℕ) → length (generated number n calls kind).operations ≡ n
   made_callers n = length-map (range_with_len 0 n) (generated_operations number calls kind)
       ∙ length-range_with_len 0 n

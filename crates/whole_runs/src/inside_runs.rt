@@ -16,7 +16,7 @@ use std::alloc::Global;
 use std::test::Fail;
 use std::thread::Threads;
 
-// How many callers there are, how many calls each of them makes, and how many it might make.
+// How many callers there are, how many calls each of them makes, and how many calls each may make.
 #[derive(Clone, Copy)]
 struct Size {
     callers: u32,
@@ -29,8 +29,8 @@ struct Size {
     ghost few_calls: { cap ≤ MAX_CALLS },
 }
 
-// One, two and sixteen callers: with one call, for which alone there is a place, and with three of
-// 256.
+// One, two and sixteen callers, with one call each: in a table for one call each, and then with
+// three calls in a table for 256.
 const SIZES: [Size; 6] = [
     Size {
         callers: 1,
@@ -64,8 +64,7 @@ const SIZES: [Size; 6] = [
     },
 ];
 
-// Sixteen callers with all the calls that a table may have: a log of them is full after the last
-// one.
+// Sixteen callers with all the calls that a table may have: their log is full after the last call.
 const WHOLE: Size = Size {
     callers: 16,
     calls: 256,
@@ -100,7 +99,7 @@ fn delivered(alloc: Global, report: &Report, size: Size) -> Result<Option<Vec<u6
     Ok(Some(replies))
 }
 
-// What the callers of a made script get from an object inside the world.
+// The replies that the callers of a made script get from an object inside the world.
 fn run_made<R: Threads + Sync, O: CoreObject + Sync>(
     rt: &R,
     alloc: Global,
@@ -120,7 +119,7 @@ where
     delivered(alloc, &report, size)
 }
 
-// What they get from the log of the script's kind.
+// The replies that the callers of a made script get from the log of the script's kind.
 fn run_log<R: Threads + Sync>(
     rt: &R,
     alloc: Global,
@@ -131,7 +130,7 @@ fn run_log<R: Threads + Sync>(
     run_made(rt, alloc, &log, &mut passes, kind, size)
 }
 
-// What they get from the tally.
+// The replies that the callers of a made script get from the tally.
 fn run_tally<R: Threads + Sync>(
     rt: &R,
     alloc: Global,
@@ -141,7 +140,7 @@ fn run_tally<R: Threads + Sync>(
     run_made(rt, alloc, &tally, &mut passes, Kind::Counter, size)
 }
 
-// What they get from the cell.
+// The replies that the callers of a made script get from the cell.
 fn run_cell<R: Threads + Sync>(
     rt: &R,
     alloc: Global,
@@ -154,7 +153,7 @@ fn run_cell<R: Threads + Sync>(
 // The reply `=0`, from which `=V` differs by V.
 const ZERO: u64 = 2 << 32;
 
-// How many replies there are, where they are `=0`, `=1` and so on, each once, in whatever order.
+// How many replies there are, where they are `=0`, `=1` and so on, each of them once, in any order.
 fn counted(replies: Option<Vec<u64>>) -> Option<u64> {
     let mut replies = replies?;
     replies.sort_unstable();
@@ -168,8 +167,8 @@ fn counted(replies: Option<Vec<u64>>) -> Option<u64> {
     Some(count)
 }
 
-// What one caller gets for its six calls from the log of each kind. Its values are the numbers of
-// its calls.
+// The replies that one caller gets to its six calls from the log of each kind. The values of its
+// calls are their numbers.
 const ALONE_IN_LOGS: [(Kind, [u64; 6]); 8] = [
     // enq 0, deq, enq 2, deq, enq 4, deq
     (Kind::Queue, [DONE, ZERO, DONE, ZERO + 2, DONE, ZERO + 4]),
@@ -192,7 +191,7 @@ const ALONE_IN_LOGS: [(Kind, [u64; 6]); 8] = [
     (Kind::Map, [NONE, NONE, NONE, NONE, NONE, NONE]),
 ];
 
-// One caller fills its log.
+// One caller fills its log with its six calls.
 #[test]
 fn the_log_of_each_kind_serves_one_caller(rt: HostRuntime) -> Result<(), Fail> {
     for (kind, replies) in ALONE_IN_LOGS {
@@ -237,7 +236,7 @@ fn a_full_log_gives_each_count_once(rt: HostRuntime) -> Result<(), Fail> {
     Ok(())
 }
 
-// One caller reads what it wrote: 0, 2 and 4. Of sixteen callers each call is delivered.
+// One caller reads 0, 2 and 4, which it wrote. Each call of sixteen callers is delivered.
 #[test]
 fn the_cell_gives_what_was_written(rt: HostRuntime) -> Result<(), Fail> {
     let found = run_cell(&rt, rt.alloc(), ALONE)?;

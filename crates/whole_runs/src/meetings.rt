@@ -15,23 +15,25 @@ use std::test::Fail;
 use std::thread::Threads;
 use world_core::Outside;
 
-// Each of two callers enqueues 1. By turns, the first one is through before the second one begins.
+// Each of two callers enqueues 1. By turns, the first caller's call ends before the second's
+// begins.
 const TWO_CALLS: &[u8] =
     b"script 2\nobject queue\ncallers 2\ncalls 1 1\n0 0 enq 1\n1 0 enq 1\nturns 0 0 0 0 0 1 1 1 1 1\nend\n";
 
-// The reports of their calls where these overlapped. The schedule decides which of them was
-// published first.
+// The reports of two callers whose calls overlapped. The schedule decides which call was published
+// first.
 const MET: [&[u8]; 3] = [
     b"report 2\nobject queue\ncallers 2\ncalls 1 1\n0 0 enq 1 done view 0:1 1:1 ok seen 0:1 1:1\n1 0 enq 1 done view 0:1 1:1 ok seen 0:1 1:1\nend\n",
     b"report 2\nobject queue\ncallers 2\ncalls 1 1\n0 0 enq 1 done view 0:1 1:1 ok seen 0:1\n1 0 enq 1 done view 0:1 1:1 ok seen 0:1 1:1\nend\n",
     b"report 2\nobject queue\ncallers 2\ncalls 1 1\n0 0 enq 1 done view 0:1 1:1 ok seen 0:1 1:1\n1 0 enq 1 done view 0:1 1:1 ok seen 1:1\nend\n",
 ];
 
-// The report and its witness where the first caller was through before the second one began.
+// The report and the witness of two callers where the first one's call ended before the second
+// one's began.
 const MISSED: &str =
     "report 2\nobject queue\ncallers 2\ncalls 1 1\n0 0 enq 1 bad view 0:1 error seen 0:1\n1 0 enq 1 done view 0:1 1:1 error seen 0:1 1:1\nend\nbook 2\nobject queue\ncallers 2\ncalls 1 0\n0 0 enq 1 bad view 0:1\nend\n";
 
-// What is written of two callers of a script who go on side by side.
+// What is written of a run of a script's two callers at a meeting, each in a thread.
 fn run_meeting<R: Threads + Sync>(
     rt: &R,
     alloc: Global,
@@ -45,7 +47,7 @@ fn run_meeting<R: Threads + Sync>(
     Ok(status)
 }
 
-// What is written of two callers of a script who take turns.
+// What is written of a replay of a script's two callers at a meeting.
 fn replay_meeting(alloc: Global, script: &Script, sink: &mut MemorySink) -> Result<Status, NoMemory>
     requires { length script.now.operations ≡ 2 }
 {
@@ -57,8 +59,8 @@ fn replay_meeting(alloc: Global, script: &Script, sink: &mut MemorySink) -> Resu
 // The count words of a table of two callers: both of N, and both of M.
 type CountWords = (u64, u64, u64, u64);
 
-// Runs a script of two callers over an object in a table of its own: the table's count words
-// afterwards.
+// Runs a script of two callers over an object in a table of its own, and answers the table's count
+// words after the run.
 fn run_in_rows<R: Threads + Sync, B: BlackBox + Sync>(
     rt: &R,
     alloc: Global,
@@ -85,7 +87,8 @@ where
     ))
 }
 
-// The same for two callers who meet.
+// Runs a script of two callers over a meeting in a table of its own, and answers the table's count
+// words after the run.
 fn meet_in_rows<R: Threads + Sync>(
     rt: &R,
     alloc: Global,

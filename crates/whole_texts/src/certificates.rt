@@ -6,15 +6,15 @@ use run_writer::report_certificate;
 use std::alloc::Global;
 use std::test::Fail;
 
-// The second caller's line saw most of those that are delivered. The third caller's error saw still
-// more, and the fourth one stopped.
+// The second caller's line has the greatest seen cut of the delivered ones. The third caller's
+// error has a still greater one, and the fourth caller stopped.
 const FOUR_CALLERS: &[u8] =
     b"report 2\nobject queue\ncallers 4\ncalls 2 1 1 1\n0 0 enq 5 done view 0:1 ok seen 0:1\n0 1 deq pending\n1 0 deq =5 view 0:1 1:1 ok seen 0:1 1:1\n2 0 deq =5 view 0:1 1:1 2:1 error seen 0:1 1:1 2:1\n3 0 enq 6 done view 0:1 1:1 2:1 3:1 unchecked\nend\n";
 
 const FOUR_CERTIFIED: &str =
     "book 2\nobject queue\ncallers 4\ncalls 1 1 0 0\n0 0 enq 5 done view 0:1\n1 0 deq =5 view 0:1 1:1\nend\norder 2\n0 0 done\n1 0 =5\nend\n";
 
-// No run delivers this reply.
+// A report that no run makes, since its one delivered reply has no legal order.
 const NOT_LAWFUL: &[u8] =
     b"report 2\nobject queue\ncallers 1\ncalls 1\n0 0 deq =5 view 0:1 ok seen 0:1\nend\n";
 

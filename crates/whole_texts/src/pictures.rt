@@ -38,7 +38,7 @@ fn only_calls_of_a_legal_order_have_numbers(rt: HostRuntime) -> Result<(), Fail>
     Ok(())
 }
 
-// Sixteen calls, of which one goes on over the end of the first row, and one is open in both.
+// Sixteen calls, of which one extends over the end of the first row, and one is open in both rows.
 const SIXTEEN: &[u8] = b"book 2\nobject queue\ncallers 2\ncalls 15 1\n\
     0 0 enq 5 done view 0:1 1:1\n0 1 deq =5 view 0:2 1:1\n\
     0 2 enq 6 done view 0:3 1:1\n0 3 deq =6 view 0:4 1:1\n\
@@ -49,9 +49,9 @@ const SIXTEEN: &[u8] = b"book 2\nobject queue\ncallers 2\ncalls 15 1\n\
     0 12 enq 11 done view 0:13 1:1\n0 13 deq =11 view 0:14 1:1\n\
     0 14 enq 12 done view 0:15 1:1\n1 0 deq\nend\n";
 
-// What has to stand in its picture: the size, the title and the first error, the lanes of the
-// second row, and elements with the colours of their values, some marked, two of them with a bar in
-// each row.
+// What the picture of the sixteen calls has: the size, the title and the first error, the lanes of
+// the second row, and elements with the colours of their values, some marked, two of them with a
+// bar in each row.
 const PARTS: [&str; 9] = [
     "<svg xmlns=\"http://www.w3.org/2000/svg\" width=\"1080\" height=\"346\">\n",
     "illegal: no order explains these replies, nor those of the marked calls alone</text>\n",

@@ -6,7 +6,8 @@ use client_scripts::{read_script, write_script};
 use report_text::{read_report, report_text};
 use std::test::Fail;
 
-// Operations of two values, one that its kind doesn't know, and a reply without a name.
+// The books have operations of two values, one that its kind doesn't know, and a reply without a
+// name.
 #[test]
 fn books_are_written_as_they_were_read(rt: HostRuntime) -> Result<(), Fail> {
     let texts: [&[u8]; 4] = [
@@ -23,7 +24,8 @@ fn books_are_written_as_they_were_read(rt: HostRuntime) -> Result<(), Fail> {
     Ok(())
 }
 
-// Places of a caller and of a number that no book has, in an order that isn't by caller.
+// The certificate has places of a caller and of a number that no book has, in an order that isn't
+// by caller.
 #[test]
 fn a_certificate_is_written_as_it_was_read(rt: HostRuntime) -> Result<(), Fail> {
     let text: &[u8] =
@@ -34,8 +36,8 @@ fn a_certificate_is_written_as_it_was_read(rt: HostRuntime) -> Result<(), Fail> 
     Ok(())
 }
 
-// A put's two values, an operation that the kind doesn't know, a caller without calls, and stops of
-// some callers.
+// The scripts have a put of two values, an operation that the kind doesn't know, a caller without
+// calls, and stops of some callers.
 #[test]
 fn scripts_are_written_as_they_were_read(rt: HostRuntime) -> Result<(), Fail> {
     let texts: [&[u8]; 2] = [
@@ -50,7 +52,7 @@ fn scripts_are_written_as_they_were_read(rt: HostRuntime) -> Result<(), Fail> {
     Ok(())
 }
 
-// Lines with all four ends, and a caller without calls.
+// The report has lines with all four ends, and a caller without calls.
 #[test]
 fn a_report_is_written_as_it_was_read(rt: HostRuntime) -> Result<(), Fail> {
     let text: &[u8] =

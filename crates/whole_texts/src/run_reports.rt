@@ -1,4 +1,4 @@
-//! Reports: what is written of one, its book and its witness, and texts that are none.
+//! Reports: the text of one, its book and its witness, and texts that are no report's.
 use book_base::{ReadFault, TextFault, What};
 use book_writer::write_book;
 use report_text::{read_report, report_text};
@@ -6,7 +6,7 @@ use reports::cases::worked_report;
 use std::test::Fail;
 
 // One call is delivered, one is an error, one wasn't judged, and one is under way. The witness has
-// neither the call that is under way nor what the third caller did.
+// neither the call that is under way nor the third caller's record.
 #[test]
 fn a_report_has_its_text_its_book_and_its_witness(rt: HostRuntime) -> Result<(), Fail> {
     let report = worked_report(rt.alloc())?;
@@ -39,8 +39,8 @@ fn a_report_has_its_text_its_book_and_its_witness(rt: HostRuntime) -> Result<(),
     Ok(())
 }
 
-// Texts of reports with their first fault. Of a line that fails two tests the first is answered, so
-// a wrong view comes before a wrong mark and before a wrong seen cut.
+// Texts that are no report's, with their first faults. Where a line fails two tests the first one
+// is answered, so a wrong view comes before a wrong mark and before a wrong seen cut.
 #[test]
 fn a_text_is_refused_for_its_first_fault(rt: HostRuntime) {
     let cases: [(&[u8], u64, What); 30] = [
