@@ -18,7 +18,7 @@ BeginsAsReport bytes = (rest : List ℕ) × (bytes ≡ codes "report 2\n" ++ res
 abbrev pub BeginsAsOldBook : List ℕ → Type 0
 BeginsAsOldBook bytes = (rest : List ℕ) × (bytes ≡ codes "book 1\n" ++ rest)
 
--- the first line is a verdict, as `monitor` writes it, and this is what stands after it
+-- the first line is a verdict, as `monitor` writes it, and `rest` is what comes after it
 abbrev pub IsAfterVerdict : List ℕ → List ℕ → Type 0
 IsAfterVerdict bytes rest = (bytes ≡ codes "legal\n" ++ rest) ⊎ (bytes ≡ codes "illegal\n" ++ rest)
 
@@ -30,7 +30,7 @@ BeginsAsVerdict bytes = (rest : List ℕ) × IsAfterVerdict bytes rest
 abbrev pub HasEndAt : List ℕ → ℕ → List ℕ → Type 0
 HasEndAt bytes at rest = drop at bytes ≡ codes "\nend\n" ++ rest
 
--- The rest is what stands after the first line `end`, which is after another line.
+-- The rest is what comes after the first line `end` that comes after another line.
 pub record IsAfterEnd (bytes rest : List ℕ) : Type 0 where
   pub at : ℕ
   pub has : HasEndAt bytes at rest
@@ -40,7 +40,7 @@ pub record IsAfterEnd (bytes rest : List ℕ) : Type 0 where
 abbrev pub HasNoEnd : List ℕ → Type 0
 HasNoEnd bytes = (i : ℕ) (rest : List ℕ) → ¬ (HasEndAt bytes i rest)
 
--- The part is what stands after the report that the bytes begin with: nothing where the report has
+-- The part is what comes after the report that the bytes begin with: nothing where the report has
 -- no end.
 abbrev pub IsWitnessPart : List ℕ → List ℕ → Type 0
 IsWitnessPart bytes part = IsAfterEnd bytes part ⊎ (HasNoEnd bytes × (part ≡ []))
@@ -52,7 +52,7 @@ pub record BeginsOtherwise (bytes : List ℕ) : Type 0 where
   pub verdict : ¬ (BeginsAsVerdict bytes)
   pub old : ¬ (BeginsAsOldBook bytes)
 
--- This part of the bytes is read as a book's text, and in this version: what stands after a report
+-- This part of the bytes is read as a book's text, and in this version: what comes after a report
 -- or after a verdict, in version 2; or all bytes, in version 1 where they begin with its title, and
 -- else in version 2.
 abbrev pub IsBookPart : List ℕ → Version → List ℕ → Type 0

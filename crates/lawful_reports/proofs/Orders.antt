@@ -1,4 +1,4 @@
--- In a lawful report each delivered line stands in one legal order.
+-- In a lawful report each delivered line has a place in one legal order.
 use Rattle.std.proofs.Common.{◌≡◌, ℕ, ◌<◌, Bool, nat_lt, List, [], refl, length, map, cond, Option, Some, slice_get, slice_index_or, sym, ap, ◌∙◌, arith, inl, inr}
 use Rattle.std.specs.Option.{option_and_then}
 use Rattle.std.proofs.lemmas.Bool.{cases_lt, lt-ltb, le-ltb, cond_both}

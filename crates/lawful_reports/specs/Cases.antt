@@ -28,7 +28,7 @@ abbrev pub AreNoReport : (init : List ℕ) → (next : List ℕ → ℕ → List
 AreNoReport init next lines = (s : Shape) (operations : List (List ℕ)) (allotments : List ℕ)
     → ¬ IsLawful init next s operations allotments lines
 
--- The delivered lines of a report of two callers stand in this order of its delivered book.
+-- The delivered lines of a report of two callers have places in this order of its delivered book.
 abbrev pub StandInOrder : List (List Line) → List Place → Type 0
 StandInOrder lines order = DeliveredLinesStandIn lines (delivered_book pair lines) order
 

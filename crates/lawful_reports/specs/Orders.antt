@@ -12,14 +12,14 @@ use Rattle.report_lines.specs.declared.line.Line.{Line}
 use Rattle.report_lines.specs.Lines.{book_of_lines, line_at}
 use Rattle.report_lines.specs.Lawful.{delivered_cut, IsLawful}
 
--- The call stands in this order of a book, with this operation and this reply.
+-- The call has a place in this order of a book, with this operation and this reply.
 abbrev pub StandsWith : List Page → List Place → Call → ℕ → ℕ → Type 0
 StandsWith book order call operation reply =
     (k : ℕ) × (slice_get order k
     ≡ Some (record { caller = call.caller; number = call.number; reply = reply }))
     × (operation_of book call ≡ Some operation)
 
--- Each delivered line stands in this order of a book, with its operation and its reply.
+-- Each delivered line has a place in this order of a book, with its operation and its reply.
 abbrev pub DeliveredLinesStandIn : List (List Line) → List Page → List Place → Type 0
 DeliveredLinesStandIn lines book order =
     (call : Call) (line : Line) (r : Record) (cut : List ℕ) → line_at lines call ≡ Some line
@@ -30,7 +30,7 @@ DeliveredLinesStandIn lines book order =
 abbrev pub delivered_book : Shape → List (List Line) → List Page
 delivered_book s lines = book_at (delivered_cut s.callers lines) (book_of_lines lines)
 
--- All delivered replies of a lawful report stand in one order, which is legal.
+-- All delivered replies of a lawful report have places in one order, which is legal.
 abbrev pub DeliveredRepliesStandInOneOrder : Type 0
 DeliveredRepliesStandInOneOrder =
     (init : List ℕ) (next : List ℕ → ℕ → List ℕ × ℕ) (s : Shape) (operations : List (List ℕ))

@@ -15,16 +15,17 @@ ghost use Rattle.report_laws.specs.Cases.{five_and_six, fifty, sixty, both_deliv
 ghost use Rattle.lawful_reports.specs.Errors.{NoLinearizableRunHasTheseCalls, NoLinearizableRunHasTheseLines};
 ghost use Rattle.lawful_reports.specs.Cases.{with_second, with_first, after_an_error, AreNoReport, StandInOrder, first_place};
 
-/// The delivered lines of the run stand in the order of their calls, and in no order that leaves
-/// one of them out or has another reply. Lines of which none is delivered stand in the empty order.
+/// The delivered lines of the run have places in the order of their calls, and not in an order that
+/// leaves one of them out or has another reply. Lines of which none is delivered have places in the
+/// empty order.
 pub fn delivered_lines_stand_in_an_order()
-    // Both delivered lines stand in the order of the two calls, each with its reply.
+    // Both delivered lines have places in the order of the two calls, each with its reply.
     ensures both { StandInOrder both_delivered (first_place 0 50 ∷ first_place 1 60 ∷ []) }
-    // Lines without a delivered one stand in the empty order.
+    // Where no line is delivered, the empty order has all delivered lines.
     ensures none { StandInOrder both_failed [] }
-    // Both delivered lines don't stand in an order that lacks the second call.
+    // The delivered lines don't both have places in an order that lacks the second call.
     ensures one_left_out { ¬ StandInOrder both_delivered (first_place 0 50 ∷ []) }
-    // Both delivered lines don't stand in an order with another reply.
+    // The delivered lines don't both have places in an order with another reply.
     ensures another_reply { ¬ StandInOrder both_delivered
         (first_place 0 50 ∷ first_place 1 61 ∷ []) }
 {}

@@ -3,7 +3,7 @@
 ghost use Rattle.lawful_reports.specs.Orders.{DeliveredRepliesStandInOneOrder};
 ghost use Rattle.lawful_reports.specs.Errors.{WitnessesHaveNoOrder, NoRunLeavesAnError};
 
-/// All delivered replies stand in one legal order, each with its line's operation (Castañeda and
+/// All delivered replies are in one legal order, each with its line's operation (Castañeda and
 /// Rodríguez 2023).
 pub fn delivered_replies_stand_in_one_order()
     ensures { DeliveredRepliesStandInOneOrder }

@@ -30,24 +30,27 @@ abbrev pub announces : ℕ → ℕ → ℕ → List ℕ → List Step
 announces who low high cut =
     scan who N Begins_scan cut ++ stages who N 0 (low ∷ high ∷ cut) ++ by who Announce ∷ []
 
--- The operations of caller 0 and of caller 1.
+-- The operation of caller 0.
 abbrev pub first_operation : ℕ
 first_operation = joined 5 8
 
+-- The operation of caller 1.
 abbrev pub second_operation : ℕ
 second_operation = joined 6 9
 
--- Both callers have announced; then caller 0 has stored the low word of its operation, and then the
--- high one; and then caller 1 has stored both words of its own.
+-- Both callers have announced.
 abbrev pub announced : List Step
 announced = announces 0 5 8 (0 ∷ 0 ∷ []) ++ announces 1 6 9 (1 ∷ 0 ∷ [])
 
+-- Caller 0 has stored the low word of its operation.
 abbrev pub stored_low : List Step
 stored_low = announced ++ steps_at 0 0 0 5 ∷ []
 
+-- Caller 0 has stored both words of its operation.
 abbrev pub stored : List Step
 stored = stored_low ++ steps_at 0 1 0 8 ∷ []
 
+-- Both callers have stored both words of their operations.
 abbrev pub stored_both : List Step
 stored_both = stored ++ steps_at 1 2 0 6 ∷ steps_at 1 3 0 9 ∷ []
 
@@ -55,17 +58,19 @@ stored_both = stored ++ steps_at 1 2 0 6 ∷ steps_at 1 3 0 9 ∷ []
 abbrev pub placed_one : List Step
 placed_one = stored_both ++ steps_at 1 4 0 2 ∷ []
 
--- Caller 0 has found that ticket; it has placed its own after it; and it has loaded the low word of
--- the operation of caller 1, and then the high one too.
+-- Caller 0 has found the ticket of caller 1.
 abbrev pub found_one : List Step
 found_one = placed_one ++ steps_at 0 4 2 2 ∷ []
 
+-- Caller 0 has placed its own ticket after that of caller 1.
 abbrev pub placed_both : List Step
 placed_both = found_one ++ steps_at 0 5 0 1 ∷ []
 
+-- Caller 0 has loaded the low word of the operation of caller 1.
 abbrev pub loaded_low : List Step
 loaded_low = placed_both ++ steps_at 0 2 6 6 ∷ []
 
+-- Caller 0 has loaded both words of the operation of caller 1.
 abbrev pub loaded : List Step
 loaded = loaded_low ++ steps_at 0 3 9 9 ∷ []
 
@@ -160,7 +165,7 @@ refused_as_loaded = gets 0 1 0 ∷ gets 0 1 2 ∷ []
 abbrev pub refused_to_one : List Step
 refused_to_one = steps_at 1 5 0 2 ∷ steps_at 1 4 2 2 ∷ gets 1 1 1 ∷ []
 
--- A caller alone makes its first call whole, and then stores the words of its second.
+-- A caller alone makes its first call whole.
 abbrev pub first_call : List Step
 first_call =
     announces 0 5 8 (0 ∷ [])
@@ -171,6 +176,7 @@ first_call =
     ++ publication 0 0 (1 ∷ []) (0 ∷ [])
     ++ scan 0 M Begins_scan (1 ∷ [])
 
+-- The caller alone has stored the words of its second call.
 abbrev pub second_stored : List Step
 second_stored = first_call ++ announces 0 6 9 (1 ∷ []) ++ steps_at 0 2 0 6 ∷ steps_at 0 3 0 9 ∷ []
 

@@ -66,14 +66,15 @@ IsInTicketOrder s w order =
     → (x y : ℕ) × (x < y) × HasPlace s w a.call x × HasPlace s w b.call y
 
 -- The object history of every run of a log is linearizable, for every sequential object, number of
--- callers and cap. The order has just the calls whose tickets are placed, each with its reply, by
--- the places of their tickets.
+-- callers and cap.
 abbrev pub LogsLinearize : Type 0
 LogsLinearize =
     (init : List ℕ) (next : List ℕ → ℕ → List ℕ × ℕ) (n cap : ℕ) (steps : List Step)
     → IsRun (log_shape init next n cap) steps
     → IsLinearizable init next (history_of (log_shape init next n cap) steps)
 
+-- The object history of every run of a log has a linearization of just the calls whose tickets are
+-- placed, each with its reply, by the places of their tickets.
 abbrev pub LogOrdersAreOfTickets : Type 0
 LogOrdersAreOfTickets =
     (init : List ℕ) (next : List ℕ → ℕ → List ℕ × ℕ) (n cap : ℕ) (steps : List Step)

@@ -8,10 +8,11 @@ use Rattle.world_core.specs.Local.{Object_step}
 abbrev pub number_of : ℕ → ℕ → ℕ → ℕ
 number_of cap i k = i * cap + k
 
--- The places of the low and the high word of the operation of the call with this number.
+-- The place of the low word of the operation of the call with this number.
 abbrev pub low_place : ℕ → ℕ
 low_place number = 2 * number
 
+-- The place of the high word of the operation of the call with this number.
 abbrev pub high_place : ℕ → ℕ
 high_place number = 2 * number + 1
 

@@ -8,54 +8,63 @@ use Rattle.world_core.specs.Schedules.{by, announcement, object_step}
 use Rattle.object_orders.specs.OneWord.{one_word_shape}
 use Rattle.object_orders.specs.TallyAndCell.{tally, cell}
 
--- Two callers with one call each over the tally, or the cell; and one caller.
+-- Two callers with one call each over the tally.
 abbrev pub tally_pair : Shape
 tally_pair = one_word_shape 2 1 tally
 
+-- One caller with one call over the tally.
 abbrev pub tally_alone : Shape
 tally_alone = one_word_shape 1 1 tally
 
+-- Two callers with one call each over the cell.
 abbrev pub cell_pair : Shape
 cell_pair = one_word_shape 2 1 cell
 
--- The words of operations and replies: an increment, a write of 9, a read, an operation of code 3,
--- done, and a value.
+-- The operation word of an increment.
 abbrev pub increment : ℕ
 increment = 2 ^ 32
 
+-- The operation word of a write of 9.
 abbrev pub write_nine : ℕ
 write_nine = 2 ^ 32 + 9
 
+-- The operation word of a read.
 abbrev pub read : ℕ
 read = 2 * 2 ^ 32
 
+-- An operation word of code 3, which neither object knows.
 abbrev pub unknown : ℕ
 unknown = 3 * 2 ^ 32
 
+-- The reply word `done`.
 abbrev pub done : ℕ
 done = 0
 
+-- The reply word that gives this value.
 abbrev pub value : ℕ → ℕ
 value x = 2 * 2 ^ 32 + x
 
+-- The reply word `bad`.
 abbrev pub bad : ℕ
 bad = 4 * 2 ^ 32
 
--- A caller makes an object step that finds one word and leaves another; and gets a reply, where
--- this many calls of caller 0 are counted.
+-- A caller makes an object step that finds the word `old` and leaves the word `new`.
 abbrev pub finds_and_leaves : ℕ → ℕ → ℕ → Step
 finds_and_leaves who old new = by who (Object (object_step 0 old new))
 
+-- A caller gets a reply, where this many calls of caller 0 are counted.
 abbrev pub gets : ℕ → ℕ → ℕ → Step
 gets who counted reply = by who (Look N 0 counted (Begins_view reply))
 
--- Both callers announce an increment. Caller 1 adds first, and both reply what they found.
+-- Both callers announce an increment.
 abbrev pub both_increments : List Step
 both_increments = announcement 0 increment (0 ∷ 0 ∷ []) ++ announcement 1 increment (1 ∷ 0 ∷ [])
 
+-- Both callers have announced an increment, and caller 1 has added first.
 abbrev pub counted_by_second : List Step
 counted_by_second = both_increments ++ finds_and_leaves 1 0 1 ∷ []
 
+-- Both callers have added, caller 1 first, and both reply the words that they found.
 abbrev pub counted_by_both : List Step
 counted_by_both =
     counted_by_second
@@ -79,21 +88,25 @@ refused_before_adding = finds_and_leaves 0 0 2 ∷ finds_and_leaves 0 0 0 ∷ fi
 abbrev pub refused_after_adding : List Step
 refused_after_adding = finds_and_leaves 1 1 2 ∷ gets 1 1 (value 1) ∷ gets 1 1 bad ∷ []
 
--- Caller 0 announces an operation that neither object knows: it makes no step, and replies bad.
+-- Caller 0 announces an operation that neither object knows.
 abbrev pub unknown_announced : List Step
 unknown_announced = announcement 0 unknown (0 ∷ 0 ∷ [])
 
+-- What an object refuses to the call of an operation that it doesn't know: each step, and each
+-- reply but `bad`.
 abbrev pub refused_to_unknown : List Step
 refused_to_unknown =
     finds_and_leaves 0 0 1 ∷ finds_and_leaves 0 0 0 ∷ gets 0 1 done ∷ gets 0 1 (value 0) ∷ []
 
--- Caller 0 announces a write of 9 and caller 1 a read, which finds the 9.
+-- Caller 0 announces a write of 9, and caller 1 a read.
 abbrev pub write_and_read : List Step
 write_and_read = announcement 0 write_nine (0 ∷ 0 ∷ []) ++ announcement 1 read (1 ∷ 0 ∷ [])
 
+-- Caller 0 has written 9.
 abbrev pub written : List Step
 written = write_and_read ++ finds_and_leaves 0 0 9 ∷ []
 
+-- The read of caller 1 has found the 9, and both calls have their replies.
 abbrev pub written_and_read : List Step
 written_and_read = written ++ finds_and_leaves 1 9 9 ∷ gets 1 1 (value 9) ∷ gets 0 1 done ∷ []
 

@@ -80,14 +80,15 @@ IsLinearizedByEffects init next s e steps =
     (order : List Done) × IsLinearization init next (history_of s steps) order
     × IsOrderOfEffects s e steps order
 
--- Where calls take effect one at a time, the object history of each run is linearizable, and the
--- order of effects linearizes it.
+-- Where calls take effect one at a time, the object history of each run is linearizable.
 abbrev pub EffectsLinearize : Type 0
 EffectsLinearize =
     (init : List ℕ) (next : List ℕ → ℕ → List ℕ × ℕ) (s : Shape) (e : Effects)
     → HasEffects init next s e
     → (steps : List Step) → IsRun s steps → IsLinearizable init next (history_of s steps)
 
+-- Where calls take effect one at a time, the order of effects linearizes the object history of each
+-- run.
 abbrev pub TheOrderIsOfEffects : Type 0
 TheOrderIsOfEffects =
     (init : List ℕ) (next : List ℕ → ℕ → List ℕ × ℕ) (s : Shape) (e : Effects)

@@ -82,8 +82,7 @@ one_word_effects s o list =
     }
 
 -- The object history of every run of an object of one word is linearizable for the sequential
--- object that it serves, in the order of the calls' steps and, for calls without a step,
--- announcements.
+-- object that it serves.
 abbrev pub OneWordsLinearize : Type 0
 OneWordsLinearize =
     (o : OneWord) (list : ℕ → List ℕ) (init : List ℕ) (next : List ℕ → ℕ → List ℕ × ℕ)
@@ -91,6 +90,8 @@ OneWordsLinearize =
     → (n cap : ℕ) (steps : List Step) → IsRun (one_word_shape n cap o) steps
     → IsLinearizable init next (history_of (one_word_shape n cap o) steps)
 
+-- The order of the calls' steps and, for calls without a step, announcements linearizes the object
+-- history of every run of an object of one word.
 abbrev pub OneWordOrdersAreOfSteps : Type 0
 OneWordOrdersAreOfSteps =
     (o : OneWord) (list : ℕ → List ℕ) (init : List ℕ) (next : List ℕ → ℕ → List ℕ × ℕ)

@@ -39,21 +39,22 @@ cell =
 abbrev pub value_in : ℕ → List ℕ
 value_in x = x ∷ []
 
--- The tally serves the counter, and the cell the register.
+-- The tally serves the counter.
 abbrev pub TallyServesCounter : Type 0
 TallyServesCounter = Serves tally count_in (kind_init Counter) (kind_next Counter)
 
+-- The cell serves the register.
 abbrev pub CellServesRegister : Type 0
 CellServesRegister = Serves cell value_in (kind_init Register) (kind_next Register)
 
--- The object history of every run of the tally is linearizable for the counter, and that of the
--- cell for the register.
+-- The object history of every run of the tally is linearizable for the counter.
 abbrev pub TalliesLinearize : Type 0
 TalliesLinearize =
     (n cap : ℕ) (steps : List Step) → IsRun (one_word_shape n cap tally) steps
     → IsLinearizable (kind_init Counter) (kind_next Counter)
     (history_of (one_word_shape n cap tally) steps)
 
+-- The object history of every run of the cell is linearizable for the register.
 abbrev pub CellsLinearize : Type 0
 CellsLinearize =
     (n cap : ℕ) (steps : List Step) → IsRun (one_word_shape n cap cell) steps

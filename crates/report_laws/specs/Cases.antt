@@ -11,10 +11,11 @@ use Rattle.report_lines.specs.Cases.{answer, pending, unchecked, delivered, fail
 abbrev pub five_and_six : List (List ℕ)
 five_and_six = (5 ∷ []) ∷ (6 ∷ []) ∷ []
 
--- The records of the two calls: both views hold both calls.
+-- The record of the first call, whose view holds both calls.
 abbrev pub fifty : Record
 fifty = answer 50 (1 ∷ 1 ∷ [])
 
+-- The record of the second call, whose view holds both calls.
 abbrev pub sixty : Record
 sixty = answer 60 (1 ∷ 1 ∷ [])
 

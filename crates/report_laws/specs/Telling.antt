@@ -33,12 +33,13 @@ ToldAsViewed =
     → IsTold (5 * k + 2) progress.calls (pairs ++ (operation, r.reply) ∷ [])
     → IsTold (5 * k + 3) (after_viewing r progress).calls (pairs ++ (operation, r.reply) ∷ [])
 
--- A publication and a seen cut add nothing to what the object has told.
+-- A publication adds nothing to what the object has told.
 abbrev pub ToldAsPublished : Type 0
 ToldAsPublished =
     (k : ℕ) (progress : Progress) (pairs : List (ℕ × ℕ)) → IsTold (5 * k + 3) progress.calls pairs
     → IsTold (5 * k + 4) progress.calls pairs
 
+-- A seen cut adds nothing to what the object has told.
 abbrev pub ToldAsSeen : Type 0
 ToldAsSeen =
     (k : ℕ) (progress : Progress) (cut : List ℕ) (pairs : List (ℕ × ℕ))

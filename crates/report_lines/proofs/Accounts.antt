@@ -1,4 +1,4 @@
--- How far a caller has come, by the parts of its local that tell of its calls.
+-- A caller's progress, by the parts of its local that determine it.
 use Rattle.std.proofs.Common.{◌≡◌, ℕ, zero, suc, ◌+◌, ◌<◌, ◌≤◌, Bool, false, cond, nat_lt, List, [], ◌∷◌, ◌++◌, length, map, slice_index, slice_index_or, refl, sym, ap, ◌∙◌, arith, inl, inr}
 use Rattle.std.specs.List.{range_with_len, flat_map}
 use Rattle.std.proofs.lemmas.Bool.{cases_lt, lt-ltb, le-ltb}
@@ -70,7 +70,7 @@ grown f g further n p long each last =
     ∙ ap (with_last further) (sym (map-range_with_len_more f 0 p p (omega arith)))
     ∙ ap (λ (m : ℕ). with_last further (map f (range_with_len 0 m))) (sym long)
 
--- one more operation
+-- an account with one more operation
 announced : (a : Account) (op : ℕ) → length a.seen ≤ length a.operations
     → length a.views ≤ length a.operations
     → calls_by (record a { operations = a.operations ++ op ∷ [] })
@@ -155,7 +155,7 @@ replies_are_no_records l m reply phase at e =
     (λ k low. ap (λ v. record { operation = slice_index l.operations k; reached = v })
     (replied_at a reply k few fewer)))
 
--- one more view
+-- an account with one more view
 module _ (a : Account) (view : List ℕ) (few : length a.seen ≤ length a.views) where
   abbrev with_view : Account
   with_view = record a { views = a.views ++ view ∷ [] }
@@ -224,7 +224,7 @@ views_make_records l m view phase at e =
     (viewed_before a view few) (viewed_last a view few))
     ∙ ap (λ k. after_viewing (record_with k) (progress_of l)) last
 
--- one more seen cut
+-- an account with one more seen cut
 module _ (a : Account) (cut : List ℕ) (few : length a.seen < length a.views) where
   abbrev with_cut : Account
   with_cut = record a { seen = a.seen ++ cut ∷ [] }

@@ -67,7 +67,7 @@ pub record IsLawful (init : List ℕ) (next : List ℕ → ℕ → List ℕ × �
   -- that greatest cut holds the call of each delivered line
   pub holds : (call : Call) (cut : List ℕ) → delivered_at lines call ≡ Some cut
       → Holds (delivered_cut s.callers lines) call
-  -- all delivered replies stand in one legal order: the book at that greatest cut has one
+  -- all delivered replies are in one legal order: the book at that greatest cut has one
   pub one_order : HasLegalOrder init next
       (book_at (delivered_cut s.callers lines) (book_of_lines lines))
   -- at the seen cut of an error line the book has no legal order

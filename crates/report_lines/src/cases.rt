@@ -247,7 +247,7 @@ pub fn lines_are_those_of_the_allotment()
     // After an error there is no line.
     ensures after_an_error { ¬ IsAllotted (5 ∷ 7 ∷ []) 10
         (failed 5 first [] ∷ delivered 7 first [] ∷ []) }
-    // The lines of a caller stand in the order of its operations.
+    // The lines of a caller are in the order of its operations.
     ensures another_order { ¬ IsAllotted (5 ∷ 7 ∷ []) 10
         (delivered 7 first [] ∷ delivered 5 first [] ∷ []) }
     // A caller has no more lines than operations.

@@ -8,7 +8,7 @@ use Rattle.std.proofs.Math.ListN.{drop_of_length-le}
 use Rattle.list_laws.proofs.Places.{slice_get-push_old, slice_get-push_last, slice_get-push_cases}
 use Rattle.client_scripts.specs.ScriptRules.{grouped}
 
--- one more item after those of a caller
+-- a list of lists with one more item after those of a caller
 abbrev pub push_at : {X : Type 0} → List (List X) → ℕ → X → List (List X)
 push_at xss i x = set xss i (get_or xss i [] ++ x ∷ [])
 

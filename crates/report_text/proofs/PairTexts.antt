@@ -33,7 +33,7 @@ pub record AreSame (xs ys : List ℕ) (s t : List (List ℕ)) : Type 0 where
   pub cuts : xs ≡ ys
   pub rests : s ≡ t
 
--- pairs before words that begin with no pair tell the cut and those words
+-- pairs before words that begin with no pair determine the cut and those words
 pub pairs_apart : (b : ℕ) (xs ys : List ℕ) (s t : List (List ℕ)) → length xs ≡ length ys
     → b + length xs ≤ 2 ^ 64 → AreNumbers xs → AreNumbers ys → NoPairFirst s → NoPairFirst t
     → pair_words b xs ++ s ≡ pair_words b ys ++ t → AreSame xs ys s t

@@ -37,7 +37,7 @@ use Rattle.report_text.proofs.RightLines.{one_line, said_place, said_op, said_re
 
 -- ---- a right line fails no test
 
--- what a right line says may be told
+-- the book can take what a right line says
 pub may_tell : (book : List Page) (call : Call) (end : LineEnd)
     → ((r : Record) → records_of (reached_of end) ≡ r ∷ [] → MayAnswer book call.caller r.view)
     → MayTell book call (answer_in end)
@@ -69,7 +69,7 @@ line_apart kind counts told call words line name h f k =
     (may_tell (book_so_far counts told) call line.end f.view)
     (record { view = k.0; suffix = k.1; fault = k.2; at = k.3; test = k.4; fails = k.5 })
 
--- ---- the words of a right line can stand in a line
+-- ---- the words of a right line can be those of a line
 
 solid_pending : IsSolid (codes "pending")
 solid_pending = plain (codes "pending") (

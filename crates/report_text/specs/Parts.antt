@@ -1,4 +1,4 @@
--- What the parts of a report's text say, each after whatever stands before it, and where a reader
+-- What the parts of a report's text say, each after whatever comes before it, and where a reader
 -- stops in them.
 use Rattle.std.specs.Prelude.{◌≡◌, ◌≢◌, ◌⊎◌, ℕ, ◌<◌, ◌^◌, List, [], ◌∷◌, ◌++◌, length, slice_index, codes, Option, Some, None}
 use Rattle.book_base.specs.declared.call.Call.{Call}
@@ -56,7 +56,7 @@ pub record IsPrefix (kind : Kind) (n : ℕ) (call : Call) (words : List (List �
   pub answered : SayAnswer n rest answer suffix
 
 -- the first test that a line fails, of those before any that ask for the views of other lines,
--- whatever lines stand before it
+-- whatever lines come before it
 abbrev pub IsPrefixRefused : Kind → ℕ → Call → List (List ℕ) → What → Type 0
 IsPrefixRefused kind n call words name = (counts : List ℕ) (told : List Line) → length counts ≡ n
     → IsFirstTest (LineFails kind counts told call words) name
@@ -94,7 +94,7 @@ answer_in (Unchecked r) = Some r
 answer_in (Delivered r cut) = Some r
 answer_in (Error r cut) = Some r
 
--- the answer may stand in the book that the lines before it give
+-- the book of the lines before it can take this answer
 abbrev pub MayTell : List Page → Call → Option Record → Type 0
 MayTell book call None = Unit {0}
 MayTell book call (Some r) = MayAnswer book call.caller r.view

@@ -44,8 +44,8 @@ part_page count own = record {
   records = flat_map (λ line. records_of (reached_of line.end)) own;
 }
 
--- The book of the lines so far, which stand one after the other, for callers with these numbers of
--- calls.
+-- The book of the lines so far, which are listed one after the other, for callers with these
+-- numbers of calls.
 abbrev pub book_so_far : List ℕ → List Line → List Page
 book_so_far [] told = []
 book_so_far (count ∷ counts) told =

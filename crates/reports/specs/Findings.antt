@@ -60,7 +60,7 @@ pub record IsReport (findings : Findings) : Type 0 where
 
 -- ---- the first error
 
--- a call stands before another, by caller and then by number
+-- a call comes before another, by caller and then by number
 abbrev pub StandsBefore : Call → Call → Type 0
 StandsBefore a b = (a.caller < b.caller) ⊎ ((a.caller ≡ b.caller) × (a.number < b.number))
 

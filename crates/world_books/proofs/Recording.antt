@@ -17,7 +17,7 @@ use Rattle.world_laws.proofs.Running.{Kept, step_kept, possible, own_local, othe
 use Rattle.world_laws.proofs.Agreeing.{asking_is}
 use Rattle.world_laws.proofs.SameCalls.{fed_calls, looked_calls}
 
--- What an event of a caller tells of its calls: nothing; that one was invoked; or that one
+-- What an event of a caller tells of its calls: nothing, that one was invoked, or that one
 -- returned.
 pub data Told (me : ℕ) (l m : Local) (e : Event) (told : List Happening) : Type 0 where
   Nothing : (is : told ≡ []) (operations : m.operations ≡ l.operations)

@@ -17,19 +17,20 @@ use Rattle.world_core.specs.Schedules.{pair, by, announcement, publication, two_
 abbrev pub locals_after : List Step → List Local
 locals_after steps = (end_of pair steps).locals
 
--- A page of one caller's operations and records, and a record.
+-- The page with these operations and records.
 abbrev pub page : List ℕ → List Record → Page
 page operations records = record { operations = operations; records = records }
 
+-- The record with this reply and this view.
 abbrev pub answer : ℕ → List ℕ → Record
 answer reply view = record { reply = reply; view = view }
 
--- The book of two whole calls; and the book at the cut of the first one's record, whose view holds
--- both calls.
+-- The book of two whole calls, each of whose views holds both calls.
 abbrev pub both_answered : List Page
 both_answered =
     page (5 ∷ []) (answer 50 (1 ∷ 1 ∷ []) ∷ []) ∷ page (6 ∷ []) (answer 60 (1 ∷ 1 ∷ []) ∷ []) ∷ []
 
+-- The book of the two calls at the cut of the first one's record.
 abbrev pub one_answered : List Page
 one_answered = page (5 ∷ []) (answer 50 (1 ∷ 1 ∷ []) ∷ []) ∷ page (6 ∷ []) [] ∷ []
 

@@ -35,8 +35,8 @@ RunsHaveTheirHistories = (s : Shape) (steps : List Step) → IsRun s steps
 abbrev pub place_of : Done → Place
 place_of d = record { caller = d.call.caller; number = d.call.number; reply = d.reply }
 
--- A linearization of a history of a book is a legal order of the book: answered calls stand in it,
--- each with its reply, and of the unanswered ones those that the linearization has.
+-- A linearization of a history of a book is a legal order of the book: it has all answered calls,
+-- each with its reply, and those unanswered ones that the linearization has.
 abbrev pub LinearizationsAreLegalOrders : Type 0
 LinearizationsAreLegalOrders =
     (init : List ℕ) (next : List ℕ → ℕ → List ℕ × ℕ) (history : List Happening) (book : List Page)

@@ -1,4 +1,4 @@
--- The book that stands in the rows of the table.
+-- The book that the rows of the table hold.
 use Rattle.std.specs.Prelude.{◌≡◌, ℕ, ◌+◌, ◌<◌, List, map, take, Some, slice_get}
 use Rattle.std.specs.List.{range_with_len}
 use Rattle.book_base.specs.declared.call.Call.{Call}
@@ -13,17 +13,18 @@ use Rattle.world_core.specs.World.{World, Step, local_of, count_of, row_word, Is
 use Rattle.world_core.specs.Calls.{IsPublished, book_in}
 use Rattle.world_books.specs.Books.{IsValidPart}
 
--- The operation that stands in row k of a caller, and the record.
+-- The operation in row k of a caller.
 abbrev pub operation_in_row : Shape → World → ℕ → ℕ → ℕ
 operation_in_row s w i k = joined (row_word s w N i k 0) (row_word s w N i k 1)
 
+-- The record in row k of a caller.
 abbrev pub record_in_row : Shape → World → ℕ → ℕ → Record
 record_in_row s w i k = record {
   reply = row_word s w M i k 0;
   view = map (λ j. row_word s w M i k (1 + j)) (range_with_len 0 s.callers);
 }
 
--- The page of a caller's counted rows, and the book of all callers' counted rows.
+-- The page of a caller's counted rows.
 abbrev pub page_in_rows : Shape → World → ℕ → Page
 page_in_rows s w i =
     record {
@@ -31,29 +32,32 @@ page_in_rows s w i =
       records = map (λ k. record_in_row s w i k) (range_with_len 0 (count_of s w M i));
     }
 
+-- The book of all callers' counted rows.
 abbrev pub book_in_rows : Shape → World → List Page
 book_in_rows s w = map (λ i. page_in_rows s w i) (range_with_len 0 s.callers)
 
--- How the book of the rows is that of the locals: it is valid, has all their calls, and of their
--- records those that were published.
+-- How the book of the rows agrees with that of the locals: it is valid, has all their calls, and of
+-- their records those that were published.
 pub record AreRowsOf (rows book : List Page) (locals : ℕ → Local) : Type 0 where
   pub valid : IsValid rows
   pub operations : (call : Call) → operation_of rows call ≡ operation_of book call
   pub records : (i : ℕ)
       → (page_of rows i).records ≡ take (locals i).published (page_of book i).records
 
+-- In every reachable world the book of the rows is valid and agrees with that of the locals.
 abbrev pub RowsAreAValidBook : Type 0
 RowsAreAValidBook =
     (s : Shape) (steps : List Step) → IsRun s steps → AreRowsOf (book_in_rows s (end_of s steps))
     (book_in (end_of s steps).locals) (local_of (end_of s steps))
 
--- At a cut of what was published the book of the rows is the book of all callers' calls, and is
--- valid.
+-- At this cut the book of the rows is valid, and is the book of all callers' calls.
 abbrev pub IsInTheRows : Shape → World → List ℕ → Type 0
 IsInTheRows s w cut =
     IsValidPart (book_in_rows s w) cut (book_at cut (book_in_rows s w))
     × (book_at cut (book_in_rows s w) ≡ book_at cut (book_in w.locals))
 
+-- At each cut of what was published the book of the rows is valid, and is the book of all callers'
+-- calls.
 abbrev pub BooksAtCutsAreInTheRows : Type 0
 BooksAtCutsAreInTheRows =
     (s : Shape) (steps : List Step) (cut : List ℕ) → IsRun s steps

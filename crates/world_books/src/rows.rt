@@ -1,4 +1,4 @@
-//! The book that stands in the rows of the table.
+//! The book that the rows of the table hold.
 
 ghost use Rattle.world_books.specs.Rows.{RowsAreAValidBook, BooksAtCutsAreInTheRows, BooksAtGivenCutsAreInTheRows};
 

@@ -21,8 +21,8 @@ pub fn no_run_has_this_error()
     ensures seen { NoRunHasThisErrorSeen }
 {}
 
-/// All delivered calls of a world stand in one legal order, of the book at the greatest of their
-/// seen cuts, which holds each of them.
+/// All delivered calls of a world are in one legal order, of the book at the greatest of their seen
+/// cuts, which holds each of them.
 pub fn delivered_calls_stand_in_one()
     ensures { DeliveredCallsStandInOne }
 {}

@@ -136,7 +136,7 @@ module _ (s : Shape) (w : World) (some : 0 < s.callers) where
             omega (arith, word, low);
       }
 
-  -- one more word of a scan
+  -- a scan with one more word has low words
   pub word_low : (region : Region) (taken : List ℕ) (x : ℕ) → AreLow s w region taken
       → x ≤ count_of s w region (length (open_round s.callers taken))
       → AreLow s w region (taken ++ x ∷ [])

@@ -60,7 +60,7 @@ AllOwned s w = (i : ℕ) → i < s.callers → Owned s w i (local_of w i) (local
 owns_none : (i count : ℕ) (kept : Option (List ℕ)) → kept ≡ None → OwnsKept i count kept
 owns_none i count kept none = subst (λ (o : Option (List ℕ)). OwnsKept i count o) (sym none) tt
 
--- one more entry of a list of cuts whose own entries are their numbers and some more
+-- a list of cuts whose own entries are their numbers and some more, with one cut more
 pushed_own : (i more : ℕ) (cuts : List (List ℕ)) (cut : List ℕ)
     → ((k : ℕ) → k < length cuts → slice_index (slice_index_or cuts k []) i ≡ k + more)
     → slice_index cut i ≡ length cuts + more → (k : ℕ) → k < length (cuts ++ cut ∷ [])

@@ -39,6 +39,8 @@ pub record IsEnded (s : Shape) (who : ℕ) (given : Given) (r : Span) : Type 0 w
   pub done : wanted s.callers (scan.taken ++ word ∷ []) ≡ Done given.cut
   pub bounded : IsBounded s.callers who (scan.taken ++ word ∷ [])
 
+-- Each scan that gave a cut at the end of a span was done with that cut at its last word, and is
+-- bounded.
 abbrev pub EndedScansAreBounded : Type 0
 EndedScansAreBounded = (s : Shape) (who : ℕ) (given : Given) (r : Span) → GivesCut s who given r
     → IsEnded s who given r

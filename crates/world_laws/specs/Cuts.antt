@@ -66,8 +66,7 @@ CutsAreComparable =
     → slice_get (local_of (end_of s steps) j).cuts q ≡ Some b → a.region ≡ b.region
     → AreComparable a.cut b.cut
 
--- In the locals of one reachable world any two cuts of one region are comparable, and so are any
--- two views, and any two seen cuts.
+-- In the locals of one reachable world any two cuts of one region are comparable.
 abbrev pub GivenCutsAreComparable : Type 0
 GivenCutsAreComparable =
     (s : Shape) (locals : List Local) (i j p q : ℕ) (a b : Given) → AreTogether s locals
@@ -75,6 +74,7 @@ GivenCutsAreComparable =
     → slice_get (local_at locals i).cuts p ≡ Some a → slice_get (local_at locals j).cuts q ≡ Some b
     → a.region ≡ b.region → AreComparable a.cut b.cut
 
+-- In the locals of one reachable world any two views are comparable.
 abbrev pub ViewsAreComparable : Type 0
 ViewsAreComparable =
     (s : Shape) (locals : List Local) (i j k m : ℕ) → AreTogether s locals → i < s.callers
@@ -83,6 +83,7 @@ ViewsAreComparable =
     → AreComparable (slice_index_or (local_at locals i).views k [])
     (slice_index_or (local_at locals j).views m [])
 
+-- In the locals of one reachable world any two seen cuts are comparable.
 abbrev pub SeenCutsAreComparable : Type 0
 SeenCutsAreComparable =
     (s : Shape) (locals : List Local) (i j k m : ℕ) → AreTogether s locals → i < s.callers
@@ -100,8 +101,8 @@ CutsRise =
     → a.region ≡ b.region → IsWithin a.cut b.cut
 
 -- A cut of a region contains each count of that region that its caller had looked at before the
--- cut's scan began. Looked counts stand newest first, so these are the last ones, as many as the
--- field since of the cut says.
+-- cut's scan began. Looked counts are listed newest first, so these are the last ones, as many as
+-- the field since of the cut says.
 abbrev pub CutsHoldLooked : Type 0
 CutsHoldLooked =
     (s : Shape) (locals : List Local) (i p q : ℕ) (look : Looked) (given : Given)

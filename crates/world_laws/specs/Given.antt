@@ -14,20 +14,21 @@ pub record IsGivenIn (cuts : List Given) (region : Region) (cut : List ℕ) : Ty
   pub since : ℕ
   pub is : slice_get cuts place ≡ Some (record { region = region; cut = cut; since = since })
 
--- Each view of a caller is a cut of announcements that a scan of its own gave; each seen cut is one
--- of answers; and the cut that a row embeds is one of the row's region.
+-- Each view of a caller is a cut of announcements that a scan of its own gave.
 abbrev pub ViewsAreGiven : Type 0
 ViewsAreGiven =
     (s : Shape) (locals : List Local) (i k : ℕ) → AreTogether s locals → i < s.callers
     → k < length (local_at locals i).views
     → IsGivenIn (local_at locals i).cuts N (slice_index_or (local_at locals i).views k [])
 
+-- Each seen cut of a caller is a cut of answers that a scan of its own gave.
 abbrev pub SeenCutsAreGiven : Type 0
 SeenCutsAreGiven =
     (s : Shape) (locals : List Local) (i k : ℕ) → AreTogether s locals → i < s.callers
     → k < length (local_at locals i).seen
     → IsGivenIn (local_at locals i).cuts M (slice_index_or (local_at locals i).seen k [])
 
+-- The cut that a row embeds is one of the row's region that a scan of its caller gave.
 abbrev pub EmbeddedCutsAreGiven : Type 0
 EmbeddedCutsAreGiven =
     (s : Shape) (locals : List Local) (i k : ℕ) (region : Region) → AreTogether s locals
@@ -35,7 +36,7 @@ EmbeddedCutsAreGiven =
     → IsGivenIn (local_at locals i).cuts region
     (slice_index_or (embedded_in (local_at locals i) region) k [])
 
--- A later view of a caller contains its earlier ones, and a later seen cut the earlier ones.
+-- A later view of a caller contains its earlier ones.
 abbrev pub ViewsRise : Type 0
 ViewsRise =
     (s : Shape) (locals : List Local) (i k m : ℕ) → AreTogether s locals → i < s.callers → k < m
@@ -43,6 +44,7 @@ ViewsRise =
     → IsWithin (slice_index_or (local_at locals i).views k [])
     (slice_index_or (local_at locals i).views m [])
 
+-- A later seen cut of a caller contains its earlier ones.
 abbrev pub SeenCutsRise : Type 0
 SeenCutsRise =
     (s : Shape) (locals : List Local) (i k m : ℕ) → AreTogether s locals → i < s.callers → k < m

@@ -50,8 +50,7 @@ LookedCountsAreLow =
     → slice_get (local_at locals i).looked p ≡ Some look
     → (look.caller < s.callers) × (look.count ≤ own_count (local_at locals look.caller) look.region)
 
--- A cut that a scan gave has one count for each caller, none above that caller's own count; so a
--- cut of M is one of what was published.
+-- A cut that a scan gave has one count for each caller, none above that caller's own count.
 abbrev pub GivenCutsAreLow : Type 0
 GivenCutsAreLow =
     (s : Shape) (locals : List Local) (i p : ℕ) (given : Given) → AreTogether s locals
@@ -60,6 +59,7 @@ GivenCutsAreLow =
     → (length given.cut ≡ s.callers) × ((j : ℕ) → j < s.callers
     → slice_index given.cut j ≤ own_count (local_at locals j) given.region)
 
+-- A cut of M that a scan gave is one of what was published.
 abbrev pub GivenCutsArePublished : Type 0
 GivenCutsArePublished =
     (s : Shape) (locals : List Local) (i p : ℕ) (given : Given) → AreTogether s locals
@@ -67,15 +67,14 @@ GivenCutsArePublished =
     → slice_get (local_at locals i).cuts p ≡ Some given → given.region ≡ M
     → IsPublished locals given.cut
 
--- At the end of a run: a row that a caller knows of is counted; a peeked word is the one that
--- stands in its row, which is counted; and a count that was looked at is at most the count that
--- stands there.
+-- A row that a caller knows of at the end of a run is counted.
 abbrev pub KnownRowsAreCountedInRuns : Type 0
 KnownRowsAreCountedInRuns =
     (s : Shape) (steps : List Step) (i j k : ℕ) (region : Region) → IsRun s steps → i < s.callers
     → IsTrue (knows_row s.callers (local_of (end_of s steps) i) region j k) → (j < s.callers)
     × (k < s.cap) × (k < count_of s (end_of s steps) region j)
 
+-- A word that a caller has peeked at the end of a run is the word of its row, which is counted.
 abbrev pub PeekedWordsStand : Type 0
 PeekedWordsStand =
     (s : Shape) (steps : List Step) (i : ℕ) (region : Region) (call : Call) (place x : ℕ)
@@ -84,19 +83,21 @@ PeekedWordsStand =
     → (call.number < count_of s (end_of s steps) region call.caller)
     × (x ≡ row_word s (end_of s steps) region call.caller call.number place)
 
+-- A count that a caller has looked at, at the end of a run, is at most its count word.
 abbrev pub LookedCountsAreLowInRuns : Type 0
 LookedCountsAreLowInRuns =
     (s : Shape) (steps : List Step) (i p : ℕ) (look : Looked) → IsRun s steps → i < s.callers
     → slice_get (local_of (end_of s steps) i).looked p ≡ Some look
     → (look.caller < s.callers) × (look.count ≤ count_of s (end_of s steps) look.region look.caller)
 
--- An announcement and a publication give up the scan that was under way.
+-- An announcement gives up the scan that was under way.
 abbrev pub AnnouncementsGiveUpScans : Type 0
 AnnouncementsGiveUpScans =
     (s : Shape) (before : List Step) (who : ℕ)
     → IsRun s (before ++ record { who = who; event = Announce } ∷ [])
     → (local_of (end_of s (before ++ record { who = who; event = Announce } ∷ [])) who).scan ≡ None
 
+-- A publication gives up the scan that was under way.
 abbrev pub PublicationsGiveUpScans : Type 0
 PublicationsGiveUpScans =
     (s : Shape) (before : List Step) (who : ℕ)

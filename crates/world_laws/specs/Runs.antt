@@ -11,10 +11,11 @@ use Rattle.world_core.specs.Agreement.{Agrees}
 abbrev pub are_of_others : ℕ → List Step → Bool
 are_of_others i steps = list_all (λ (step : Step). not (step.who == i)) steps
 
--- The start is reachable, and so is the world after each step that is enabled in a reachable world.
+-- The world at the start is reachable.
 abbrev pub StartIsReachable : Type 0
 StartIsReachable = (s : Shape) → IsReachable s (start s)
 
+-- The world after each step that is enabled in a reachable world is reachable.
 abbrev pub StepsReach : Type 0
 StepsReach = (s : Shape) (w : World) (step : Step) → IsReachable s w → IsTrue (is_possible s w step)
     → IsReachable s (after s w step)
@@ -35,13 +36,14 @@ CountedRowsStay =
     → row_word s (end_of s (before ++ later)) region i k place
     ≡ row_word s (end_of s before) region i k place
 
--- Only a caller's own events change its counts, its rows and its local.
+-- Only a caller's own events change its counts.
 abbrev pub CountsAreOwn : Type 0
 CountsAreOwn =
     (s : Shape) (before later : List Step) (region : Region) (i : ℕ) → IsRun s (before ++ later)
     → i < s.callers → IsTrue (are_of_others i later)
     → count_of s (end_of s (before ++ later)) region i ≡ count_of s (end_of s before) region i
 
+-- Only a caller's own events change its rows.
 abbrev pub RowsAreOwn : Type 0
 RowsAreOwn =
     (s : Shape) (before later : List Step) (region : Region) (i k place : ℕ)
@@ -50,6 +52,7 @@ RowsAreOwn =
     → row_word s (end_of s (before ++ later)) region i k place
     ≡ row_word s (end_of s before) region i k place
 
+-- Only a caller's own events change its local.
 abbrev pub LocalsAreOwn : Type 0
 LocalsAreOwn =
     (s : Shape) (before later : List Step) (i : ℕ) → IsRun s (before ++ later) → i < s.callers

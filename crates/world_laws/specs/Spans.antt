@@ -11,20 +11,21 @@ abbrev pub CutsAreInstantaneous : Type 0
 CutsAreInstantaneous = (s : Shape) (who : ℕ) (given : Given) (r : Span) → GivesCut s who given r
     → IsInstantaneous s given r
 
--- The cut of a scan holds all that was counted before the scan began, and nothing that was counted
--- after it ended. Its entry for its own caller is that caller's count.
+-- The cut of a scan holds all that was counted before the scan began.
 abbrev pub CutsHoldEarlier : Type 0
 CutsHoldEarlier =
     (s : Shape) (who : ℕ) (given : Given) (r : Span) (j : ℕ) → GivesCut s who given r
     → j < s.callers
     → count_of s (end_of s r.before) given.region j ≤ slice_index given.cut j
 
+-- The cut of a scan holds nothing that was counted after the scan ended.
 abbrev pub CutsHoldNoLater : Type 0
 CutsHoldNoLater =
     (s : Shape) (who : ℕ) (given : Given) (r : Span) (j : ℕ) → GivesCut s who given r
     → j < s.callers
     → slice_index given.cut j ≤ count_of s (end_of s (through_last r)) given.region j
 
+-- The entry of a scan's cut for the scan's own caller is that caller's count.
 abbrev pub CutsHoldOwn : Type 0
 CutsHoldOwn =
     (s : Shape) (who : ℕ) (given : Given) (r : Span) → GivesCut s who given r

@@ -37,7 +37,7 @@ pub fn own_events_alone()
 
 /// The phase, the counts and the lists of a local agree with each other and with the words: the own
 /// counts are the count words, each announced operation, each published record and each embedded
-/// cut stands in its row, and each staged word stands in the row under way.
+/// cut is in its row, and each staged word is in the row under way.
 #[tactic(auto, using(crate::proofs::Running::locals_agree))]
 pub fn locals_agree()
     ensures { LocalsAgree }

@@ -18,11 +18,11 @@ pub fn known_rows_are_counted()
     ensures runs { KnownRowsAreCountedInRuns }
 {}
 
-/// A peeked word is the word of its owner's call, and the one that stands in its row.
+/// A peeked word is the word of its owner's call, and the word of its row.
 pub fn peeked_words_are_words()
     // A word that a caller peeked is the word of its owner's call, in a row that is counted.
     ensures locals { PeekedWordsAreWords }
-    // A word that a caller peeked is the one that stands in its row at the end of the run.
+    // A word that a caller peeked is the word of its row at the end of the run.
     ensures runs { PeekedWordsStand }
 {}
 
