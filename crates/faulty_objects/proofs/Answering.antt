@@ -56,7 +56,7 @@ puts_in-cons : (e : Entry) (log : List Entry)
     → puts_in (e ∷ log) ≡ cond (is_put e.op) 1 0 + puts_in log
 puts_in-cons e log = count-cons (is_put e.op) e (filter (λ c. is_put c.op) log)
 
--- a call after some others, of which n puts stand before
+-- whether a call is a second put, after some others of which n are puts
 second_puts-append : (n : ℕ) (before : List Entry) (e : Entry)
     → without_second_puts (n % 2 == 1) (before ++ e ∷ []) ≡ without_second_puts (n % 2 == 1) before
     ++ unless (is_put e.op && ((n + puts_in before) % 2 == 1)) e

@@ -126,7 +126,7 @@ pub clear_waiting : (n cap : ℕ) (s : Scratch) → IsClear n cap s → length s
 clear_waiting n cap s clear =
     ap (λ (l : List (Option ℕ)). length l) clear.waiting ∙ length-replicate n None
 
--- one more set of tools
+-- the tools of one pass more
 pub tools_more : (n cap : ℕ) (all new : List Tools) (t : Tools) → All (AreReady n cap) all
     → new ≡ all ++ t ∷ [] → t.pairs.items ≡ [] → cap ≤ vec_capacity t.pairs
     → IsClear n cap t.scratch → vec_len t.scratch.waiting ≡ length t.scratch.waiting.items
@@ -140,7 +140,7 @@ tools_more n cap all new t ready is pairs room clear long =
       waiting = long ∙ clear_waiting n cap t.scratch clear;
     }))
 
--- one more pass: its seat is the next
+-- the passes with one more, whose seat is the next
 pub seats_more : (seats left left' : List LogSeat) (passes new : List LogPass) (p : LogPass)
     (s : LogSeat) → map seat_in passes ++ left ≡ seats → left ≡ s ∷ left'
     → new ≡ passes ++ p ∷ [] → seat_in p ≡ s

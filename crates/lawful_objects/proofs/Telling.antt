@@ -7,7 +7,7 @@ use Rattle.shared_log.proofs.Logs.{calls_by-append, calls_by-push_own}
 use Rattle.lawful_objects.specs.Pairs.{pairs_of}
 use Rattle.lawful_objects.proofs.Pairing.{pairs_after-append, none_after, pairs_have_the_calls, after_own}
 
--- as many pairs as the caller has entries
+-- a log has as many pairs of a caller as entries
 pub length-pairs_of : (answer : List Entry → ℕ) (log : List Entry) (i : ℕ)
     → length (pairs_of answer log i) ≡ length (calls_by i log)
 length-pairs_of answer log i = sym (length-map (pairs_of answer log i) (λ (pair : ℕ × ℕ). pair.0))

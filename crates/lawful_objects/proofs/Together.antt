@@ -120,7 +120,7 @@ each_is_one_callers n (a ∷ history) callers =
     each_is_one_callers n history (All-tail (λ (b : Access). b.caller < n) a history callers) in
     omega (arith, split, both, one, more)
 
--- ---- a caller tells as many increments as it made additions
+-- ---- a caller has as many increments in its transcript as it made additions
 
 abbrev is_increment : ℕ × ℕ → Bool
 is_increment pair = pair.0 == increment

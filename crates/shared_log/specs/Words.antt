@@ -20,8 +20,8 @@ ticket_index n cap place = 2 * (n * cap) + place
 abbrev pub word_count : ℕ → ℕ → ℕ
 word_count n cap = 3 * (n * cap)
 
--- The number of the call of an entry that stands after some others: its caller's calls are numbered
--- in their order.
+-- The number of the call of an entry that comes after some others in a log: the calls of its caller
+-- are numbered in their order.
 abbrev pub number_after : ℕ → List Entry → Entry → ℕ
 number_after cap before e = number_of cap e.caller (length (calls_by e.caller before))
 

@@ -205,7 +205,7 @@ impl SharedLog {
     }
 
     // Spends a caller's seat, and gives what it knew to the keeper. The answer is the longer of the
-    // two logs.
+    // seat's log and the longest one so far.
     fn take_in(
         &self,
         keeper: &mut Seat<(), Holding>,

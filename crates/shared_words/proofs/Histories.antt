@@ -18,7 +18,7 @@ deeds_by-append i xs ys =
     ∙ map-append (λ (a : Access). a.deed) (filter (λ (a : Access). a.caller == i) xs)
     (filter (λ (a : Access). a.caller == i) ys)
 
--- one more access, of the caller or of another
+-- the deeds of a caller after one more access, of the caller or of another
 pub deeds_by-own : (i : ℕ) (xs : List Access) (a : Access) → a.caller ≡ i
     → deeds_by i (xs ++ a ∷ []) ≡ deeds_by i xs ++ a.deed ∷ []
 deeds_by-own i xs a own =

@@ -10,7 +10,7 @@ word_from-append place word [] ys = refl
 word_from-append place word (a ∷ xs) ys =
     word_from-append place (if place_of a.deed == place then leaves a.deed word else word) xs ys
 
--- one more access, to this word or to another
+-- a word after one more access, to this word or to another
 pub word_at-here : (history : List Access) (a : Access) (place : ℕ) → place_of a.deed ≡ place
     → word_at place (history ++ a ∷ []) ≡ leaves a.deed (word_at place history)
 word_at-here history a place is =
