@@ -33,7 +33,7 @@ lines_stay says says' more (call ∷ calls) (line ∷ own) h = (
   lines_stay says says' more calls own h.1,
 )
 
--- one more call, and its line
+-- the lines of calls with one call more
 pub one_more_line : (says : Record → List ℕ → LineEnd → Type 0) (calls : List Made)
     (own : List Line) (call : Made) (line : Line)
     → AreLinesOfCalls says calls own → IsLineOf says call line

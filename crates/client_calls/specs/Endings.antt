@@ -84,8 +84,8 @@ module _ {P : Type 0} where
       × (own' ≡ own ++ record { op = op; end = end } ∷ [])
   IsNoted op own (WantsMemory u) own' s = (s ≡ Unjudged u) × (own' ≡ own)
 
-  -- A call has ended by an ending that says this: its caller, one of these rows, saw a cut, and
-  -- made no further phase.
+  -- A call has ended by an ending that says this: its caller, one of these rows, saw a cut, and its
+  -- progress is as before, but for this cut.
   pub record HasEnded (meaning : P → ℕ → ℕ → Meaning) (r : Rows P)
       (says : ℕ → Local → Record → List ℕ → LineEnd → Type 0) (p : Published P)
       (e : Ended P) : Type 0 where

@@ -46,7 +46,7 @@ pub trait Asks {
         requires fits { FitsCaller (fits self.now) pass.old (caller_announced announced) }
         // The pass has a call left, where it counts calls.
         requires left { HasCallLeft (count pass.old) }
-        // The answered call is of the same caller.
+        // The answered call is of the announced call's caller.
         ensures who { who_of (caller_answered result) ≡ who_announced announced }
         // The caller is still one of each table that it was one of, and whose callers may ask the
         // object.

@@ -33,7 +33,7 @@ impl<B: BlackBox> Asks for OutsideObject<'_, B> {
             × (B.Pass.caller pass.old ≡ who_announced announced) }
         // The pass has made fewer calls than it may make.
         requires left { B.Pass.made pass.old < B.Pass.cap pass.old }
-        // The answered call is of the same caller.
+        // The answered call is of the announced call's caller.
         ensures who { who_of (caller_answered result) ≡ who_announced announced }
         // The caller is still one of each table that it was one of, and whose callers may ask the
         // object.

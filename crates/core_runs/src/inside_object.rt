@@ -40,7 +40,7 @@ impl<O: CoreObject> Asks for InsideObject<'_, O> {
         // The pass fits the caller of the announced call.
         requires fits { FitsCaller (fits_inside (O.fits self.now.object.now)) pass.old
             (caller_announced announced) }
-        // The answered call is of the same caller.
+        // The answered call is of the announced call's caller.
         ensures who { who_of (caller_answered result) ≡ who_announced announced }
         // The caller is still one of each table that it was one of, and that this object serves.
         ensures rows { (r : TheRows O.P)

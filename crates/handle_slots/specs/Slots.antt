@@ -1,5 +1,5 @@
--- A place for a handle in a program in another language: what is in it, and what the calls on it
--- find and leave there.
+-- A place for a handle in a program in another language: its handle, and what the calls on it find
+-- and leave there.
 use Rattle.std.specs.Prelude.{◌≡◌, ℕ, ◌≤◌, ◌+◌, List, Option, None, Some}
 use Rattle.book_base.specs.declared.TheConstants.{MAX_CALLERS, MAX_CALLS}
 use Rattle.seq_objects.specs.declared.kind.Kind.{Kind}
@@ -18,6 +18,7 @@ use Rattle.handle_slots.specs.declared.role.Role.{Role}
 use Rattle.handle_slots.specs.declared.role.Role.TheVariants as role
 use Rattle.handle_slots.specs.declared.slot.Slot.{Slot}
 
+-- The handle of a slot, where it has one.
 abbrev pub handle_in : Slot → Option Handle
 handle_in s = s.held.value
 

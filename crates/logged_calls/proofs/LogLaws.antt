@@ -21,7 +21,7 @@ entry_is : (i : ℕ) (e : Entry) → (e.caller == i) ≡ true → e ≡ entry i 
 entry_is i e own = let same : e.caller ≡ i = eqb-true e.caller i own in
     λ j. record { caller = same j; op = e.op }
 
--- the entries of a caller in a log, with one more in front
+-- the entries of a caller in a log, with one more first
 calls_with_own : (i : ℕ) (e : Entry) (log : List Entry) → (e.caller == i) ≡ true
     → calls_by i (e ∷ log) ≡ e.op ∷ calls_by i log
 calls_with_own i e log own =
@@ -43,7 +43,7 @@ module _ (answer : List Entry → ℕ) (i : ℕ) where
       (before suffix : List Entry) × (rest ≡ before ++ entry i op ∷ suffix)
       × (length (calls_by i before) ≡ k) × (reply ≡ answer (prefix ++ (before ++ entry i op ∷ [])))
 
-  -- an entry of the rest of a log is still one with one entry more in front
+  -- an entry of the rest of a log is still one with one entry more first
   later : (prefix rest : List Entry) (e : Entry) (j k op reply : ℕ)
       (s : IsInLog (prefix ++ e ∷ []) rest k op reply) → length (calls_by i (e ∷ s.0)) ≡ j
       → IsInLog prefix (e ∷ rest) j op reply
@@ -55,7 +55,7 @@ module _ (answer : List Entry → ℕ) (i : ℕ) where
     s.4 ∙ ap answer (append_assoc prefix (e ∷ []) (s.0 ++ entry i op ∷ [])),
   )
 
-  -- the first pair is that of the entry in front, where that is the caller's
+  -- the first pair is that of the first entry, where this is the caller's
   first_or_later : (prefix rest : List Entry) (e : Entry) (op reply : ℕ) → (e.caller == i) ≡ true
       → ((k : ℕ) → slice_get (pairs_after answer i (prefix ++ e ∷ []) rest) k ≡ Some (op, reply)
       → IsInLog (prefix ++ e ∷ []) rest k op reply)

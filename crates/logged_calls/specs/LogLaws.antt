@@ -6,8 +6,8 @@ use Rattle.world_core.specs.Calls.{Made}
 use Rattle.report_lines.specs.Phases.{asked, operations_of, answers_in}
 use Rattle.logged_calls.specs.Logged.{IsLoggedBy}
 
--- Call k of caller i stands in a log, after entries of which k are the caller's, and its reply is
--- the answer to the log up to it.
+-- Call k of caller i has an entry in a log, after entries of which k are the caller's, and its
+-- reply is the answer to the log up to this entry.
 pub record IsAnsweredIn (answer : List Entry → ℕ) (log : List Entry)
     (i k op reply : ℕ) : Type 0 where
   pub before : List Entry
@@ -25,7 +25,7 @@ pub record IsOfCall (n : ℕ) (phases : ℕ → ℕ) (calls : ℕ → List Made)
   pub operation : slice_get (operations_of (calls e.caller))
       (length (calls_by e.caller before)) ≡ Some e.op
 
--- Each answered call stands in the log, and was answered from the log up to it.
+-- Each answered call has an entry in the log, and was answered from the log up to it.
 abbrev pub AnswersComeFromTheLog : Type 0
 AnswersComeFromTheLog =
     (answer : List Entry → ℕ) (n : ℕ) (phases : ℕ → ℕ) (calls : ℕ → List Made)

@@ -5,7 +5,7 @@
 ghost use Rattle.logged_calls.specs.LogLaws.{AnswersComeFromTheLog, EntriesAreOfCalls};
 ghost use Rattle.logged_calls.specs.Runs.{RunsOfLogsAreLogged, RunsOfTalliesAreFormed, RunsOfCellsAreFormed};
 
-/// Each answered call stands in the log, and its reply is the answer to the log up to it.
+/// Each answered call has an entry in the log, and its reply is the answer to the log up to it.
 pub fn answers_come_from_the_log()
     ensures { AnswersComeFromTheLog }
 {}

@@ -237,7 +237,7 @@ impl<P: Program> Monitor<P> {
         requires board { IsOn board.now self.old }
         // The monitor is still one of this board.
         ensures board { IsOn board.now self.new }
-        // The monitor has the same caller.
+        // The monitor keeps its caller.
         ensures caller { caller_of self.new ≡ caller_of self.old }
         // The monitor's own witness, whether the board took a copy of it, and the book that it
         // keeps stay.
