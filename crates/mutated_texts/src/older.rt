@@ -98,8 +98,8 @@ fn put_call(out: &mut Vec<u8>, words: Words, book: &Book, call: Call) -> Result<
 }
 
 impl Words {
-    // Appends the words of an operation. A counter knows one operation, whose words a join has, so
-    // joins are written as words of the other operations.
+    // Appends the words of an operation. One that is no join is written as a counter writes it: the
+    // one operation that a counter knows is a join, so the words are those of an unknown operation.
     fn put_op(self, out: &mut Vec<u8>, op: OpWord) -> Result<(), NoMemory> {
         match self {
             Words::First(kind) => kind.put_op(out, op),

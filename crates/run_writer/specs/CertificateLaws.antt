@@ -27,7 +27,7 @@ CertificatesNeedAnOrder =
     (init : List ℕ) (next : List ℕ → ℕ → List ℕ × ℕ) (report : Findings) (bytes : List ℕ)
     → IsCertificate init next report bytes → HasDeliveredOrder init next report.lines
 
--- Each delivered reply of a lawful report stands in a legal order of what was delivered.
+-- Each delivered reply of a lawful report is in each legal order of what was delivered.
 abbrev pub DeliveredRepliesStandInTheOrder : Type 0
 DeliveredRepliesStandInTheOrder = (init : List ℕ) (next : List ℕ → ℕ → List ℕ × ℕ) (s : Shape)
     (operations : List (List ℕ)) (allotments : List ℕ) (lines : List (List Line))

@@ -2,14 +2,14 @@
 
 ghost use Rattle.run_writer.specs.CertificateLaws.{LawfulReportsHaveAnOrder, CertificatesNeedAnOrder, DeliveredRepliesStandInTheOrder, CertificatesAreRead, CertificatesHaveOneBook};
 
-/// A lawful report has a certificate, and each delivered reply stands in the certificate's order. A
-/// report has no certificate where what was delivered has no legal order.
+/// A lawful report has a certificate, whose order has each delivered reply. A report has no
+/// certificate where what was delivered has no legal order.
 pub fn lawful_reports_have_certificates()
     // The book of what a lawful report delivered has a legal order.
     ensures order { LawfulReportsHaveAnOrder }
     // A report has a certificate only where the book of what was delivered has a legal order.
     ensures only { CertificatesNeedAnOrder }
-    // Each delivered reply of a lawful report stands in each legal order of what was delivered.
+    // Each delivered reply of a lawful report is in each legal order of what was delivered.
     ensures replies { DeliveredRepliesStandInTheOrder }
 {}
 

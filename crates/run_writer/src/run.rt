@@ -31,7 +31,7 @@ use world_core::{Outside, Program};
 
 /// Runs all callers of a script over any object behind the trait, each in a thread of its own where
 /// one can be had, and writes what the form shows of their report, which is lawful: each call made
-/// has its line; all delivered replies stand in one order that is legal for the script's kind and
+/// has its line; all delivered replies are in one order that is legal for the script's kind and
 /// keeps the views' precedence; and a line is an error only where the published records have no
 /// such order, which no run over linearizable object calls leaves (Castañeda and Rodríguez 2023).
 ///

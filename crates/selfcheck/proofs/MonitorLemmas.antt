@@ -115,7 +115,7 @@ three_lines : (a b c : List (List ℕ)) (rest : List (List (List ℕ)))
     → text_of (a ∷ b ∷ c ∷ rest) ≡ line_text a ++ (line_text b ++ (line_text c ++ text_of rest))
 three_lines a b c rest = refl
 
--- the words of the three lines can stand in them
+-- the words of the three lines can be those of lines
 sharp : AreSharp (head_rules Second (codes "script"))
 sharp = head_sharp Second (codes "script") (plain (codes "script")
     (omega arith, (omega arith, (omega arith, (omega arith, (omega arith, (omega arith, tt))))))

@@ -1,4 +1,4 @@
--- What stands of an order still stands in a book to which an answer was added.
+-- What holds of a kept order's prefix in a book still holds in a book to which an answer was added.
 use Rattle.std.proofs.Common.{Option, Some, None, ◌∙◌, ℕ, ◌<◌, ◌++◌, List, [], ◌∷◌, length, set, slice_get, inl, inr, sym, ap}
 use Rattle.std.proofs.lemmas.Bool.{cases_eq}
 use Rattle.std.proofs.lemmas.List.{length-set}
