@@ -10,23 +10,23 @@ use Rattle.seq_objects.specs.declared.kind.Kind.{Kind}
 use Rattle.text_fields.specs.declared.version.Version.{Version}
 use Rattle.text_fields.specs.declared.version.Version.TheVariants.{First, Second}
 
--- the first line is the title of a report
+-- The first line is the title of a report.
 abbrev pub BeginsAsReport : List ℕ → Type 0
 BeginsAsReport bytes = (rest : List ℕ) × (bytes ≡ codes "report 2\n" ++ rest)
 
--- the first line is the title of a book of version 1
+-- The first line is the title of a book of version 1.
 abbrev pub BeginsAsOldBook : List ℕ → Type 0
 BeginsAsOldBook bytes = (rest : List ℕ) × (bytes ≡ codes "book 1\n" ++ rest)
 
--- the first line is a verdict, as `monitor` writes it, and `rest` is what comes after it
+-- The first line is a verdict, as `monitor` writes it, and `rest` is what comes after it.
 abbrev pub IsAfterVerdict : List ℕ → List ℕ → Type 0
 IsAfterVerdict bytes rest = (bytes ≡ codes "legal\n" ++ rest) ⊎ (bytes ≡ codes "illegal\n" ++ rest)
 
--- the first line is a verdict
+-- The first line is a verdict.
 abbrev pub BeginsAsVerdict : List ℕ → Type 0
 BeginsAsVerdict bytes = (rest : List ℕ) × IsAfterVerdict bytes rest
 
--- at this place the bytes have the end of a line, after it the line `end`, and after that the rest
+-- At this place the bytes have the end of a line, after it the line `end`, and after that the rest.
 abbrev pub HasEndAt : List ℕ → ℕ → List ℕ → Type 0
 HasEndAt bytes at rest = drop at bytes ≡ codes "\nend\n" ++ rest
 
@@ -36,7 +36,7 @@ pub record IsAfterEnd (bytes rest : List ℕ) : Type 0 where
   pub has : HasEndAt bytes at rest
   pub first : (i : ℕ) (other : List ℕ) → i < at → ¬ (HasEndAt bytes i other)
 
--- no line after another one is `end`
+-- No line after another one is `end`.
 abbrev pub HasNoEnd : List ℕ → Type 0
 HasNoEnd bytes = (i : ℕ) (rest : List ℕ) → ¬ (HasEndAt bytes i rest)
 
@@ -45,8 +45,8 @@ HasNoEnd bytes = (i : ℕ) (rest : List ℕ) → ¬ (HasEndAt bytes i rest)
 abbrev pub IsWitnessPart : List ℕ → List ℕ → Type 0
 IsWitnessPart bytes part = IsAfterEnd bytes part ⊎ (HasNoEnd bytes × (part ≡ []))
 
--- the first line is neither the title of a report, nor a verdict, nor the title of a book of
--- version 1
+-- The first line is neither the title of a report, nor a verdict, nor the title of a book of
+-- version 1.
 pub record BeginsOtherwise (bytes : List ℕ) : Type 0 where
   pub report : ¬ (BeginsAsReport bytes)
   pub verdict : ¬ (BeginsAsVerdict bytes)
@@ -62,21 +62,21 @@ IsBookPart bytes version part =
     ⊎ ((BeginsAsOldBook bytes × (version ≡ First) × (part ≡ bytes))
     ⊎ (BeginsOtherwise bytes × (version ≡ Second) × (part ≡ bytes))))
 
--- the input gives this book, of an object of this kind
+-- The input gives this book, of an object of this kind.
 pub record IsGiven (bytes : List ℕ) (kind : Kind) (book : List Page) : Type 0 where
   pub version : Version
   pub part : List ℕ
   pub is : IsBookPart bytes version part
   pub told : IsBookText version part kind book
 
--- the first fault of an input, with its line counted from the title of the book
+-- The first fault of an input, with its line counted from the title of the book.
 pub record IsFirstGivenFault (bytes : List ℕ) (fault : TextFault) : Type 0 where
   pub version : Version
   pub part : List ℕ
   pub is : IsBookPart bytes version part
   pub stops : IsFirstBookFault version part fault
 
--- why no book is read of an input: its first fault, or want of memory
+-- Why no book is read of an input: its first fault, or want of memory.
 abbrev pub IsNotGiven : List ℕ → ReadFault → Type 0
 IsNotGiven bytes (Text fault) = IsFirstGivenFault bytes fault
 IsNotGiven bytes NoMemory = Unit {0}

@@ -65,7 +65,7 @@ module _ (init : List ℕ) (next : List ℕ → ℕ → List ℕ × ℕ) (histor
       (All-contains (λ (e : Done). Contains history (Invoked e.call e.operation)) order d
       lin.invoked (contained order q d at)))
 
-  -- after the invocation of a call that wasn't invoked before
+  -- an order of a history is also one after the invocation of a call that wasn't invoked before
   pub after_invocation : (call : Call) (operation : ℕ)
       → ((x : ℕ) → Contains history (Invoked call x) → ⊥)
       → IsLinearization init next (history ++ Invoked call operation ∷ []) order

@@ -22,7 +22,7 @@ calls_at [] i = refl
 calls_at (own ∷ lines) zero = refl
 calls_at (own ∷ lines) (suc i) = calls_at lines i
 
--- the call of a line
+-- a line at the place of a call is of the call there
 pub call_of_line : (lines : List (List Line)) (call : Call) (line : Line)
     → line_at lines call ≡ Some line
     → slice_get (slice_index_or (calls_of lines) call.caller []) call.number ≡ Some (made_of line)
@@ -119,7 +119,7 @@ caller_within lines call line e = within lines call.caller e
     within (own ∷ lines) zero e = omega arith
     within (own ∷ lines) (suc i) e = let low = within lines i e in omega (arith, low)
 
--- the lines of a caller, by its place among those of all
+-- the list at place i of all lines is the lines of caller i
 place_of_lines : (lines : List (List Line)) (i : ℕ) → i < length lines
     → slice_get lines i ≡ Some (lines_at lines i)
 place_of_lines lines i low = slice_get-get_or lines i [] low

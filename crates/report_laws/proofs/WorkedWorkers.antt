@@ -54,7 +54,7 @@ both_worked = record { callers = refl; worked = each }
     each (suc zero) low = second_worked
     each (suc (suc i)) low = absurd (omega (arith, low))
 
--- the caller that peeked nothing
+-- caller 1, before it peeked, isn't judged by a gathered book
 pub unread : IsJudgedBy [] tenfold 2 (local_after two_calls 1) (Delivered sixty (1 ∷ 1 ∷ [])) → ⊥
 unread h =
     let records : List Record = (page_of h.0 0).records in

@@ -88,9 +88,9 @@ pub fn calls_beyond_the_rows_are_of_no_world()
         (6 ∷ 0 ∷ []) second_begun }
 {}
 
-/// What workers leave where one is stopped before it judges: the other one has judged by words that
-/// it peeked. Its seen cut is that of no report in which the first one is stopped before it
-/// published.
+/// Two workers leave a lawful report where caller 0 is stopped before it judges, and caller 1 has
+/// judged by words that it peeked. With the seen cut of caller 1, no report is lawful in which
+/// caller 0 is stopped before it publishes.
 pub fn workers_leave_a_report()
     // The steps after which caller 1 has judged and caller 0 hasn't are a run.
     ensures run { IsRun pair one_judging }

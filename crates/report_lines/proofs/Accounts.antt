@@ -39,7 +39,7 @@ progress_by a = record { calls = calls_by a; published = a.published; steps = a.
 progress_of-account : (l : Local) → progress_of l ≡ progress_by (account_of l)
 progress_of-account l = refl
 
--- calls that are the same up to a number
+-- calls that are equal below a number make equal lists up to it
 same_range : (f g : ℕ → Made) (a n : ℕ) → ((k : ℕ) → k < a + n → g k ≡ f k)
     → map g (range_with_len a n) ≡ map f (range_with_len a n)
 same_range f g a zero each = refl
@@ -54,7 +54,7 @@ the_last_call_goes_on further (d ∷ []) c = refl
 the_last_call_goes_on further (d ∷ e ∷ calls) c =
     ap (λ (cs : List Made). d ∷ cs) (the_last_call_goes_on further (e ∷ calls) c)
 
--- calls of which the last one has changed
+-- where only the last call has changed, the list changes only in its last item
 grown : (f g : ℕ → Made) (further : Reached → Reached) (n p : ℕ) → n ≡ p + 1
     → ((k : ℕ) → k < p → g k ≡ f k)
     → g p ≡ record { operation = (f p).operation; reached = further (f p).reached }
@@ -70,7 +70,7 @@ grown f g further n p long each last =
     ∙ ap (with_last further) (sym (map-range_with_len_more f 0 p p (omega arith)))
     ∙ ap (λ (m : ℕ). with_last further (map f (range_with_len 0 m))) (sym long)
 
--- an account with one more operation
+-- an account that gains an operation gains an announced call
 announced : (a : Account) (op : ℕ) → length a.seen ≤ length a.operations
     → length a.views ≤ length a.operations
     → calls_by (record a { operations = a.operations ++ op ∷ [] })
@@ -118,7 +118,7 @@ operations_are_calls l m op phase at e =
     (λ (cs : List Made). record { calls = cs; published = l.published; steps = all_steps_of l })
     (announced (account_of l) op few fewer)
 
--- one more reply changes no call, since it is no record yet
+-- a reply that an account gains changes no call, since it is no record yet
 replied_at : (a : Account) (reply k : ℕ) → length a.views ≤ length a.replies
     → length a.seen ≤ length a.views
     → reached_by (record a { replies = a.replies ++ reply ∷ [] }) k ≡ reached_by a k
@@ -155,7 +155,7 @@ replies_are_no_records l m reply phase at e =
     (λ k low. ap (λ v. record { operation = slice_index l.operations k; reached = v })
     (replied_at a reply k few fewer)))
 
--- an account with one more view
+-- What changes in the calls of an account that gains a view.
 module _ (a : Account) (view : List ℕ) (few : length a.seen ≤ length a.views) where
   abbrev with_view : Account
   with_view = record a { views = a.views ++ view ∷ [] }
@@ -224,7 +224,7 @@ views_make_records l m view phase at e =
     (viewed_before a view few) (viewed_last a view few))
     ∙ ap (λ k. after_viewing (record_with k) (progress_of l)) last
 
--- an account with one more seen cut
+-- What changes in the calls of an account that gains a seen cut.
 module _ (a : Account) (cut : List ℕ) (few : length a.seen < length a.views) where
   abbrev with_cut : Account
   with_cut = record a { seen = a.seen ++ cut ∷ [] }

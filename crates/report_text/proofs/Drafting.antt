@@ -160,7 +160,7 @@ module _ (counts : List ℕ) (told : List Line) (op : ℕ) (call : Call)
       seen-joined (Delivered r cut) n seen cut both refl h e
   seen-push (Error r cut) n seen both h e = seen-joined (Error r cut) n seen cut both refl h e
 
--- the draft with one line more
+-- a draft after a line is the one before it with this line's call, limit and seen cut
 pub draft-push : (counts : List ℕ) (told : List Line) (line : Line) (call : Call)
     (before after : Draft) → StandBefore counts told call.caller call.number
     → call.number < get_or counts call.caller 0

@@ -56,7 +56,7 @@ module _ (kind : Kind) (counts : List ℕ) (told : List Line) (call : Call)
   abbrev F : What → Type 0
   F name = LineFails kind counts told call words name
 
-  -- before the tests of views
+  -- no test of views comes before turn 11
   no_test_before : (k : ℕ) → k ≤ 11 → (name : What) → turn_of name < k
       → FailsViewTest kind counts told call words name → ⊥
   no_test_before k few name lt t = let late = test_from t.fault name t.test in absurd (omega arith)

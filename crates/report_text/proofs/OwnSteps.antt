@@ -157,7 +157,7 @@ no_line counts call line e =
     ap (λ (ls : List Line). slice_get ls call.number) (sym (grouped-none counts call.caller)) ∙ e in
     absurd cc
 
--- the draft before any line
+-- the draft before any line has the unanswered book and seen cuts of zeros
 pub draft-none : (counts : List ℕ) (draft : Draft) → draft.book ≡ unanswered_book counts
     → draft.limits ≡ counts → draft.seen ≡ replicate (length counts) 0 → IsDraft counts [] draft
 draft-none counts draft book limits seen = record {

@@ -28,7 +28,7 @@ pairs_above b b' (suc d ∷ cut) rest c words lt few plain e =
     let same : b' ≡ b = same_number b' b (omega arith) (omega arith) parts.0 in
     omega arith
 
--- the same cut, before the same words
+-- Two cuts are equal, and so are the words after them.
 pub record AreSame (xs ys : List ℕ) (s t : List (List ℕ)) : Type 0 where
   pub cuts : xs ≡ ys
   pub rests : s ≡ t

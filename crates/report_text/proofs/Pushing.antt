@@ -26,7 +26,7 @@ use Rattle.report_text.proofs.Groups.{push_at, length-grouped, before-suc, lengt
 
 -- ---- pages
 
--- a call's place before those without a line
+-- setting the first place after the operations puts the new one at their end
 set_after : (ops : List ℕ) (m x : ℕ)
     → set (ops ++ replicate (suc m) 0) (length ops) x ≡ (ops ++ x ∷ []) ++ replicate m 0
 set_after [] m x = refl

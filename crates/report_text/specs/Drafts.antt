@@ -43,31 +43,31 @@ pub record IsWide (draft : Draft) : Type 0 where
 
 -- ---- with one more line
 
--- the limits after the line of this pending call
+-- The limits after the line of this pending call.
 abbrev pub lowered : List ℕ → Call → List ℕ
 lowered limits call =
     slice_set limits call.caller (min (slice_index limits call.caller) call.number)
 
--- the limits after the line of this call with this end
+-- The limits after the line of this call with this end.
 abbrev pub limits_with : List ℕ → Call → LineEnd → List ℕ
 limits_with limits call Pending = lowered limits call
 limits_with limits call (Unchecked r) = limits
 limits_with limits call (Delivered r cut) = limits
 limits_with limits call (Error r cut) = limits
 
--- each count of a cut is the greater one of two others
+-- Each count of a cut is the greater one of two others.
 pub record AreJoined (a b both : List ℕ) : Type 0 where
   pub wide : length both ≡ length a
   pub greater : (j : ℕ) → slice_index both j ≡ max (slice_index a j) (slice_index b j)
 
--- the greatest counts of the seen cuts after a line with this end
+-- The greatest counts of the seen cuts after a line with this end.
 abbrev pub AreSeenWith : List ℕ → LineEnd → List ℕ → Type 0
 AreSeenWith seen Pending after = after ≡ seen
 AreSeenWith seen (Unchecked r) after = after ≡ seen
 AreSeenWith seen (Delivered r cut) after = AreJoined seen cut after
 AreSeenWith seen (Error r cut) after = AreJoined seen cut after
 
--- a line of this call with this end fits the limits and the greatest counts of the lines before it
+-- A line of this call with this end fits the limits and the greatest counts of the lines before it.
 abbrev pub FitsKept : List ℕ → List ℕ → Call → LineEnd → Type 0
 FitsKept limits seen call Pending = ¬ (Holds seen call)
 FitsKept limits seen call (Unchecked r) = Unit {0}

@@ -30,13 +30,13 @@ use Rattle.report_text.specs.Drafts.{StandBefore, AreLimits, AreSeenCounts, IsDr
 
 -- ---- the words of a line
 
--- after the operation the words are 'pending' alone, or begin with this answer
+-- After the operation the words are 'pending' alone, or begin with this answer.
 abbrev pub SayAnswer : ℕ → List (List ℕ) → Option Record → List (List ℕ) → Type 0
 SayAnswer n words None suffix = words ≡ codes "pending" ∷ []
 SayAnswer n words (Some r) suffix = IsAnswer n r × NoPairFirst suffix
     × (words ≡ reply_word r.reply ∷ codes "view" ∷ (pair_words 0 r.view ++ suffix))
 
--- why the words after the operation neither are 'pending' alone nor begin with an answer
+-- Why the words after the operation neither are 'pending' alone nor begin with an answer.
 abbrev pub IsNoAnswer : ℕ → List (List ℕ) → What → Type 0
 IsNoAnswer n words what.Reply = (words ≢ codes "pending" ∷ [])
     × ((reply : ℕ) (others : List (List ℕ)) → reply < 2 ^ 64 → words ≢ reply_word reply ∷ others)
@@ -46,8 +46,8 @@ IsNoAnswer n words what.View = (reply : ℕ) × (suffix : List (List ℕ)) × (r
     ⊎ ((pairs : List (List ℕ)) × (suffix ≡ codes "view" ∷ pairs) × HasBadPair n 0 pairs))
 IsNoAnswer n words _ = ⊥
 
--- the line begins with its call, this operation and this answer, where it has one, and this suffix
--- follows
+-- The line begins with its call, this operation and this answer, where it has one, and this suffix
+-- follows.
 pub record IsPrefix (kind : Kind) (n : ℕ) (call : Call) (words : List (List ℕ)) (op : ℕ)
     (answer : Option Record) (suffix : List (List ℕ)) : Type 0 where
   pub has : IsOperationWord op
@@ -55,31 +55,31 @@ pub record IsPrefix (kind : Kind) (n : ℕ) (call : Call) (words : List (List �
   pub text : words ≡ place_words call ++ (operation_words kind op ++ rest)
   pub answered : SayAnswer n rest answer suffix
 
--- the first test that a line fails, of those before any that ask for the views of other lines,
--- whatever lines come before it
+-- The first test that a line fails, of those before any that ask for the views of other lines,
+-- whatever lines come before it.
 abbrev pub IsPrefixRefused : Kind → ℕ → Call → List (List ℕ) → What → Type 0
 IsPrefixRefused kind n call words name = (counts : List ℕ) (told : List Line) → length counts ≡ n
     → IsFirstTest (LineFails kind counts told call words) name
 
--- the words after the view, for a line with this end
+-- The words after the view, for a line with this end.
 abbrev pub verdict_words : LineEnd → List (List ℕ)
 verdict_words Pending = []
 verdict_words (Unchecked r) = codes "unchecked" ∷ []
 verdict_words (Delivered r cut) = codes "ok" ∷ seen_words cut
 verdict_words (Error r cut) = codes "error" ∷ seen_words cut
 
--- the end has this record, and a seen cut of this many callers where it has one
+-- The end has this record, and a seen cut of this many callers where it has one.
 abbrev pub HasVerdict : ℕ → Record → LineEnd → Type 0
 HasVerdict n r Pending = ⊥
 HasVerdict n r (Unchecked s) = s ≡ r
 HasVerdict n r (Delivered s cut) = (s ≡ r) × IsCut n cut
 HasVerdict n r (Error s cut) = (s ≡ r) × IsCut n cut
 
--- after the view the words say this end
+-- After the view the words say this end.
 abbrev pub SayVerdict : ℕ → Record → List (List ℕ) → LineEnd → Type 0
 SayVerdict n r words end = HasVerdict n r end × (words ≡ verdict_words end)
 
--- why the words after the view say no end of a line
+-- Why the words after the view say no end of a line.
 abbrev pub IsNoVerdict : ℕ → List (List ℕ) → What → Type 0
 IsNoVerdict n words what.Mark = (words ≢ codes "unchecked" ∷ [])
     × ((others : List (List ℕ)) → ¬ (BeginAsVerdict words others))
@@ -87,19 +87,19 @@ IsNoVerdict n words what.Seen = (pairs : List (List ℕ)) × BeginAsVerdict word
     × (HasBadPair n 0 pairs ⊎ HasWordAfterPairs pairs)
 IsNoVerdict n words _ = ⊥
 
--- the record of a line, where it has one
+-- The record of a line, where it has one.
 abbrev pub answer_in : LineEnd → Option Record
 answer_in Pending = None
 answer_in (Unchecked r) = Some r
 answer_in (Delivered r cut) = Some r
 answer_in (Error r cut) = Some r
 
--- the book of the lines before it can take this answer
+-- The book of the lines before it can take this answer.
 abbrev pub MayTell : List Page → Call → Option Record → Type 0
 MayTell book call None = Unit {0}
 MayTell book call (Some r) = MayAnswer book call.caller r.view
 
--- the book with what a line says of its call
+-- The book with what a line says of its call.
 abbrev pub with_told : List Page → Call → Line → List Page
 with_told book call line = with_line book call line.op (answer_in line.end)
 
@@ -124,20 +124,20 @@ AreWordsRefused kind book call words number e =
 
 -- ---- how a line fits
 
--- the seen cut of the line of this call fits the calls and the lines before it, or the call, where
--- it is pending, fits their seen cuts
+-- The seen cut of the line of this call fits the calls and the lines before it, or the call, where
+-- it is pending, fits their seen cuts.
 pub record FitsCuts (counts : List ℕ) (lines : List (List Line)) (call : Call)
     (line : Line) : Type 0 where
   pub seen : (cut : List ℕ) → seen_in line.end ≡ Some cut → ¬ (IsWrongCut counts lines call cut)
   pub pending : line.end ≡ Pending → ¬ (IsSeenBefore lines call)
 
--- the line of this call fits the lines before it, but for its view, and its caller's further lines
+-- The line of this call fits the lines before it, but for its view, and its caller's further lines.
 pub record FitsOthers (counts : List ℕ) (lines : List (List Line)) (call : Call)
     (line : Line) : Type 0 where
   pub cuts : FitsCuts counts lines call line
   pub last : ¬ (EndsTooEarly counts call line)
 
--- the first test that a line fails, of those on cuts and on its caller's further lines
+-- The first test that a line fails, of those on cuts and on its caller's further lines.
 abbrev pub IsMisfit : List ℕ → List (List Line) → Call → Line → What → Type 0
 IsMisfit counts lines call line what.Seen =
     ((cut : List ℕ) × (seen_in line.end ≡ Some cut) × IsWrongCut counts lines call cut)
@@ -146,14 +146,14 @@ IsMisfit counts lines call line what.Last = FitsCuts counts lines call line
     × EndsTooEarly counts call line
 IsMisfit counts lines call line _ = ⊥
 
--- a line fits all lines that have these limits and these greatest counts
+-- A line fits all lines that have these limits and these greatest counts.
 abbrev pub AlwaysFits : List ℕ → List ℕ → Call → ℕ → Line → Type 0
 AlwaysFits limits seen call count line = (counts : List ℕ) (lines : List (List Line))
     → AreLimits counts lines limits → AreSeenCounts (length counts) lines seen
     → slice_index counts call.caller ≡ count → FitsOthers counts lines call line
 
--- this is the first test that a line fails, after all lines that have these limits and these
--- greatest counts
+-- This is the first test that a line fails, after all lines that have these limits and these
+-- greatest counts.
 abbrev pub IsAlwaysMisfit : List ℕ → List ℕ → Call → ℕ → Line → What → Type 0
 IsAlwaysMisfit limits seen call count line name = (counts : List ℕ) (lines : List (List Line))
     → AreLimits counts lines limits → AreSeenCounts (length counts) lines seen
@@ -206,7 +206,7 @@ LinesAreStopped kind before i count text e = (counts : List ℕ) (told : List Li
     → IsDraft counts told before → StandBefore counts told i 0
     → StopsFor report_rules (InLines kind counts told (calls_from i 0 count ++ more)) text e
 
--- the lines of all callers, one after the other
+-- The lines of all callers, one after the other.
 abbrev pub joined : List (List Line) → List Line
 joined lines = flat_map (λ own. own) lines
 

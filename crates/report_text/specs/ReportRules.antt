@@ -53,22 +53,22 @@ book_so_far (count ∷ counts) told =
 
 -- ---- what the words of a line say
 
--- a cut of this many callers whose counts a text can have
+-- A cut of this many callers whose counts a text can have.
 abbrev pub IsCut : ℕ → List ℕ → Type 0
 IsCut n cut = (length cut ≡ n) × AreNumbers cut
 
--- a record of this many callers whose reply and view a text can have
+-- A record of this many callers whose reply and view a text can have.
 abbrev pub IsAnswer : ℕ → Record → Type 0
 IsAnswer n r = (r.reply < 2 ^ 64) × IsCut n r.view
 
--- the end of a line of this many callers whose record and seen cut a text can have
+-- The end of a line of this many callers whose record and seen cut a text can have.
 abbrev pub IsFormed : ℕ → LineEnd → Type 0
 IsFormed n Pending = Unit {0}
 IsFormed n (Unchecked r) = IsAnswer n r
 IsFormed n (Delivered r cut) = IsAnswer n r × IsCut n cut
 IsFormed n (Error r cut) = IsAnswer n r × IsCut n cut
 
--- the words say this line of the call
+-- The words say this line of the call.
 pub record SaysLine (kind : Kind) (n : ℕ) (call : Call) (words : List (List ℕ))
     (line : Line) : Type 0 where
   pub named : IsNamedCall call
@@ -77,7 +77,7 @@ pub record SaysLine (kind : Kind) (n : ℕ) (call : Call) (words : List (List �
   pub formed : IsFormed n line.end
   pub text : words ≡ line_words kind call line
 
--- after the reply the words are this view and this suffix, which begins with no pair
+-- After the reply the words are this view and this suffix, which begins with no pair.
 pub record IsAfterView (kind : Kind) (n : ℕ) (call : Call) (words : List (List ℕ)) (view : List ℕ)
     (suffix : List (List ℕ)) : Type 0 where
   pub formed : IsCut n view
@@ -85,14 +85,14 @@ pub record IsAfterView (kind : Kind) (n : ℕ) (call : Call) (words : List (List
   pub text : IsAfterReply (kind_operations Second kind) call words
       (codes "view" ∷ (pair_words 0 view ++ suffix))
 
--- the words begin with a verdict, and this suffix follows it
+-- The words begin with a verdict, and this suffix follows it.
 abbrev pub BeginAsVerdict : List (List ℕ) → List (List ℕ) → Type 0
 BeginAsVerdict words suffix = (words ≡ codes "ok" ∷ codes "seen" ∷ suffix)
     ⊎ (words ≡ codes "error" ∷ codes "seen" ∷ suffix)
 
 -- ---- how a line fits those before it
 
--- the line of the call, which is among these, is pending
+-- The line of the call, which is among these, is pending.
 abbrev pub IsPendingAt : List (List Line) → Call → Type 0
 IsPendingAt lines call = (line : Line) × (line_at lines call ≡ Some line) × (line.end ≡ Pending)
 
@@ -104,7 +104,7 @@ IsWrongCut counts lines call cut =
     ⊎ (((other : Call) × IsPendingAt lines other × Holds cut other)
     ⊎ (slice_index cut call.caller ≤ call.number))
 
--- an earlier line's seen cut holds this call
+-- An earlier line's seen cut holds this call.
 abbrev pub IsSeenBefore : List (List Line) → Call → Type 0
 IsSeenBefore lines call = (other : Call) × (cut : List ℕ) × (seen_at lines other ≡ Some cut)
     × Holds cut call
@@ -114,7 +114,7 @@ abbrev pub EndsTooEarly : List ℕ → Call → Line → Type 0
 EndsTooEarly counts call line = (delivered_in line.end ≡ None)
     × (call.number + 1 < slice_index counts call.caller)
 
--- a line fits the lines before it
+-- A line fits the lines before it.
 pub record Fits (counts : List ℕ) (told : List Line) (call : Call) (line : Line) : Type 0 where
   pub view : (r : Record) → records_of (reached_of line.end)
       ≡ r ∷ [] → MayAnswer (book_so_far counts told) call.caller r.view
@@ -171,7 +171,7 @@ LineFails kind counts told call words name = (view : List ℕ) × (suffix : List
 
 -- ---- the rules
 
--- what is due in the text of a report, with what the lines before say
+-- What is due in the text of a report, with what the lines before say.
 pub data ReportDue : Type 0 where
   InHead : HeadDue → ReportDue
   -- the lines of these calls, after those that say these lines, for callers with these numbers of
@@ -187,7 +187,7 @@ after_head (CallersDue kind) = InHead (CallersDue kind)
 after_head (CountsDue kind n) = InHead (CountsDue kind n)
 after_head (HeadRead kind counts) = InLines kind counts [] (all_calls 0 counts)
 
--- the right lines of a report's text
+-- The right lines of a report's text.
 abbrev pub ReportPasses : ReportDue → List (List ℕ) → ReportDue → Type 0
 ReportPasses (InHead due) words after = (next : HeadDue)
     × HeadPasses Second (codes "report") due words next × (after ≡ after_head next)
@@ -198,7 +198,7 @@ ReportPasses (InLines kind counts told (call ∷ calls)) words after = (line : L
     × (after ≡ InLines kind counts (told ++ line ∷ []) calls)
 ReportPasses (AtEnd findings) words after = ⊥
 
--- the tests of the lines of a report's text
+-- The tests of the lines of a report's text.
 abbrev pub ReportFails : ReportDue → List (List ℕ) → What → Type 0
 ReportFails (InHead due) words name = HeadFails Second (codes "report") due words name
 ReportFails (InLines kind counts told []) words name = (name ≡ what.End) × (words ≢ end_words)
@@ -206,13 +206,13 @@ ReportFails (InLines kind counts told (call ∷ calls)) words name =
     LineFails kind counts told call words name
 ReportFails (AtEnd findings) words name = ⊥
 
--- whether a further line or the end is wanted in the text of a report
+-- Whether a further line or the end is wanted in the text of a report.
 abbrev pub report_wanted : ReportDue → Wanted
 report_wanted (InHead due) = ALine
 report_wanted (InLines kind counts told calls) = ALine
 report_wanted (AtEnd findings) = TheEnd
 
--- the rules of a report's text
+-- The rules of a report's text.
 abbrev pub report_rules : Rules ReportDue
 report_rules = record { Passes = ReportPasses; Fails = ReportFails; wanted = report_wanted }
 

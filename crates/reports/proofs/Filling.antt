@@ -18,7 +18,7 @@ use Rattle.report_lines.specs.Lines.{reached_of, made_of, book_of_lines, lines_a
 use Rattle.reports.specs.Findings.{sizes, Findings, IsReport}
 use Rattle.reports.specs.Filling.{answer_in, with_line_of, HaveRecords, AreOfABook, MayTake, filled_to}
 
--- the page of a caller's lines
+-- The page that a caller's lines make.
 abbrev own_page : List Line → Page
 own_page own = page_of_calls (map made_of own)
 
@@ -91,7 +91,7 @@ record_at (first ∷ second ∷ own) led (suc k) line e =
     record_after first (own_page (second ∷ own)).records k (led 0 first refl (omega arith))
     ∙ record_at (second ∷ own) (λ j l there low. led (suc j) l there (omega (arith, low))) k line e
 
--- the operation of a line
+-- the operation of a line is at the line's place in the page
 operation_at : (own : List Line) (k : ℕ) (line : Line) → slice_get own k ≡ Some line
     → slice_get (own_page own).operations k ≡ Some line.op
 operation_at own k line e =
@@ -247,7 +247,7 @@ prefix_at (p ∷ ps) [] h i = absurd h
 prefix_at (p ∷ ps) (q ∷ qs) h zero = h.0
 prefix_at (p ∷ ps) (q ∷ qs) h (suc i) = prefix_at ps qs h.1 i
 
--- the caller's page
+-- the page of the caller that is being filled has the caller's first k calls
 page_of-filling : (lines : List (List Line)) (n k : ℕ) → n < length lines
     → page_of (filling lines n k) n ≡ page_to k (own_page (lines_at lines n))
 page_of-filling lines n k low =

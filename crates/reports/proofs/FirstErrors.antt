@@ -14,7 +14,7 @@ use Rattle.reports.specs.Findings.{StandsBefore, IsFirstError, HasFirstErrorIn}
 use Rattle.reports.specs.Errors.{SomeErrorIsFirst, FirstErrorsAreErrors, FirstErrorIsOne, WitnessIsOne}
 use Rattle.reports.proofs.Errors.{no_error_in, no_error_of, first_of_all}
 
--- the first error among a caller's lines
+-- a caller's lines of which some are errors have a first error, with a seen cut
 some_in : (own : List Line) → any_error own ≡ true → (cut : List ℕ) × HasFirstErrorIn own cut
 some_in [] some = absurd cc
 some_in (line ∷ own) some = elim (cases_Bool (is_error line)) [
@@ -37,7 +37,7 @@ some_in (line ∷ own) some = elim (cases_Bool (is_error line)) [
       )
 ]
 
--- the first caller with an error
+-- where some caller has an error, there is a first caller that has one
 some_caller : (lines : List (List Line)) → list_any any_error lines ≡ true → (i : ℕ)
     × (any_error (lines_at lines i) ≡ true) × (list_any any_error (take i lines) ≡ false)
 some_caller [] some = absurd cc

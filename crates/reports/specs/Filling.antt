@@ -13,7 +13,7 @@ use Rattle.report_lines.specs.declared.line.Line.{Line}
 use Rattle.report_lines.specs.Lines.{reached_of, book_of_lines, lines_at, line_at}
 use Rattle.reports.specs.Findings.{sizes}
 
--- the record that the end of a line has, where it has one
+-- The record that the end of a line has, where it has one.
 abbrev pub answer_in : LineEnd → Option Record
 answer_in end = slice_get (records_of (reached_of end)) 0
 
@@ -31,7 +31,7 @@ pub record AreOfABook (lines : List (List Line)) : Type 0 where
   pub answered : HaveRecords lines
   pub valid : IsValid (book_of_lines lines)
 
--- the book after the line of a call is put in
+-- The book after the line of a call is put in.
 abbrev pub with_line_of : List Page → Call → Line → List Page
 with_line_of book call line = with_line book call line.op (answer_in line.end)
 

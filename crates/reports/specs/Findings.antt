@@ -13,18 +13,18 @@ use Rattle.text_fields.specs.Counts.{AreAtMost}
 use Rattle.report_lines.specs.declared.line.Line.{Line}
 use Rattle.report_lines.specs.Lines.{book_of_lines, lines_at, line_at, delivered_in, error_in, seen_at, error_at, any_error}
 
--- what a report says
+-- What a report says.
 pub record Findings : Type 0 where
   -- the kind of the object
   pub kind : Kind
   -- each caller's lines, one a call
   pub lines : List (List Line)
 
--- how many lines each caller has
+-- How many lines each caller has.
 abbrev pub sizes : List (List Line) → List ℕ
 sizes lines = map (λ own. length own) lines
 
--- the call has a line
+-- The call has a line.
 abbrev pub HasLine : List (List Line) → Call → Type 0
 HasLine lines call = call.number < length (lines_at lines call.caller)
 
@@ -60,7 +60,7 @@ pub record IsReport (findings : Findings) : Type 0 where
 
 -- ---- the first error
 
--- a call comes before another, by caller and then by number
+-- A call comes before another, by caller and then by number.
 abbrev pub StandsBefore : Call → Call → Type 0
 StandsBefore a b = (a.caller < b.caller) ⊎ ((a.caller ≡ b.caller) × (a.number < b.number))
 

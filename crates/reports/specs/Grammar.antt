@@ -14,28 +14,28 @@ use Rattle.report_lines.specs.declared.line.LineEnd.TheVariants.{Pending, Unchec
 use Rattle.report_lines.specs.declared.line.Line.{Line}
 use Rattle.reports.specs.Findings.{Findings, sizes, IsReport}
 
--- the words of a seen cut
+-- The words of a seen cut.
 abbrev pub seen_words : List ℕ → List (List ℕ)
 seen_words cut = codes "seen" ∷ pair_words 0 cut
 
--- the words of the end of a line
+-- The words of the end of a line.
 abbrev pub ending_words : LineEnd → List (List ℕ)
 ending_words Pending = codes "pending" ∷ []
 ending_words (Unchecked r) = answer_words Second (Some r) ++ codes "unchecked" ∷ []
 ending_words (Delivered r cut) = answer_words Second (Some r) ++ codes "ok" ∷ seen_words cut
 ending_words (Error r cut) = answer_words Second (Some r) ++ codes "error" ∷ seen_words cut
 
--- the words of a line: the caller and number of its call, its operation, and its end
+-- The words of a line: the caller and number of its call, its operation, and its end.
 abbrev pub line_words : Kind → Call → Line → List (List ℕ)
 line_words kind call line =
     place_words call ++ (operation_words kind line.op ++ ending_words line.end)
 
--- the line of a caller's call with this number
+-- The line of a caller's call with this number.
 abbrev pub call_line : Kind → ℕ → ℕ → Line → List (List (List ℕ))
 call_line kind caller number line =
     line_words kind (record { caller = caller; number = number }) line ∷ []
 
--- a caller's lines
+-- A caller's lines.
 abbrev pub caller_lines : Kind → ℕ → List Line → List (List (List ℕ))
 caller_lines kind caller own = by_number (call_line kind caller) 0 own
 

@@ -4,15 +4,15 @@ use Rattle.report_lines.specs.declared.line.Line.{Line}
 use Rattle.report_lines.specs.Lines.{delivered_in, is_error}
 use Rattle.reports.specs.declared.counts.Counts.{Counts}
 
--- the line is delivered
+-- The line is delivered.
 abbrev pub is_delivered : Line → Bool
 is_delivered line = is_some (delivered_in line.end)
 
--- how many lines of all callers pass a test
+-- How many lines of all callers pass a test.
 abbrev pub lines_that : (Line → Bool) → List (List Line) → ℕ
 lines_that test lines = sum_by (count_by test) lines
 
--- how many lines there are, how many of them are delivered, and how many are errors
+-- How many lines there are, how many of them are delivered, and how many are errors.
 abbrev pub counts_of : List (List Line) → Counts
 counts_of lines = record {
   calls = sum_by length lines;

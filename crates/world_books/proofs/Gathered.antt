@@ -27,7 +27,7 @@ use Rattle.world_books.proofs.Validity.{all_lengths, book_long, books_are_valid}
 same_operation : (a b : ℕ) → low_of a ≡ low_of b → high_of a ≡ high_of b → a ≡ b
 same_operation a b low high = omega arith
 
--- the place of an entry of the view
+-- entry j of the view is at place 1 + j of a row of M
 pub view_place : (n j : ℕ) → j < n → content n M (1 + j) ≡ View_entry j
 view_place n j low = let next : 1 + j ≡ suc j = omega arith in ap (content n M) next
     ∙ ap (λ b. if b then View_entry j else Embedded_entry M (j - n)) (lt-ltb j n low)
@@ -78,7 +78,8 @@ module _ (s : Shape) (locals : List Local) (t : AreTogether s locals) (i : ℕ) 
   from_part call r e = record_in_book locals (all_lengths s locals t) call (answerer call r e).1
       ∙ ap Some (sym (record_is call r e))
 
-  -- the records of a caller
+  -- a caller's records in the part are the first of its records in the book, as many as its entry
+  -- of the cut
   records_are : (j : ℕ)
       → (page_of part j).records ≡ take (get_or cut j 0) (page_of (book_in locals) j).records
   records_are j =

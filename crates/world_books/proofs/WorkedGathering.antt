@@ -20,7 +20,7 @@ gatherer = local_after gathering 1
 abbrev all : List ℕ
 all = 1 ∷ 1 ∷ []
 
--- the records and the operations of the book, one by one
+-- what holds of both records of the book, with their calls, holds of each record of a call
 each_record : (P : Call → Record → Type 0) → P (call_of 0 0) (answer 50 all)
     → P (call_of 1 0) (answer 60 all)
     → (i k : ℕ) (r : Record) → record_of both_answered (call_of i k) ≡ Some r → P (call_of i k) r

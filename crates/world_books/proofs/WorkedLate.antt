@@ -85,7 +85,7 @@ numbered book list (one ∷ rest) zero place run e =
 numbered book list (one ∷ rest) (suc k) place run e =
     omega (arith, numbered book ((step_at book one).0 ∷ list) rest k place run.1 e)
 
--- the one call of the book
+-- the one call of the book is call 0 of caller 1
 only_call : (i k : ℕ) → k < calls_of missed_part i → (i ≡ 1) × (k ≡ 0)
 only_call zero k low = absurd (omega (arith, low))
 only_call (suc zero) k low = (refl, omega (arith, low))

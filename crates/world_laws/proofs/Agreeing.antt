@@ -130,7 +130,8 @@ module _ (s : Shape) (words : List ℕ) (i : ℕ) (l : Local) (h : Agrees s word
 -- Reply, view and seen cut, each added as its phase ends.
 module _ (s : Shape) (words : List ℕ) (i : ℕ) (l : Local) (cuts : List Given)
     (h : Agrees s words i l) where
-  -- the object's reply, at the first look of the view's scan
+  -- the local agrees with the words once the object has replied, at the first look of the view's
+  -- scan
   replied_agrees : (reply : ℕ) (since : ℕ) (taken : List ℕ) → l.phase ≡ Asking
       → Agrees s words i (turned s words i l h (l.replies ++ reply ∷ []) l.views l.seen Viewing
       (Some (record { region = N; is_view = true; since = since; taken = taken })) cuts)
@@ -169,7 +170,7 @@ module _ (s : Shape) (words : List ℕ) (i : ℕ) (l : Local) (cuts : List Given
         scan = (refl, refl);
       }
 
-  -- the view, at the last look of its scan
+  -- the local agrees with the words once it has its view, at the last look of the view's scan
   viewed_agrees : (cut : List ℕ) → l.phase ≡ Viewing
       → Agrees s words i
       (turned s words i l h l.replies (l.views ++ cut ∷ []) l.seen Publishing None cuts)
@@ -205,7 +206,7 @@ module _ (s : Shape) (words : List ℕ) (i : ℕ) (l : Local) (cuts : List Given
         scan = tt;
       }
 
-  -- the seen cut, at the last look of its scan
+  -- the local agrees with the words once it has its seen cut, at the last look of that scan
   seen_agrees : (cut : List ℕ) → l.phase ≡ Judging
       → Agrees s words i
       (turned s words i l h l.replies l.views (l.seen ++ cut ∷ []) Announcing None cuts)
@@ -253,7 +254,8 @@ module _ (s : Shape) (words : List ℕ) (i : ℕ) (l : Local) (cuts : List Given
   row_agrees cut fits may_keep empty = like_agrees s words i l None (Some cut) cuts l.looked
       l.peeked l.object_steps h fits may_keep (inr empty) h.phase.object_steps
 
-  -- a cut to embed, or none
+  -- the local agrees with the words after a scan whose cut it keeps to embed, and after one whose
+  -- cut it doesn't keep
   maybe_row : (b : Bool) (cut : List ℕ) → FitsPhase l.phase None → IsKeptIn l.phase (Some cut)
       → (b ≡ true → l.staged ≡ [])
       → Agrees s words i (served ended (if b then For_row else For_nothing) cut)

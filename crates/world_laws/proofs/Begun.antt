@@ -84,7 +84,7 @@ abbrev pub ScanOutcome : Shape → World → ℕ → (World → Type 0) → List
 ScanOutcome s w i P cuts m o = ((m.cuts ≡ cuts) × IsBegun s w i P m m.scan)
     ⊎ ((from : World) × P from × Gave s w i cuts m o from)
 
--- The place of one more word of a steady scan.
+-- A place p that is n below t + m n, where t is below n, is k n + t for some k.
 place_before : (m t n p : ℕ) → p + n ≡ t + m * n → t < n → (k : ℕ) × (p ≡ k * n + t)
 place_before zero t n p h low = absurd (omega (arith, h, low))
 place_before (suc k) t n p h low = (k, omega (arith, h))

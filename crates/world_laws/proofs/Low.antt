@@ -36,7 +36,7 @@ module _ (s : Shape) (w : World) where
   IsLowKept region None = Unit {0}
   IsLowKept region (Some cut) = IsLowCut region cut
 
-  -- the words of a scan, round by round
+  -- Each word that a scan has taken is at most the count that the world has for its caller.
   abbrev pub AreLow : Region → List ℕ → Type 0
   AreLow region taken = (k t : ℕ) → t < s.callers → k * s.callers + t < length taken
       → slice_index taken (k * s.callers + t) ≤ count_of s w region t

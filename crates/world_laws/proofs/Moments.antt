@@ -162,7 +162,7 @@ module _ (s : Shape) (steps : List Step) (w : World) (some : 0 < s.callers) (reg
         (subst (λ (a : ℕ). FromRow s w region a m (length words) x) same.0 row)
   ]
 
-  -- the words of a row, with one more
+  -- the words of a borrowed row are those of the row, also with the word that was taken last
   borrowed_more : (j k : ℕ) → course n taken ≡ Borrows j k → (e : ℕ) → e < length (words ++ x ∷ [])
       → FromRow s w region j k e (slice_index (words ++ x ∷ []) e)
   borrowed_more j k going e low_e = elim (cases_lt e (length words)) [

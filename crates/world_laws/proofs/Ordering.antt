@@ -98,7 +98,8 @@ looked_after (y ∷ more) xs zero since look is few late =
 looked_after (y ∷ more) xs (suc p) since look is few late =
     looked_after more xs p since look is few (omega (arith, late))
 
--- a local with more looks, and the same cuts or one more
+-- What holds of a local m that has the looks of an ordered local l and more, and the cuts of l,
+-- with at most one more.
 module _ (l m : Local) (h : Ordered l) (grows : LooksGrow l m) where
   longer : length l.looked ≤ length m.looked
   longer = omega (arith, length-append grows.0 l.looked, ap length grows.1)

@@ -141,7 +141,7 @@ module _ (s : Shape) (w : World) (sound : Sound s w) (me : ℕ) (low : me < s.ca
   -- A local of the caller as its scan under way takes a word.
   module _ (l : Local) (counts : (r : Region) → count_of s w r me ≡ own_count l r)
       (phase : HasPhase l) (keeps : IsKeptIn l.phase l.to_embed) (h : Owns me l) where
-    -- the own entry of the cut of a scan
+    -- the own entry of a scan's cut is the caller's own count in the region
     own_entry : (scan : Scan) (cut : List ℕ) → Mark s w me l scan
         → AreLow s w scan.region scan.taken → wanted s.callers scan.taken ≡ Done cut
         → slice_index cut me ≡ own_count l scan.region

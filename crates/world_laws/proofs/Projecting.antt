@@ -22,7 +22,7 @@ use Rattle.world_laws.proofs.Words.{own_few}
 use Rattle.world_laws.proofs.Knowing.{Sound, start_sound, sound_after, known_counted}
 use Rattle.world_laws.proofs.Running.{possible}
 
--- a prefix of a list with an item set
+-- setting an item of a list and taking a prefix of it can be done in either order
 take-set_prefix : (n : ℕ) (xs : List ℕ) (i x : ℕ)
     → take n (slice_set xs i x) ≡ slice_set (take n xs) i x
 take-set_prefix zero xs i x = refl
@@ -264,7 +264,8 @@ module _ (s : Shape) (w v : World) (h : Sound s w) (p : IsPlain s w v) where
   happens_outside who e = ap (λ (l : Local). happenings who l e) (local_same who)
       ∙ same_happenings who (local_of w who) e
 
--- What the rest of a run has, from a world and its plain world on.
+-- The rest of a run, from a world w on, against the same steps without the object steps, from the
+-- plain world v on: these are possible, and lead to the plain world with the same history.
 record Projects (s : Shape) (w v : World) (steps : List Step) : Type 0 where
   may : are_possible (outside_of s) v (plain steps) ≡ true
   at : IsPlain s (after_all s w steps) (after_all (outside_of s) v (plain steps))

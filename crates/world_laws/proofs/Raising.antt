@@ -15,7 +15,7 @@ use Rattle.world_core.proofs.Indices.{count_apart, count_or_row, count_within}
 use Rattle.world_laws.proofs.RowWords.{SameRow, same_row, low_joined, high_joined}
 use Rattle.world_laws.proofs.Words.{published_few}
 
--- the phases that stage the rows of N and of M
+-- only `Announcing` stages a row of N, and only `Publishing` one of M
 staging_N : (phase : Phase) → is_staging phase N ≡ true → phase ≡ Announcing
 staging_N Announcing h = refl
 staging_N Asking h = absurd cc
@@ -108,7 +108,7 @@ announced_before n l N k h below =
     }
 announced_before n l M k h below = record { reply = refl; view = refl; embedded = refl }
 
--- the rows after an announcement
+-- the rows after an announcement have the words that the local has for them
 announced_rows : (s : Shape) (me : ℕ) (l : Local) (words : List ℕ) → me < s.callers
     → IsTrue (is_enabled s me l Announce) → Agrees s words me l
     → (r : Region) (k p : ℕ) → k < own_count (local_after s.callers l Announce) r
