@@ -152,7 +152,7 @@ module _ {S : Type 0} (init : S → List ℕ) (next : S → List ℕ → ℕ →
     has_list a caller = has_steps (shape_of meaning r) (who_announced a)
         (announced_local a) a.op caller.seat.local a.asked
 
-    -- a call after none, after one, and after more object steps
+    -- What a call has made by no object step, by one object step, and by some steps after others.
     pub made_none : (a : Announced P) → IsCaller a → Made a a
     made_none a caller =
         let l : Local = announced_local a in

@@ -5,7 +5,7 @@ use Rattle.list_laws.proofs.Places.{slice_get-push_cases}
 use Rattle.core_objects.specs.declared.log_pass.CorePass.{CorePass}
 use Rattle.core_objects.specs.LogPasses.{FitsLog}
 
--- The passes of the first callers of the log, for n callers and a cap.
+-- These are the log's passes of the first k callers, for n callers and a cap.
 pub record AreLogPasses (init : List ℕ) (next : List ℕ → ℕ → List ℕ × ℕ) (n cap k : ℕ)
     (passes : List CorePass) : Type 0 where
   pub count : length passes ≡ k

@@ -5,7 +5,7 @@ use Rattle.list_laws.proofs.Places.{slice_get-push_cases}
 use Rattle.core_objects.specs.declared.one_word_pass.OneWordPass.{OneWordPass}
 use Rattle.core_objects.specs.OneWordPasses.{pass_of}
 
--- The passes of the first callers, for n callers and a cap.
+-- These are the passes of the first k callers, for n callers and a cap.
 pub record AreDealt (n cap k : ℕ) (passes : List OneWordPass) : Type 0 where
   pub count : length passes ≡ k
   pub are : (i : ℕ) (pass : OneWordPass) → slice_get passes i ≡ Some pass → pass ≡ pass_of i n cap

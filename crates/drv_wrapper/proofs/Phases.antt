@@ -71,7 +71,7 @@ announced_row n op l cut looks peeks has phase scan looked =
           (record { region = N; cut = cut; since = length l.looked } ∷ []) refl refl refl;
     }
 
--- an announcement of a caller in a reachable world, by the local before the scan
+-- in a reachable world, a caller that was idle before its scan announces its operation
 pub announces : (s : Shape) (who op : ℕ) (cut : List ℕ) (stance : Stance) (l scanned m : Local)
     → IsLocalOf s who l → IsIdle l → stance ≡ ready
     → HasScanned s.callers N (opening_in (opening_with (Some N) stance.reply)) cut l scanned
@@ -156,7 +156,7 @@ recorded_view n op reply view l looks peeks has asked scan looked =
           (record { region = N; cut = view; since = length l.looked } ∷ []) refl refl refl;
     }
 
--- a view of a caller in a reachable world, by the local before the scan
+-- in a reachable world, a caller that had its reply before the scan takes its view
 pub views : (s : Shape) (who op reply : ℕ) (view : List ℕ) (stance : Stance) (l m : Local)
     → IsLocalOf s who l → IsAsked op l → stance ≡ replied reply
     → HasScanned s.callers N (opening_in (opening_with (Some N) stance.reply)) view l m

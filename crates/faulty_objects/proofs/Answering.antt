@@ -12,7 +12,7 @@ use Rattle.faulty_objects.specs.Twice.{without_takes, TakesLeaveTheList}
 use Rattle.faulty_objects.specs.Late.{waits_after, waiting_from, waiting_of, late_change, late_changes, late_reply_after, PutsWait}
 use Rattle.faulty_objects.specs.Invent.{invent_reply_after, ThirdCallsAreInvented}
 
--- a log parted from its last call
+-- a log parts into its earlier calls and its last one
 pub earlier-more : (before : List Entry) (e : Entry) → earlier (before ++ e ∷ []) ≡ before
 earlier-more before e =
     take_at before (e ∷ []) (length (before ++ e ∷ []) - 1) (omega (arith, length_push before e))

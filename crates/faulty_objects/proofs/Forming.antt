@@ -60,7 +60,7 @@ torn_reply who who' found word reply before between after lawful loaded same sto
       told = told;
     }
 
--- the form of one reply
+-- the reply to a split call has the form of a tally's reply
 pub split_form : (op reply : ℕ) (before after : List Deed) → IsSplit op reply before after
     → IsTallyReply op reply
 split_form op reply before after call =
@@ -72,7 +72,7 @@ split_form op reply before after call =
 pub splits_are_formed : SplitsAreFormed
 splits_are_formed = formed IsSplit IsTallyReply split_form
 
--- the form of a one-pass queue's reply
+-- a one-pass queue replies to a dequeue that there is none, or a value
 took : (places reply : ℕ) (before after : List Deed) (call : IsDequeued places reply before after)
     → ((eqb call.found 0 ≡ true) × (call.found ≡ 0))
     ⊎ ((eqb call.found 0 ≡ false) × (call.found ≢ 0))
@@ -92,7 +92,8 @@ one_pass_form places op reply before after call =
 pub one_passes_are_formed : OnePassesAreFormed
 one_passes_are_formed places = formed (IsOnePass places) IsQueueReply (one_pass_form places)
 
--- an enqueue of what its word asks for
+-- an enqueue of the value in its operation word, which replies `done`, is a call of a one-pass
+-- queue
 pub enqueued_is_made : (places op value : ℕ) (before after : List Deed) → 2 ^ 32 ≤ op → op ≢ dequeue
     → op ≤ 2 ^ 33 → value ≡ op - 2 ^ 32 → IsEnqueued places value before after
     → IsOnePass places op reply_done before after
@@ -208,7 +209,7 @@ one_missed flag count found before between after so_far loaded isnt =
           (sym (map-append (Loaded flag) so_far.found (found ∷ [])));
     }
 
--- the form of a meeting's reply
+-- the reply to a meeting has the form of a meeting's reply
 pub meeting_form : (caller reply : ℕ) (before after : List Deed)
     → IsMeeting caller reply before after → IsMeetingReply reply
 meeting_form caller reply before after call = elim call.waited [
@@ -225,7 +226,7 @@ last_of : (x : ℕ) (xs : List ℕ) → (prefix : List ℕ) × (last : ℕ) × (
 last_of x [] = ([], x, refl)
 last_of x (y ∷ ys) = let h = last_of y ys in (x ∷ h.0, h.1, ap (λ (l : List ℕ). x ∷ l) h.2)
 
--- the last of some loads that missed a flag
+-- where loads of a flag all missed it, the last deed is a load that missed it
 last_missed : (flag : ℕ) (words : List ℕ) (before after : List Deed) → 0 < length words
     → All (λ (word : ℕ). word ≢ up) words → after ≡ before ++ map (Loaded flag) words
     → (between : List Deed) × (found : ℕ) × (found ≢ up)

@@ -43,7 +43,7 @@ added_no : (a : Access) (history : List Access) (deed : Deed) → a.deed ≡ dee
 added_no a history deed is none =
     omega (arith, sum_by-cons (λ (b : Access). counted b.deed) a history, ap counted is ∙ none)
 
--- the word of the counter after one access
+-- The word of the counter after a deed.
 abbrev turn : ℕ → Deed → ℕ
 turn word d = if place_of d == 0 then leaves d word else word
 
@@ -146,7 +146,8 @@ holds_else place word next a history other (inr (inl put)) =
     inr (inl (put_later place next a history put))
 holds_else place word next a history other (inr (inr zero)) = inr (inr zero)
 
--- the word after an access to this place, and after one to another
+-- an access to an item's place changes the item's word as its deed does, and one to another place
+-- doesn't
 word_here : (place word : ℕ) (a : Access) (history : List Access)
     → place_of a.deed ≡ item_index place → word_from (item_index place) word (a ∷ history)
     ≡ word_from (item_index place) (leaves a.deed word) history

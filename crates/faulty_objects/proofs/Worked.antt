@@ -17,7 +17,7 @@ use Rattle.faulty_objects.specs.Together.{TellOneSplit, TellOneQueue, TellOneMee
 use Rattle.faulty_objects.specs.Cases.{both_load_first, one_by_one, enqueues_5, dequeues, put_5, finds_at_0, both_raise_first, found_too_early, raises_the_other, meets}
 use Rattle.faulty_objects.proofs.Together.{one_split, one_queue, one_meeting}
 
--- four accesses of two callers
+-- four accesses of callers below 2 are a history of callers below 2
 four_of_2 : (a b c d : Access) → a.caller < 2 → b.caller < 2 → c.caller < 2 → d.caller < 2
     → All (λ (e : Access). e.caller < 2) (a ∷ b ∷ c ∷ d ∷ [])
 four_of_2 a b c d la lb lc ld =
@@ -26,7 +26,7 @@ four_of_2 a b c d la lb lc ld =
     (All-cons of_2 b (c ∷ d ∷ []) lb (All-cons of_2 c (d ∷ []) lc
     (All-cons of_2 d [] ld (All-nil of_2))))
 
--- the second word of some deeds
+-- The word of the second of these deeds, 0 where there is none.
 abbrev second_word : List Deed → ℕ
 second_word [] = 0
 second_word (d ∷ deeds) = first_word deeds
@@ -121,7 +121,8 @@ store_missed one =
     let n : 0 ≡ 1 = right.found in
     omega (arith, n)
 
--- the first caller's increment
+-- the first caller loads a word, stores the word after it, and replies the value of the word that
+-- it loaded
 first_split : (history : List Access) (reply : ℕ) (u : Transcript)
     → All (Split history) (counts_once 0 reply ∷ u ∷ [])
     → (found : ℕ)

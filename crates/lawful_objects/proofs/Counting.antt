@@ -9,7 +9,7 @@ use Rattle.shared_words.specs.Histories.{Access, access, word_from, word_at, IsL
 use Rattle.shared_words.proofs.Histories.{lawful_allowed, lawful_prefix, lawful_last}
 use Rattle.lawful_objects.specs.Forms.{tally_may, cell_may, IsCounted, IsLoad, IsLastStored, IsLastRead, TalliesCount, CellsHoldTheLast}
 
--- the word after increments, from a word on
+-- increments raise a word by their number, modulo 2^64
 counts : (word : ℕ) (history : List Access)
     → All (λ (a : Access). tally_may a.caller a.deed) history
     → word_from 0 (word % 2 ^ 64) history ≡ (word + length history) % 2 ^ 64

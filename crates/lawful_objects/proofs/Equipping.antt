@@ -126,7 +126,8 @@ pub clear_waiting : (n cap : ℕ) (s : Scratch) → IsClear n cap s → length s
 clear_waiting n cap s clear =
     ap (λ (l : List (Option ℕ)). length l) clear.waiting ∙ length-replicate n None
 
--- the tools of one pass more
+-- tools that are ready stay so with the tools of one more pass, which are clear and have the
+-- capacity that the cap needs
 pub tools_more : (n cap : ℕ) (all new : List Tools) (t : Tools) → All (AreReady n cap) all
     → new ≡ all ++ t ∷ [] → t.pairs.items ≡ [] → cap ≤ vec_capacity t.pairs
     → IsClear n cap t.scratch → vec_len t.scratch.waiting ≡ length t.scratch.waiting.items

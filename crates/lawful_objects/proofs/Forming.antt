@@ -6,7 +6,7 @@ use Rattle.seq_objects.specs.Replies.{reply_done}
 use Rattle.shared_words.specs.Deeds.{Deed, Stored, AreCalls}
 use Rattle.lawful_objects.specs.Forms.{read, IsTallied, IsKept, IsTallyReply, IsCellReply, TalliesAreFormed, CellsAreFormed}
 
--- the form of one reply
+-- the reply to a tallied call has the form of a tally's reply
 pub tally_form : (op reply : ℕ) (before after : List Deed) → IsTallied op reply before after
     → IsTallyReply op reply
 tally_form op reply before after call =

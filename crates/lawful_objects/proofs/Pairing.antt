@@ -8,7 +8,8 @@ use Rattle.shared_log.specs.Entries.{calls_by}
 use Rattle.lawful_objects.specs.Pairs.{pairs_after, PairsHaveTheCalls}
 
 module _ (answer : List Entry → ℕ) (i : ℕ) where
-  -- the pairs with one entry more first in the log, of the caller or of another
+  -- an entry that is put first in the rest of the log adds a pair where it is the caller's, and
+  -- else none
   pub after_own : (prefix rest : List Entry) (e : Entry) → (e.caller == i) ≡ true
       → pairs_after answer i prefix (e ∷ rest)
       ≡ (e.op, answer (prefix ++ e ∷ [])) ∷ pairs_after answer i (prefix ++ e ∷ []) rest

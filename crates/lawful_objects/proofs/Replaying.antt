@@ -82,7 +82,7 @@ module _ (next : List ℕ → ℕ → List ℕ × ℕ) (init : List ℕ) (log : 
       let same = ap length seen in
       omega (arith, length-take known log, length-drop known log)
 
--- the slice from an entry on
+-- the slice of a log from an entry to its end is the rest of the log from this entry on
 pub tail_is : (log : List Entry) (known : ℕ)
     → take (length log - known) (drop known log) ≡ drop known log
 tail_is log known =

@@ -10,7 +10,7 @@ use Rattle.shared_log.specs.declared.shared_log.SharedLog.{SharedLog}
 use Rattle.shared_log.specs.Entries.{IsWithin}
 use Rattle.shared_log.specs.Seats.{caller_of, log_of, IsPlaced, IsSeatOf}
 
--- one number more
+-- a range that is one longer has one number more at its end
 pub range_more : (a n : ℕ) → range_with_len a (suc n) ≡ range_with_len a n ++ (a + n) ∷ []
 range_more a zero = ap (λ (k : ℕ). k ∷ []) (let same : a ≡ a + 0 = omega arith in same)
 range_more a (suc n) =
@@ -21,7 +21,7 @@ range_more a (suc n) =
 pub within_none : (n cap : ℕ) → IsWithin n cap []
 within_none n cap = record { callers = λ k d low. absurd (omega arith); calls = λ i. omega arith }
 
--- the seats of the first callers
+-- These are the seats of the first callers in the log, each with no entry yet.
 pub record IsDealt (l : SharedLog) (who : ℕ) (seats : List LogSeat) : Type 0 where
   pub callers : map caller_of seats ≡ range_with_len 0 who
   pub each : All (IsSeatOf l) seats

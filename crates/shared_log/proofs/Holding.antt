@@ -79,7 +79,8 @@ module _ {A : Type 0} where
   joined_none [] = refl
   joined_none (x ∷ v) = refl
 
-  -- a view with one caller more, which it lacked
+  -- joining a view with what one caller has sets this caller's place, where the view lacked the
+  -- caller
   pub joined_only : (v : List (Option A)) (who : ℕ) (x : A) → has v who ≡ None → who < length v
       → joined v (only who x) ≡ slice_set v who (Some x)
   joined_only [] who x gone low = absurd (omega arith)

@@ -42,7 +42,8 @@ ends_at log before rest last e is = elim (ends rest) [
   )
 ]
 
--- the entries of a caller in two logs, one after the other
+-- the calls of a caller in a log and then another are those in the first and then those in the
+-- second
 pub calls_by-append : (i : ℕ) (xs ys : List Entry)
     → calls_by i (xs ++ ys) ≡ calls_by i xs ++ calls_by i ys
 calls_by-append i xs ys =
@@ -51,7 +52,7 @@ calls_by-append i xs ys =
     ∙ map-append (λ (e : Entry). e.op) (filter (λ (e : Entry). e.caller == i) xs)
     (filter (λ (e : Entry). e.caller == i) ys)
 
--- one entry, of the caller or of another
+-- a log of one entry has the entry's call where it is the caller's, and else no call of the caller
 pub calls_by-own : (i : ℕ) (e : Entry) → e.caller ≡ i → calls_by i (e ∷ []) ≡ e.op ∷ []
 calls_by-own i e own = ap (λ (l : List Entry). map (λ (d : Entry). d.op) l)
     (cond-true (e.caller == i) (e ∷ []) [] (eq-eqb e.caller i own))

@@ -8,7 +8,7 @@ use Rattle.shared_log.specs.declared.entry.Entry.{Entry}
 use Rattle.shared_log.specs.Entries.{calls_by, IsWithin}
 use Rattle.shared_log.proofs.Logs.{calls_by-own, calls_by-other, calls_by-prefix}
 
--- the sum of a function below a bound
+-- The sum of a function over the numbers below a bound.
 abbrev total : ℕ → (ℕ → ℕ) → ℕ
 total zero f = 0
 total (suc n) f = total n f + f n

@@ -20,7 +20,8 @@ tickets_further n cap from past past' (word ∷ words) on h =
     let low = h.2 in
     (h.0, h.1, omega arith, h.3, tickets_further n cap (h.0 + 1) past past' words on h.4)
 
--- one more ticket, at the next place
+-- tickets from a place on, with the ticket of the next place at the end, are tickets from that
+-- place on
 tickets_push : (n cap from past : ℕ) (words : List ℕ) (word : ℕ) → from ≤ past
     → word ≡ ticket_index n cap past → AreTickets n cap from past words
     → AreTickets n cap from (past + 1) (words ++ word ∷ [])
@@ -29,7 +30,8 @@ tickets_push n cap from past (first ∷ words) word on is h =
     let low = h.2 in
     (h.0, h.1, omega arith, h.3, tickets_push n cap (h.0 + 1) past words word (omega arith) is h.4)
 
--- at most one exchange more, at the next place
+-- a hand that has tried the places up to one, and may have tried this one too, has tried the places
+-- up to the next
 pub tries_on : (n cap from past word : ℕ) (before between after : List ℕ) → from ≤ past
     → word ≡ ticket_index n cap past
     → HasTried n cap from past before between → MayHaveTried word between after
@@ -91,7 +93,8 @@ looked n cap who word found h next l filled =
       filled = λ _. (h.tried, inl refl, l.filled filled);
     }
 
--- what an exchange found, after a load that found the ticket free, as a try
+-- a load that found the ticket free and an exchange after it are one try, which found what the
+-- exchange found
 pub exchanged : (n cap who word index seen found : ℕ) (h between next : Hand) → index ≡ word
     → seen ≡ 0 → Looks n cap who seen h between → Places n cap who index found between next
     → Tries n cap who word found h next

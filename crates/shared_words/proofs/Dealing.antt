@@ -13,7 +13,7 @@ use Rattle.shared_words.specs.Passes.{caller_of_pass, cap_of, IsPassOf, IsNewPas
 use Rattle.shared_words.proofs.Histories.{lawful_none}
 
 module _ {U : Type 0} where
-  -- the passes of the first callers
+  -- These are the new passes of the first callers.
   pub record AreDealt (w : SharedWords U) (count : ℕ) (passes : List WordsPass) : Type 0 where
     pub callers : map caller_of_pass passes ≡ range_with_len 0 count
     pub new : All (IsNewPass w) passes

@@ -9,7 +9,8 @@ use Rattle.shared_log.proofs.Logs.{ends_at}
 use Rattle.shared_words.specs.Deeds.{Deed, place_of, HasFound}
 use Rattle.shared_words.specs.Histories.{Access, deeds_by, word_at, IsRight, IsLawful, IsAfterAccess}
 
--- the deeds of a caller in two histories, one after the other
+-- the deeds of a caller in a history and then another are those in the first and then those in the
+-- second
 pub deeds_by-append : (i : ℕ) (xs ys : List Access)
     → deeds_by i (xs ++ ys) ≡ deeds_by i xs ++ deeds_by i ys
 deeds_by-append i xs ys =
@@ -18,7 +19,7 @@ deeds_by-append i xs ys =
     ∙ map-append (λ (a : Access). a.deed) (filter (λ (a : Access). a.caller == i) xs)
     (filter (λ (a : Access). a.caller == i) ys)
 
--- the deeds of a caller after one more access, of the caller or of another
+-- an access adds its deed to those of its own caller, and none to those of another
 pub deeds_by-own : (i : ℕ) (xs : List Access) (a : Access) → a.caller ≡ i
     → deeds_by i (xs ++ a ∷ []) ≡ deeds_by i xs ++ a.deed ∷ []
 deeds_by-own i xs a own =

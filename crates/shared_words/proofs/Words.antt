@@ -3,14 +3,15 @@ use Rattle.std.proofs.Common.{◌≡◌, ℕ, ◌==◌, if◌then◌else◌, Lis
 use Rattle.shared_words.specs.Deeds.{place_of, leaves, Added, Stored, Loaded, Swapped}
 use Rattle.shared_words.specs.Histories.{Access, access, word_from, word_at, AccessesAct, AccessesLeaveOthers}
 
--- two histories, one after the other
+-- the word after a history and then another is the word that the second one makes of the word after
+-- the first
 pub word_from-append : (place word : ℕ) (xs ys : List Access)
     → word_from place word (xs ++ ys) ≡ word_from place (word_from place word xs) ys
 word_from-append place word [] ys = refl
 word_from-append place word (a ∷ xs) ys =
     word_from-append place (if place_of a.deed == place then leaves a.deed word else word) xs ys
 
--- a word after one more access, to this word or to another
+-- an access changes the word at its place as its deed does, and no other word
 pub word_at-here : (history : List Access) (a : Access) (place : ℕ) → place_of a.deed ≡ place
     → word_at place (history ++ a ∷ []) ≡ leaves a.deed (word_at place history)
 word_at-here history a place is =

@@ -27,7 +27,7 @@ pub lawful_by_steps : (may : ℕ → Deed → Type 0) (history : List Access) �
     → IsLawful may history
 lawful_by_steps may history right = right_from may [] history (lawful_none may [] refl) right
 
--- the kind of a deed, by number
+-- The kind of a deed, as a number.
 abbrev pub kind_of : Deed → ℕ
 kind_of (Added place amount found) = 0
 kind_of (Stored place word) = 1

@@ -65,7 +65,7 @@ pub record AccessesAct : Type 0 where
   pub swaps : (history : List Access) (who place word found : ℕ)
       → word_at place (history ++ access who (Swapped place word found) ∷ []) ≡ word
 
--- An access leaves the words at other places.
+-- An access doesn't change the words at other places.
 abbrev pub AccessesLeaveOthers : Type 0
 AccessesLeaveOthers = (history : List Access) (a : Access) (place : ℕ) → place_of a.deed ≢ place
     → word_at place (history ++ a ∷ []) ≡ word_at place history
