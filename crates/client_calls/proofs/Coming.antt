@@ -43,7 +43,7 @@ none_yet l m has phase published steps =
     ∙ get_or_push l.object_steps [] [] l.published
     (omega (arith, has.object_steps, has.announced, ap unpublished_calls phase))
 
--- one call more
+-- an announcement adds the announced call to the calls that have ended
 announced_calls : (progress progress' : Progress) (op : ℕ) (ended : List Made)
     → progress' ≡ after_announcing op progress → progress.calls ≡ ended ++ []
     → progress'.calls ≡ ended ++ record { operation = op; reached = Is_announced } ∷ []

@@ -59,8 +59,8 @@ module _ {P : Type 0} where
   FitsError (Halts c end) = (op : ℕ) → is_error (record { op = op; end = end }) ≡ true
   FitsError (WantsMemory u) = Unit {0}
 
-  -- What an ending says is said of the record and the seen cut of the call. Where memory was wanted
-  -- it says nothing, and hands the two back.
+  -- An ended call is as `says` has it for its record and its seen cut. Where memory was wanted, the
+  -- record and the seen cut are handed back, and nothing is said of them.
   abbrev pub SaysOf : (Local → Record → List ℕ → LineEnd → Type 0) → Record → List ℕ
       → Ended P → Type 0
   SaysOf says r cut (GoesOn c end) = says (local_with c) r cut end
@@ -84,8 +84,8 @@ module _ {P : Type 0} where
       × (own' ≡ own ++ record { op = op; end = end } ∷ [])
   IsNoted op own (WantsMemory u) own' s = (s ≡ Unjudged u) × (own' ≡ own)
 
-  -- A call has ended by an ending that says this: its caller, one of these rows, saw a cut, and its
-  -- progress is as before, but for this cut.
+  -- A published call has ended by an ending of which `says` is true: its caller, which is one of
+  -- these rows, saw a cut, and its progress has changed by this cut alone.
   pub record HasEnded (meaning : P → ℕ → ℕ → Meaning) (r : Rows P)
       (says : ℕ → Local → Record → List ℕ → LineEnd → Type 0) (p : Published P)
       (e : Ended P) : Type 0 where

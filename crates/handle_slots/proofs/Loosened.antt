@@ -25,7 +25,7 @@ use Rattle.std_alloc.specs.Box.Ownership.{box_owns}
 use Rattle.std_alloc.proofs.ResultValues.{and_tt}
 use Rattle.handle_slots.specs.contracts.loose.Loose as loose
 
--- the pointer's machine value beside that of the allocator's handle
+-- The machine value of a pointer with the allocator's handle.
 abbrev pub pair : Val → Val → Val
 pair v w = vstruct (vcons v (vcons w vnil))
 

@@ -23,7 +23,7 @@ use Rattle.std_heap.specs.contracts.Global as global
 use Rattle.std_heap.proofs.Global.TheLaws as global_laws
 use Rattle.std_heap.proofs.Handle.{heap_val, heap_Tells}
 
--- a parameter of a function without lifetimes, by its place
+-- The parameter at a place of a function without lifetimes.
 abbrev pub slot_of : {n : ℕ} → ℕ → List (Slot n) → Slot n
 slot_of k [] = plain (λ _. unit)
 slot_of zero (s ∷ ss) = s
@@ -46,7 +46,7 @@ pub by_some : {X : Type 1} {Y : Type 0} (o : Option Y) → IsSome o → ((y : Y)
 by_some None some k = absurd (true≢false (sym some))
 by_some (Some y) some k = k y refl
 
--- a pointer alone
+-- The machine value of a pointer alone.
 abbrev pub alone : Ptr → Val
 alone p = vstruct (vcons (ptr_val p) vnil)
 

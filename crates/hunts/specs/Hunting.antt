@@ -18,7 +18,7 @@ use Rattle.hunts.specs.declared.runs.Hunted.{Hunted}
 abbrev pub seed_at : Settings → ℕ → ℕ
 seed_at settings number = (settings.seed + number) % 2 ^ 64
 
--- the seeds of this many runs of a hunt, in order
+-- The seeds of this many runs of a hunt, in order.
 abbrev pub first_seeds : Settings → ℕ → List ℕ
 first_seeds settings zero = []
 first_seeds settings (suc number) = first_seeds settings number ++ seed_at settings number ∷ []

@@ -21,7 +21,8 @@ entry_is : (i : ℕ) (e : Entry) → (e.caller == i) ≡ true → e ≡ entry i 
 entry_is i e own = let same : e.caller ≡ i = eqb-true e.caller i own in
     λ j. record { caller = same j; op = e.op }
 
--- the entries of a caller in a log, with one more first
+-- an entry that is put first in a log adds its call to those of its own caller, and none to those
+-- of another
 calls_with_own : (i : ℕ) (e : Entry) (log : List Entry) → (e.caller == i) ≡ true
     → calls_by i (e ∷ log) ≡ e.op ∷ calls_by i log
 calls_with_own i e log own =

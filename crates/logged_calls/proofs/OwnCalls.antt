@@ -32,7 +32,7 @@ kept_by_filter p (y ∷ ys) (suc k) x passes at =
       | false ↦ there
     ]
 
--- the numbers below another, by place
+-- the number at place k of the numbers below m is k
 range_at : (m k x : ℕ) → slice_get (range_with_len 0 m) k ≡ Some x → (x ≡ k) × (k < m)
 range_at m k x at =
     let low : k < m =

@@ -32,7 +32,7 @@ get_before xs x y k there low =
       | inr new ↦ absurd (omega (arith, new.0, low, length-append xs (x ∷ [])))
     ]
 
--- the last of several elements after others
+-- an item at the end of two lists in a row is at the place that both lengths make
 get_last : {X : Type 0} (xs ys : List X) (x : X)
     → slice_get (xs ++ (ys ++ x ∷ [])) (length (xs ++ ys)) ≡ Some x
 get_last {X} xs ys x = subst (λ (zs : List X). slice_get zs (length (xs ++ ys)) ≡ Some x)

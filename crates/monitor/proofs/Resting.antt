@@ -130,7 +130,7 @@ ok_gathered n cut l m (Ok g) once at is =
     }
 ok_gathered n cut l m (Err e) once at is = tt
 
--- the ticks of the scan and those of the book
+-- the ticks of a new book are those of its scan and then those of its gathering
 pub ok_ticks : {E : Type 0} (n : ℕ) (before kept : Option Gathered) (from scanned to : ℕ)
     (r : Result Gathered E) → kept ≡ before → from ≤ scanned → scanned ≤ from + most_words n
     → IfOk r (λ g. TicksForNew n kept g scanned to) → IfOk r (λ g. TicksForBook n before g from to)

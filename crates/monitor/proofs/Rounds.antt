@@ -33,7 +33,7 @@ module _ (init : List ℕ) (next : List ℕ → ℕ → List ℕ × ℕ) (n : �
       let round = h k given there in
       record { region = round.region; legal = legal_stays l m given.cut more round.legal }
 
-  -- a legal round after legal ones
+  -- legal rounds and a legal round after them are legal
   all_push : (l : Local) (rounds : List Given) (given : Given) → AreLegal init next n l rounds
       → IsLegalRound init next n l given → AreLegal init next n l (rounds ++ given ∷ [])
   all_push l rounds given h last k other there =
@@ -56,7 +56,7 @@ module _ (init : List ℕ) (next : List ℕ → ℕ → List ℕ × ℕ) (n : �
     progress = refl;
   }
 
-  -- a further legal round
+  -- after i rounds, a legal round makes i + 1 rounds
   pub one_more_legal : (i : ℕ) (cut : List ℕ) (l m k : Local) → HasMadeRounds init next n i l m None
       → HasScannedOnce cut m k → IsLegalAt init next n k cut
       → HasMadeRounds init next n (i + 1) l k None
@@ -74,7 +74,7 @@ module _ (init : List ℕ) (next : List ℕ → ℕ → List ℕ × ℕ) (n : �
         progress = once.progress ∙ made.progress;
       }
 
-  -- the first illegal round
+  -- the first illegal round ends the rounds with its witness
   pub the_illegal : (i most : ℕ) (w : Witness) (l m k : Local) → i < most
       → HasMadeRounds init next n i l m None → HasScannedOnce w.cut m k
       → IsIllegalAt init next n k w

@@ -94,7 +94,7 @@ module _ {P T : Type 0} (meaning : P → ℕ → ℕ → Meaning) (r : Rows P) (
             (back.back i (omega (arith, all, slice_get_within passes i pass there))),
       )
 
--- the shape of the world of rows with the greatest cap
+-- rows with the greatest cap are those of a world with the shape for this many callers
 pub outside_shapes : (callers cap n : ℕ) → callers ≡ n → cap ≡ 256
     → ◌≡◌ {A = Shape} (record { callers = callers; cap = cap; program = outside }) (outside_shape n)
 outside_shapes callers cap n all most =

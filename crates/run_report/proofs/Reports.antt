@@ -63,7 +63,8 @@ all_lines : (Is : ℕ → Type 0) (own : List Line)
 all_lines Is [] h = tt
 all_lines Is (line ∷ own) h = (h.0, all_lines Is own h.1)
 
--- the record of a line, and the records of the lines after it
+-- the replies of records are words where a line's own reply is one and those of the lines after it
+-- are
 reply_of : (line : Line) (own : List Line) (end : LineEnd) (k : ℕ) (r : Record) → HasWord end
     → ((m : ℕ) → record_of (book_of_lines (own ∷ [])) (record { caller = 0; number = m }) ≡ Some r
     → r.reply < 2 ^ 64)

@@ -37,7 +37,7 @@ the_local [] i l here = absurd (none-some l here)
 the_local (x ∷ v) zero l here = ap the here
 the_local (x ∷ v) (suc i) l here = the_local v i l here
 
--- the lines of a caller
+-- the list that is at place i of all lines is the lines of caller i
 pub lines_here : (lines : List (List Line)) (i : ℕ) (own : List Line) → slice_get lines i ≡ Some own
     → lines_at lines i ≡ own
 lines_here lines i own here = get_or_from_slice_get lines i own [] here

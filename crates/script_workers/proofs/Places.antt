@@ -28,7 +28,8 @@ pub none_down : {X : Type 0} (n : ℕ) (Is : ℕ → X → Type 0) (xs : List X)
 none_down n Is xs none i j x place there =
     absurd (none-some x (subst (λ (ys : List _). slice_get ys j ≡ Some x) none there))
 
--- items of the callers from the last one on, with one more
+-- items of the callers from the last one down, with that of the next lower caller at the end, are
+-- such items
 pub one_more_down : {X : Type 0} (n : ℕ) (Is : ℕ → X → Type 0) (xs xs' : List X) (k : ℕ) (x : X)
     → xs' ≡ xs ++ x ∷ [] → k + length xs + 1 ≡ n → Is k x → AreDownFrom n Is xs
     → AreDownFrom n Is xs'
@@ -41,7 +42,7 @@ one_more_down n Is xs xs' k x put place one h i j y at there =
           subst (λ (m : ℕ). Is m y) same (subst (λ z. Is k z) (sym new.1) one)
     ]
 
--- items of the callers from the last one on, without the last item
+-- items of the callers from the last one down are such items without the last of them
 pub one_less_down : {X : Type 0} (n : ℕ) (Is : ℕ → X → Type 0) (xs xs' : List X) (x : X)
     → xs ≡ xs' ++ x ∷ [] → AreDownFrom n Is xs → AreDownFrom n Is xs'
 one_less_down n Is xs xs' x took h i j y at there = h i j y at (still_at xs' xs x y j took there)
@@ -52,7 +53,7 @@ pub last_down : {X : Type 0} (n : ℕ) (Is : ℕ → X → Type 0) (xs xs' : Lis
 last_down n Is xs xs' k x took place h =
     h k (length xs') x place (last_at xs' xs x (length xs') took refl)
 
--- items in order, without the last item
+-- items in order are so without the last of them
 pub one_less_in_order : {X : Type 0} (Is : ℕ → X → Type 0) (xs xs' : List X) (x : X)
     → xs ≡ xs' ++ x ∷ [] → AreInOrder Is xs → AreInOrder Is xs'
 one_less_in_order Is xs xs' x took h i y there = h i y (still_at xs' xs x y i took there)

@@ -110,7 +110,7 @@ module _ {P : Type 0} where
         (other.0 ∙ before.0, other.1 ∙ before.1);
   }
 
--- the allotment of a caller, by the script
+-- the allotment of caller i is the number of phases for its stop and its operations
 pub allotment_at : (operations : List (List ℕ)) (stops : List (Option ℕ)) (i : ℕ)
     → i < length operations
     → slice_index (allotments_of operations stops) i

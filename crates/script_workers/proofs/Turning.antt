@@ -165,7 +165,8 @@ module _ {P T E : Type 0} (meaning : P → ℕ → ℕ → Meaning) (r : Rows P)
   Are n turns ws = AreDownFrom n
       (λ i w. IsTurned meaning r says object fits count course i (turns_of turns i) w) ws
 
-  -- the workers after one more turn, of the worker at its place
+  -- where the worker of a turn has taken it and is put back at its place, all workers have taken
+  -- one turn more
   pub turned_set : (n k place : ℕ) (turns : List ℕ) (ws : List (Worker P T E)) (w d : Worker P T E)
       → k < length turns → place + get_or turns k 0 + 1 ≡ n
       → slice_get ws place ≡ Some w

@@ -8,24 +8,24 @@ use Rattle.text_fields.specs.declared.version.Version.TheVariants.{Second}
 use Rattle.selfcheck_c.specs.declared.refusal.Refusal.{Refusal}
 use Rattle.selfcheck_c.specs.FaultNumber.{fault_number}
 
--- the refusal tells this fault
+-- The refusal tells this fault.
 abbrev pub TellsFault : TextFault → Refusal → Type 0
 TellsFault fault refusal = (refusal.line ≡ fault.line) × (refusal.what ≡ fault_number fault.what)
 
--- the bytes are no text of a form whose first faults these are, and the refusal tells their first
--- fault
+-- The bytes are no text of a form whose first faults these are, and the refusal tells their first
+-- fault.
 abbrev pub IsRefusalOf : (TextFault → Type 0) → Refusal → Type 0
 IsRefusalOf IsFirst refusal = (fault : TextFault) × IsFirst fault × TellsFault fault refusal
 
--- the bytes are no book's text, and the refusal tells their first fault
+-- The bytes are no book's text, and the refusal tells their first fault.
 abbrev pub IsBookRefusal : List ℕ → Refusal → Type 0
 IsBookRefusal bytes refusal = IsRefusalOf (IsFirstBookFault Second bytes) refusal
 
--- the bytes are no certificate's text, and the refusal tells their first fault
+-- The bytes are no certificate's text, and the refusal tells their first fault.
 abbrev pub IsCertificateRefusal : List ℕ → Refusal → Type 0
 IsCertificateRefusal bytes refusal = IsRefusalOf (IsFirstCertificateFault bytes) refusal
 
--- the bytes give no book, and the refusal tells their first fault, with its line counted from the
--- title of the book
+-- The bytes give no book, and the refusal tells their first fault, with its line counted from the
+-- title of the book.
 abbrev pub IsGivenRefusal : List ℕ → Refusal → Type 0
 IsGivenRefusal bytes refusal = IsRefusalOf (IsFirstGivenFault bytes) refusal

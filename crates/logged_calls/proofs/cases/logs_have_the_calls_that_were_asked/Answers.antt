@@ -13,7 +13,7 @@ use Rattle.logged_calls.proofs.cases.logs_have_the_calls_that_were_asked.Goals a
 abbrev IsBelow : ℕ → Entry → Type 0
 IsBelow n e = e.caller < n
 
--- the log of a caller alone
+-- a log of caller 0 alone is that of its calls
 alone : (log : List Entry) → All (IsBelow 1) log → log ≡ map (entry 0) (calls_by 0 log)
 alone [] all = refl
 alone (e ∷ log) all =
@@ -42,7 +42,7 @@ first_alone (e ∷ log) all none =
           (split ∙ ap (λ (ops : List ℕ). ops ++ calls_by 1 log) (calls_by-other 1 e other)) ∙ none))
     ]
 
--- the first reply of some pairs
+-- The reply of the first of these pairs, 0 where there is none.
 abbrev first_reply : List (ℕ × ℕ) → ℕ
 first_reply pairs = (slice_index_or pairs 0 (0, 0)).1
 

@@ -63,7 +63,7 @@ into_box_spec 𝓤 𝓛 𝓜 𝓡 wired T A L LA g d dx dd allocator glue glued 
     qed 𝓛 ((lives ⊛ ‵ (owns (types_at En.signature.params κs) z.0.3 z.0.4))
     ∷ raw ((c κs z.0.3).requires z.1) ∷ []) ∵
     split ! $ move ! (1 ∷ []) $ fsplit ! $ taken_out R Z LZ g ! v z.0.4.0 (λ b o h at is fits.
-    -- [what the box owns; the handle; nothing; the lifetimes; that they outlive]
+    -- the facts at hand: [what the box owns; the handle; nothing; the lifetimes; that they outlive]
     let whole_good = pair_good R Z LZ g b o h fits in
     let y : k.Ghost =
     ((κs, qs, tt, (v.alloc, (block_ptr b o, tt)), (h ∷ [], (vptr b o ∷ [], tt))), v.value) in
