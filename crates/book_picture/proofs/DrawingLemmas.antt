@@ -13,7 +13,7 @@ use Rattle.book_picture.specs.declared.row.Row.{Row}
 use Rattle.book_picture.specs.Sheets.{IsDrawable, AreDrawable, AreAllDrawable}
 use Rattle.book_picture.specs.Elements.{IsElementOf, AreElementsOf, AreLanesElements}
 
--- the lane at a place
+-- the row of the lane at place i is this lane's items
 row_at : (lanes : List (Vec Interval Global)) (i : ℕ) (lane : Vec Interval Global)
     → slice_get lanes i ≡ Some lane → get_or (rows_of lanes) i [] ≡ lane.items
 row_at lanes i lane at =
@@ -58,7 +58,8 @@ told_is_drawable book events lanes told caller k interval at =
     }
 
 module _ (class : Call → List ℕ) (rows : List Row) where
-  -- the elements of a lane, with one element more
+  -- the elements of a lane and then that of one more interval are those of the lane with this
+  -- interval
   elements_more : (lane : List Interval) (interval : Interval) (text more : List ℕ)
       → AreElementsOf class rows lane text → IsElementOf class rows interval more
       → AreElementsOf class rows (lane ++ interval ∷ []) (text ++ more)
@@ -72,7 +73,7 @@ module _ (class : Call → List ℕ) (rows : List Row) where
     ap (λ (t : List ℕ). t ++ more) e ∙ append_assoc first rest more,
   )
 
-  -- the elements of one more lane
+  -- the elements of some lanes and then those of one more are those of the lanes with this one
   lanes_elements_more : (lanes : List (List Interval)) (lane : List Interval) (text more : List ℕ)
       → AreLanesElements class rows lanes text → AreElementsOf class rows lane more
       → AreLanesElements class rows (lanes ++ lane ∷ []) (text ++ more)
@@ -86,7 +87,7 @@ module _ (class : Call → List ℕ) (rows : List Row) where
     ap (λ (t : List ℕ). t ++ more) e ∙ append_assoc first rest more,
   )
 
-  -- the first elements and one more
+  -- the first i elements of a lane and then that of interval i are its first i + 1 elements
   pub elements_turn : (lane : List Interval) (i : ℕ) (d : Interval) (text more : List ℕ)
       → i < length lane → AreElementsOf class rows (take i lane) text
       → IsElementOf class rows (get_or lane i d) more
@@ -96,7 +97,7 @@ module _ (class : Call → List ℕ) (rows : List Row) where
       (sym (take_more lane i d less))
       (elements_more (take i lane) (get_or lane i d) text more are is)
 
-  -- the elements of the first lanes and of one more
+  -- the elements of the first i lanes and then those of lane i are those of the first i + 1 lanes
   pub lanes_turn : (lanes : List (Vec Interval Global)) (i : ℕ) (lane : Vec Interval Global)
       (text more : List ℕ) → i < length lanes → lane ≡ get_or lanes i lane
       → AreLanesElements class rows (rows_of (take i lanes)) text

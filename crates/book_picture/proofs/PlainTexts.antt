@@ -44,7 +44,7 @@ plain-append (x ∷ a) b h k =
     (still_of_none a b) parts.0)
     (plain-append a b parts.1 k)
 
--- a text without '<'
+-- a text without '<' is plain
 plain_without : (text : List ℕ) → ((k : ℕ) → k < length text → get_or text k 0 ≢ 60)
     → is_plain text ≡ true
 plain_without [] none = refl
@@ -93,7 +93,7 @@ plain_kind kinds.Pqueue = refl
 plain_kind kinds.CasRegister = refl
 plain_kind kinds.Map = refl
 
--- a line of text
+-- a line of text is plain where its class is, whatever its text
 pub plain_line : (class : List ℕ) (x y : ℕ) (text : List ℕ) → is_plain class ≡ true → x < 2 ^ 64
     → y < 2 ^ 64 → is_plain (line_text class x y text) ≡ true
 plain_line class x y text word across down =

@@ -89,7 +89,8 @@ parts_more (x ∷ xs) row interval text more (first, rest, has, are, e) is = (
   ap (λ (t : List ℕ). t ++ more) e ∙ append_assoc first rest more,
 )
 
--- the parts in the first rows, and in one row more
+-- a text that has grown by an interval's parts in the first i rows, and then by its part in row i,
+-- has grown by its parts in the first i + 1 rows
 pub parts_turn : (rows : List Row) (i : ℕ) (row : Row) (interval : Interval) (a b d : List ℕ)
     → i < length rows → row ≡ get_or rows i row
     → GrowsByParts (take i rows) interval a b → GrowsByPart row interval b d

@@ -32,7 +32,8 @@ by_table kinds.Pqueue = (refl, (refl, tt))
 by_table kinds.CasRegister = (refl, (refl, (refl, tt)))
 by_table kinds.Map = (refl, (refl, (refl, tt)))
 
--- the values after the event at a place, and those after all
+-- the event at a place adds its value, so that the events after it lead to the same values in the
+-- end
 pub values_turn : (kind : Kind) (book : List Page) (values more all : List ℕ) (events : List Event)
     (i : ℕ) (d : Event) → i < length events
     → more ≡ with_event kind book values (get_or events i d)
@@ -108,7 +109,7 @@ each_appears kind book events call v stands shows =
 
 -- ---- colours
 
--- the first place of a value
+-- The first place of a value in a list, or the list's length where the value isn't in it.
 abbrev first_place : List ℕ → ℕ → ℕ
 first_place values v = position_or_len (λ x. x == v) values
 

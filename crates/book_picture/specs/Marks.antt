@@ -6,22 +6,22 @@ use Rattle.book_base.specs.declared.call.Call.{Call}
 use Rattle.book_picture.specs.declared.marks.Marks.{Marks}
 use Rattle.book_picture.specs.declared.marks.Marks.TheVariants.{Unasked, Smaller, TooLarge, NoMemory}
 
--- the lists that these vectors hold
+-- The lists that these vectors hold.
 abbrev pub numbers_in : List (Vec ℕ Global) → List (List ℕ)
 numbers_in rows = map (λ row. row.items) rows
 
--- the numbers of the calls that are marked, by caller
+-- The numbers of the calls that are marked, by caller.
 abbrev pub marked_numbers : Marks → List (List ℕ)
 marked_numbers (Smaller numbers) = numbers_in numbers.items
 marked_numbers Unasked = []
 marked_numbers TooLarge = []
 marked_numbers NoMemory = []
 
--- whether a call is one of those with these numbers
+-- Whether a call is one of those with these numbers.
 abbrev pub is_named : List (List ℕ) → Call → Bool
 is_named names call =
     list_any (λ number. number == call.number) (slice_index_or names call.caller [])
 
--- whether a call is marked
+-- Whether a call is marked.
 abbrev pub is_marked : Marks → Call → Bool
 is_marked marks call = is_named (marked_numbers marks) call

@@ -4,7 +4,7 @@ use Rattle.call_intervals.specs.declared.interval.Interval.{Interval}
 use Rattle.book_picture.specs.declared.row.Row.{Row}
 use Rattle.book_picture.specs.declared.row.TheConstants.{ROW_PLACES}
 
--- how many of this many places the row with this number has
+-- How many of this many places the row with this number has.
 abbrev pub places_in : ℕ → ℕ → ℕ
 places_in places k = min ROW_PLACES (places - k * ROW_PLACES)
 
@@ -26,7 +26,7 @@ abbrev pub ADozenStayOnOneRow : Type 0
 ADozenStayOnOneRow = (places : ℕ) (rows : List Row) → places ≤ 12 * 2 → AreFolded places rows
     → length rows ≡ 1
 
--- whether an interval has a part in a row that begins with the place `first` and has this many
--- places
+-- Whether an interval has a part in a row that begins with the place `first` and has this many
+-- places.
 abbrev pub has_part : ℕ → ℕ → Interval → Bool
 has_part first places interval = nat_lt (interval.begin - first) (min (interval.end - first) places)

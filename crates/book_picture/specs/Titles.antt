@@ -9,56 +9,56 @@ use Rattle.book_picture.specs.declared.sheet.TheConstants.{STYLE}
 use Rattle.book_picture.specs.Escape.{escaped}
 use Rattle.book_picture.specs.Groups.{is_plain}
 
--- a line of text in a class of the style, at a place
+-- A line of text in a class of the style, at a place.
 abbrev pub line_text : List ℕ → ℕ → ℕ → List ℕ → List ℕ
 line_text class x y text =
     codes "<text class=\"" ++ (class ++ (codes "\" x=\"" ++ (decimal x
     ++ (codes "\" y=\"" ++ (decimal y ++ (codes "\">" ++ (escaped text ++ codes "</text>\n")))))))
 
--- whether there is a legal order
+-- Whether there is a legal order.
 abbrev pub is_legal : Verdict → Bool
 is_legal (Legal order) = true
 is_legal Illegal = false
 
--- what the title says of the verdict
+-- What the title says of the verdict.
 abbrev pub verdict_text : Bool → List ℕ
 verdict_text true = codes "legal: the numbers give an order of the calls that explains all replies"
 verdict_text false = codes "illegal: no order explains these replies"
 
--- what the title says of the marks
+-- What the title says of the marks.
 abbrev pub marks_text : Marks → List ℕ
 marks_text Unasked = []
 marks_text (Smaller numbers) = codes ", nor those of the marked calls alone"
 marks_text TooLarge = codes " (so many calls: none are marked)"
 marks_text NoMemory = codes " (no memory: none are marked)"
 
--- the title of a picture
+-- The title of a picture.
 abbrev pub title : Bool → Marks → List ℕ
 title legal marks = verdict_text legal ++ marks_text marks
 
--- what a picture says of the first error line of a run, which is that of this call
+-- What a picture says of the first error line of a run, which is that of this call.
 abbrev pub error_text : Call → List ℕ
 error_text call = codes "the first error line of the run is that of call "
     ++ (decimal call.number ++ (codes " of caller " ++ decimal call.caller))
 
--- the line of a picture on the first error line of a run, where there is one
+-- The line of a picture on the first error line of a run, where there is one.
 abbrev pub error_line : Option Call → List ℕ
 error_line None = []
 error_line (Some call) = line_text (codes "note") 12 80 (error_text call)
 
--- the first lines of a picture: its title, and which error line was the first
+-- The first lines of a picture: its title, and which error line was the first.
 abbrev pub first_lines : Bool → Marks → Option Call → List ℕ
 first_lines legal marks error =
     line_text (codes "title") 12 24 (title legal marks) ++ error_line error
 
--- what comes before the first line of text in a picture
+-- What comes before the first line of text in a picture.
 abbrev pub opening : ℕ → ℕ → List ℕ
 opening width height =
     codes "<svg xmlns=\"http://www.w3.org/2000/svg\" width=\""
     ++ (decimal width ++ (codes "\" height=\"" ++ (decimal height ++ (codes "\">\n"
     ++ (STYLE.now ++ codes "<rect width=\"100%\" height=\"100%\" fill=\"#ffffff\"/>\n")))))
 
--- a text is what comes before the first line of text in a picture of some size
+-- A text is what comes before the first line of text in a picture of some size.
 abbrev pub IsOpening : List ℕ → Type 0
 IsOpening text = (width : ℕ) × (height : ℕ) × (width < 2 ^ 64) × (height < 2 ^ 64)
     × (text ≡ opening width height)

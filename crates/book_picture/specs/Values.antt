@@ -16,7 +16,7 @@ use Rattle.book_picture.specs.declared.values.TheConstants.{COLOURS}
 use Rattle.book_picture.specs.Marks.{is_marked}
 use Rattle.book_picture.specs.declared.marks.Marks.{Marks}
 
--- whether a number follows the name of an operation that has this code
+-- Whether a number follows the name of an operation that has this code.
 abbrev pub has_argument : Kind → ℕ → Bool
 has_argument kinds.Queue code = code == 1
 has_argument kinds.Stack code = code == 1
@@ -27,7 +27,7 @@ has_argument kinds.Pqueue code = code == 1
 has_argument kinds.CasRegister code = not (code == 2)
 has_argument kinds.Map code = true
 
--- whether a number follows the name of an operation of this arity
+-- Whether a number follows the name of an operation of this arity.
 abbrev pub takes_number : Arity → Bool
 takes_number Nullary = false
 takes_number Unary = true
@@ -38,36 +38,36 @@ abbrev pub ArgumentsAreOfTheTable : Type 0
 ArgumentsAreOfTheTable = (kind : Kind) → AllByRecursion
     (λ entry. has_argument kind entry.code ≡ takes_number entry.arity) (entries kind)
 
--- the value that a reply shows, where there is a reply and it shows one
+-- The value that a reply shows, where there is a reply and it shows one.
 abbrev pub value_in_reply : Option ℕ → Option ℕ
 value_in_reply None = None
 value_in_reply (Some reply) = shown_value reply
 
--- the value that an operation with its reply shows: its first argument, or else the value of the
--- reply
+-- The value that an operation with its reply shows: its first argument, or else the value of the
+-- reply.
 abbrev pub value_of_step : Kind → ℕ → Option ℕ → Option ℕ
 value_of_step kind word reply =
     if is_known_word kind word then (if has_argument kind (code_of word)
     then Some (argument_of word) else value_in_reply reply) else value_in_reply reply
 
--- the value that a call of a book shows, where it shows one
+-- The value that a call of a book shows, where it shows one.
 abbrev pub value_of_call : Kind → List Page → Call → Option ℕ
 value_of_call kind book call = value_of_step kind (unwrap_or (operation_of book call) 0)
     (option_map (λ r. r.reply) (record_of book call))
 
--- the values so far, with this one at the end where it is none of them
+-- The values so far, with this one at the end where it is none of them.
 abbrev pub with_value : List ℕ → Option ℕ → List ℕ
 with_value values None = values
 with_value values (Some value) =
     if list_any (λ x. x == value) values then values else values ++ value ∷ []
 
--- the values so far after an event, where the value that an invoked call shows appears
+-- The values so far after an event, where the value that an invoked call shows appears.
 abbrev pub with_event : Kind → List Page → List ℕ → Event → List ℕ
 with_event kind book values (Invoke call) = with_value values (value_of_call kind book call)
 with_event kind book values (Return call) = values
 
--- the values so far after these events: those that the events' calls show, each once, in the order
--- in which calls that show them are invoked
+-- The values so far after these events: those that the events' calls show, each once, in the order
+-- in which calls that show them are invoked.
 abbrev pub values_after : Kind → List Page → List ℕ → List Event → List ℕ
 values_after kind book values [] = values
 values_after kind book values (event ∷ events) =
@@ -79,12 +79,12 @@ EachValueAppears = (kind : Kind) (book : List Page) (events : List Event) (call 
     → StandsIn events (Invoke call)
     → value_of_call kind book call ≡ Some value → Contains (values_after kind book [] events) value
 
--- the place of a value among these
+-- The place of a value among these.
 abbrev pub place_among : List ℕ → ℕ → ℕ
 place_among values value = unwrap_or (position (λ x. x == value) values) 0
 
--- the colour of a value: its place among the values, where the colours begin again after the last
--- one
+-- The colour of a value: its place among the values, where the colours begin again after the last
+-- one.
 abbrev pub colour_of : List ℕ → Option ℕ → Option ℕ
 colour_of values None = None
 colour_of values (Some value) = Some (place_among values value % COLOURS)
@@ -95,17 +95,17 @@ FewValuesAreToldApart = (values : List ℕ) (v w : ℕ) → length values ≤ CO
     → Contains values w
     → colour_of values (Some v) ≡ colour_of values (Some w) → v ≡ w
 
--- the class of a colour
+-- The class of a colour.
 abbrev pub colour_class : Option ℕ → List ℕ
 colour_class None = codes "plain"
 colour_class (Some colour) = codes "value-" ++ decimal colour
 
--- the class of what is marked
+-- The class of what is marked.
 abbrev pub mark_class : Bool → List ℕ
 mark_class true = codes " marked"
 mark_class false = []
 
--- the classes of a call's element: its colour, and whether it is marked
+-- The classes of a call's element: its colour, and whether it is marked.
 abbrev pub class_of_call : Kind → List Page → List ℕ → Marks → Call → List ℕ
 class_of_call kind book values marks call = colour_class
     (colour_of values (value_of_call kind book call)) ++ mark_class (is_marked marks call)

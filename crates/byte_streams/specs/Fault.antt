@@ -3,7 +3,7 @@ use Rattle.std.specs.Prelude.{◌≡◌, ◌⊎◌, ℕ, ◌+◌, ◌-◌, ◌^�
 use Rattle.byte_streams.specs.declared.status.Status.{Status}
 use Rattle.byte_streams.specs.declared.status.Status.TheVariants.{WriteFault, NoMemory}
 
--- the count after this one, in a counter that stays at its greatest value
+-- The count after this one, in a counter that stays at its greatest value.
 abbrev pub next_count : ℕ → ℕ
 next_count n = min (n + 1) (2 ^ 64 - 1)
 

@@ -11,19 +11,19 @@ pub record SourceState : Type 0 where
   pub calls : ℕ
   pub faults : ℕ
 
--- the source's next call fails
+-- The source's next call fails.
 abbrev pub ReadFails : SourceState → Type 0
 ReadFails s = Contains s.fails (next_count s.calls)
 
--- the source after a call that failed, and gave nothing
+-- The source after a call that failed, and gave nothing.
 abbrev pub after_failed_read : SourceState → SourceState
 after_failed_read s = record s { calls = next_count s.calls; faults = next_count s.faults }
 
--- how many bytes a read gives: as many as the piece, the most of a read and the bytes left allow
+-- How many bytes a read gives: as many as the piece, the most of a read and the bytes left allow.
 abbrev pub given_count : SourceState → ℕ → ℕ
 given_count s room = min (min room s.most) (length s.left)
 
--- the source after a call that gave this many bytes
+-- The source after a call that gave this many bytes.
 abbrev pub after_read : SourceState → ℕ → SourceState
 after_read s count = record s { left = drop count s.left; calls = next_count s.calls }
 
@@ -37,25 +37,25 @@ pub record SinkState : Type 0 where
   pub calls : ℕ
   pub faults : ℕ
 
--- the capacity that a sink has left
+-- The capacity that a sink has left.
 abbrev pub capacity_left : SinkState → ℕ
 capacity_left s = s.room - length s.taken
 
--- the sink's next call fails: it is one of those that fail, or no capacity is left for a piece that
--- isn't empty
+-- The sink's next call fails: it is one of those that fail, or no capacity is left for a piece that
+-- isn't empty.
 abbrev pub WriteFails : SinkState → List ℕ → Type 0
 WriteFails s piece = Contains s.fails (next_count s.calls)
     ⊎ ((0 < length piece) × (capacity_left s ≡ 0))
 
--- the sink after a call that failed, and took nothing
+-- The sink after a call that failed, and took nothing.
 abbrev pub after_failed_write : SinkState → SinkState
 after_failed_write s = record s { calls = next_count s.calls; faults = next_count s.faults }
 
--- how many bytes a write takes: as many as the piece, the most of a write and the capacity left
--- allow
+-- How many bytes a write takes: as many as the piece, the most of a write and the capacity left
+-- allow.
 abbrev pub taken_count : SinkState → ℕ → ℕ
 taken_count s offered = min (min offered s.most) (capacity_left s)
 
--- the sink after a call that took these bytes
+-- The sink after a call that took these bytes.
 abbrev pub after_write : SinkState → List ℕ → SinkState
 after_write s bytes = record s { taken = s.taken ++ bytes; calls = next_count s.calls }

@@ -4,7 +4,7 @@ use Rattle.std.specs.Prelude.{◌≡◌, ℕ, ◌+◌, ◌<◌, List, length, ta
 use Rattle.std.specs.Io.KnownBytes.{Appends}
 use Rattle.byte_streams.specs.declared.TheConstants.{INPUT_LIMIT}
 
--- the bytes that are read of those that a source held: all of them, or one more than the limit
+-- The bytes that are read of those that a source held: all of them, or one more than the limit.
 abbrev pub read_of : List ℕ → List ℕ
 read_of held = take (INPUT_LIMIT + 1) held
 
@@ -15,10 +15,10 @@ HasRead None left bytes = ⊤
 HasRead (Some held) left bytes = (bytes ≡ read_of held)
     × (left ≡ Some (drop (INPUT_LIMIT + 1) held))
 
--- a sink has taken the first bytes of a text, and not all of them
+-- A sink has taken the first bytes of a text, and not all of them.
 abbrev pub AppendsPart : Option (List ℕ) → Option (List ℕ) → List ℕ → Type 0
 AppendsPart old new text = (count : ℕ) × (count < length text) × Appends old new (take count text)
 
--- a write to a sink didn't succeed: it failed, or it took nothing of a piece that isn't empty
+-- A write to a sink didn't succeed: it failed, or it took nothing of a piece that isn't empty.
 abbrev pub IsRefusal : {E : Type 0} → Result ℕ E → List ℕ → Type 0
 IsRefusal r piece = MatchResult r (λ count. (count ≡ 0) × (0 < length piece)) (λ _. ⊤)

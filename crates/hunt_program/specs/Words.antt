@@ -3,7 +3,7 @@ use Rattle.std.specs.Prelude.{ℕ, List, [], ◌∷◌, codes}
 use Rattle.hunt_program.specs.declared.shown.Shown.{Shown}
 use Rattle.hunt_program.specs.declared.shown.Shown.TheVariants.{Smaller, Report, Picture}
 
--- the command words that ask for this to be shown
+-- The command words that ask for this to be shown.
 abbrev pub words_of : Shown → List (List ℕ)
 words_of Smaller = []
 words_of Report = codes "report" ∷ []

@@ -17,7 +17,7 @@ use Rattle.monitor_writer.specs.MonitorTexts.{IsAnswerOutput, IsLegalRun, IsMoni
 abbrev IsExactFor : Kind → List Local → Option Witness → Type 0
 IsExactFor kind locals answer = IsExactAnswer (kind_init kind) (kind_next kind) locals answer
 
--- the text of an exact answer, by the kind of the script
+-- what is written of an exact answer is a text of a monitor, for the script's kind
 text_of_run : (kind : Kind) (locals : List Local) (answer : Option Witness)
     → IsExactFor kind locals answer
     → (status : Status) (text : List ℕ) → IsAnswerOutput kind answer status text

@@ -11,19 +11,19 @@ use Rattle.monitor.specs.Worlds.{published_book, IsWitnessOf}
 use Rattle.byte_streams.specs.declared.status.Status.{Status}
 use Rattle.byte_streams.specs.declared.status.Status.TheVariants.{Fine, Found}
 
--- the text of an answer: that there is no witness, or that there is one, and after it the text of
--- its book
+-- The text of an answer: that there is no witness, or that there is one, and after it the text of
+-- its book.
 abbrev pub IsAnswerText : Kind → Option Witness → List ℕ → Type 0
 IsAnswerText kind None text = text ≡ codes "legal\n"
 IsAnswerText kind (Some w) text = (shown : List ℕ) × IsWrittenText Second shown kind w.book
     × (text ≡ codes "illegal\n" ++ shown)
 
--- the status that comes with an answer: whether there is a witness
+-- The status that comes with an answer: whether there is a witness.
 abbrev pub status_of : Option Witness → Status
 status_of None = Fine
 status_of (Some w) = Found
 
--- the output of an answer: a status and a text
+-- The output of an answer: a status and a text.
 abbrev pub IsAnswerOutput : Kind → Option Witness → Status → List ℕ → Type 0
 IsAnswerOutput kind answer status text = IsAnswerText kind answer text × (status ≡ status_of answer)
 

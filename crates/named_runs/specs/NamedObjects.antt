@@ -24,8 +24,8 @@ pub record AreOwnPasses {T : Type 0} (is_own : T → Type 0) (caller : T → ℕ
   pub callers : map caller passes ≡ range_with_len 0 n
   pub own : All is_own passes
 
--- Each of these passes, in order, tells the calls of its caller, of which this many phases are
--- made, where it tells any.
+-- Each pass in this list that tells calls tells those of its caller, of which `phases` phases are
+-- made: pass number i is that of caller i.
 abbrev pub AreTold : {T : Type 0} → (T → Option (List (ℕ × ℕ))) → (ℕ → ℕ) → (ℕ → List Made)
     → List T → Type 0
 AreTold told phases calls passes =

@@ -25,7 +25,7 @@ use Rattle.run_writer.specs.Running.{IsBenchReport, EndsByReport}
 use Rattle.run_writer.specs.Runs.{HasForm}
 
 module _ (s : Shape) (locals : List Local) (plan : Plan) (allotments : List ℕ) where
-  -- the report by the object of the script's kind
+  -- a report by the object of a kind that is the script's is one by the object of the script's kind
   pub by_its_kind : (kind : Kind) (f : Findings) → kind ≡ plan.kind
       → IsReportOf (kind_init kind) (kind_next kind) s locals plan allotments f
       → IsReportOf (kind_init plan.kind) (kind_next plan.kind) s locals plan allotments f

@@ -31,7 +31,7 @@ IsWitnessText report rest =
     ⊎ ((book : List Page) × IsWitness report.lines book
     × books.IsWrittenText Second rest report.kind book)
 
--- the line of a report's three counts
+-- The line that shows the three counts of a report: its calls, those delivered and those in error.
 abbrev pub counts_text : Counts → List ℕ
 counts_text counts =
     codes "calls " ++ decimal counts.calls ++ codes " delivered " ++ decimal counts.delivered
@@ -55,7 +55,7 @@ HasForm object Report report = Unit {0}
 HasForm object Numbers report = Unit {0}
 HasForm object Certificate report = HasDeliveredOrder object.init object.next report.lines
 
--- the status that comes with a report: whether a line of it is an error
+-- The status that comes with a report: `Found` where one of its lines is an error, else `Fine`.
 abbrev pub status_of : Findings → Status
 status_of report = if list_any any_error report.lines then Found else Fine
 
@@ -80,7 +80,7 @@ StatusesTellErrors =
     → ((status ≡ Found) × (list_any any_error report.lines ≡ true))
     ⊎ ((status ≡ Fine) × (list_any any_error report.lines ≡ false))
 
--- A form but the certificate writes one text of a report.
+-- Each form other than the certificate determines the text that is written of a report.
 abbrev pub FormsWriteOneText : Type 0
 FormsWriteOneText = (object : Sequential) (form : Form) (report : Findings) (a b : List ℕ)
     → form ≢ Certificate → IsWritten object form report a → IsWritten object form report b → a ≡ b

@@ -19,7 +19,7 @@ AreWordsOf words command = CanBeNamed command × (words ≡ words_of command)
 abbrev IsLone : List ℕ × Command → Type 0
 IsLone row = AreWordsOf (row.0 ∷ []) row.1
 
--- the command of a row
+-- a command that a row of tests finds is the row's own, or one of the rest
 by_row : (test : Bool) (mine command : Command) (rest : Option Command)
     → (if test then Some mine else rest) ≡ Some command
     → ((test ≡ true) × (mine ≡ command)) ⊎ (rest ≡ Some command)
@@ -96,7 +96,7 @@ read_is word command_for text (Some value) argument command is words e =
     subst (AreWordsOf (word ∷ argument ∷ [])) same
     (own.0, ap (λ (a : List ℕ). word ∷ a ∷ []) (sym own.1) ∙ words value)
 
--- the row of a command with a behaviour
+-- the row of a command with a behaviour is as `IsArgued` says
 behaviour_row : (word : List ℕ) (command_for : Behaviour → Command)
     → ((behaviour : Behaviour) → CanBeNamed (command_for behaviour))
     → ((behaviour : Behaviour)
@@ -106,13 +106,13 @@ behaviour_row word command_for can words argument command e =
     read_is word command_for behaviour_name (behaviour_named argument) argument command
     (λ b is. (can b, behaviour_named-is argument b is)) words e
 
--- the row of `soak`
+-- the row of `soak` is as `IsArgued` says
 soak_row : IsArgued (codes "soak", λ argument. option_map Soak (soak_number argument))
 soak_row argument command e =
     read_is (codes "soak") Soak decimal (soak_number argument) argument command
     (λ number is. let own = soak_number-is argument number is in (own.1, own.0)) (λ number. refl) e
 
--- the rows of commands with an argument: one part a row
+-- each row of the commands with an argument is as `IsArgued` says: one part a row
 argued_rows : AllByRecursion IsArgued argued_commands
 argued_rows = (
   behaviour_row (codes "run") Run (λ b. tt) (λ b. refl),

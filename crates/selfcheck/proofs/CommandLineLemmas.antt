@@ -157,7 +157,7 @@ names_are : names_of (built line_app) ≡ map (λ (row : List ℕ × Command). (
 unfolding clap_on_literals
 names_are = refl
 
--- the subcommand that clap meets, with its argument
+-- The subcommand that clap meets in these words, with its argument.
 abbrev met_by_words : List Text → Option (Text × Option Text)
 met_by_words words = option_map met_in (subcommand_of line_app words)
 
@@ -291,13 +291,13 @@ two_words : (word argument : List ℕ) → has_argument word ≡ true
 two_words word argument argued plain =
     ap command_met (argued_met word argument argued (text_is_plain argument plain))
 
--- both tests of one word
+-- where neither of two tests is true, both are false
 one_parsed : (a b : Bool) → IsTrue (not a && not b) → (a ≡ false) × (b ≡ false)
 one_parsed false false e = (refl, refl)
 one_parsed false true e = cc
 one_parsed true b e = cc
 
--- both tests of two words
+-- where a test is true and another isn't, the one is true and the other false
 two_parsed : (a b : Bool) → IsTrue (a && not b) → (a ≡ true) × (b ≡ false)
 two_parsed true false e = (refl, refl)
 two_parsed true true e = cc

@@ -110,7 +110,7 @@ line_of : (words : List (List ℕ)) (rest : List ℕ) (number : ℕ) → AreSoli
     ≡ Ok (join_with_byte 32 words, record { bytes = rest; number = number + 1 })
 line_of words rest number solid = ap (line_from number) (cut_line words rest solid)
 
--- the text of three lines and more
+-- the text of three lines and others is each of the three lines' texts, and then that of the others
 three_lines : (a b c : List (List ℕ)) (rest : List (List (List ℕ)))
     → text_of (a ∷ b ∷ c ∷ rest) ≡ line_text a ++ (line_text b ++ (line_text c ++ text_of rest))
 three_lines a b c rest = refl

@@ -27,7 +27,7 @@ pub IsScriptInput-from_shown : (IsReportFor : Plan → Findings → Type 0) (for
 unfolding IsScriptInput
 IsScriptInput-from_shown IsReportFor form bytes status text shown = (shown.0, shown.1)
 
--- one of the two statuses that come with a report
+-- the status that comes with a report is `Fine` or `Found`
 by_error : (error : Bool) (status : Status) → status ≡ (if error then Found else Fine)
     → (status ≡ Fine) ⊎ (status ≡ Found)
 by_error true status e = inr e

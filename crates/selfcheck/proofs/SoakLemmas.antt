@@ -58,7 +58,7 @@ all_delivered (suc n) (line ∷ own) marks right =
           (arith, sum_by-cons (λ (l : Line). cond (is_error l) 1 0) line own, no, rest.errors);
     }
 
--- a sum over four callers
+-- a sum over four callers that each have c is four times c
 over_four : (f : List Line → ℕ) (c : ℕ) (lines : List (List Line)) → length lines ≡ 4
     → ((i : ℕ) → i < 4 → f (lines_at lines i) ≡ c) → sum_by f lines ≡ c + c + c + c
 over_four f c [] long each = absurd (omega (arith, long))

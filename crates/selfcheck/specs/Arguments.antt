@@ -6,7 +6,7 @@ use Rattle.faulty_objects.specs.declared.behaviour.Behaviour.{Behaviour}
 use Rattle.faulty_objects.specs.declared.behaviour.Behaviour.TheVariants.{Lawful, Tally, Cell, Lossy, Twice, Late, Invent, Split, Onepass}
 use Rattle.faulty_objects.specs.Names.{behaviour_name}
 
--- all behaviours
+-- All behaviours.
 abbrev pub behaviours : List Behaviour
 behaviours = Lawful ∷ Tally ∷ Cell ∷ Lossy ∷ Twice ∷ Late ∷ Invent ∷ Split ∷ Onepass ∷ []
 

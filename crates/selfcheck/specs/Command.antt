@@ -7,7 +7,7 @@ use Rattle.selfcheck.specs.declared.command.Command.TheVariants.{Verify, Sketch,
 use Rattle.faulty_objects.specs.Names.{behaviour_name}
 use Rattle.selfcheck.specs.Arguments.{behaviour_named, soak_number}
 
--- the words of a command
+-- The words of a command.
 abbrev pub words_of : Command → List (List ℕ)
 words_of Verify = codes "verify" ∷ []
 words_of Sketch = codes "sketch" ∷ []
@@ -20,12 +20,12 @@ words_of (Certify behaviour) = codes "certify" ∷ behaviour_name behaviour ∷ 
 words_of (Monitor behaviour) = codes "monitor" ∷ behaviour_name behaviour ∷ []
 words_of (Soak number) = codes "soak" ∷ decimal number ∷ []
 
--- a command that words can name: the number of a soak is at most 4,294,967,295
+-- A command that words can name: the number of a soak is at most 4,294,967,295.
 abbrev pub CanBeNamed : Command → Type 0
 CanBeNamed (Soak number) = number ≤ 4294967295
 CanBeNamed _ = Unit {0}
 
--- the commands that have no argument, each with its word
+-- The commands that have no argument, each with its word.
 abbrev pub lone_commands : List (List ℕ × Command)
 lone_commands =
     (codes "verify", Verify)
@@ -35,7 +35,7 @@ lone_commands =
     ∷ (codes "sets", Sets)
     ∷ []
 
--- the first of these commands that has this word
+-- The first of these commands that has this word.
 abbrev pub named_in : List (List ℕ × Command) → List ℕ → Option Command
 named_in [] word = None
 named_in (row ∷ rows) word = if bytes_eq word row.0 then Some row.1 else named_in rows word
@@ -44,7 +44,7 @@ named_in (row ∷ rows) word = if bytes_eq word row.0 then Some row.1 else named
 unfoldable pub lone_command : List ℕ → Option Command
 lone_command word = named_in lone_commands word
 
--- the commands that have an argument, each with its word and with what reads the argument
+-- The commands that have an argument, each with its word and with what reads the argument.
 abbrev pub argued_commands : List (List ℕ × (List ℕ → Option Command))
 argued_commands =
     (codes "run", λ argument. option_map Run (behaviour_named argument))
@@ -54,12 +54,12 @@ argued_commands =
     ∷ (codes "soak", λ argument. option_map Soak (soak_number argument))
     ∷ []
 
--- whether one of these commands has this word
+-- Whether one of these commands has this word.
 abbrev pub names_argued : List (List ℕ × (List ℕ → Option Command)) → List ℕ → Bool
 names_argued [] word = false
 names_argued (row ∷ rows) word = if bytes_eq word row.0 then true else names_argued rows word
 
--- the command that the first of these commands with this word is for this argument
+-- The command that the first of these commands with this word is for this argument.
 abbrev pub argued_in : List (List ℕ × (List ℕ → Option Command)) → List ℕ → List ℕ → Option Command
 argued_in [] word argument = None
 argued_in (row ∷ rows) word argument =
@@ -80,7 +80,7 @@ command_of (word ∷ []) = lone_command (string_bytes word)
 command_of (word ∷ argument ∷ []) = argued_command (string_bytes word) (string_bytes argument)
 command_of (word ∷ argument ∷ third ∷ rest) = None
 
--- whether a command works on what the source gives
+-- Whether a command works on what the source gives.
 abbrev pub reads_source : Command → Bool
 reads_source Verify = true
 reads_source Sketch = true
@@ -93,7 +93,7 @@ reads_source (Certify behaviour) = true
 reads_source (Monitor behaviour) = true
 reads_source (Soak number) = false
 
--- the command words name a command exactly where they are its words
+-- The command words name a command exactly where they are its words.
 abbrev pub HaveTheirCommand : Type 0
 HaveTheirCommand = (words : List (String Global)) (command : Command)
     → (command_of words ≡ Some command)

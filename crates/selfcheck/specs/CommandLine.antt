@@ -16,12 +16,12 @@ bare_top = record (new_shape (codes "selfcheck")) {
   subcommand_required = true;
 }
 
--- a subcommand with an argument, which clap reads as a text
+-- A subcommand with an argument, which clap reads as a text.
 abbrev pub argued_shape : List ℕ → Shape
 argued_shape name = record (new_shape name)
     { rules = record (new_rule (codes "argument")) { required = true } ∷ [] }
 
--- the command line, with a subcommand for each command
+-- The command line, with a subcommand for each command.
 abbrev pub line_app : App
 line_app = record {
   top = record bare_top { is_leaf = false };
@@ -29,7 +29,7 @@ line_app = record {
       map (λ row. new_shape row.0) lone_commands ++ map (λ row. argued_shape row.0) argued_commands;
 }
 
--- whether a word begins with a hyphen
+-- Whether a word begins with a hyphen.
 abbrev pub begins_with_hyphen : List ℕ → Bool
 begins_with_hyphen [] = false
 begins_with_hyphen (byte ∷ bytes) = byte == 45
@@ -44,11 +44,11 @@ is_parsed (word ∷ argument ∷ []) =
     has_argument (string_bytes word) && not (begins_with_hyphen (string_bytes argument))
 is_parsed (word ∷ argument ∷ third ∷ rest) = false
 
--- the subcommand that clap meets, and its argument where it has one
+-- The subcommand that clap meets, and its argument where it has one.
 abbrev pub met_in : Text × List Row → Text × Option Text
 met_in p = (p.0, first_of (codes "argument") p.1)
 
--- the command of a subcommand and its argument
+-- The command of a subcommand and its argument.
 abbrev pub command_met : Option (Text × Option Text) → Option Command
 command_met None = None
 command_met (Some (name, None)) = lone_command name

@@ -32,7 +32,7 @@ use Rattle.selfcheck.specs.SetInput.{IsSetInput, IsLegalSetInput, IsIllegalSetIn
 use Rattle.byte_streams.specs.Told.{HasRead, AppendsPart, read_of}
 use Rattle.selfcheck.specs.Upgrade.{IsOldInput, IsFirstOldFault, IsUpgraded}
 
--- a form of texts that a command may want; one that reads no source wants none
+-- A form of texts that a command may want; one that reads no source wants none.
 pub data InputForm : Type 0 where
   BookForm : InputForm
   CertificateForm : InputForm
@@ -42,7 +42,7 @@ pub data InputForm : Type 0 where
   MonitorForm : InputForm
   NoForm : InputForm
 
--- the form of text that a command wants
+-- The form of text that a command wants.
 abbrev pub form_of : Command → InputForm
 form_of Verify = BookForm
 form_of Sketch = BookForm
@@ -55,7 +55,7 @@ form_of (Certify behaviour) = ScriptForm
 form_of (Monitor behaviour) = MonitorForm
 form_of (Soak number) = NoForm
 
--- the bytes are a text of this form
+-- The bytes are a text of this form.
 abbrev pub IsTextOf : InputForm → List ℕ → Type 0
 IsTextOf BookForm bytes = IsTextOfBook bytes
 IsTextOf CertificateForm bytes = IsTextOfCertificate bytes
@@ -65,7 +65,7 @@ IsTextOf ScriptForm bytes = IsScriptInput bytes
 IsTextOf MonitorForm bytes = IsMonitorInput bytes
 IsTextOf NoForm bytes = bytes ≡ []
 
--- the first fault of bytes that are no text of this form
+-- The first fault of bytes that are no text of this form.
 abbrev pub IsFirstFaultOf : InputForm → List ℕ → TextFault → Type 0
 IsFirstFaultOf BookForm bytes fault = IsFirstBookFault Second bytes fault
 IsFirstFaultOf CertificateForm bytes fault = IsFirstCertificateFault bytes fault
@@ -75,17 +75,17 @@ IsFirstFaultOf ScriptForm bytes fault = IsFirstScriptFault Second bytes fault
 IsFirstFaultOf MonitorForm bytes fault = IsFirstMonitorFault bytes fault
 IsFirstFaultOf NoForm bytes fault = ⊥
 
--- the command takes the bytes: there are few enough, and they are a text of the form that it wants
+-- The command takes the bytes: there are few enough, and they are a text of the form that it wants.
 abbrev pub IsTaken : Command → List ℕ → Type 0
 IsTaken command bytes = (length bytes ≤ INPUT_LIMIT) × IsTextOf (form_of command) bytes
 
--- what `verify` says of the text of a book: a status and a text
+-- What `verify` says of the text of a book: a status and a text.
 abbrev pub IsVerdict : List ℕ → Status → List ℕ → Type 0
 IsVerdict bytes Fine text = IsLegalBook bytes × (text ≡ codes "legal\n")
 IsVerdict bytes Found text = IsIllegalBook bytes × (text ≡ codes "illegal\n")
 IsVerdict bytes _ text = ⊥
 
--- the text of a book's sketch
+-- The text of a book's sketch.
 pub record IsSketchText (bytes text : List ℕ) : Type 0 where
   pub kind : Kind
   pub book : List Page
@@ -94,31 +94,31 @@ pub record IsSketchText (bytes text : List ℕ) : Type 0 where
   pub sketched : IsSketch book events
   pub text_is : text ≡ text_of (sketch_lines kind book events)
 
--- what `sketch` says of the text of a book: a status and a text
+-- What `sketch` says of the text of a book: a status and a text.
 abbrev pub IsDrawn : List ℕ → Status → List ℕ → Type 0
 IsDrawn bytes Fine text = IsSketchText bytes text
 IsDrawn bytes _ text = ⊥
 
--- what `order` says of the text of a certificate: a status and a text
+-- What `order` says of the text of a certificate: a status and a text.
 abbrev pub IsJudgement : List ℕ → Status → List ℕ → Type 0
 IsJudgement bytes Fine text = IsLegalCertificate bytes × (text ≡ codes "legal\n")
 IsJudgement bytes Found text = (fault : OrderFault) × IsFaultyCertificate bytes fault
     × (text ≡ order_fault_text fault)
 IsJudgement bytes _ text = ⊥
 
--- what `upgrade` says of a text of version 1: a status and a text
+-- What `upgrade` says of a text of version 1: a status and a text.
 abbrev pub IsRewritten : List ℕ → Status → List ℕ → Type 0
 IsRewritten bytes Fine text = IsUpgraded bytes text
 IsRewritten bytes _ text = ⊥
 
--- what `sets` says of the text of a set book: a status and a text
+-- What `sets` says of the text of a set book: a status and a text.
 abbrev pub IsSetVerdict : List ℕ → Status → List ℕ → Type 0
 IsSetVerdict bytes Fine text = IsLegalSetInput bytes × (text ≡ codes "legal\n")
 IsSetVerdict bytes Found text = IsIllegalSetInput bytes × (text ≡ codes "illegal\n")
 IsSetVerdict bytes _ text = ⊥
 
--- what a command says of an input that it takes: a status and a text, of which there may be more
--- than one
+-- What a command says of an input that it takes: a status and a text, of which there may be more
+-- than one.
 abbrev pub IsAnswerOf : Command → List ℕ → Status → List ℕ → Type 0
 IsAnswerOf Verify bytes status text = IsVerdict bytes status text
 IsAnswerOf Sketch bytes status text = IsDrawn bytes status text
@@ -131,7 +131,7 @@ IsAnswerOf (Certify behaviour) bytes status text = IsCertifiedOf behaviour bytes
 IsAnswerOf (Monitor behaviour) bytes status text = IsMonitoredOf behaviour bytes status text
 IsAnswerOf (Soak number) bytes status text = (bytes ≡ []) × IsSoakOf number status text
 
--- the line and the name of the fault for which a command refuses the bytes
+-- The line and the name of the fault for which a command refuses the bytes.
 abbrev pub IsRefusal : Command → List ℕ → List ℕ → Type 0
 IsRefusal command bytes text = (fault : TextFault)
     × IsRefusedFor (IsFirstFaultOf (form_of command)) bytes fault × (text ≡ refusal_text fault)
@@ -151,12 +151,12 @@ RunsInside (Certify behaviour) bytes = IsRunInside behaviour bytes
 RunsInside (Soak number) bytes = Unit {0}
 RunsInside command bytes = ⊥
 
--- all outputs of the command for these bytes have this one status
+-- All outputs of the command for these bytes have this one status.
 abbrev pub HasOneStatus : Command → List ℕ → Status → Type 0
 HasOneStatus command bytes status = (other : Status) (text : List ℕ)
     → IsOutputOf command bytes other text → other ≡ status
 
--- the command is determined: it has at most one output for the bytes of an input
+-- The command is determined: it has at most one output for the bytes of an input.
 abbrev pub IsDetermined : Command → Type 0
 IsDetermined command = (bytes : List ℕ) (status other : Status) (text text' : List ℕ)
     → IsOutputOf command bytes status text → IsOutputOf command bytes other text' → (status ≡ other)
@@ -173,7 +173,7 @@ abbrev pub RefuseWhatIsNotTaken : Type 0
 RefuseWhatIsNotTaken = (command : Command) (bytes : List ℕ) (status : Status) (text : List ℕ)
     → IsOutputOf command bytes status text → (status ≡ Refused) ↔ ¬ (IsTaken command bytes)
 
--- the output for words that name no command
+-- The output for words that name no command.
 abbrev pub IsUsage : Status → List ℕ → Type 0
 IsUsage status text = (status ≡ Usage) × (text ≡ codes "usage: selfcheck COMMAND\n")
 
@@ -182,16 +182,17 @@ abbrev pub IsOutput : List (String Global) → List ℕ → Status → List ℕ 
 IsOutput words bytes status text = MatchOption (command_of words) (IsUsage status text)
     (λ command. IsOutputOf command bytes status text)
 
--- the bytes that a command works on, of those that the source holds
+-- The bytes that a command works on, of those that the source holds.
 abbrev pub input_of : Command → List ℕ → List ℕ
 input_of command held = if reads_source command then read_of held else []
 
--- the bytes that a command works on: the source's where it reads one, else none
+-- The bytes that a command works on: the source's where it reads one, else none.
 abbrev pub ReadsFor : Command → Option (List ℕ) → Option (List ℕ) → List ℕ → Type 0
 ReadsFor command old new bytes =
     MatchBool (reads_source command) (HasRead old new bytes) (Keeps old new × (bytes ≡ []))
 
--- the bytes that the program works on; where the words name no command, the source is left as it is
+-- The bytes that the program works on; where the words name no command, the source is left as it
+-- is.
 abbrev pub Reads : List (String Global) → Option (List ℕ) → Option (List ℕ) → List ℕ → Type 0
 Reads words old new bytes =
     MatchOption (command_of words) (Keeps old new) (λ command. ReadsFor command old new bytes)
@@ -212,6 +213,6 @@ Ends words status left left' taken taken' =
     (bytes : List ℕ) × (text : List ℕ) × Reads words left left' bytes
     × IsOutput words bytes status text × Appends taken taken' text
 
--- a status that says that the output was not written whole
+-- A status that says that the output was not written whole.
 abbrev pub IsUnfinished : Status → Type 0
 IsUnfinished status = (status ≡ ReadFault) ⊎ (status ≡ WriteFault) ⊎ (status ≡ NoMemory)

@@ -50,7 +50,7 @@ abbrev pub IsCertifiedOf : Behaviour → List ℕ → Status → List ℕ → Ty
 IsCertifiedOf behaviour bytes status text =
     IsShownOf (IsNamedRunReport behaviour) Certificate bytes status text
 
--- the script of a soak: 4 callers with 32 calls of a queue each, made from its number
+-- The script of a soak: 4 callers with 32 calls of a queue each, made from its number.
 abbrev pub soak_plan : ℕ → Plan
 soak_plan number = generated number 4 32 Queue
 

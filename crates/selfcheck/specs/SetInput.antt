@@ -5,7 +5,7 @@ use Rattle.set_order.specs.Joins.{served_joins}
 use Rattle.set_order.specs.SetOrder.{HasLegalSetOrder}
 use Rattle.setbook_text.specs.SetBookRules.{IsSetBookText}
 
--- a book of joins has a legal set order
+-- A book of joins has a legal set order.
 abbrev pub JoinsAreLegal : List Page → Type 0
 JoinsAreLegal book = HasLegalSetOrder (0 ∷ []) served_joins book
 

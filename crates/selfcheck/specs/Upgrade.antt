@@ -24,7 +24,7 @@ unfoldable pub IsOldInput : List ℕ → Type 0
 IsOldInput bytes = ByTitle bytes ((plan : Plan) × IsScriptText First bytes plan)
     ((kind : Kind) × (book : List Page) × IsBookText First bytes kind book)
 
--- the first fault of bytes that are to be the text of a script or of a book, in version 1
+-- The first fault of bytes that are to be the text of a script or of a book, in version 1.
 abbrev pub IsFirstOldFault : List ℕ → TextFault → Type 0
 IsFirstOldFault bytes fault =
     ByTitle bytes (IsFirstScriptFault First bytes fault) (IsFirstBookFault First bytes fault)
@@ -42,6 +42,6 @@ pub record IsUpgradedBook (bytes text : List ℕ) : Type 0 where
   pub old : IsBookText First bytes kind book
   pub new : books.IsWrittenText Second text kind book
 
--- the text of version 2 of what the bytes say in version 1
+-- The text of version 2 of what the bytes say in version 1.
 abbrev pub IsUpgraded : List ℕ → List ℕ → Type 0
 IsUpgraded bytes text = ByTitle bytes (IsUpgradedScript bytes text) (IsUpgradedBook bytes text)

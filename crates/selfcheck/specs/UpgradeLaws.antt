@@ -19,18 +19,18 @@ pub record SaysTheSame (bytes text : List ℕ) : Type 0 where
       ↔ IsBookText Second text kind book
   pub scripts : (plan : Plan) → IsScriptText First bytes plan ↔ IsScriptText Second text plan
 
--- what `upgrade` writes says the same as its input
+-- What `upgrade` writes says the same as its input.
 abbrev pub UpgradesSayTheSame : Type 0
 UpgradesSayTheSame = (bytes text : List ℕ) → IsOutputOf Upgrade bytes Fine text
     → SaysTheSame bytes text
 
--- the order is legal for both books, or for neither
+-- The order is legal for both books, or for neither.
 abbrev pub HaveOneOrder : Kind → List Page → Kind → List Page → List Place → Type 0
 HaveOneOrder kind book other another order =
     IsLegalOrder (kind_init kind) (kind_next kind) book order
     ↔ IsLegalOrder (kind_init other) (kind_next other) another order
 
--- the book in the output has the legal orders of the book in the input
+-- The book in the output has the legal orders of the book in the input.
 abbrev pub UpgradesKeepOrders : Type 0
 UpgradesKeepOrders = (bytes text : List ℕ) (kind other : Kind) (book another : List Page)
     → IsOutputOf Upgrade bytes Fine text

@@ -17,14 +17,14 @@ use Rattle.book_picture.specs.Titles.{first_lines, SaysFirst}
 use Rattle.book_picture.specs.declared.marks.Marks.{Marks}
 use Rattle.witness_texts.specs.Marking.{AreMarksFor}
 
--- the bytes give a book that has a legal order
+-- The bytes give a book that has a legal order.
 pub record IsLegalGiven (bytes : List ℕ) : Type 0 where
   pub kind : Kind
   pub book : List Page
   pub told : IsGiven bytes kind book
   pub legal : HasLegalOrder (kind_init kind) (kind_next kind) book
 
--- the bytes give a book that has no legal order
+-- The bytes give a book that has no legal order.
 pub record IsIllegalGiven (bytes : List ℕ) : Type 0 where
   pub kind : Kind
   pub book : List Page
@@ -45,7 +45,7 @@ pub record IsSmallerWitness (bytes text : List ℕ) : Type 0 where
   pub minimal : IsMinimal kind part
   pub written : IsBookText Second text kind part
 
--- whether a book of this kind has a legal order
+-- Whether a book of this kind has a legal order.
 abbrev pub IsJudged : Kind → List Page → Bool → Type 0
 IsJudged kind book true = HasLegalOrder (kind_init kind) (kind_next kind) book
 IsJudged kind book false = ¬ (HasLegalOrder (kind_init kind) (kind_next kind) book)

@@ -15,12 +15,12 @@ after_call-take : (first : ℕ) (list : List ℕ) (op : ℕ) → (op == take) �
     ≡ ((first_or_zero list + 1) % 2 ^ 64 ∷ [], ticket first (first_or_zero list))
 after_call-take first list op takes = cond-true (op == take) _ _ takes
 
--- the list and the reply after a call with another operation
+-- The list and the reply after a call with another operation.
 pub after_call-unknown : (first : ℕ) (list : List ℕ) (op : ℕ) → (op == take) ≡ false
     → after_call first list op ≡ (list, BAD)
 after_call-unknown first list op other = cond-false (op == take) _ _ other
 
--- no call makes the list longer by more than one item
+-- No call makes the list longer by more than one item.
 pub length-after_call : (first : ℕ) (list : List ℕ) (op : ℕ)
     → length (after_call first list op).0 ≤ length list + 1
 length-after_call first list op =
