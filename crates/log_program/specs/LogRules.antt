@@ -18,7 +18,7 @@ total_of s = s.callers * s.cap
 abbrev pub ticket_at : Shape → World → ℕ → ℕ
 ticket_at s w p = object_word s w (ticket_place (total_of s) p)
 
--- The low or the high word of an operation, by number.
+-- The low word of an operation for 0, and else its high word.
 abbrev pub half_of : ℕ → ℕ → ℕ
 half_of zero operation = low_of operation
 half_of (suc h) operation = high_of operation

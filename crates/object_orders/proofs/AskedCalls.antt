@@ -13,7 +13,7 @@ use Rattle.world_laws.specs.Views.{return_of}
 use Rattle.world_laws.proofs.Agreeing.{asking_is}
 use Rattle.world_laws.proofs.Running.{Kept, start_kept, steps_kept, possible}
 
--- What every reachable world has.
+-- every reachable world keeps its shape, and its locals agree with its words
 pub reachable_kept : (s : Shape) (w : World) → IsReachable s w → Kept s w
 reachable_kept s w (steps, run, at) =
     subst (Kept s) at (steps_kept s (start s) steps (start_kept s) run)
@@ -44,7 +44,8 @@ asked s w i kept low asking =
       replies = omega (arith, replies);
     }
 
--- What an enabled object step has.
+-- A caller's object step is enabled: the call under way is asked, and the step is one that the
+-- program allows it.
 pub record IsObjectStep (s : Shape) (w : World) (who : ℕ) (step : Object_step) : Type 0 where
   pub caller : who < s.callers
   pub call : IsAsked s (local_of w who)
@@ -71,7 +72,7 @@ object_step s w who step kept may =
       found = eqb-true step.old (object_word s w step.place) p.loaded;
     }
 
--- What an enabled return has.
+-- A caller's return is enabled: the call under way is asked, and the program allows it this reply.
 pub record IsReturn (s : Shape) (w : World) (i reply : ℕ) : Type 0 where
   pub caller : i < s.callers
   pub call : IsAsked s (local_of w i)

@@ -215,7 +215,8 @@ due-all counts done (count ∷ rest) split =
     due-from counts i 0 count (before counts i) (all_calls (i + 1) rest) (omega arith)
     (omega (arith, at)) (subst (λ (m : ℕ). AreDue counts m (all_calls (i + 1) rest)) total moved)
 
--- lines that are under way
+-- A report's text whose lines aren't all read: its counts are small, its lines so far are sound,
+-- and these calls are due.
 record IsUnderWay (counts : List ℕ) (told : List Line) (calls : List Call) : Type 0 where
   few : length counts ≤ MAX_CALLERS
   small : AreAtMost TEXT_CALLS counts

@@ -109,7 +109,7 @@ abbrev pub IsSeenBefore : List (List Line) → Call → Type 0
 IsSeenBefore lines call = (other : Call) × (cut : List ℕ) × (seen_at lines other ≡ Some cut)
     × Holds cut call
 
--- the line isn't delivered, and isn't its caller's last
+-- The line isn't delivered, and isn't its caller's last.
 abbrev pub EndsTooEarly : List ℕ → Call → Line → Type 0
 EndsTooEarly counts call line = (delivered_in line.end ≡ None)
     × (call.number + 1 < slice_index counts call.caller)
@@ -161,7 +161,7 @@ LineFails kind counts told call words what.Seen =
     × (seen_in line.end ≡ Some cut) × IsWrongCut counts (grouped counts told) call cut)
     ⊎ ((line : Line) × SaysLine kind (length counts) call words line × (line.end ≡ Pending)
     × IsSeenBefore (grouped counts told) call))
--- the line isn't delivered, and isn't its caller's last
+-- The line isn't delivered, and isn't its caller's last.
 LineFails kind counts told call words what.Last = (line : Line)
     × SaysLine kind (length counts) call words line × EndsTooEarly counts call line
 -- the line has a view that the book of the lines before it refuses

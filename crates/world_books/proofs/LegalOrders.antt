@@ -34,7 +34,7 @@ map-same f g (x ∷ xs) h =
     cc
 
 module _ (order : List Done) where
-  -- what is at a place of the order of places
+  -- a call at a place of the order of places is the call done at that place of the order
   done_at : (k : ℕ) (call : Call) → StandsAt (map place_of order) k call → (d : Done)
       × (slice_get order k ≡ Some d) × (d.call ≡ call)
   done_at k call (place, at, is) =

@@ -91,7 +91,7 @@ told_carries me l m e hs (Answered y reply event is operations replies phase) =
       replies = λ k x. pushed_list l.replies m.replies reply k x replies;
     }
 
--- what the own step of a caller tells
+-- a step makes the happenings that the change of its caller's local tells
 pub step_told : (s : Shape) (w : World) (step : Step) → Kept s w → IsTrue (is_possible s w step)
     → Told step.who (local_of w step.who) (local_of (after s w step) step.who) step.event
     (happenings step.who (local_of w step.who) step.event)

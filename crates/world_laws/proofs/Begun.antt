@@ -220,7 +220,7 @@ taking_more s w i from region taken x fits h low own word above =
       wants = wants_more n taken x h.wants word.going;
     }
 
--- what serving a purpose leaves of a local
+-- serving a purpose leaves the cuts and the looked counts of a local as they are
 served_cuts : (l : Local) (p : Purpose) (cut : List ℕ) → (served l p cut).cuts ≡ l.cuts
 served_cuts l For_row cut = refl
 served_cuts l For_view cut = refl

@@ -111,7 +111,7 @@ peek_is n region j k place (Borrows i row) words h =
       at = sym (eqb-true (embedded_place n region (length words)) place b.1);
     }
 
--- what a place of an embedded entry is for
+-- place n + e of a row of M is for entry e of the embedded cut
 suffix : (n e i : ℕ) (b : Bool) → nat_lt (n + e) n ≡ b → i ≡ e
     → (if b then View_entry (n + e) else Embedded_entry M i) ≡ Embedded_entry M e
 suffix n e i true less same =

@@ -160,7 +160,7 @@ module _ (l : Local) (h : Keeps l.cuts l) (keeps : IsKeptIn l.phase l.to_embed) 
       (subst (λ (f : Phase). IsKeptIn f l.to_embed) is keeps)) (λ _. ended_given)
   served_given Asking is = ended_given
 
-  -- what serving a purpose leaves of the cuts
+  -- a local keeps all its cuts as one of them serves its purpose
   served_all : (p : Purpose) → Keeps more (served ended p cut)
       → Keeps (served ended p cut).cuts (served ended p cut)
   served_all For_row k = k

@@ -103,7 +103,7 @@ module _ (s : Shape) (w : World) (kept : Kept s w) (all : AllLow s w) where
       entry.low e fits in
       omega (arith, is, word, bound)
 
-  -- What a local knows of.
+  -- A row that a local knows of, by a look, a cut, a view or a peek, is a row of the world.
   module _ (l : Local) (h : Low s w l) (r : Region) (j k : ℕ) where
     by_look : list_any (λ (look : Looked). is_same_region look.region r
         && (look.caller == j && nat_lt k look.count)) l.looked ≡ true → IsRow s w r j k
@@ -434,7 +434,7 @@ pub start_low : (s : Shape) → AllLow s (start s)
 start_low s i low = subst (λ (l : Local). Low s (start s) l)
     (sym (get_or-replicate_default s.callers i fresh)) (fresh_low s (start s))
 
--- What every reachable world has.
+-- A world keeps its shape, and no local has a count above the world's: every reachable world is so.
 pub record Sound (s : Shape) (w : World) : Type 0 where
   pub kept : Kept s w
   pub low : AllLow s w

@@ -62,7 +62,8 @@ module _ (s : Shape) (w : World) where
     pub scan : IsLowScan l.scan
     pub peeked : Each IsCounted l.peeked
 
--- What holds of two worlds, the second of which is later.
+-- The second world is later than the first: no count is lower, and each counted row has the words
+-- that it had.
 pub record Later (s : Shape) (w v : World) : Type 0 where
   pub grows : (r : Region) (j : ℕ) → j < s.callers → count_of s w r j ≤ count_of s v r j
   pub stays : (r : Region) (j k place : ℕ) → j < s.callers → k < count_of s w r j

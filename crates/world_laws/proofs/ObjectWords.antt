@@ -55,7 +55,7 @@ adds n l (Look q j x o) =
     let h = looked_calls n l q j x o in
     Adds_nothing tt (h.operations ∙ opened_operations l q o) (h.object_steps ∙ opened_steps l q o)
 
--- what a step adds for its caller
+-- a possible step adds to its caller's local what `Adds` says
 pub step_adds : (s : Shape) (w : World) (step : Step) → Kept s w → IsTrue (is_possible s w step)
     → Adds (local_of w step.who) (local_of (after s w step) step.who) step.event
 step_adds s w step kept may =

@@ -33,7 +33,7 @@ pub record Ordered (l : Local) : Type 0 where
   pub few : (q : ℕ) (given : Given) → slice_get l.cuts q ≡ Some given
       → given.since ≤ length l.looked
 
--- Looked counts come after those that are looked at later.
+-- The local m has looked at more counts than l, and lists them before those of l.
 abbrev pub LooksGrow : Local → Local → Type 0
 LooksGrow l m = (more : List Looked) × (m.looked ≡ more ++ l.looked)
 
@@ -192,11 +192,12 @@ module _ (l m : Local) (h : Ordered l) (grows : LooksGrow l m) where
           ];
         }
 
--- Any world.
+-- The condition that every world meets.
 abbrev pub Anywhere : World → Type 0
 Anywhere w = Unit {0}
 
--- What a scan under way has known, and that cuts are ordered, of a caller of a world.
+-- A caller's scan under way began in some world and holds what was known there, and the caller's
+-- cuts are ordered.
 pub record Placed (s : Shape) (w : World) (i : ℕ) (l : Local) : Type 0 where
   pub begun : IsBegun s w i Anywhere l l.scan
   pub ordered : Ordered l
@@ -246,7 +247,7 @@ steps_placed s w (step ∷ steps) sound all may =
     steps_placed s (after s w step) steps (sound_after s w step sound parts.0)
     (step_placed s w step sound parts.0 all) parts.1
 
--- Locals that are together are those of a world with what is proved above.
+-- Locals of one reachable world are those of a world in which every caller is placed as above.
 pub record Of (s : Shape) (locals : List Local) : Type 0 where
   pub world : World
   pub placed : AllPlaced s world

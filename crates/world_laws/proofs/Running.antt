@@ -18,13 +18,14 @@ use Rattle.world_laws.proofs.Words.{row_kept, count_kept, own_few, others_agree}
 use Rattle.world_laws.proofs.Raising.{announced_counts, published_counts}
 use Rattle.world_laws.proofs.Agreeing.{own_agrees}
 
--- What every reachable world has.
+-- The words and the locals of a world are as many as its shape has, and each local agrees with the
+-- words: every reachable world is so.
 pub record Kept (s : Shape) (w : World) : Type 0 where
   pub words_long : length w.words ≡ words_of s
   pub locals_long : length w.locals ≡ s.callers
   pub agree : (i : ℕ) → i < s.callers → Agrees s w.words i (local_of w i)
 
--- What a possible step has.
+-- A possible step is of one of the callers, is enabled, and loads what the words have.
 pub record Possible (s : Shape) (w : World) (step : Step) : Type 0 where
   pub caller : step.who < s.callers
   pub allowed : IsTrue (is_enabled s step.who (local_of w step.who) step.event)

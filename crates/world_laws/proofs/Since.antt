@@ -97,7 +97,8 @@ after_moved n taken (suc m) j k fits h = (
   omega (arith, fits),
 )
 
--- What was looked at, found and embedded since a world.
+-- What a caller has looked at, found and embedded since some world has no count below those of that
+-- world.
 module _ (s : Shape) (from : World) where
   -- a cut with no count below those of that world
   pub record IsHighCut (region : Region) (cut : List ℕ) : Type 0 where

@@ -115,7 +115,7 @@ map_scan : (Q R : Region → Type 0) (o : Option Scan) → ((r : Region) → Q r
 map_scan Q R None f h = tt
 map_scan Q R (Some scan) f h = f scan.region h
 
--- the scan under way after a step
+-- a scan that is under way after a step began in the steps up to it
 step_open : (s : Shape) (done : List Step) (w : World) (step : Step) (i : ℕ) → Sound s w
     → IsTrue (is_possible s w step) → OnScan (Open done i) (local_of w i).scan
     → OnScan (Open (done ++ step ∷ []) i) (local_of (after s w step) i).scan
@@ -170,7 +170,7 @@ not_done_at_first n x cut some done =
     done_ends (course n (x ∷ [])) (open_round n (x ∷ [])) cut done in
     let never : Collects ≡ Ends cut = sym (one_round n x (rounds n (x ∷ [])) few) ∙ ends in cc
 
--- What a caller has at the end of some steps.
+-- A caller's scan under way began in these steps, and each of its cuts was given by a scan in them.
 record Traced (s : Shape) (done : List Step) (i : ℕ) (l : Local) : Type 0 where
   scan : OnScan (Open done i) l.scan
   cuts : Each (IsGivenBy s done i) l.cuts
@@ -272,7 +272,7 @@ unfolding AllTraced
 start_traced s i low = subst (λ (l : Local). Traced s [] i l)
     (sym (get_or-replicate_default s.callers i fresh)) (fresh_traced s [] i)
 
--- what a caller has at the end of steps, along the rest of a run
+-- callers whose scans and cuts are traced in the steps so far have them traced in the whole run
 steps_traced : (s : Shape) (done rest : List Step) (w : World) → Sound s w → IsRun s done
     → end_of s done ≡ w → IsTrue (are_possible s w rest)
     → AllPlaced s w → AllTraced s done w → AllTraced s (done ++ rest) (after_all s w rest)

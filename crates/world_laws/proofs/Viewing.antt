@@ -321,7 +321,7 @@ steps_wait s from w (step ∷ steps) i k low sound all may h =
     (step_high s from w step sound parts.0 all) parts.1
     (step_waits s from w step i k low sound all parts.0 h)
 
--- the step at which the call returns
+-- after the look at which a call returns, the view of this call is being scanned, as `Waits` says
 return_waits : (s : Shape) (w : World) (who x reply : ℕ) → Sound s w → who < s.callers
     → IsTrue (is_loaded s w.words (Look N 0 x (Begins_view reply)))
     → Waits s w (length (local_of w who).views)

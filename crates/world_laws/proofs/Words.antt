@@ -11,7 +11,7 @@ use Rattle.world_core.specs.Event.{Event, Stage, Announce, Object, Look, Peek, P
 use Rattle.world_core.specs.Agreement.{Agrees, HasPhase}
 use Rattle.world_core.proofs.Indices.{count_apart, count_or_row, row_apart, count_or_object, row_or_object}
 
--- What a stage may put where.
+-- A stage is allowed to put the word x at place p of a row of the region r.
 pub record MayStage (s : Shape) (l : Local) (r : Region) (p x : ℕ) : Type 0 where
   pub staging : is_staging l.phase r ≡ true
   pub row : own_count l r < s.cap
