@@ -32,7 +32,8 @@ allowed_by_rows {P} meaning r c who reply h number may =
     (λ (p : P). IsTrue ((meaning p c.callers c.cap).may_reply (who_of c) (local_with c) reply))
     h.program may)))
 
--- what holds of a call under way, whatever state the caller is in
+-- in whatever state its caller is, a call under way has made no object step before it is asked, and
+-- has a reply that the program allows it once it is answered
 pub keeps_asked : {P : Type 0} (meaning : P → ℕ → ℕ → Meaning) (r : Rows P)
     (says : ℕ → Local → Record → List ℕ → LineEnd → Type 0) (who : ℕ) (operations : List ℕ)
     (s : CallerState P) (own : List Line)

@@ -71,7 +71,7 @@ tickets_stay_known total tickets steps step low h =
           (λ same. omega (arith, low, same)) ∙ h.free q high;
     }
 
--- one ticket more is known by a step at the next place
+-- a step at the next place makes its ticket known, after those that were known
 tickets_grow : (total ticket : ℕ) (tickets : List ℕ) (steps : List Object_step) (step : Object_step)
     → step.place ≡ ticket_place total (length tickets)
     → length tickets < total → 0 < ticket → known step.place (steps ++ step ∷ []) ≡ Some ticket

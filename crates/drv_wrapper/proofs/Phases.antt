@@ -24,7 +24,8 @@ use Rattle.drv_wrapper.proofs.Locals.{local_has_phase}
 use Rattle.drv_wrapper.proofs.Growing.{grows_by}
 use Rattle.drv_wrapper.proofs.Scans.{scanned_for_row, scanned_for_view, row_scanned, view_scanned}
 
--- What an announcement leaves of its caller's local.
+-- An announcement has led its caller from the local l to the local m, in which the call is asked,
+-- and the progress is that of l with this call.
 pub record Announces (n op : ℕ) (l m : Local) : Type 0 where
   pub events : HasAnnounced n op l m
   pub asked : IsAsked op m

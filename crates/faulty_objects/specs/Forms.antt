@@ -43,7 +43,7 @@ dequeue = operation 2 0
 abbrev pub IsNoEnqueue : ℕ → Type 0
 IsNoEnqueue op = (value : ℕ) → value < 2 ^ 32 → op ≢ enqueue value
 
--- The word of the item at a place comes after the counter.
+-- The index of the word for the item at a place: the counter's word comes before the items' words.
 abbrev pub item_index : ℕ → ℕ
 item_index place = 1 + place
 

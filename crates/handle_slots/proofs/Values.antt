@@ -34,7 +34,7 @@ and_and true true s t = tt
 and_and true false s t = absurd t
 and_and false y s t = absurd s
 
--- what a struct with these fields owns, whatever its name
+-- The type of a struct with these fields, whose name doesn't matter.
 abbrev pub fields_of : List RattleType → RattleType
 fields_of fields = Struct (record { name = []; args = []; types = []; fields = fields })
 

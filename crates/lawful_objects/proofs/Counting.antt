@@ -94,7 +94,7 @@ counted_reply who found reply before after lawful made told =
       told = told ∙ ap reply_value is;
     }
 
--- what a load found
+-- a load found the last word that was stored before it
 pub found_last : (who found : ℕ) (before after : List Access) → IsLawful cell_may after
     → (made : IsAfterAccess who (Loaded 0 found) before after)
     → IsLastStored found (before ++ made.between)

@@ -81,7 +81,7 @@ sum_of_both f g (x ∷ xs) =
       sum_of_both f g xs,
     )
 
--- how many deeds a caller has
+-- The number of a caller's deeds in a history.
 abbrev deeds_many : List Access → ℕ → ℕ
 deeds_many history i = length (deeds_by i history)
 
@@ -166,7 +166,7 @@ all_told history (t ∷ transcripts) calls =
       more,
     )
 
--- what the transcripts say together
+-- transcripts that are of one history of a tally are together those of one tally
 pub one_tally : (n : ℕ) (history : List Access) (transcripts : List Transcript)
     → AreOfOneHistory tally_may (λ _. IsTallied) n history transcripts
     → TellOneTally n history transcripts

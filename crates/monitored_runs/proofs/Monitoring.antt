@@ -437,7 +437,7 @@ module _ {P T : Type 0} (meaning : P → ℕ → ℕ → Meaning) (r : Rows P) (
         (own_is_a_witness init next (shape_of meaning r) locals i most before w together
         (omega (arith, one.before, begins.callers)) (rounds_on i most before (Some w) h))
 
-    -- what both monitors have left, who were on the first bench
+    -- What the two monitors leave, which were on the first bench and then watched.
     module _ (most : ℕ) (one other : Option Witness) (watched : (l : Local)
         → on_bench first n ≡ Some l → HasWatched init next r.callers b n l most one)
         (watched_too : (l : Local) → on_bench first (n + 1) ≡ Some l

@@ -43,8 +43,8 @@ pub record AreNamedMonitored (behaviour : Behaviour) (plan : Plan)
   pub object : IsOfBehaviour behaviour plan.kind (length plan.operations) (phases_in plan)
       (calls_at locals)
 
--- The output of a run that left locals as `Are` says: a status and a text that are right for the
--- records that their callers have published.
+-- The output of a monitored run that ends with locals of which `Are` is true: a status and a text
+-- that are right for the records that these locals have published.
 abbrev pub IsMonitorOutput : (List Local → Type 0) → Kind → Status → List ℕ → Type 0
 IsMonitorOutput Are kind status text = (locals : List Local) × Are locals
     × IsMonitorText kind locals status text

@@ -62,7 +62,8 @@ pub last_in_order : {X : Type 0} (Is : ℕ → X → Type 0) (xs xs' : List X) (
     → xs ≡ xs' ++ x ∷ [] → k ≡ length xs' → AreInOrder Is xs → Is k x
 last_in_order Is xs xs' k x took place h = h k x (last_at xs' xs x k took (sym place))
 
--- what two lists of related items have at one place
+-- an item of the second of two related lists has an item of the first at its place that is related
+-- to it
 related_at : {X Y : Type 0} (R : X → Y → Type 0) (xs : List X) (ys : List Y) (j : ℕ) (y : Y)
     → AllZip R xs ys → slice_get ys j ≡ Some y → (x : X) × (slice_get xs j ≡ Some x) × R x y
 related_at R [] [] j y h there = absurd (none-some y there)
@@ -91,7 +92,7 @@ written_back R n xs lent ys is long h =
     ∙ take-append_seam ys (drop (length ys) xs) in
     subst (λ (l : List _). AllZip R xs l) (sym whole) all
 
--- what a list was before its last item was popped
+-- a list from which an item was popped was the list left with this item at the end
 pub popped : {X : Type 0} (xs ys : List X) (o : Option X) (x : X) → xs ≡ ys ++ option_to_list o
     → o ≡ Some x → xs ≡ ys ++ x ∷ []
 popped xs ys o x items is = items ∙ ap (λ (p : Option _). ys ++ option_to_list p) is

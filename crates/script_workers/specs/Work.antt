@@ -1,4 +1,5 @@
--- Clients before, in and after their work.
+-- Workers that are ready, the clients that they put to work, and what these clients are once the
+-- work is done.
 use Rattle.std.specs.Prelude.{◌≡◌, ℕ, ◌+◌, ◌*◌, ◌≤◌, List, length, Option, Some}
 use Rattle.book_base.specs.declared.call.Record.{Record}
 use Rattle.world_core.specs.Shape.{Meaning}

@@ -68,7 +68,7 @@ no_row (row ∷ rows) word e = here (no_row rows word) (bytes_eq word row.0) ref
 abbrev stopped_by : Text → Held × Step → Option (Text × List Text)
 stopped_by word met = (after_step [] word (walk_from nothing_held) met.0 met.1).stopped
 
--- what the first word is, by the subcommand that it names
+-- What clap makes of the first word, by the subcommand that this word names.
 abbrev met_by : Text → Option (Text × List Text) → Held × Step
 met_by word named = subcommand_or_other [] (option_map (λ (s : Text × List Text). s.0) named) idle 1
     word nothing_held

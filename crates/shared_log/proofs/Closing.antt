@@ -52,7 +52,7 @@ starts_closing n all rest last me is callers kept =
           };
     }
 
--- what is required where the next seat comes back
+-- The next seat to come back is one of this log, and the view lacks its caller.
 pub record IsNext (l : SharedLog) (v : View) (s : LogSeat) : Type 0 where
   pub seat : IsSeatOf l s
   pub gone : has v (caller_of s) ≡ None
@@ -191,7 +191,7 @@ module _ (n cap : ℕ) (words : List ℕ) (views : List View) (id : ℕ) (v : Vi
             ≡ calls_by (caller_of s) (log_of s)) longest_is k.1) seats knows;
       }
 
--- what a closed table determines of the seats that all came back
+-- where all seats came back, the closed table determines their one log
 pub closes : (n cap id : ℕ) (v : View) (all rest : List LogSeat) (longest : List Entry)
     (ws : List ℕ) (homes : List (Unit {0})) → map caller_of all ≡ range_with_len 0 n
     → IsClosing n all rest v longest

@@ -38,7 +38,7 @@ module _ {A : Type 0} where
   inside (y ∷ v) zero x e = omega arith
   inside (y ∷ v) (suc i) x e = let deeper = inside v i x e in omega arith
 
-  -- what a view of one caller has
+  -- a view of one caller has this caller's value, and no other caller's
   pub only_here : (who : ℕ) (x : A) → has (only who x) who ≡ Some x
   only_here zero x = refl
   only_here (suc who) x = only_here who x
@@ -57,7 +57,7 @@ module _ {A : Type 0} where
   length-only zero x = refl
   length-only (suc who) x = ap suc (length-only who x)
 
-  -- what a view has without a caller, and with one
+  -- removing a caller from a view, or setting one, changes what the view has of this caller alone
   pub without_here : (v : List (Option A)) (who : ℕ) → has (slice_set v who None) who ≡ None
   without_here [] who = refl
   without_here (x ∷ v) zero = refl

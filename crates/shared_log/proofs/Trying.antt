@@ -84,7 +84,7 @@ placed_more n cap who op place first log more e before h next begins at is tried
     (tries_more n cap place first log more e before h.tried
     (h.tried ++ ticket_index n cap place ∷ []) begins at is tried (inr refl))
 
--- what a load found, as a try
+-- a load that finds the ticket filled is a try of this place
 pub looked : (n cap who word found : ℕ) (h next : Hand) → Looks n cap who found h next → found ≢ 0
     → Tries n cap who word found h next
 looked n cap who word found h next l filled =

@@ -87,7 +87,7 @@ knows may n count id v passes words views r at hands =
           passes hands;
     }
 
--- what a closed table determines of the passes that all came back
+-- where all passes came back, the closed table determines their one history
 pub closed : {U : Type 0} (may : ℕ → Deed → Type 0) (w : SharedWords U) (id : ℕ) (v : View)
     (all rest : List WordsPass) (ws : List ℕ) (homes : List (Unit {0}))
     → IsClosing w.callers all rest v → length rest ≡ 0

@@ -45,7 +45,7 @@ abbrev pub first_word : List Deed → ℕ
 first_word [] = 0
 first_word (d ∷ deeds) = told_word d
 
--- what the last of some deeds found
+-- The word that the last of these deeds found, 0 where there is none.
 abbrev pub last_word : List Deed → ℕ
 last_word [] = 0
 last_word (d ∷ []) = told_word d

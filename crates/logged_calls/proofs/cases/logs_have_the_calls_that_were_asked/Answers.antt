@@ -46,7 +46,7 @@ first_alone (e ∷ log) all none =
 abbrev first_reply : List (ℕ × ℕ) → ℕ
 first_reply pairs = (slice_index_or pairs 0 (0, 0)).1
 
--- what two callers have in a log, call by call
+-- a log with the calls 5 of caller 0 and 6 of caller 1 has the calls that were asked of each
 of_two : (phases reply : ℕ) (log : List Entry)
     → calls_by 0 log ≡ 5 ∷ [] → calls_by 1 log ≡ take (asked phases) (6 ∷ [])
     → (i : ℕ) → i < 2
