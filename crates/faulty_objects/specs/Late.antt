@@ -45,8 +45,9 @@ late_reply_after next init before e = reply_after next init
 abbrev pub late_reply : (List ℕ → ℕ → List ℕ × ℕ) → List ℕ → List Entry → ℕ
 late_reply next init log = late_reply_after next init (earlier log) (last_call log)
 
--- A call makes its changes after those of the others; what waits of its caller afterwards is the
--- call itself where it is a put; and its reply is given before its own change.
+-- A call makes its changes after those of the calls before it. Afterwards its caller's waiting
+-- operation is that of this call, where it is a put, and else there is none; those of other callers
+-- stay. Its reply is given before its own change.
 pub record PutsWait : Type 0 where
   pub changes : (before : List Entry) (e : Entry)
       → late_changes [] (before ++ e ∷ []) ≡ late_changes [] before ++ late_change before e

@@ -13,7 +13,7 @@ pub struct Twice<S: SeqObject> {
 }
 
 impl<S: SeqObject> Twice<S> {
-    // Makes the calls of a log that are no takes.
+    // Makes each call of a log that isn't a take.
     fn replay(&self, log: &[Entry], state: &mut State)
         requires { length state.old.words + length log.now ≤ state.old.room }
         ensures list { state.new ≡ record state.old {

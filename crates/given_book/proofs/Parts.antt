@@ -37,7 +37,7 @@ old_or_verdict bytes rest old (inr is) =
     first_bytes (codes "book 1\n" ++ old.0) (codes "illegal\n" ++ rest) (sym old.1 ∙ is)
     (λ (e : 98 ≡ 105). omega (arith, e))
 
--- one text comes after a verdict
+-- at most one text comes after a verdict
 one_after_verdict : (bytes p q : List ℕ) → IsAfterVerdict bytes p → IsAfterVerdict bytes q → p ≡ q
 one_after_verdict bytes p q (inl is) (inl also) = ap (λ xs. drop 6 xs) (sym is ∙ also)
 one_after_verdict bytes p q (inr is) (inr also) = ap (λ xs. drop 8 xs) (sym is ∙ also)
@@ -48,7 +48,7 @@ one_after_verdict bytes p q (inr is) (inl also) =
     first_bytes (codes "illegal\n" ++ p) (codes "legal\n" ++ q) (sym is ∙ also)
     (λ (e : 105 ≡ 108). omega (arith, e))
 
--- one text comes after the first line `end`
+-- at most one text comes after the first line `end`
 one_by_order : (bytes p q : List ℕ) (a : IsAfterEnd bytes p) (b : IsAfterEnd bytes q)
     → (a.at ≡ b.at) ⊎ ((a.at < b.at) ⊎ (b.at < a.at)) → p ≡ q
 one_by_order bytes p q a b (inl is) =

@@ -141,7 +141,7 @@ tools_more n cap all new t ready is pairs room clear long =
       waiting = long ∙ clear_waiting n cap t.scratch clear;
     }))
 
--- the passes with one more, whose seat is the next
+-- passes with one more pass, whose seat is the next, are the passes of one seat more
 pub seats_more : (seats left left' : List LogSeat) (passes new : List LogPass) (p : LogPass)
     (s : LogSeat) → map seat_in passes ++ left ≡ seats → left ≡ s ∷ left'
     → new ≡ passes ++ p ∷ [] → seat_in p ≡ s

@@ -18,7 +18,7 @@ pub struct CountingPass {
 impl CountingPass {
     ghost use Rattle.object_kit.specs.Passes.{caller_of, made_with, cap_of, any_pass};
 
-    /// A pass of a caller with which no call was made yet, and `cap` may be.
+    /// A caller's pass with which no call was made yet, and at most `cap` calls may be made.
     pub fn new(caller: u32, cap: u64) -> CountingPass
         // The pass is this caller's.
         ensures caller { caller_of result ≡ caller }

@@ -86,7 +86,8 @@ module _ (init : List ℕ) (next : List ℕ → ℕ → List ℕ × ℕ) (histor
         ];
       }
 
-  -- after the return of a call with the reply that it has in the order
+  -- an order of a history is also one after the return of a call with the reply that it has in the
+  -- order
   pub after_return : (call : Call) (operation reply : ℕ)
       → Contains order (record { call = call; operation = operation; reply = reply })
       → IsLinearization init next (history ++ Returned call reply ∷ []) order

@@ -266,7 +266,7 @@ impl TriedCommand {
         Ok(Some(TriedCommand::new(alloc, &["verify"], book, wanted)?))
     }
 
-    /// Makes the command by the top call.
+    /// Runs the command by a call of `selfcheck`.
     pub fn act<R: AllocGlobal + Threads + Sync>(&mut self, rt: &R) {
         let status = selfcheck::selfcheck(
             rt,

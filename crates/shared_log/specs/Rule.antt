@@ -19,8 +19,7 @@ pub record HaveOneLog (n cap : ℕ) (words : List ℕ) (views : List View) : Typ
 abbrev pub Ruled : ℕ → ℕ → State (Unit {0}) View → Type 0
 Ruled n cap t = HaveOneLog n cap t.words t.views
 
--- A step changes the hand of one caller alone, and the hands before and after it are related as
--- tells says.
+-- A step changes the hand of one caller alone, and `tells` relates the hands before and after it.
 pub record Turns (who : ℕ) (me after : Me (Unit {0}) View)
     (tells : Hand → Hand → Type 0) : Type 0 where
   pub next : Hand
@@ -32,7 +31,8 @@ abbrev pub Stages : ℕ → Hand → Hand → Type 0
 Stages word h next = next ≡ hand h.log (h.staged ++ word ∷ []) h.tried
 
 -- A caller has found a filled ticket at the first place that it doesn't know, and learns the entry
--- there, which is another caller's; tried are the words at which it has made an exchange.
+-- there, which is another caller's. The list `tried` has the words at which the caller has made an
+-- exchange.
 pub record Learns (n cap who found : ℕ) (tried : List ℕ) (h next : Hand) : Type 0 where
   pub entry : Entry
   pub log : next ≡ hand (h.log ++ entry ∷ []) h.staged tried

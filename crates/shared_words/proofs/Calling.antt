@@ -6,7 +6,7 @@ use Rattle.shared_words.specs.declared.words_pass.WordsPass.{WordsPass}
 use Rattle.shared_words.specs.Deeds.{Deed, AreCalls}
 use Rattle.shared_words.specs.Passes.{caller_of_seat, deeds_of, seat_in, caller_of_pass, pairs_in, cap_of_pass, capacity_of_pass, IsSeatOf, IsPassOf}
 
--- calls with one more call at their end
+-- calls with one more call at their end are calls made by the deeds of both
 pub AreCalls-push : (call : ℕ → ℕ → List Deed → List Deed → Type 0) (pairs : List (ℕ × ℕ))
     (op reply : ℕ) (before between after : List Deed)
     → AreCalls call pairs before between → call op reply between after

@@ -57,7 +57,7 @@ no_judging : (r : Region) → is_staging Judging r ≡ true → ⊥
 no_judging N h = cc
 no_judging M h = cc
 
--- the counts after an announcement
+-- the counts after an announcement are those of its caller's local
 pub announced_counts : (s : Shape) (me : ℕ) (l : Local) (words : List ℕ) → me < s.callers
     → words_of s ≤ length words → Agrees s words me l
     → (r : Region) → slice_index (words_after s me l words Announce) (count_index s.callers r me)

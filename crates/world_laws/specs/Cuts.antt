@@ -102,7 +102,7 @@ CutsRise =
 
 -- A cut of a region contains each count of that region that its caller had looked at before the
 -- cut's scan began. Looked counts are listed newest first, so these are the last ones, as many as
--- the field since of the cut says.
+-- the field `since` of the cut says.
 abbrev pub CutsHoldLooked : Type 0
 CutsHoldLooked =
     (s : Shape) (locals : List Local) (i p q : ℕ) (look : Looked) (given : Given)
@@ -112,7 +112,7 @@ CutsHoldLooked =
     → length (local_at locals i).looked ≤ p + given.since → look.region ≡ given.region
     → look.count ≤ slice_index given.cut look.caller
 
--- The field since of a cut is at most the number of counts that its caller has looked at.
+-- The field `since` of a cut is at most the number of counts that its caller has looked at.
 abbrev pub CutsHaveSince : Type 0
 CutsHaveSince =
     (s : Shape) (locals : List Local) (i q : ℕ) (given : Given) → AreTogether s locals
