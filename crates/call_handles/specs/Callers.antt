@@ -104,10 +104,10 @@ HasBegun op h k =
 abbrev pub outcome_of : wrong.Wrong → Outcome
 outcome_of w = outcome.Illegal w.reply w.view w.seen w.book
 
--- What the answer to an announced call says, with the stage of the call's caller afterwards: that
--- the call is delivered, with a legal order of the published records at the seen cut; that it is
--- wrong, with their book, which has no legal order; or that it isn't judged, and then its record is
--- published all the same, and the caller is halted.
+-- What the answer to an announced call says, with the stage of the call's caller afterwards. A
+-- delivered call comes with a legal order of the published records at the seen cut, and a wrong one
+-- with their book, which has no legal order. The record of a call that isn't judged is published
+-- all the same, and its caller is halted.
 abbrev pub AnswersFor : Rows Outside → Kind → announced.Announced Outside → ℕ → Stage
     → Answer → Type 0
 AnswersFor r kind call reply stage answer.Delivered =

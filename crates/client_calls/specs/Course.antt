@@ -32,9 +32,9 @@ module _ {P : Type 0} where
   ErrorsFit (Halted c) own = EndsInError own
   ErrorsFit _ own = any_error own ≡ false
 
-  -- A client of this caller has come, with these operations, to this state and these lines: the
-  -- caller, one of these rows, has made exactly the phases up to there, the lines are those of all
-  -- its calls but the one under way, and it can make its next phase.
+  -- A client of this caller has come, with these operations, to this state and these lines. The
+  -- caller is one of these rows, has made exactly the phases up to this state, and can make its
+  -- next phase. The lines are those of all its calls but the one under way.
   pub record HasCome (meaning : P → ℕ → ℕ → Meaning) (r : Rows P)
       (says : ℕ → Local → Record → List ℕ → LineEnd → Type 0) (who : ℕ) (operations : List ℕ)
       (s : CallerState P) (own : List Line) : Type 0 where

@@ -51,9 +51,9 @@ pub record IsLineOf (says : Record → List ℕ → LineEnd → Type 0) (call : 
 abbrev pub AreLinesOfCalls : (Record → List ℕ → LineEnd → Type 0) → List Made → List Line → Type 0
 AreLinesOfCalls says calls own = AllZip (IsLineOf says) calls own
 
--- What a client leaves, in its caller's local and its lines, for its operations and its allotment:
--- the lines are those of all its calls, with ends as `says` says, and it made all phases of its
--- allotment, but for those after an error.
+-- What a client leaves, in its caller's local and its lines, for its operations and its allotment.
+-- The lines are those of all its calls, with ends of which `says` is true. It made all phases of
+-- its allotment, but for those after an error.
 pub record HasLeft (says : ℕ → Local → Record → List ℕ → LineEnd → Type 0) (n : ℕ)
     (operations : List ℕ) (allotment : ℕ) (l : Local) (own : List Line) : Type 0 where
   pub lines : AreLinesOfCalls (says n l) (calls_in l) own

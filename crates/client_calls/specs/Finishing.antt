@@ -18,8 +18,8 @@ use Rattle.client_calls.specs.Clients.{Spent}
 use Rattle.client_calls.specs.declared.stand.CallerState.{CallerState}
 use Rattle.client_calls.specs.declared.stand.CallerState.TheVariants.{Idle, Announced, Answered, Viewed, Published, Halted, Unjudged}
 
--- What holds of the call under way of a caller i that has made this many phases: where it is
--- announced and not asked it has no object step yet, and where it is asked and has no view its
+-- What holds of the call under way of caller i, which has made this many phases. A call that is
+-- announced and not asked has no object step yet. For a call that is asked and has no view, the
 -- program allows a reply.
 pub record KeepsAsked (program : Meaning) (i phases : ℕ) (l : Local) : Type 0 where
   pub unasked : phases % 5 ≡ 1 → steps_now l ≡ []

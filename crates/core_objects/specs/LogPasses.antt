@@ -10,9 +10,10 @@ use Rattle.core_objects.specs.LogCalls.{KnowsTickets, KnowsOperations}
 abbrev pub object_of : {S : Type 0} → CoreLog S → S
 object_of log = log.object
 
--- A pass of the log of a sequential object fits a caller, an n, a cap and some object steps where
--- it is the pass of these, with capacity for the whole log, and knows just the tickets and the
--- operations that these steps show. Its state is the object's list after these operations.
+-- A pass of the log of a sequential object fits a caller, n callers, a cap and some object steps:
+-- it is the pass of this caller for them, has capacity for the whole log, and knows just the
+-- tickets and the operations that these steps show. Its state is the object's list after these
+-- operations.
 pub record FitsLog (init : List ℕ) (next : List ℕ → ℕ → List ℕ × ℕ) (pass : CorePass)
     (caller n cap : ℕ) (steps : List Object_step) : Type 0 where
   pub caller_is : pass.caller ≡ caller

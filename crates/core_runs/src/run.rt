@@ -19,17 +19,17 @@ use run_report::run_asked;
 use std::alloc::Global;
 use std::thread::Threads;
 
-/// Runs all callers of a script, each in a thread of its own where one can be had: each asks an
-/// object inside the world by its pass, with the object's steps as events of the same world, and
+/// Runs all callers of a script, each in a thread of its own where one can be had. Each caller asks
+/// an object inside the world by its pass, with the object's steps as events of the same world, and
 /// judges each of its calls by the sequential object. The answer is their report, which is lawful,
 /// and no line of which is an error, since every run of the object's program is linearizable
 /// (Herlihy and Wing 1990).
 ///
 /// Whatever the answer, the bench holds all callers again, the passes are in their order and fit
-/// the object steps that their callers have made, and each caller has made a prefix of its phases:
-/// all of them where a report is answered, and then each caller that stopped between two calls, or
-/// made all of them, is free for its next call. Want of memory is answered before the first call,
-/// or where a judgement wanted it.
+/// the object steps that their callers have made, and each caller has made a prefix of its phases.
+/// Where a report is answered, each caller has made all of its phases, and one that stopped between
+/// two calls, or made all of its calls, is free for its next call. Want of memory is answered
+/// before the first call, or where a judgement wanted it.
 pub fn run_core<R: Threads + Sync, O: CoreObject + Sync>(
     rt: &R,
     alloc: Global,

@@ -12,7 +12,7 @@ use Rattle.drv_wrapper.specs.States.{caller_announced, number_announced, op_anno
 use Rattle.drv_wrapper.specs.Growth.{Grows}
 
 -- The announced call b is the announced call a after this object step of its caller, and no other
--- event: the step is one of this call, the last of all steps of its caller, and the caller has come
+-- event. The step is one of this call, and the last of all steps of its caller. The caller has come
 -- no further with its calls.
 pub record HasStepped {P : Type 0} (meaning : P → ℕ → ℕ → Meaning) (r : Rows P) (a b : Announced P)
     (step : Object_step) : Type 0 where

@@ -11,9 +11,9 @@ use seq_objects::Kind;
 use std::alloc::Global;
 use text_fields::Version;
 
-/// The book that an input gives, and the kind of its object: that of a book's text, in version 1 or
-/// 2, or the witness that the whole output of a run has after its report, or that of monitors after
-/// their verdict.
+/// The book that an input gives, and the kind of its object. It is the book of a book's text, in
+/// version 1 or 2, or the witness that the whole output of a run has after its report, or that of
+/// monitors after their verdict.
 ///
 /// A text fault names the first line that is wrong, counted from the title of the book, and of its
 /// tests the first that it fails. A report or a verdict without a witness is refused as the text of

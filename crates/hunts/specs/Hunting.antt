@@ -24,9 +24,9 @@ first_seeds settings zero = []
 first_seeds settings (suc number) = first_seeds settings number ++ seed_at settings number ∷ []
 
 module _ {T : Type 0} (made : T → ℕ) (told : T → Option (List (ℕ × ℕ))) where
-  -- A run was made of this plan over an object outside the world, and reports these findings: they
-  -- are of the plan's kind, and lawful by the object of that kind, and with these passes, in order,
-  -- the object was asked for just the calls of their callers' lines.
+  -- A run was made of this plan over an object outside the world, and reports these findings. They
+  -- are of the plan's kind, and lawful by the object of that kind. With these passes, in order, the
+  -- object was asked for just the calls of their callers' lines.
   pub record IsRun (plan : Plan) (passes : List T) (findings : Findings) : Type 0 where
     pub kind : findings.kind ≡ plan.kind
     pub lawful : IsLawful (kind_init plan.kind) (kind_next plan.kind)

@@ -6,7 +6,7 @@ ghost use Rattle.log_program.specs.LogRules.{LogRulesHold, TicketsStay, SomePlac
 
 /// In every reachable world the filled places of the log are a prefix, each ticket names a call
 /// whose words are stored, no ticket is at two places, and the word that an object step left is
-/// still there; and a ticket never changes.
+/// still there. A ticket never changes.
 pub fn log_rules_hold()
     // The rules of a log hold in every reachable world of its program.
     ensures rules { LogRulesHold }

@@ -81,15 +81,15 @@ where
     // after all of them, is free for its next call.
     ensures free { ¬ (result ≡ Status.NoMemory) → AreFreeAgain script.now bench.new }
     // Want of memory aside, the object was asked with each pass for exactly the calls that the
-    // script lets its caller ask; what the pass tells, where it tells anything, begins with the
+    // script lets its caller ask. What the pass tells, where it tells anything, begins with the
     // operations and the replies of the caller's records, and is at most one pair longer.
     ensures told { ¬ (result ≡ Status.NoMemory)
         → AreInOrder
         (IsToldAll B.Pass.made B.Pass.told script.now (locals_on bench.new)) passes.new.items }
     // Want of memory aside, the cuts that each monitor was given in this run are those of its
-    // rounds over the calls of all callers: at most one more than the script has calls; at each but
-    // the last the book has a legal order; and either there is one cut more than calls, or the book
-    // at the last cut has no legal order.
+    // rounds over the calls of all callers. There are at most as many as the script has calls, and
+    // one more. At each cut but the last the book has a legal order. Where there are fewer cuts
+    // than that, the book at the last one has no legal order.
     ensures rounds { ¬ (result ≡ Status.NoMemory)
         → (i : ℕ) (l : Local) → IsMonitor script.now i → on_bench bench.old i ≡ Some l
         → HasMonitored (kind_init script.now.kind) (kind_next script.now.kind) script.now

@@ -139,9 +139,9 @@ pub fn monitor_asked<
     ensures counted { IfOk result
         (λ _. AreInOrder (IsCountedAll A.count script.now (locals_on bench.new)) passes.new.items) }
     // With an answer the cuts that each monitor was given in this run are those of its rounds over
-    // the calls of all callers: at most one more than the script has calls; at each but the last
-    // the book has a legal order; and either there is one cut more than calls, or the book at the
-    // last cut has no legal order.
+    // the calls of all callers. There are at most as many as the script has calls, and one more. At
+    // each cut but the last the book has a legal order. Where there are fewer cuts than that, the
+    // book at the last one has no legal order.
     ensures rounds { IfOk result
         (λ _. (i : ℕ) (l : Local) → IsMonitor script.now i → on_bench bench.old i ≡ Some l
         → HasMonitored (S.init sequential.now) (S.next sequential.now) script.now
@@ -215,7 +215,7 @@ where
     // of them, is free for its next call.
     ensures free { IfOk result (λ _. AreFreeAgain script.now bench.new) }
     // With an answer the object was asked with each pass for exactly the calls that the script lets
-    // its caller ask; what the pass tells, where it tells anything, begins with the operations and
+    // its caller ask. What the pass tells, where it tells anything, begins with the operations and
     // the replies of the caller's records, and is at most one pair longer.
     ensures told { IfOk result (λ _. AreInOrder
         (IsToldAll B.Pass.made B.Pass.told script.now (locals_on bench.new)) passes.new.items) }

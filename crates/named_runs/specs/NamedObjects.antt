@@ -32,7 +32,7 @@ AreTold told phases calls passes =
     AreInOrder (λ i pass. IfSome (told pass) (IsTold (phases i) (calls i))) passes
 
 -- The object of a behaviour, for scripts of a kind, answered the calls of n callers, each of which
--- made its number of phases: a log object answers from its log, by the object of the kind; the
+-- made its number of phases. A log object answers from its log, by the object of the kind. The
 -- replies of another object have the form that it gives to the reply to an operation.
 abbrev pub IsOfBehaviour : Behaviour → Kind → ℕ → (ℕ → ℕ) → (ℕ → List Made) → Type 0
 IsOfBehaviour Lawful kind n phases calls =

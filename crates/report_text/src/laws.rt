@@ -44,8 +44,8 @@ pub fn no_report_text_begins_another()
 {}
 
 /// A first fault is in the first line with which the bytes can't be the beginning of a report's
-/// text: some text begins with the lines before it, and none with these lines and that line; or the
-/// text isn't whole, or bytes follow a whole text.
+/// text: some text begins with the lines before this line, and none with this line after them. Or
+/// the text isn't whole, or bytes follow a whole text.
 pub fn first_faults_leave_texts()
     ensures { (bytes : List ℕ) (fault : TextFault)
         → IsFirstReportFault bytes fault → LeavesAt IsReportText bytes fault }

@@ -29,8 +29,8 @@ pub record IsCoreReport {P : Type 0} (object : Sequential) (meaning : P → ℕ 
   pub report : IsBenchReport object meaning rows bench plan allotments findings
   pub no_error : list_any any_error findings.lines ≡ false
 
--- The report of a plan's callers, of the locals that are on this bench, in which these passes, in
--- order, are told: with each the object was asked for just the calls that its caller's lines
+-- The report of a plan's callers, of the locals that are on this bench, with the calls of these
+-- passes, in order. With each pass the object was asked for just the calls that its caller's lines
 -- determine, and where the pass tells a list, this has their operations and their replies.
 pub record IsToldBenchReport {P T : Type 0} (object : Sequential) (meaning : P → ℕ → ℕ → Meaning)
     (rows : Rows P) (bench : Bench P) (made : T → ℕ) (told : T → Option (List (ℕ × ℕ)))

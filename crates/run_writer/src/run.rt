@@ -30,10 +30,11 @@ use std::thread::Threads;
 use world_core::{Outside, Program};
 
 /// Runs all callers of a script over any object behind the trait, each in a thread of its own where
-/// one can be had, and writes what the form shows of their report, which is lawful: each call made
-/// has its line; all delivered replies are in one order that is legal for the script's kind and
-/// keeps the views' precedence; and a line is an error only where the published records have no
-/// such order, which no run over linearizable object calls leaves (Castañeda and Rodríguez 2023).
+/// one can be had, and writes what the form shows of their report. The report is lawful: each call
+/// made has its line, and all delivered replies are in one order that is legal for the script's
+/// kind and keeps the views' precedence. A line is an error only where the published records have
+/// no such order, and no run over linearizable object calls leaves such records (Castañeda and
+/// Rodríguez 2023).
 ///
 /// The bench holds all callers, unused, and each has its pass of the object, unused too; afterwards
 /// it holds them all again, and the passes are in their order, whatever the answer.
@@ -164,10 +165,10 @@ pub fn replay_and_write<B: BlackBox, K: Sink>(
 }
 
 /// Runs all callers of a script over an object inside the world, each in a thread of its own where
-/// one can be had, and writes what the form shows of their report, which is lawful and has no error
-/// line: every run of the object's program is linearizable (Herlihy and Wing 1990), and no such run
-/// leaves published records without a legal order (Castañeda and Rodríguez 2023). So the answer is
-/// never that an error was found.
+/// one can be had, and writes what the form shows of their report. The report is lawful and has no
+/// error line: every run of the object's program is linearizable (Herlihy and Wing 1990), and no
+/// such run leaves published records without a legal order (Castañeda and Rodríguez 2023). So the
+/// answer is never that an error was found.
 ///
 /// The rows were opened with the object's program. The bench holds all callers, unused, and each
 /// has its pass of the object, which fits it; afterwards the bench holds them all again, and each

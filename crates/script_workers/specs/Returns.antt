@@ -38,9 +38,9 @@ pub record IsCountOf (p : ℕ) (l : Local) (count : PassCount) : Type 0 where
   pub asked_for : count.made ≡ asked p
   pub told_is : IfSome count.told (IsTold p (calls_in l))
 
--- Caller i of a world of this shape is back with this local and this pass: it has made the first p
--- phases of its allotment, which its pass counts, where it counts any, and the pass fits it with
--- the object steps that it has made.
+-- Caller i of a world of this shape is back with this local and this pass. It has made the first p
+-- phases of its allotment. Its pass counts these, where it counts any, and fits the caller with the
+-- object steps that it has made.
 pub record IsBackWith {T : Type 0} (s : Shape) (fits : Fits T) (count : T → Option PassCount)
     (operations : List (List ℕ)) (allotments : List ℕ) (i p : ℕ) (l : Local)
     (pass : T) : Type 0 where

@@ -120,8 +120,8 @@ pub fn end_all<'a, P: Program, T, E: Ending + Drop, A: Asks<Program = P, Pass = 
     // Where lines are answered, there is one list of them for each caller of the script.
     ensures all_lines { IfOk result (λ lines. vec_len lines ≡ length script.now.operations) }
     // Where lines are answered, each caller's lines are those of its allotment and of just the
-    // phases that it has made; where none of them is an error and the caller stopped between two
-    // calls, or made all of them, it is free for its next call.
+    // phases that it has made. A caller without an error line that stopped between two calls, or
+    // made all of its calls, is then free for its next call.
     ensures lines { IfOk result (λ lines. AreBack P.meaning shared.now.rows.now E.says
         (A.fits shared.now.asks.now) A.count
         (length script.now.operations) (length script.now.operations)

@@ -45,8 +45,9 @@ impl<'a, P: Program, T, E: Ending> Worker<'a, P, T, E> {
 }
 
 /// Lets the workers of a script's callers make their phases in the order of its turns, in one
-/// thread: at each turn the worker of the caller that it names makes its next phase, where one is
-/// left up to its stop, and it isn't halted. Each caller's steps are counted on their own.
+/// thread. At each turn the worker of the caller that the turn names makes its next phase, where a
+/// phase is left up to its stop and the worker isn't halted. Each caller's steps are counted on
+/// their own.
 pub fn take_turns<'a, P: Program, T, E: Ending, A: Asks<Program = P, Pass = T>, L: Ledger>(
     shared: &Shared<A, P>,
     script: &Script,

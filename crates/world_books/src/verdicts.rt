@@ -9,8 +9,8 @@ pub fn seen_cuts_fit()
 {}
 
 /// Where the book of some calls has no legal order at a cut that one of them has seen, no run of
-/// any program that ends with these calls has a linearizable object history; and where the book at
-/// a cut of what a run published has no legal order, the run's object history isn't linearizable
+/// any program that ends with these calls has a linearizable object history. Where the book at a
+/// cut of what a run published has no legal order, the run's object history isn't linearizable
 /// (Castañeda and Rodríguez 2023).
 pub fn no_run_has_this_error()
     // Where the book at a cut of what a run published has no legal order, the object history of the

@@ -35,8 +35,8 @@ pub fn own_events_alone()
     ensures local { LocalsAreOwn }
 {}
 
-/// The phase, the counts and the lists of a local agree with each other and with the words: the own
-/// counts are the count words, each announced operation, each published record and each embedded
+/// The phase, the counts and the lists of a local agree with each other and with the words. The own
+/// counts are the count words. Each announced operation, each published record and each embedded
 /// cut is in its row, and each staged word is in the row under way.
 #[tactic(auto, using(crate::proofs::Running::locals_agree))]
 pub fn locals_agree()

@@ -4,8 +4,8 @@ ghost use Rattle.world_laws.specs.Given.{ViewsAreGiven, SeenCutsAreGiven, Embedd
 ghost use Rattle.world_laws.specs.Own.{ViewsCountTheirCall, SeenCutsCountTheirCall, EmbeddedCutsCountTheirRow};
 
 /// View `k` and seen cut `k` of a caller count `k + 1` calls or records of the caller itself, and
-/// the cut that its row `k` embeds counts `k` of its rows; and none of these cuts counts more than
-/// is counted (Afek and others 1993).
+/// the cut that its row `k` embeds counts `k` of its rows. None of these cuts counts more than is
+/// counted (Afek and others 1993).
 pub fn own_entries_are_numbers()
     // View k of a caller counts k + 1 of its own calls, and no more calls of a caller than are
     // counted.

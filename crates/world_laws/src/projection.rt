@@ -4,8 +4,8 @@
 ghost use Rattle.world_laws.specs.Projection.{RunsProject, BeginningsProject, BooksProject};
 
 /// A run of any program, without its object steps, is a run for the program whose object is
-/// outside, at each of its moments with the same words but the object words, the same locals but
-/// their object steps, so with the same scans, cuts and books, and with the same object history.
+/// outside. At each moment it has the same words but for the object words, and the same locals but
+/// for their object steps, and so the same scans, cuts and books. It has the same object history.
 pub fn runs_project()
     // A run without its object steps is a run of the program whose object is outside.
     ensures runs { RunsProject }
