@@ -24,7 +24,7 @@ impl<P: InWorld> Announced<P> {
         requires rows { IsCallerOf P.meaning rows.now (caller_announced self.old) }
         // The table has an object word at this place.
         requires place { place < rows.now.objects }
-        // The program allows the caller a step that doesn't change whichever word it finds there.
+        // The program allows the caller a step that leaves whichever word it finds there unchanged.
         requires program { MayStep P.meaning rows.now (caller_announced self.old) place (λ x. x) }
         // The announced call has made one object step more, which found the answered word and left
         // it there.

@@ -17,7 +17,7 @@ both_load_first word =
     ∷ access 1 (Stored 0 word)
     ∷ []
 
--- Caller 0 loads 0 and stores 1, and then caller 1 loads this word and stores that one.
+-- Caller 0 loads 0 and stores 1, and then caller 1 loads the word `found` and stores `word`.
 abbrev pub one_by_one : ℕ → ℕ → List Access
 one_by_one found word =
     access 0 (Loaded 0 0)

@@ -138,7 +138,7 @@ pub record IsMissed (flag count : ℕ) (before after : List Deed) : Type 0 where
   pub each : All (λ word. word ≢ up) found
   pub loaded : after ≡ before ++ map (Loaded flag) found
 
--- Fewer loads of a flag than the most find it down, and the next one finds it up.
+-- Some loads of a flag, fewer than `most_loads`, didn't find it up, and the next one did.
 pub record IsSeen (flag : ℕ) (before after : List Deed) : Type 0 where
   pub misses : ℕ
   pub few : misses < most_loads

@@ -52,7 +52,7 @@ pub fn one_pass_queues_are_told()
 pub fn meetings_are_told()
     // Where both callers raise their flags before either loads one, both reply done.
     ensures right { TellOneMeeting 2 both_raise_first (meets 0 ∷ meets 1 ∷ []) }
-    // A caller can't find a flag up before its caller has raised it.
+    // A caller can't find the other caller's flag up before that caller has raised it.
     ensures early { ¬ TellOneMeeting 2 found_too_early (meets 0 ∷ meets 1 ∷ []) }
     // A caller can't raise the other caller's flag.
     ensures other { ¬ TellOneMeeting 2 raises_the_other (meets 0 ∷ meets 1 ∷ []) }

@@ -17,7 +17,7 @@ pub struct Late<S: SeqObject> {
 }
 
 impl<S: SeqObject> Late<S> {
-    // Makes the change of a caller that waits, if one does.
+    // Makes the waiting change of a caller, if there is one.
     fn make_waiting(&self, caller: usize, scratch: &mut Scratch)
         requires caller { caller < vec_len scratch.old.waiting }
         requires room { length scratch.old.state.words < scratch.old.state.room }
@@ -81,7 +81,7 @@ impl<S: SeqObject> Late<S> {
     }
 }
 
-// Makes nothing wait any more.
+// Clears what waits of each caller.
 fn clear(waiting: &mut Vec<Option<OpWord>>)
     ensures { waiting.new.items ≡ replicate (vec_len waiting.old) None }
 {

@@ -68,7 +68,8 @@ impl Meeting {
         Ok((Meeting { words }, passes))
     }
 
-    // Whether a flag is found up, by loads of it until one finds it up.
+    // Whether a flag is found up, by at most `MOST_LOADS` loads of it, the last of which finds it
+    // up.
     fn sees(&self, seat: &mut WordSeat, flag: usize) -> bool
         requires seat { IsSeatOf meeting_may self.now.words seat.old }
         requires flag { flag < 2 }

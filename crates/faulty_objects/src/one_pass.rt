@@ -13,8 +13,8 @@ use seq_objects::{DONE, NONE, value_reply};
 use shared_words::{SharedWords, Usage, WordSeat, WordsPass};
 use std::alloc::Global;
 
-/// The operation word of the enqueue of 0; the words of enqueues are from this one up to that of
-/// the dequeue.
+/// The operation word of the enqueue of 0; the words of enqueues are from this one on, and below
+/// that of the dequeue.
 const ENQUEUE_0: OpWord = 1 << 32;
 
 /// The operation word of the dequeue.
@@ -169,7 +169,7 @@ impl OnePass {
         requires own { All (IsQueuePass self) passes.items }
         // The passes are of one history. Its additions to the counter found 0, 1 and so on, modulo
         // 2^64, so that the places are given in order; and each item that an exchange found had
-        // been put into this place and not taken since.
+        // been put into the place of the exchange and not taken since.
         ensures history { (history : List Access)
             × TellOneQueue (callers_of self.words * cap_of self.words) (callers_of self.words)
             history (map transcript_of passes.items) }

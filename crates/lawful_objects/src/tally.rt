@@ -111,8 +111,8 @@ impl Tally {
         // Each pass is one of this tally.
         requires own { All (IsTallyPass self) passes.items }
         // The passes are of one history of increments. The history has as many increments as the
-        // passes have calls of one, each found the number of those before it, and the word is left
-        // as their number, modulo 2^64.
+        // calls of the passes, each found the number of those before it, and the word is left as
+        // their number, modulo 2^64.
         ensures history { (history : List Access)
             × TellOneTally (callers_of self.word) history (map transcript_of passes.items) }
     {

@@ -13,8 +13,8 @@ use seq_objects::{DONE, value_reply};
 use shared_words::{SharedWords, Usage, WordSeat, WordsPass};
 use std::alloc::Global;
 
-/// The operation word of the write of 0; the words of writes are from this one up to that of the
-/// read.
+/// The operation word of the write of 0; the words of writes are from this one on, and below that
+/// of the read.
 const WRITE_0: OpWord = 1 << 32;
 
 /// The operation word of the read.

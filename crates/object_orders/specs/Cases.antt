@@ -92,8 +92,8 @@ refused_after_adding = finds_and_leaves 1 1 2 ∷ gets 1 1 (value 1) ∷ gets 1 
 abbrev pub unknown_announced : List Step
 unknown_announced = announcement 0 unknown (0 ∷ 0 ∷ [])
 
--- What an object refuses to the call of an operation that it doesn't know: each step, and each
--- reply but `bad`.
+-- Steps and replies that an object refuses to the call of an operation that it doesn't know: a step
+-- that changes the word, a step that doesn't, and the replies `done` and `value 0`.
 abbrev pub refused_to_unknown : List Step
 refused_to_unknown =
     finds_and_leaves 0 0 1 ∷ finds_and_leaves 0 0 0 ∷ gets 0 1 done ∷ gets 0 1 (value 0) ∷ []

@@ -89,8 +89,8 @@ pub fn calls_beyond_the_rows_are_of_no_world()
 {}
 
 /// Two workers leave a lawful report where caller 0 is stopped before it judges, and caller 1 has
-/// judged by words that it peeked. With the seen cut of caller 1, no report is lawful in which
-/// caller 0 is stopped before it publishes.
+/// judged by words that it peeked. Their lines would be no lawful report if caller 0 had been
+/// stopped before it published.
 pub fn workers_leave_a_report()
     // The steps after which caller 1 has judged and caller 0 hasn't are a run.
     ensures run { IsRun pair one_judging }

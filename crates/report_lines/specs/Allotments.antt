@@ -23,8 +23,8 @@ stop_at stops i = slice_index_or stops i None
 abbrev pub turns_of : List ℕ → ℕ → ℕ
 turns_of turns i = count_by (λ turn. turn == i) turns
 
--- The allotments of callers that each work by themselves: each caller's allotment is all its
--- phases.
+-- The allotments of callers that each work by themselves: each caller is given its phases up to its
+-- stop, where it has one, and else all phases of its calls.
 abbrev pub allotments_of : List (List ℕ) → List (Option ℕ) → List ℕ
 allotments_of operations stops =
     map (λ i. phases_for (stop_at stops i) (length (operations_at operations i)))

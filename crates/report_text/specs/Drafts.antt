@@ -9,7 +9,7 @@ use Rattle.client_scripts.specs.ScriptRules.{grouped}
 use Rattle.report_text.specs.declared.draft.Draft.{Draft}
 use Rattle.report_text.specs.ReportRules.{book_so_far, IsPendingAt, IsSeenBefore}
 
--- The lines so far are those of the callers before caller i, and k lines of caller i.
+-- The lines so far are as many as all those of the callers before caller i, and k of caller i.
 abbrev pub StandBefore : List ℕ → List Line → ℕ → ℕ → Type 0
 StandBefore counts told i k = length told ≡ sum (take i counts) + k
 

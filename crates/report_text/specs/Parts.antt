@@ -55,8 +55,8 @@ pub record IsPrefix (kind : Kind) (n : ℕ) (call : Call) (words : List (List �
   pub text : words ≡ place_words call ++ (operation_words kind op ++ rest)
   pub answered : SayAnswer n rest answer suffix
 
--- The first test that a line fails, of those before any that ask for the views of other lines,
--- whatever lines come before it.
+-- This is the first test that a line of n callers fails, whatever lines come before it and however
+-- many calls each caller has.
 abbrev pub IsPrefixRefused : Kind → ℕ → Call → List (List ℕ) → What → Type 0
 IsPrefixRefused kind n call words name = (counts : List ℕ) (told : List Line) → length counts ≡ n
     → IsFirstTest (LineFails kind counts told call words) name
@@ -94,7 +94,7 @@ answer_in (Unchecked r) = Some r
 answer_in (Delivered r cut) = Some r
 answer_in (Error r cut) = Some r
 
--- The book of the lines before it can take this answer.
+-- The book of the lines before a call's line can take this answer of the call, where there is one.
 abbrev pub MayTell : List Page → Call → Option Record → Type 0
 MayTell book call None = Unit {0}
 MayTell book call (Some r) = MayAnswer book call.caller r.view
@@ -131,7 +131,7 @@ pub record FitsCuts (counts : List ℕ) (lines : List (List Line)) (call : Call)
   pub seen : (cut : List ℕ) → seen_in line.end ≡ Some cut → ¬ (IsWrongCut counts lines call cut)
   pub pending : line.end ≡ Pending → ¬ (IsSeenBefore lines call)
 
--- The line of this call fits the lines before it, but for its view, and its caller's further lines.
+-- The line of this call, but for its view, fits the lines before it and its caller's further lines.
 pub record FitsOthers (counts : List ℕ) (lines : List (List Line)) (call : Call)
     (line : Line) : Type 0 where
   pub cuts : FitsCuts counts lines call line

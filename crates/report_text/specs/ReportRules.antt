@@ -161,7 +161,7 @@ LineFails kind counts told call words what.Seen =
     × (seen_in line.end ≡ Some cut) × IsWrongCut counts (grouped counts told) call cut)
     ⊎ ((line : Line) × SaysLine kind (length counts) call words line × (line.end ≡ Pending)
     × IsSeenBefore (grouped counts told) call))
--- The line isn't delivered, and isn't its caller's last.
+-- the line isn't delivered, and isn't its caller's last
 LineFails kind counts told call words what.Last = (line : Line)
     × SaysLine kind (length counts) call words line × EndsTooEarly counts call line
 -- the line has a view that the book of the lines before it refuses

@@ -60,8 +60,8 @@ fn join(seen: &mut Cut, cut: &Cut)
     }
 }
 
-/// The first test that the line of this call fails after the lines before it, of all tests but
-/// those of its view. The call's caller has this many calls.
+/// The first test that the line of this call fails after the lines before it, of the tests on cuts
+/// and on its caller's further lines. The call's caller has this many calls.
 pub(crate) fn misfit(limits: &Cut, seen: &Cut, call: Call, count: u64, line: &Line) -> Option<What>
     requires caller { call.caller < length limits.now }
     requires wide { length seen.now ≡ length limits.now }

@@ -12,7 +12,7 @@ module _ {A : Type 0} where
   abbrev pub only : ℕ → A → List (Option A)
   only i x = replicate i None ++ Some x ∷ []
 
-  -- The view of a seat that has something of each of n callers.
+  -- The view of a seat that has the same of each of n callers.
   abbrev pub whole : ℕ → A → List (Option A)
   whole n x = replicate n (Some x)
 

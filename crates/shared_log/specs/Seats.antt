@@ -64,7 +64,8 @@ pub record AreSeatsOf (l : SharedLog) (seats : List LogSeat) : Type 0 where
   pub callers : map caller_of seats ≡ range_with_len 0 (callers_of l)
   pub each : All (IsSeatOf l) seats
 
--- The seat is that after a call of its caller with this operation.
+-- The log of the seat `after` is that of the seat `before` after a call of its caller with this
+-- operation.
 abbrev pub HasCalled : ℕ → LogSeat → LogSeat → Type 0
 HasCalled op before after = IsAfterCall (caller_of before) op (log_of before) (log_of after)
 

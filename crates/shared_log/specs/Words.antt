@@ -8,11 +8,12 @@ use Rattle.shared_log.specs.Entries.{calls_by, IsWithin}
 abbrev pub number_of : ℕ → ℕ → ℕ → ℕ
 number_of cap i k = i * cap + k
 
--- The place of the low word of the call with this number; the high word is at the next place.
+-- The index of the low word of the operation of the call with this number; its high word is at the
+-- next index.
 abbrev pub operation_index : ℕ → ℕ
 operation_index number = 2 * number
 
--- The word of the ticket at a place of the log.
+-- The index of the word that has the ticket of a place of the log.
 abbrev pub ticket_index : ℕ → ℕ → ℕ → ℕ
 ticket_index n cap place = 2 * (n * cap) + place
 
@@ -41,15 +42,15 @@ pub record AreWordsOf (n cap : ℕ) (words : List ℕ) (log : List Entry) : Type
   pub free : (place : ℕ) → length log ≤ place → place < n * cap
       → slice_index words (ticket_index n cap place) ≡ 0
 
--- These words are tickets of the log, in order and each at most once: those of the log's places
--- from `from` on and before `past`.
+-- These words are tickets of places of the log, in order and each at most once: each place is
+-- `from` or a later one, and comes before `past`.
 abbrev pub AreTickets : ℕ → ℕ → ℕ → ℕ → List ℕ → Type 0
 AreTickets n cap from past [] = Unit {0}
 AreTickets n cap from past (word ∷ words) = (place : ℕ) × (from ≤ place) × (place < past)
     × (word ≡ ticket_index n cap place) × AreTickets n cap (place + 1) past words
 
--- The words at which a caller made an exchange are those before, and then at most each ticket of
--- the log's places from `from` on and before `past`.
+-- The words at which a caller made an exchange are those before, and then, in order and each at
+-- most once, tickets of places of the log from `from` on and before `past`.
 abbrev pub HasTried : ℕ → ℕ → ℕ → ℕ → List ℕ → List ℕ → Type 0
 HasTried n cap from past before after = (more : List ℕ) × (after ≡ before ++ more)
     × AreTickets n cap from past more

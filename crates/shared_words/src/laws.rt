@@ -6,7 +6,8 @@ ghost use Rattle.shared_words.specs.Histories.{AccessesAct, AccessesLeaveOthers}
 /// sets it; the other words stay.
 #[tactic(auto, using(crate::proofs::Words::accesses_act, crate::proofs::Words::accesses_leave_others))]
 pub fn accesses_act()
-    // An access leaves the sum, the stored word, the word as it was or the new word in its place.
+    // After an addition a word is the sum modulo 2^64, after a store and a swap the new one, and
+    // after a load the one before.
     ensures act { AccessesAct }
     // An access leaves all other words as they are.
     ensures others { AccessesLeaveOthers }

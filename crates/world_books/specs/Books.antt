@@ -24,8 +24,8 @@ pub record IsValidPart (book : List Page) (cut : List ℕ) (part : List Page) : 
   pub at : IsBookAt book cut part
   pub counts : answered part ≡ cut
 
--- At each cut of what was published the book of the locals has a valid part with these record
--- counts, whether or not the cut is comparable with the views.
+-- At each cut of what was published the book of the locals at this cut is a valid book, whose
+-- record counts are the cut, whether or not the cut is comparable with the views.
 abbrev pub BooksAtPublishedCuts : Type 0
 BooksAtPublishedCuts =
     (s : Shape) (locals : List Local) (cut : List ℕ) → AreTogether s locals → IsPublished locals cut

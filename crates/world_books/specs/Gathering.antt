@@ -19,7 +19,8 @@ GatheredIsTheBookAt =
 abbrev pub HasPeekedAll : Local → Local → Type 0
 HasPeekedAll l m = (p : Peeked) → Contains l.peeked p → Contains m.peeked p
 
--- A book that a caller gathered is one that it gathered still after it has peeked more.
+-- A book that a caller has gathered at a cut is still one that it has gathered there when it has
+-- peeked more words.
 abbrev pub GatheredStays : Type 0
 GatheredStays = (n : ℕ) (l m : Local) (cut : List ℕ) (book : List Page) → HasPeekedAll l m
     → IsGathered n l cut book → IsGathered n m cut book

@@ -12,8 +12,9 @@ use Rattle.world_core.specs.World.{Step, IsRun, end_of}
 use Rattle.world_core.specs.History.{Happening, Invoked, Returned, Done, ReturnsBefore, IsLinearization, IsLinearizable, history_of}
 use Rattle.world_core.specs.Calls.{IsPublished, book_in}
 
--- A history agrees with the views of a book: on what was invoked, what returned, and in which
--- order.
+-- A history agrees with a book: it invokes just the book's calls, it has the return of each
+-- answered call with its reply, and where a call precedes another one in the book, it returned
+-- before that one was invoked.
 pub record IsHistoryOf (history : List Happening) (book : List Page) : Type 0 where
   -- the calls that were invoked are the book's, each with its operation; so what a view holds was
   -- invoked

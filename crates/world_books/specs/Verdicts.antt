@@ -31,7 +31,8 @@ pub record AreSeenCuts (locals : List Local) : Type 0 where
   pub comparable : (a b : Call) (s t : List ℕ) → HasSeenCut (map calls_in locals) a s
       → HasSeenCut (map calls_in locals) b t → AreComparable s t
 
--- The seen cuts of the locals of every reachable world fit.
+-- In every reachable world each seen cut of the locals is one of what was published, and holds its
+-- own call as the last of its caller; and any two seen cuts are comparable.
 abbrev pub SeenCutsFit : Type 0
 SeenCutsFit = (s : Shape) (locals : List Local) → AreTogether s locals → AreSeenCuts locals
 

@@ -1,5 +1,5 @@
-//! Worked runs: each law's premises are met by runs that are written out; and which error would be
-//! false if calls returned later.
+//! Worked runs: each law's premises are met by runs that are written out; and in one of them an
+//! error would be false if calls returned later.
 
 ghost use Rattle.std.specs.Prelude.{◌≡◌, [], ◌∷◌, take, map};
 ghost use Rattle.book_base.specs.BookAt.{book_at};

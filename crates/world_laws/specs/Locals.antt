@@ -83,7 +83,7 @@ PeekedWordsStand =
     → (call.number < count_of s (end_of s steps) region call.caller)
     × (x ≡ row_word s (end_of s steps) region call.caller call.number place)
 
--- A count that a caller has looked at, at the end of a run, is at most its count word.
+-- A count that a caller has looked at is at most what the same count word is at the end of the run.
 abbrev pub LookedCountsAreLowInRuns : Type 0
 LookedCountsAreLowInRuns =
     (s : Shape) (steps : List Step) (i p : ℕ) (look : Looked) → IsRun s steps → i < s.callers

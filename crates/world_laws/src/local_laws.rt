@@ -26,11 +26,11 @@ pub fn peeked_words_are_words()
     ensures runs { PeekedWordsStand }
 {}
 
-/// A count that a caller looked at is at most the count that its region has now.
+/// A count that a caller looked at is at most the own count of the caller that it is of.
 pub fn looked_counts_are_low()
     // A count that a caller looked at is at most the own count of the caller that it is of.
     ensures locals { LookedCountsAreLow }
-    // A count that a caller looked at is at most the count word at the end of the run.
+    // A count that a caller looked at is at most what the same count word is at the end of the run.
     ensures runs { LookedCountsAreLowInRuns }
 {}
 

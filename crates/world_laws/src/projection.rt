@@ -9,8 +9,8 @@ ghost use Rattle.world_laws.specs.Projection.{RunsProject, BeginningsProject, Bo
 pub fn runs_project()
     // A run without its object steps is a run of the program whose object is outside.
     ensures runs { RunsProject }
-    // Each moment of a run has the words and the locals of that moment of the run without object
-    // steps, but for object words and object steps.
+    // Without object steps, a prefix of some steps is a prefix of these steps: so what `runs` says
+    // of the end of a run holds at each of its moments.
     ensures moments { BeginningsProject }
     // The books of a run are those of the run without its object steps.
     ensures books { BooksProject }
