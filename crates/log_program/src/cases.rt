@@ -22,8 +22,8 @@ pub fn two_callers_make_a_log()
         (call_of 1 0) second_operation ∷ Returned (call_of 0 0) 1 ∷ Returned (call_of 1 0) 0 ∷ [] }
 {}
 
-/// A caller that makes its second call knows its first one: it tries no place before its ticket,
-/// and loads nothing.
+/// A caller that makes its second call knows its first one: it doesn't try for the place of its
+/// first ticket, and loads nothing.
 pub fn a_caller_knows_its_calls()
     // The steps of one caller that makes two calls are a run.
     ensures run { IsRun log_alone two_calls_alone }

@@ -303,7 +303,8 @@ pub fn seen_cuts_of_errors_fit()
     ensures crossing { ¬ AreSeen (1 ∷ 1 ∷ 1 ∷ []) (failed_by_second (0 ∷ 1 ∷ 0 ∷ [])) }
 {}
 
-/// The greatest seen cut is that of a delivered line, in whatever place, and never an error line's.
+/// The greatest delivered cut is the seen cut of a delivered line, in whatever place, and never an
+/// error line's; where no line is delivered, all its counts are 0.
 pub fn greatest_delivered_cuts()
     // The delivered cuts of the three delivered lines and the error are those of the three
     // delivered ones.
