@@ -68,8 +68,7 @@ impl Meeting {
         Ok((Meeting { words }, passes))
     }
 
-    // Whether a flag is found up, by at most `MOST_LOADS` loads of it, the last of which finds it
-    // up.
+    // Whether one of at most `MOST_LOADS` loads of a flag finds it up, after which no load is made.
     fn sees(&self, seat: &mut WordSeat, flag: usize) -> bool
         requires seat { IsSeatOf meeting_may self.now.words seat.old }
         requires flag { flag < 2 }
