@@ -53,8 +53,9 @@ module _ {M : Type 0} where
   abbrev pub machine_in : LogBox M → M
   machine_in b = b.machine
 
-  -- The pass is one of this box, and has capacity for all calls of its caller; its pairs are what
-  -- its log says, and its scratch holds what the machine keeps of that log.
+  -- The pass is one of this box, with capacity for all calls of its caller. Its pairs are those of
+  -- its caller's calls in its log; and where this log isn't empty, its scratch holds what the
+  -- machine keeps of it.
   pub record IsPassOf (reply_to : M → List Entry → ℕ) (has_seen : M → List Entry → Scratch → Type 0)
       (b : LogBox M) (p : LogPass) : Type 0 where
     pub seat : IsSeatOf b.log p.seat
