@@ -8,8 +8,8 @@ use Rattle.row_table.specs.declared.caller.Caller.{Caller}
 use Rattle.row_table.specs.Callers.{who_of, local_with}
 use Rattle.drv_wrapper.specs.Telling.{told_after}
 
--- For how many callers, for which cap and for which caller a pass fits, and beside which object
--- steps of all calls of that caller.
+-- Whether a pass fits, by the number of callers, the cap, the pass, the number of its caller, and
+-- the object steps of all calls of that caller.
 abbrev pub Fits : Type 0 → Type 1
 Fits T = ℕ → ℕ → T → ℕ → List Object_step → Type 0
 

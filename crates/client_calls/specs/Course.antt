@@ -34,7 +34,7 @@ module _ {P : Type 0} where
 
   -- A client of this caller has come, with these operations, to this state and these lines. The
   -- caller is one of these rows, has made exactly the phases up to this state, and can make its
-  -- next phase. The lines are those of all its calls but the one under way.
+  -- next phase, unless it is halted. The lines are those of all its calls but the one under way.
   pub record HasCome (meaning : P → ℕ → ℕ → Meaning) (r : Rows P)
       (says : ℕ → Local → Record → List ℕ → LineEnd → Type 0) (who : ℕ) (operations : List ℕ)
       (s : CallerState P) (own : List Line) : Type 0 where
@@ -48,8 +48,8 @@ module _ {P : Type 0} where
     pub errors : ErrorsFit s own
     pub may : MayGoOn meaning r (slice_index operations (length own)) s
 
-  -- The last of these pairs is that of the call that was answered last, until the call has its
-  -- view.
+  -- While the call under way is answered and has no view, the last of these pairs is its operation
+  -- with its reply.
   abbrev pub EndsAnswered : CallerState P → List (ℕ × ℕ) → Type 0
   EndsAnswered (Answered a) pairs = (prefix : List (ℕ × ℕ))
       × (pairs ≡ prefix ++ (op_answered a, reply_answered a) ∷ [])

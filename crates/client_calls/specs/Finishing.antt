@@ -41,7 +41,7 @@ module _ {P : Type 0} where
   stance_left s = record (stance_of (caller_at s)) { live = false }
 
   -- The end of the line of a call whose caller is left in this state: pending without the call's
-  -- record, and unchecked with it.
+  -- record, and unchecked with it. There is none between two calls and where the caller is halted.
   abbrev pub end_at : CallerState P → Option LineEnd
   end_at (Idle c) = None
   end_at (Announced a) = Some Pending

@@ -60,8 +60,9 @@ module _ {P : Type 0} where
   under_way op (Unjudged u) =
       record { operation = op; reached = Has_seen (record_unjudged u) u.seen } ∷ []
 
-  -- The next phase of a call with this operation can be made: a call that is announced has no
-  -- object step yet, and to a call that was asked the program allows the reply.
+  -- A caller in this state can make the next phase of a call with this operation, unless it is
+  -- halted: an announced call has no object step yet, to an answered call the program allows its
+  -- reply, and a view has a count for each caller.
   abbrev pub MayGoOn : (P → ℕ → ℕ → Meaning) → Rows P → ℕ → CallerState P → Type 0
   MayGoOn meaning r op (Idle c) = IsFree c
   MayGoOn meaning r op (Announced a) = (op_announced a ≡ op) × (steps_now (announced_local a) ≡ [])

@@ -58,8 +58,8 @@ pub trait Ending {
         // The caller is free for its next call after a call that is no error, and makes no further
         // calls after an error and where memory was wanted.
         ensures stands { StandsAfter result }
-        // A caller that is free for its next call has no error, and one that is halted at an error
-        // has one.
+        // The line is no error where the caller is free for its next call, and is one where the
+        // caller is halted with it.
         ensures error { FitsError result }
         // What the ending says is said of the record, the seen cut and the line's end, and where
         // memory was wanted the record and the cut are handed back.

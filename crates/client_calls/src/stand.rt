@@ -53,7 +53,7 @@ impl<P> CallerState<P> {
         // The caller keeps its number and its local, and is still one of its rows.
         ensures caller { IsSame (caller_at self) result.0 }
         // The line of a call under way ends pending without the call's record, and unchecked with
-        // it; where no call is under way, no line is left.
+        // it; between two calls, and where the caller is halted, no line is left.
         ensures end { result.1 ≡ end_at self }
         // The caller's stance stays where no call of it is under way, and else the caller is
         // halted.

@@ -38,8 +38,8 @@ pub struct Hunted {
 }
 
 /// Runs the scripts of one seed after the other, each over a new object, until the report of a run
-/// has a witness, or this many runs are made. Callers run in threads of their own where these can
-/// be had, with noise between their phases.
+/// has a witness, or as many runs are made as the settings say. Callers run in threads of their own
+/// where these can be had, with noise between their phases.
 ///
 /// A catch is a fact about the object, and no matter of chance: the witness has no legal order.
 /// That there is none says no more than that no run had an error. A second hunt with the same seed

@@ -3,7 +3,8 @@
 ghost use Rattle.monitor.specs.Worlds.{RoundsAreRight, RoundsAreJudged, OwnIsAWitness, WitnessesAreFinal};
 
 /// What a round found is right for the calls of all callers, at each later moment: its cut is
-/// published, and the book at the cut has a legal order, or has none.
+/// published, and the book at the cut has a legal order after a legal round, and none after an
+/// illegal one.
 pub fn rounds_are_right()
     ensures { RoundsAreRight }
 {}

@@ -27,8 +27,8 @@ PublishedRecordsAreInTheBook =
     → (length (published_of locals) ≡ length (book_in locals))
     × IsWithin (published_of locals) (answered (book_in locals))
 
--- The answer on these callers' calls: no witness, where the book of all published records has a
--- legal order, and else a witness.
+-- The answer on these callers' calls is right: where it is no witness, the book of all published
+-- records has a legal order; and a witness is one of these calls.
 abbrev pub IsAnswer : List ℕ → (List ℕ → ℕ → List ℕ × ℕ) → List Local → Option Witness → Type 0
 IsAnswer init next locals None = HasLegalOrder init next (published_book locals)
 IsAnswer init next locals (Some w) = IsWitnessOf init next locals w

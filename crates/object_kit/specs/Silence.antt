@@ -4,7 +4,7 @@ use Rattle.std.proofs.lemmas.Option.{none-some}
 use Rattle.object_kit.specs.declared.counting_pass.CountingPass.{CountingPass}
 use Rattle.object_kit.specs.Passes.{made_with}
 
--- A counting pass tells no list, so nothing is owed of the length of a told list.
+-- A counting pass tells no list, so each list that it tells has as many pairs as calls were made.
 pub tells_none : {S : Type 0} (object : S) (pass : CountingPass) (pairs : List (ℕ × ℕ)) → Unit {0}
     → None ≡ Some pairs → length pairs ≡ made_with pass
 tells_none object pass pairs own told = absurd (none-some pairs told)

@@ -5,7 +5,7 @@ use Rattle.world_core.specs.Programs.{outside}
 use Rattle.script_workers.specs.Returns.{IsBackWith}
 
 -- The local of a caller in its second call, with this operation and this number of published
--- records. The first call has the operation 5, was answered 50, saw a cut and was judged by it; the
+-- records. The first call has the operation 5, was answered 50, and saw a cut after that; the
 -- second one is announced.
 abbrev pub in_second_call : ℕ → ℕ → Local
 in_second_call second published = record fresh {

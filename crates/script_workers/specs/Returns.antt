@@ -33,14 +33,14 @@ module _ {P T E : Type 0} where
     pub spent : HasSpent (slice_index course.allotments i) client
 
 -- What a pass counts of a caller that has made p phases: the object was asked as often as p phases
--- ask it, and the pass tells of these calls.
+-- ask it, and the pass, where it tells anything, tells of these calls.
 pub record IsCountOf (p : ℕ) (l : Local) (count : PassCount) : Type 0 where
   pub asked_for : count.made ≡ asked p
   pub told_is : IfSome count.told (IsTold p (calls_in l))
 
 -- Caller i of a world of this shape is back with this local and this pass. It has made the first p
--- phases of its allotment. Its pass counts these, where it counts any, and fits the caller with the
--- object steps that it has made.
+-- phases of its allotment. Its pass, where it counts calls, counts those that the object was asked
+-- for in these phases, and fits the caller with the object steps that the caller has made.
 pub record IsBackWith {T : Type 0} (s : Shape) (fits : Fits T) (count : T → Option PassCount)
     (operations : List (List ℕ)) (allotments : List ℕ) (i p : ℕ) (l : Local)
     (pass : T) : Type 0 where

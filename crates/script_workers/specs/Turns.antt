@@ -25,8 +25,8 @@ module _ {P T E : Type 0} (meaning : P → ℕ → ℕ → Meaning) (r : Rows P)
         → phases_by client + w.allotment ≡ slice_index course.allotments i
     pub within : slice_index course.allotments i ≤ 5 * length client.sheet.operations.now
 
-  -- A worker may take a turn: its client is at work and isn't halted, and the worker has no more
-  -- phases left than the client.
+  -- A worker may take a turn: its client is at work and, where it isn't halted, has at least as
+  -- many phases left as the worker.
   pub record IsTurning (w : Worker P T E) : Type 0 where
     pub client : Client P T E
     pub here : w.client ≡ Some client

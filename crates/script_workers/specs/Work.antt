@@ -32,7 +32,7 @@ module _ {P T E : Type 0} (meaning : P → ℕ → ℕ → Meaning) (r : Rows P)
     pub stands : KeepsStanding (object c.sheet.ending) c.sheet
 
   -- A worker is ready: the object serves its caller, and its client is at work, isn't halted, and
-  -- has as many phases left as the worker says.
+  -- has at least as many phases left as the worker.
   pub record IsReady (serves : Type 0) (w : Worker P T E) : Type 0 where
     pub served : serves
     pub client : Client P T E

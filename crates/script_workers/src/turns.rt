@@ -46,8 +46,8 @@ impl<'a, P: Program, T, E: Ending> Worker<'a, P, T, E> {
 
 /// Lets the workers of a script's callers make their phases in the order of its turns, in one
 /// thread. At each turn the worker of the caller that the turn names makes its next phase, where a
-/// phase is left up to its stop and the worker isn't halted. Each caller's steps are counted on
-/// their own.
+/// phase is left up to its stop and the worker isn't halted. One counter counts the steps of all
+/// callers.
 pub fn take_turns<'a, P: Program, T, E: Ending, A: Asks<Program = P, Pass = T>, L: Ledger>(
     shared: &Shared<A, P>,
     script: &Script,
