@@ -55,8 +55,9 @@ caller_in (Announced call) = caller_announced call
 caller_in (Wrong w) = w.caller
 caller_in (Unjudged c) = c
 
--- The caller of a handle in this stage is one of these rows and is as the stage says; it has
--- gathered the kept book itself; and the book of an error has no legal order.
+-- The caller of a handle in this stage is one of these rows and is as the stage says; between two
+-- calls, and while a call is announced, the kept book is one that this caller gathered; and the
+-- book of an error has no legal order.
 abbrev pub IsSoundAt : Rows Outside → Kind → Option Gathered → Stage → Type 0
 IsSoundAt r kind gathered (Idle c) = IsCallerOf every_reply r c × IsFree c
     × IsGatheredBy (local_with c) gathered
