@@ -34,12 +34,13 @@ ArePartsIn (row ∷ rows) interval text = (first rest : List ℕ) × IsPartIn ro
 abbrev pub GrowsByBar : List ℕ → List ℕ → Type 0
 GrowsByBar before after = (text : List ℕ) × IsBar text × (after ≡ before ++ text)
 
--- A text has grown by the part of an interval in a row.
+-- A text has grown by the part of an interval in a row, which has no tag of a group.
 abbrev pub GrowsByPart : Row → Interval → List ℕ → List ℕ → Type 0
 GrowsByPart row interval before after = (text : List ℕ) × (is_plain text ≡ true)
     × IsPartIn row interval text × (after ≡ before ++ text)
 
--- A text has grown by the parts of an interval in these rows, in their order.
+-- A text has grown by the parts of an interval in these rows, in their order, which have no tag of
+-- a group.
 abbrev pub GrowsByParts : List Row → Interval → List ℕ → List ℕ → Type 0
 GrowsByParts rows interval before after = (text : List ℕ) × (is_plain text ≡ true)
     × ArePartsIn rows interval text × (after ≡ before ++ text)

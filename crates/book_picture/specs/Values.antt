@@ -61,7 +61,8 @@ with_value values None = values
 with_value values (Some value) =
     if list_any (λ x. x == value) values then values else values ++ value ∷ []
 
--- The values so far after an event, where the value that an invoked call shows appears.
+-- The values so far after an event: where this invokes a call that shows a new value, the value
+-- comes after the others.
 abbrev pub with_event : Kind → List Page → List ℕ → Event → List ℕ
 with_event kind book values (Invoke call) = with_value values (value_of_call kind book call)
 with_event kind book values (Return call) = values

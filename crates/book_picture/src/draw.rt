@@ -16,7 +16,8 @@ use seq_objects::Kind;
 use sketch::sketch;
 use std::alloc::Global;
 
-/// The height at which the lanes of the first row begin, in pixels.
+/// The height at which the lanes of the first row begin, in pixels, in a picture without a line on
+/// an error.
 const TOP: usize = 84;
 
 /// The height of a line of text, in pixels.

@@ -208,8 +208,8 @@ impl Sheet<'_> {
 }
 
 impl Bar {
-    // The class of the bar's outline. That of a part that continues from the row before into the
-    // next one has no class.
+    // The further class of the bar's outline, where it has one. That of a part that continues from
+    // the row before into the next one isn't drawn, and that of an unanswered call is dashed.
     fn class(self) -> &'static str
         ensures { is_plain result.now ≡ true }
     {
@@ -222,7 +222,8 @@ impl Bar {
         }
     }
 
-    // The point at which the bar's outline begins and ends: its right edge, where this isn't drawn.
+    // The edge at which the bar's outline begins and ends: the right one, where only this isn't
+    // drawn.
     fn start(self) -> usize {
         if self.begins && !self.ends {
             self.right
@@ -231,7 +232,7 @@ impl Bar {
         }
     }
 
-    // The point at which the bar's outline turns.
+    // The edge at which the bar's outline turns, which is the other one.
     fn turn(self) -> usize {
         if self.begins && !self.ends {
             self.left

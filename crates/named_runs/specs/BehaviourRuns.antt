@@ -23,7 +23,9 @@ pub record IsLawfulReport (s : Shape) (plan : Plan) (allotments : List ℕ)
   pub lawful : IsLawful (kind_init plan.kind)
       (kind_next plan.kind) s plan.operations allotments findings.lines
 
--- A report of a run over an object outside the world, in which these passes, in order, are told.
+-- A lawful report of a run over an object outside the world. With these passes, in order, the
+-- object was asked for just the calls that their callers' lines determine, and where a pass tells a
+-- list, this has the operations and the replies of these calls.
 pub record IsToldReport {T : Type 0} (made : T → ℕ) (told : T → Option (List (ℕ × ℕ)))
     (passes : List T) (plan : Plan) (allotments : List ℕ) (findings : Findings) : Type 0 where
   pub report : IsLawfulReport (outside_shape (length plan.operations)) plan allotments findings

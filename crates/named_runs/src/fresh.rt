@@ -49,8 +49,8 @@ where
     // The passes are those of the callers, in order.
     ensures passes { AreInOrder (IsOwnPass (B.is_own object.now) B.Pass.caller) passes.new.items }
 
-    // The headline: what was written, with each status, is that of a lawful report, in which the
-    // passes are told.
+    // The headline: what was written, with each status, is that of a lawful report that agrees with
+    // what the passes count and tell.
     ensures ends { RunEnds (object_of_kind script.now.kind)
         (IsToldReport B.Pass.made B.Pass.told passes.new.items script.now
         (run_allotments script.now))
@@ -94,8 +94,8 @@ pub fn replay_fresh<B: BlackBox, K: Sink>(
     // The passes are those of the callers, in order.
     ensures passes { AreInOrder (IsOwnPass (B.is_own object.now) B.Pass.caller) passes.new.items }
 
-    // The headline: what was written, with each status, is that of a lawful report, in which the
-    // passes are told.
+    // The headline: what was written, with each status, is that of a lawful report that agrees with
+    // what the passes count and tell.
     ensures ends { RunEnds (object_of_kind script.now.kind)
         (IsToldReport B.Pass.made B.Pass.told passes.new.items script.now
         (replay_allotments script.now))
@@ -144,8 +144,8 @@ where
     // The passes are those of the callers, in order.
     ensures passes { AreInOrder (IsOwnPass (B.is_own object.now) B.Pass.caller) passes.new.items }
 
-    // The headline: what was written, with each status, is right for callers in whose calls the
-    // passes are told.
+    // The headline: what was written, with each status, is right for callers whose calls agree with
+    // what the passes tell.
     ensures ends { EndsWriting
         (IsMonitorOutput (AreToldMonitored B.Pass.told passes.new.items script.now)
         script.now.kind) result (K.taken sink.old) (K.taken sink.new) }

@@ -13,9 +13,10 @@ pub fn a_report_and_its_counts_have_one_text()
     ensures { FormsWriteOneText }
 {}
 
-/// Whoever reads a certificate of a report reads the report's kind, and an order of the report's
-/// book that is legal for the object by which the report was judged, which may be the object of the
-/// kind that the certificate names. Two certificates of a report may differ in their orders alone.
+/// Whoever reads a certificate of a report reads the report's kind, and an order of the book of
+/// what was delivered that is legal for the object by which the report was judged. Where this is
+/// the object of the report's kind, the order is legal for the kind that the certificate names. Two
+/// certificates of a report may differ in their orders alone.
 pub fn certificates_are_legal_and_tell_one_book()
     // Whoever reads a certificate of a report reads the report's kind, and an order of its book
     // that is legal for the object that the report was judged by.

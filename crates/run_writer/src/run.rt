@@ -222,8 +222,8 @@ where
     ensures fine { (result ≡ Status.Fine) ⊎ (result ≡ Status.WriteFault)
         ⊎ (result ≡ Status.NoMemory) }
 
-    // Want of memory aside, each caller that by the report stopped between two calls, or made all
-    // of its calls, is free for its next one.
+    // Want of memory aside, each caller that by the report has no error and stopped between two
+    // calls, or made all of its calls, is free for its next one.
     ensures free { ¬ (result ≡ Status.NoMemory) → (report : Findings)
         → IsBenchReport (object_by O.S.init O.S.next (O.sequential_of object.now)) O.P.meaning
         rows.now bench.new script.now (run_allotments script.now) report

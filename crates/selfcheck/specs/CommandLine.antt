@@ -34,8 +34,8 @@ abbrev pub begins_with_hyphen : List ℕ → Bool
 begins_with_hyphen [] = false
 begins_with_hyphen (byte ∷ bytes) = byte == 45
 
--- Whether words are handed to clap: they are as many as a command of their first word has, and none
--- begins with a hyphen.
+-- Whether words are handed to clap: they are two where the first is that of a command with an
+-- argument, and else one, and none begins with a hyphen.
 unfoldable pub is_parsed : List (String Global) → Bool
 is_parsed [] = false
 is_parsed (word ∷ []) =

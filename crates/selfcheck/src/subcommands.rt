@@ -12,8 +12,8 @@ use clap::ArgMatches;
 use clap::error::ErrorKind;
 use std::alloc::{AllocError, Global};
 
-/// Whether the words are handed to clap: they are as many as a command of their first word has, and
-/// none begins with `-`.
+/// Whether the words are handed to clap: they are two where the first is that of a command with an
+/// argument, and else one, and none begins with `-`.
 #[tactic(auto, unfolding(crate::specs::CommandLine::is_parsed))]
 pub(crate) fn may_be_parsed(words: &[String]) -> bool
     ensures { result ≡ is_parsed words.now }
