@@ -42,7 +42,7 @@ fn change<R: Rng>(alloc: Global, rng: &mut R, mut bytes: Vec<u8>) -> Result<Vec<
     Ok(bytes)
 }
 
-// Changes a digit to another one: the first digit after a random place, where there is one.
+// Writes a random digit in place of the first digit from a random place on, where there is one.
 fn change_digit<R: Rng>(rng: &mut R, bytes: &mut [u8])
     requires { 0 < length bytes.old }
 {
@@ -103,8 +103,8 @@ fn change_pieces<R: Rng>(
     join(alloc, &pieces)
 }
 
-// Removes from a piece what is between a random byte of it and its separator: a space, where there
-// is one after that byte.
+// Removes what is between a place of a piece and its last byte: the first space from a random byte
+// on, or that byte, where there is none.
 fn cut_short<R: Rng>(rng: &mut R, piece: &mut Vec<u8>) -> Result<(), AllocError> {
     if piece.is_empty() {
         return Ok(());

@@ -12,7 +12,8 @@ use call_handles::{Answer, Judgement};
 use handle_slots::{Role, Slot, announce, answered, close, give, judge, open, publish, witness};
 use std::alloc::Global;
 
-/// The call did what it is for; where a reply was handed in, it is delivered.
+/// The call did what it is for; where a reply was handed in and its call judged, the reply is
+/// delivered.
 pub const DONE: u32 = 0;
 /// The call can't be made with what it was given, and nothing has changed.
 pub const UNFIT: u32 = 9;

@@ -29,8 +29,8 @@ struct Size {
     ghost few_calls: { cap ≤ MAX_CALLS },
 }
 
-// One, two and sixteen callers, with one call each: in a table for one call each, and then with
-// three calls in a table for 256.
+// One, two and sixteen callers: with one call each in a table for one call each, and then with
+// three calls each in a table for 256.
 const SIZES: [Size; 6] = [
     Size {
         callers: 1,
