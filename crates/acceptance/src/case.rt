@@ -90,8 +90,8 @@ impl Case {
     }
 
     /// Runs the case, and tries its book in two further ways: by sets of calls that stand alone,
-    /// which have to give the same verdict, and, where the book is to be legal, at each of its
-    /// smaller cuts.
+    /// which have to give the same verdict, and, where the book is to be legal, at its smaller
+    /// cuts.
     pub fn run_with_cuts<R: AllocGlobal + Threads + Sync>(&self, rt: &R) -> Result<CaseOutcome> {
         let outcome = self.run(rt)?;
         if !outcome.passed || self.trial != Trial::Once {

@@ -15,7 +15,7 @@ use std::alloc::Global;
 /// The greatest number of cuts of a book that are tried.
 const MOST: u64 = 20_000;
 
-/// Tries the cuts within the record counts of the book with this text, at most the first 20,000 of
+/// Tries the cuts within the record counts of the book with this text, at most the first `MOST` of
 /// them, and answers how many were tried. A cut at which the book has no legal order is an error.
 pub fn try_cuts(alloc: Global, text: &[u8]) -> Result<u64> {
     let (kind, book) = read_book(alloc, text).map_err(|_| anyhow!("the book can't be read"))?;

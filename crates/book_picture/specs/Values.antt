@@ -67,8 +67,8 @@ abbrev pub with_event : Kind → List Page → List ℕ → Event → List ℕ
 with_event kind book values (Invoke call) = with_value values (value_of_call kind book call)
 with_event kind book values (Return call) = values
 
--- The values so far after these events: those that the events' calls show, each once, in the order
--- in which calls that show them are invoked.
+-- The values so far after these events: after the values before them come the new ones that invoked
+-- calls show, each once, in the order of the invocations.
 abbrev pub values_after : Kind → List Page → List ℕ → List Event → List ℕ
 values_after kind book values [] = values
 values_after kind book values (event ∷ events) =

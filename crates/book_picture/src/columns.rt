@@ -56,7 +56,7 @@ fn next_edge(
     Ok(edge)
 }
 
-// How far the bars of a lane that end after these edges reach.
+// How far the bars of a lane reach that end at the next edge after these.
 fn lane_edge(
     alloc: Global,
     kind: Kind,

@@ -26,7 +26,8 @@ first_seeds settings (suc number) = first_seeds settings number ++ seed_at setti
 module _ {T : Type 0} (made : T → ℕ) (told : T → Option (List (ℕ × ℕ))) where
   -- A run was made of this plan over an object outside the world, and reports these findings. They
   -- are of the plan's kind, and lawful by the object of that kind. With these passes, in order, the
-  -- object was asked for just the calls of their callers' lines.
+  -- object was asked for just the calls that their callers' lines determine, and where a pass tells
+  -- a list, this has the operations and the replies of these calls.
   pub record IsRun (plan : Plan) (passes : List T) (findings : Findings) : Type 0 where
     pub kind : findings.kind ≡ plan.kind
     pub lawful : IsLawful (kind_init plan.kind) (kind_next plan.kind)

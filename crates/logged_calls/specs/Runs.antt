@@ -20,7 +20,7 @@ pub record HaveMadePhases (s : Shape) (operations : ℕ → List ℕ) (phases : 
   pub made : (i : ℕ) → i < s.callers → HasMade (operations i) (phases i) (local_at locals i)
 
 -- A call under way that was announced and not asked has no object step yet, and to one that was
--- asked the program allows a reply.
+-- asked and has no view the program allows a reply.
 abbrev pub HaveAskedInTurn : Shape → (ℕ → ℕ) → List Local → Type 0
 HaveAskedInTurn s phases locals = (i : ℕ) → i < s.callers
     → KeepsAsked s.program i (phases i) (local_at locals i)

@@ -25,7 +25,7 @@ outside_shape n = record { callers = n; cap = MAX_CALLS; program = outside }
 -- are of the plan's kind, have the lines of just these locals, which are those of one reachable
 -- world, and are lawful. Each caller has made just the phases that its lines determine, so that one
 -- which stopped after its publish has published. A call under way that was announced and not asked
--- has no object step, and to one that was asked the program allows a reply.
+-- has no object step, and to one that was asked and has no view the program allows a reply.
 pub record IsReportOf (init : List ℕ) (next : List ℕ → ℕ → List ℕ × ℕ) (s : Shape)
     (locals : List Local) (plan : Plan) (allotments : List ℕ) (findings : Findings) : Type 0 where
   pub kind : findings.kind ≡ plan.kind

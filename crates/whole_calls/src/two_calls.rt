@@ -51,7 +51,7 @@ pub enum Turns {
     /// Both callers call beside one another, in two threads.
     Beside,
     /// The first caller calls before the second, and each judgement begins after what stands of an
-    /// earlier order.
+    /// order, which is nothing yet.
     AfterWhatStands,
 }
 
@@ -154,7 +154,8 @@ fn unjudged(live: bool, reply: u64, view: &Cut, seen: &Cut) -> CallFindings {
     }
 }
 
-// One caller's seat: the caller and its pass.
+// One caller's seat: the caller with its pass, the book and the guide that its judgements use, and
+// its counter of steps.
 struct Seat<L: Ledger> {
     caller: Option<Caller>,
     pass: LogPass,

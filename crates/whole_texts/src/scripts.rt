@@ -18,7 +18,8 @@ fn a_script_is_made_from_a_number(rt: HostRuntime) -> Result<(), Fail> {
 }
 
 // The base of the number 1048577 is 4096, since 2^20 is subtracted. Keys below 8 begin again at 0
-// after 7, and so does the value that a cas writes instead of 7.
+// after 7, and so does the value that a cas writes, which is one more than the value that it
+// expects.
 #[test]
 fn each_kind_has_its_operations(rt: HostRuntime) -> Result<(), Fail> {
     let cases: [(Kind, u8, &str); 7] = [
