@@ -52,8 +52,8 @@ module _ {P : Type 0} where
   StandsAfter (Halts c end) = (stance_of c).live ≡ false
   StandsAfter (WantsMemory u) = (stance_of u.caller).live ≡ false
 
-  -- The line of a caller that is free for a further call is no error, and that of one that is
-  -- halted at an error is one.
+  -- The line is no error where the caller is free for its next call, and is one where the caller is
+  -- halted with it.
   abbrev pub FitsError : Ended P → Type 0
   FitsError (GoesOn c end) = (op : ℕ) → is_error (record { op = op; end = end }) ≡ false
   FitsError (Halts c end) = (op : ℕ) → is_error (record { op = op; end = end }) ≡ true

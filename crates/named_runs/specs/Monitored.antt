@@ -28,8 +28,8 @@ pub record AreMonitored (plan : Plan) (locals : List Local) : Type 0 where
   pub together : AreTogether (outside_shape (length plan.operations + 2)) locals
   pub made : HaveMadeAll plan locals
 
--- These locals are those of monitored callers, and these passes, in order, tell of the calls of
--- their callers.
+-- These locals are those of monitored callers, and these passes, in order, where they tell of
+-- calls, tell of those of their callers.
 pub record AreToldMonitored {T : Type 0} (told : T → Option (List (ℕ × ℕ))) (passes : List T)
     (plan : Plan) (locals : List Local) : Type 0 where
   pub monitored : AreMonitored plan locals

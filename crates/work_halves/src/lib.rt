@@ -22,7 +22,7 @@ pub trait Work<C>: Send {
         ensures { done self.old shared.now self.new };
 }
 
-/// Each of the workers works once, in no order: the first half in a thread of its own, beside the
+/// Each of the workers works once, in any order: the first half in a thread of its own, beside the
 /// second one, and each half likewise. Where a thread can't be had, one half works after the other.
 ///
 /// All have worked when it returns.

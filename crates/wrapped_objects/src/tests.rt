@@ -121,7 +121,8 @@ fn increment_often<C: Increments>(counter: &C) {
     }
 }
 
-// The count of a counter after two threads have incremented it 20,000 times each, side by side.
+// The reply of a counter to an increment after two threads have incremented it 20,000 times each,
+// side by side.
 fn counted<R: Threads, C: Increments + Sync>(rt: &R, counter: &C) -> u64 {
     join_mut(
         rt,
