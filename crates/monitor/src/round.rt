@@ -5,6 +5,6 @@ use book_base::Cut;
 pub enum Round {
     /// The book at the cut has a legal order.
     Legal(Cut),
-    /// The own witness of a claim, and whether the board took its copy.
+    /// The book at the cut has no legal order, and is the monitor's own witness.
     Illegal(Cut),
 }

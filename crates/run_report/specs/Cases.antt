@@ -13,13 +13,14 @@ use Rattle.run_report.specs.Reporting.{IsReportOf}
 abbrev pub stops_after : ℕ → List (Option ℕ)
 stops_after phases = Some phases ∷ Some 2 ∷ []
 
--- The plan of two callers of a queue, with these stops.
+-- The plan of two callers of a queue, of whom the first stops after this many phases, and the
+-- second after two.
 abbrev pub plan_to : ℕ → Plan
 plan_to phases =
     record { kind = Queue; operations = five_and_six; stops = stops_after phases; turns = [] }
 
--- The report that the first caller has its record and the second has announced its call is that of
--- this plan and of the locals after these steps.
+-- The report in which the first caller has its record and the second one has announced its call is
+-- that of this plan and of the locals after these steps.
 abbrev pub IsStoppedReport : ℕ → List Step → Type 0
 IsStoppedReport phases steps =
     IsReportOf [] silent pair (locals_after steps) (plan_to phases)
