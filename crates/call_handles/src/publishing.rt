@@ -14,7 +14,7 @@ use std::sync::ledger::{Blank, Ledger};
 use world_core::{Outside, Program};
 
 /// Takes an announced call whose reply is handed in up to its judgement: takes the view, publishes
-/// the reply and the view, and sees the published records.
+/// the reply and the view, and sees a cut of the published records.
 pub(crate) fn publish_reply<L: Ledger>(
     rows: &Rows,
     announced: Announced,

@@ -80,7 +80,8 @@ impl TableHandle {
             (λ found. IfSome found (IsFreshOf self.old (next_of self.old))) }
         // The parts of the handle belong together.
         ensures given_sound { IfOk result (λ found. IfSome found IsSoundCaller) }
-        // With a handle the table stays, and gives the caller after this one next.
+        // Where a handle is answered, the table is still this one, and gives the caller after this
+        // one next.
         ensures next { IfOk result (λ found. IfSome found (λ _.
             GivesNext (next_of self.old + 1) self.old self.new)) }
         // Without a handle the table's handle is as it was.
@@ -111,7 +112,8 @@ impl TableHandle {
             (λ found. IfSome found (IsFreshMonitorOf self.old (next_of self.old))) }
         // The parts of the handle belong together.
         ensures given_sound { IfOk result (λ found. IfSome found IsSoundMonitor) }
-        // With a handle the table stays, and gives the caller after this one next.
+        // Where a handle is answered, the table is still this one, and gives the caller after this
+        // one next.
         ensures next { IfOk result (λ found. IfSome found (λ _.
             GivesNext (next_of self.old + 1) self.old self.new)) }
         // Without a handle the table's handle is as it was.

@@ -18,7 +18,7 @@ use std::thread::Threads;
 /// The code that the program ends with where the system doesn't hand over the command words.
 const NO_WORDS: u8 = 7;
 
-/// The output for words that are those for nothing that can be shown.
+/// The output for words that ask for nothing that can be shown.
 const USAGE: &[u8] = b"usage: [report | picture]\n";
 
 // How many runs were made, and the seed of the last one.
@@ -85,7 +85,8 @@ where
     status
 }
 
-// Writes to standard error how many runs were made. The output alone is complete without it.
+// Writes to standard error how many runs were made. The program's output is complete without this
+// line.
 fn tell<R: Eprint>(rt: &R, settings: &Settings, tally: &RunCount, status: Status) {
     let most = settings.runs;
     let RunCount { runs, seed } = tally;

@@ -20,7 +20,7 @@ impl Shown {
     pub(crate) fn from_words(words: &[String]) -> Option<Shown>
         // The words are those for what is answered.
         ensures shown { IfSome result (λ shown. map string_bytes words.now ≡ words_of shown) }
-        // Where nothing is answered, the words are those for nothing that can be shown.
+        // Where nothing is answered, the words aren't those for anything that can be shown.
         ensures none { IfNone result ((shown : TheShown)
             → map string_bytes words.now ≢ words_of shown) }
     {

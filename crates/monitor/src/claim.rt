@@ -93,7 +93,7 @@ impl Claim {
         self.note.compare(note);
     }
 
-    /// The own witness, and whether the board took its copy.
+    /// The own witness of the claim, and whether the board took its copy of this witness.
     pub(crate) fn into_parts(self) -> (Option<Witness>, bool)
         ensures parts { (result.0 ≡ own_in self) × (result.1 ≡ placed_in self) }
         ensures found { result.1 ≡ true → is_some result.0 ≡ true }
