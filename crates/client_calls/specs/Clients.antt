@@ -46,7 +46,7 @@ module _ {P T E : Type 0} where
     pub lines : length c.sheet.operations.now ≤ vec_capacity c.sheet.lines
 
   -- The client d is c at a later moment, with the same operations, and with at least the capacity
-  -- for lines.
+  -- for lines that c has.
   pub record IsSameClient (c d : Client P T E) : Type 0 where
     pub who : d.sheet.who ≡ c.sheet.who
     pub operations : d.sheet.operations.now ≡ c.sheet.operations.now

@@ -30,7 +30,8 @@ use std::process::ExitCode;
 use std::thread::Threads;
 use work::MemoryWork;
 
-// Does the work that a line names, and answers whether its outcome is right.
+// Prepares the work that a line names, does it where the line says so, and answers whether its
+// outcome isn't wrong. Where memory was used up before, nothing is done.
 fn try_line<R: Print + AllocGlobal + Threads + Sync>(rt: &R, line: &str) -> Result<bool> {
     let (name, rest) = line.split_once(' ').context("a number")?;
     let (before, deed) = rest.split_once(' ').context("a deed")?;
