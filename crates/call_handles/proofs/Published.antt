@@ -144,7 +144,7 @@ module _ {P : Type 0} (meaning : P → ℕ → ℕ → Meaning) (r : Rows P) (ca
             (peeks_grow (local_with (caller_seen s)) (local_with c) before after peeks);
       }
 
-  -- what a judgement says of its outcome, with the order of what stands
+  -- a judgement whose outcome is right, and right by its caller's peeks, is as `IsJudgedAs` says
   judged_with : (init : List ℕ) (next : List ℕ → ℕ → List ℕ × ℕ) (before after : ℕ)
       (standing : Option KeptOrder) (c : Caller P) (judged : Judged)
       → IsStill meaning r (caller_seen s) c
@@ -176,8 +176,7 @@ module _ {P : Type 0} (meaning : P → ℕ → ℕ → Meaning) (r : Rows P) (ca
         verdict = verdict;
       }
 
-  -- what a judgement says, where there is one, and what then holds of the call's record, where
-  -- there is none
+  -- a judgement is as `IsJudgedAs` says, where one was made and its outcome is right
   pub judged_as : (init : List ℕ) (next : List ℕ → ℕ → List ℕ × ℕ) (before after : ℕ)
       (standing : Option KeptOrder) (result : Result (Caller P × Judged) (Unjudged P))
       → IfOk result (λ x. IsStill meaning r (caller_seen s) x.0)
@@ -208,7 +207,7 @@ module _ {P : Type 0} (meaning : P → ℕ → ℕ → Meaning) (r : Rows P) (ca
       peeked u.caller (record_unjudged u) u.seen before after still peeks
       (λ i. record { reply = told.0 i; view = told.1 i }) told.2 own
 
--- A delivered reply is, with the order of what stands, an outcome that is no error.
+-- A delivered reply has an outcome, which is no error.
 pub delivered_with : (holds : Outcome → Type 0) (standing : Option KeptOrder) (reply : ℕ)
     (view seen : List ℕ) → IsOutcome (Delivered reply view seen) standing holds
     → (found : Outcome) × (is_illegal found ≡ false) × holds found

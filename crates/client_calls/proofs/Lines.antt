@@ -7,7 +7,7 @@ use Rattle.report_lines.specs.declared.line.Line.{Line}
 use Rattle.report_lines.specs.Lines.{is_error, any_error}
 use Rattle.client_calls.specs.Ends.{EndsAs, IsLineOf, AreLinesOfCalls}
 
--- what one of two meanings of lines says follows from the other
+-- what the second of two meanings of lines says follows from what the first says
 abbrev Implies : (Record → List ℕ → LineEnd → Type 0)
     → (Record → List ℕ → LineEnd → Type 0) → Type 0
 Implies says says' = (r : Record) (cut : List ℕ) (end : LineEnd) → says r cut end → says' r cut end
@@ -44,7 +44,8 @@ one_more_line says (c ∷ calls) [] call line h one = absurd h
 one_more_line says (c ∷ calls) (first ∷ own) call line h one =
     (h.0, one_more_line says calls own call line h.1 one)
 
--- no error among two lists of lines, where none is among the first and so none among the second
+-- where neither of two tests holds, and a third fails where the second does, neither the first nor
+-- the third holds
 any_with : (a b c : Bool) → (a || b) ≡ false → (b ≡ false → c ≡ false) → (a || c) ≡ false
 any_with true b c none more = none
 any_with false b c none more = more none

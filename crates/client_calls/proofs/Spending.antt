@@ -17,7 +17,7 @@ module _ {P : Type 0} where
   spent_by allotment lines (Halted c) is = omega (arith, is)
   spent_by allotment lines (Unjudged u) is = omega (arith, is)
 
-  -- a caller that isn't halted has made all phases of the allotment
+  -- a caller that isn't halted and has spent its allotment has made all phases of it
   pub spent_exact : (allotment lines : ℕ) (s : CallerState P) → GoesOnFrom s
       → Spent allotment lines s
       → phases_at lines s ≡ allotment

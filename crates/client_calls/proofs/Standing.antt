@@ -56,7 +56,7 @@ fits_stays meaning r fits pass c d was still steps h =
     (subst (λ (i : ℕ). fits c.callers c.cap pass i (all_steps_of (local_with d))) (sym still.1)
     (subst (λ (own : List Object_step). fits c.callers c.cap pass (who_of c) own) (sym steps) h)))
 
--- a caller that isn't halted and isn't idle is within a call
+-- a caller that isn't halted is idle, or its call is announced, answered, viewed or published
 pub stands_before : {P : Type 0} (s : CallerState P) → GoesOnFrom s
     → ((c : Caller P) → s ≡ at.Idle c → ⊥)
     → ((a : Announced P) → s ≡ at.Announced a → ⊥) → ((a : Answered P) → s ≡ at.Answered a → ⊥)

@@ -672,7 +672,7 @@ module _ {S : Type 0} (init : S → List ℕ) (next : S → List ℕ → ℕ →
         ∙ (h.filled placed.place (ticket_of (number_on r a)) placed.ticket).0)
         (own_operation a op stored is)
 
-    -- a call of whose log the operations before its own are known has its reply
+    -- a call has its reply once the operations before its own in the log are known
     abbrev pub has_replied : (a b : Announced P) (object : S) (log tickets : List ℕ) (op reply : ℕ)
         → now a ≡ [] → Made a b → r.program ≡ record { object = object }
         → op_announced b ≡ op → HasPlaced r b tickets → length log + 1 ≡ length tickets

@@ -39,7 +39,7 @@ pub record Views (n op reply : ℕ) (view : List ℕ) (l m : Local) : Type 0 whe
       ≡ after_viewing (record { reply = reply; view = view }) (progress_of l)
   pub grows : Grows l m
 
--- an announcement leaves this row, where its scan leaves the local so
+-- an announcement leaves this row, where its scan leaves the local as `scanned_for_row` says
 announced_row : (n op : ℕ) (l : Local) (cut : List ℕ) (looks : List Looked) (peeks : List Peeked)
     → HasPhase l → l.phase ≡ Announcing
     → HasScanned n N Begins_scan cut l (scanned_for_row N cut looks peeks l) → HoldsLooks N cut l
@@ -116,7 +116,7 @@ replied_phase l reply has phase =
       object_steps = has.object_steps;
     }
 
--- a view leaves this record, where its scan leaves the local so
+-- a view leaves this record, where its scan leaves the local as `scanned_for_view` says
 recorded_view : (n op reply : ℕ) (view : List ℕ) (l : Local) (looks : List Looked)
     (peeks : List Peeked) → HasPhase l → IsAsked op l
     → HasScanned n N (Begins_view reply) view l (scanned_for_view reply view looks peeks l)

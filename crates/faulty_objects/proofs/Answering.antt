@@ -56,7 +56,8 @@ puts_in-cons : (e : Entry) (log : List Entry)
     → puts_in (e ∷ log) ≡ cond (is_put e.op) 1 0 + puts_in log
 puts_in-cons e log = count-cons (is_put e.op) e (filter (λ c. is_put c.op) log)
 
--- whether a call is a second put, after some others of which n are puts
+-- after n puts and then some calls, one more call is left out as a second put where it is a put and
+-- the number of puts before it is odd
 second_puts-append : (n : ℕ) (before : List Entry) (e : Entry)
     → without_second_puts (n % 2 == 1) (before ++ e ∷ []) ≡ without_second_puts (n % 2 == 1) before
     ++ unless (is_put e.op && ((n + puts_in before) % 2 == 1)) e

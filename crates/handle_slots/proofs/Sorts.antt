@@ -44,7 +44,8 @@ pub same_table : (t u : TableHandle)
     → ◌≡◌ {A = Option Handle} (Some (Table t)) (Some (Table u)) → t ≡ u
 same_table t u e = ap (table_or t) e
 
--- what holds of the caller exactly where an answer is given holds of its handle exactly there
+-- where the place has this caller's handle, what is equivalent to a fact on the handle is
+-- equivalent to this fact on the caller in the place
 pub callers_iff : (Yes : Type 0) (Is : CallerHandle → Type 0) (found : Option Handle)
     (h : CallerHandle) → found ≡ Some (Caller h) → (Yes ↔ Is h) → (Yes ↔ IsCallers Is found)
 callers_iff Yes Is found h is iff = (
@@ -52,7 +53,8 @@ callers_iff Yes Is found h is iff = (
   λ held. iff.1 (subst Is (same_caller held.0 h (sym held.1 ∙ is)) held.2),
 )
 
--- what holds of the monitor exactly where an answer is given holds of its handle exactly there
+-- where the place has this monitor's handle, what is equivalent to a fact on the handle is
+-- equivalent to this fact on the monitor in the place
 pub monitors_iff : (Yes : Type 0) (Is : MonitorHandle → Type 0) (found : Option Handle)
     (m : MonitorHandle) → found ≡ Some (Monitor m) → (Yes ↔ Is m) → (Yes ↔ IsMonitors Is found)
 monitors_iff Yes Is found m is iff = (

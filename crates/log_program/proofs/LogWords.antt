@@ -8,7 +8,8 @@ use Rattle.world_laws.proofs.Each.{Each}
 use Rattle.log_program.specs.LogWords.{low_place, high_place, ticket_place, known, is_known, is_filled, placed_at, names, is_named_below}
 use Rattle.log_program.specs.LogEffects.{operation_at, operations_below, place_with}
 
--- the operations below a place, by other words that have the same operation at each place
+-- the operations below a place are the same by other words that have the same operation at each
+-- place
 pub operations_same : (f g : ℕ → ℕ) (total m : ℕ)
     → ((p : ℕ) → p < m
     → operation_at f (f (ticket_place total p)) ≡ operation_at g (g (ticket_place total p)))
@@ -36,7 +37,7 @@ operations_end f total p (suc m) le free =
           (λ q from low. free q from (omega (arith, low)))
     ]
 
--- the place of a ticket that is at one place alone
+-- `place_with` finds the place of a ticket that is at one place alone
 pub place_found : (f : ℕ → ℕ) (total t m p : ℕ) → p < m → f (ticket_place total p) ≡ t
     → ((q : ℕ) → q < m → f (ticket_place total q) ≡ t → q ≡ p) → place_with f total t m ≡ Some p
 place_found f total t zero p low at one = absurd (omega arith)
@@ -54,7 +55,7 @@ place_found f total t (suc m) p low at one =
           (λ q below is. one q (omega (arith, below)) is)
     ]
 
--- a ticket that is at no place has no place
+-- `place_with` finds no place for a ticket that is at none
 pub no_place : (f : ℕ → ℕ) (total t m : ℕ) → ((q : ℕ) → q < m → f (ticket_place total q) ≢ t)
     → place_with f total t m ≡ None
 no_place f total t zero none = refl
@@ -65,7 +66,7 @@ no_place f total t (suc m) none =
           ∙ no_place f total t m (λ q low. none q (omega (arith, low)))
     ]
 
--- a ticket that has no place is at no place
+-- a ticket for which `place_with` finds no place is at none
 pub no_place_is : (f : ℕ → ℕ) (total t m : ℕ) → place_with f total t m ≡ None → (q : ℕ) → q < m
     → f (ticket_place total q) ≢ t
 no_place_is f total t zero none q low at = omega (arith, low)

@@ -47,7 +47,7 @@ fine_status : (kind : Kind) (locals : List Local) (answer : Option Witness)
 fine_status kind locals None exact legal = refl
 fine_status kind locals (Some w) exact legal = absurd (none-some w (sym (exact.exact.1 legal)))
 
--- the status of an answer is that of the run
+-- The run's status is the answer's, or says that a write failed or that memory was wanted.
 abbrev Ended : Status → Status → Type 0
 Ended result status = (result ≡ status) ⊎ ((result ≡ WriteFault) ⊎ (result ≡ NoMemory))
 

@@ -36,7 +36,7 @@ none_wanted true b c none = absurd (false≢true (sym none))
 none_wanted false true c none = absurd (false≢true (sym none))
 none_wanted false false c none = (refl, (refl, none))
 
--- the script's callers have begun, and a monitor is still on the bench
+-- once the script's callers have begun, a monitor is still free on the bench
 pub free_on : {P : Type 0} (n : ℕ) (b s : Bench P) → AreAlikeFrom n b s → (i : ℕ) → n ≤ i
     → IsUnused b i → HoldsFree s i
 free_on n b s started i high unused = record {

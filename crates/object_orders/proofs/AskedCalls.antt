@@ -44,8 +44,8 @@ asked s w i kept low asking =
       replies = omega (arith, replies);
     }
 
--- A caller's object step is enabled: the call under way is asked, and the step is one that the
--- program allows it.
+-- A caller's object step is enabled: the call under way is asked, the program allows it this step,
+-- and the step finds the word that is at its place.
 pub record IsObjectStep (s : Shape) (w : World) (who : ℕ) (step : Object_step) : Type 0 where
   pub caller : who < s.callers
   pub call : IsAsked s (local_of w who)

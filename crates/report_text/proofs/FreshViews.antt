@@ -55,7 +55,8 @@ module _ (n i k : ℕ) where
         inr (ap (λ (b : Bool). cond b cut (both r.view cut)) (le-ltb k (get_or r.view i 0) le), le)
   ]
 
-  -- no view that holds at most k calls of caller i has a count above the greatest counts
+  -- the greatest counts, taken over further views, are nowhere below the counts that they began
+  -- with
   above-cut : (rs : List Record) (cut : List ℕ) (j : ℕ)
       → get_or cut j 0 ≤ get_or (low_records i k rs cut) j 0
   above-cut [] cut j = omega arith
@@ -103,7 +104,7 @@ module _ (n i k : ℕ) where
   above (p ∷ book) (suc c) m r j e low =
       omega (arith, above book c m r j e low, above-cut p.records (low_views n i k book) j)
 
-  -- a number that no count of these views is above is not below the greatest counts of them
+  -- a number that is at least the count of each of these views is at least their greatest count
   least-record : (rs : List Record) (cut : List ℕ) (j most : ℕ) → get_or cut j 0 ≤ most
       → ((m : ℕ) (r : Record) → slice_get rs m ≡ Some r → IsLow r → get_or r.view j 0 ≤ most)
       → get_or (low_records i k rs cut) j 0 ≤ most

@@ -157,7 +157,8 @@ no_line counts call line e =
     ap (λ (ls : List Line). slice_get ls call.number) (sym (grouped-none counts call.caller)) ∙ e in
     absurd cc
 
--- the draft before any line has the unanswered book and seen cuts of zeros
+-- a draft with the unanswered book, all calls as its limits, and seen counts of 0 is the draft
+-- before any line
 pub draft-none : (counts : List ℕ) (draft : Draft) → draft.book ≡ unanswered_book counts
     → draft.limits ≡ counts → draft.seen ≡ replicate (length counts) 0 → IsDraft counts [] draft
 draft-none counts draft book limits seen = record {

@@ -44,7 +44,7 @@ count_of_undelivered (Unchecked r) none i = refl
 count_of_undelivered (Delivered r cut) none i = absurd (none r cut refl)
 count_of_undelivered (Error r cut) none i = refl
 
--- the greatest counts with one line more
+-- the greatest counts with one line more are the greater of those before and the line's counts
 pub counts-more_lines : (own : List Line) (k : ℕ) (line : Line) (i : ℕ)
     → slice_get own k ≡ Some line
     → greatest_count (delivered_cuts_in (take (k + 1) own)) i
@@ -60,7 +60,8 @@ counts-more_lines own k line i there =
     ∙ ap (λ (n : ℕ). max (greatest_count (delivered_cuts_in (take k own)) i) n)
     (count_of_one line.op line.end i)
 
--- the greatest counts with the lines of one caller more
+-- the greatest counts with the lines of one caller more are the greater of those before and those
+-- of these lines
 pub counts-more_callers : (lines : List (List Line)) (n i : ℕ) → n < length lines
     → greatest_count (delivered_cuts (take (n + 1) lines)) i
     ≡ max (greatest_count (delivered_cuts (take n lines)) i)

@@ -156,7 +156,7 @@ module _ {P T E : Type 0} (meaning : P → ℕ → ℕ → Meaning) (r : Rows P)
         spent = subst (λ (a : ℕ). HasSpent a ran.after) all ran.spent;
       }
 
-  -- a worker was ready before it ran
+  -- a worker at its start is ready to run
   pub start_ready : (serves : Type 0) (i : ℕ) (w : Worker P T E) → serves
       → IsStart meaning r says object fits count course i w
       → IsReady meaning r says object fits count serves w

@@ -165,8 +165,8 @@ module _ {P T E : Type 0} (meaning : P → ℕ → ℕ → Meaning) (r : Rows P)
   Are n turns ws = AreDownFrom n
       (λ i w. IsTurned meaning r says object fits count course i (turns_of turns i) w) ws
 
-  -- where the worker of a turn has taken it and is put back at its place, all workers have taken
-  -- one turn more
+  -- where the worker of turn k has taken it and is put back at its place, the workers have taken
+  -- the first k + 1 turns
   pub turned_set : (n k place : ℕ) (turns : List ℕ) (ws : List (Worker P T E)) (w d : Worker P T E)
       → k < length turns → place + get_or turns k 0 + 1 ≡ n
       → slice_get ws place ≡ Some w

@@ -132,7 +132,7 @@ at_argued_row P (row ∷ rows) word all e =
     here later true same e = subst P (same refl) all.0
     here later false same e = later e
 
--- an element that is in neither of two lists of names is found in neither's concatenation
+-- what is found in neither of two lists of names isn't found in the two in a row
 find_in_both : (p : Text × List Text → Bool) (a b : Names) → find p a ≡ None → find p b ≡ None
     → find p (a ++ b) ≡ None
 find_in_both p [] b none other = other

@@ -549,8 +549,8 @@ exact-from_ends command left left' taken taken' bytes held status result reads e
     one_status (IsOutputOf command bytes) status result taken taken' ends
     (subst (λ b. HasOneStatus command b status) (sym same) one)
 
--- a call that wrote an output for an input that the command takes has an answer's status, where no
--- write failed
+-- a call that wrote an output for an input that the command takes has an answer's status, or wanted
+-- memory, where no write failed
 done : (command : Command) (bytes : List ℕ) (result : Status) (taken taken' : Option (List ℕ))
     → EndsWriting (IsOutputOf command bytes) result taken taken'
     → IsTaken command bytes → (result ≡ WriteFault → ⊥) → (result ≡ Fine)

@@ -33,7 +33,7 @@ by_error : (error : Bool) (status : Status) → status ≡ (if error then Found 
 by_error true status e = inr e
 by_error false status e = inl e
 
--- a run of which a report is shown has found an error, or none
+-- a run of which a report is shown has one of the statuses `Fine` and `Found`
 pub run_statuses : (object : Sequential) (IsOne : Findings → Type 0) (form : Form) (status : Status)
     (text : List ℕ) → IsRunOutput object IsOne form status text → (status ≡ Fine) ⊎ (status ≡ Found)
 run_statuses object IsOne form status text output =

@@ -28,7 +28,7 @@ delivered_end (Unchecked r) seen right = cc
 delivered_end (Delivered r cut) seen right = refl
 delivered_end (Error r cut) seen right = cc
 
--- all lines are delivered of a caller that has made all phases of n calls, none of them an error
+-- These are n lines, all of them delivered and none an error.
 record AreDelivered (n : ℕ) (own : List Line) : Type 0 where
   all : length own ≡ n
   delivered : count_by is_delivered own ≡ n

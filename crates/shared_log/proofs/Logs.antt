@@ -86,13 +86,13 @@ length-calls_by-push i xs e = elim (cases_eq e.caller i) [
   )
 ]
 
--- a prefix has at most as many entries of a caller
+-- two logs in a row have as many entries of a caller as the first and the second together
 pub calls_by-prefix : (i : ℕ) (xs ys : List Entry)
     → length (calls_by i xs) + length (calls_by i ys) ≡ length (calls_by i (xs ++ ys))
 calls_by-prefix i xs ys =
     sym (ap length (calls_by-append i xs ys) ∙ length-append (calls_by i xs) (calls_by i ys))
 
--- an entry of a log is one of its caller's, after the caller's entries before it
+-- a log has more entries of a caller than there are before one of the caller's entries
 pub calls_by-at : (xs ys : List Entry) (e : Entry)
     → length (calls_by e.caller xs) < length (calls_by e.caller (xs ++ e ∷ ys))
 calls_by-at xs ys e =
@@ -123,7 +123,7 @@ within_prefix n cap xs ys h =
       calls = λ i. let all = h.calls i in let parts = calls_by-prefix i xs ys in omega arith;
     }
 
--- the caller of an entry of such a log, and how many calls of this caller come before the entry
+-- the caller of an entry of such a log is below n, and has fewer than cap calls before this entry
 pub within_at : (n cap : ℕ) (xs ys : List Entry) (e : Entry) → IsWithin n cap (xs ++ e ∷ ys)
     → (e.caller < n) × (length (calls_by e.caller xs) < cap)
 within_at n cap xs ys e h = (

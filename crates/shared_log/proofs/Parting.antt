@@ -20,7 +20,7 @@ pub leave_asks : (n cap id who jw : ℕ) (me : Me (Unit {0}) View) (h : Hand) �
     → Splits (Ruled n cap) id me.0 (slice_set me.0 jw None) (only jw (the (has me.0 jw)))
 leave_asks n cap id who jw me h is here = steps.leaves n cap 0 id jw me h (ap (has me.0) is ∙ here)
 
--- the hand with which a caller leaves its seat
+-- a caller leaves its seat with the hand that the seat had of it
 pub left_hand : (v : View) (me : Me (Unit {0}) View) (who jw own : ℕ) (h : Hand) → jw ≡ who
     → own ≡ who → has v who ≡ Some h → me ≡ (only jw (the (has v jw)), []) → the (has me.0 own) ≡ h
 left_hand v me who jw own h is mine here alone =
@@ -30,7 +30,7 @@ left_hand v me who jw own h is mine here alone =
     ∙ ap (λ (i : ℕ). the (has v i)) is
     ∙ ap the here
 
--- the callers that are left in a seat
+-- once a caller has left a seat, the callers after it still have empty hands there
 pub left_others : (n who : ℕ) (v u : View) → ((i : ℕ) → who ≤ i → i < n → has v i ≡ Some empty)
     → u ≡ slice_set v who None
     → (i : ℕ) → who + 1 ≤ i → i < n → has u i ≡ Some empty

@@ -81,7 +81,7 @@ module _ (n cap slots id who : ℕ) (me : Me (Unit {0}) View) (h : Hand)
         learn_tells n cap who t.words r.log h r.stand fits low there.0 there.1 there.2 tried,
       )
 
-  -- the hand after nothing is learnt
+  -- the table keeps its rule where the caller learns no entry, and its hand stays as it was
   leaves_all : (t : State (Unit {0}) View) → HaveOneLog n cap t.words t.views → get_elem? t.views id
       ≡ some me.0 → HaveOneLog n cap t.words (slice_set t.views id (slice_set me.0 who (Some h)))
   leaves_all t r at =

@@ -30,8 +30,8 @@ tickets_push n cap from past (first ∷ words) word on is h =
     let low = h.2 in
     (h.0, h.1, omega arith, h.3, tickets_push n cap (h.0 + 1) past words word (omega arith) is h.4)
 
--- a hand that has tried the places up to one, and may have tried this one too, has tried the places
--- up to the next
+-- a hand that has tried at most the places before one, and may have tried this one too, has tried
+-- at most the places before the next
 pub tries_on : (n cap from past word : ℕ) (before between after : List ℕ) → from ≤ past
     → word ≡ ticket_index n cap past
     → HasTried n cap from past before between → MayHaveTried word between after
@@ -44,7 +44,8 @@ tries_on n cap from past word before between after on is h (inr one) = (
   tickets_push n cap from past h.0 word on is h.2,
 )
 
--- at most one exchange more, where a log that began with another has one entry more
+-- with one entry more in the log, and at most one exchange at this entry's ticket, a caller has
+-- still tried at most the tickets of the log's places
 tries_more : (n cap place : ℕ) (first log more : List Entry) (e : Entry)
     (before between after : List ℕ) → BeginsWith log first → place ≡ length log
     → more ≡ log ++ e ∷ []
@@ -60,7 +61,8 @@ tries_more n cap place first log more e before between after begins at is h may 
     (tries_on n cap (length first) (length log) (ticket_index n cap place) before between after on
     (ap (ticket_index n cap) at) h may)
 
--- the words tried after what is found at the next place
+-- a caller that has found the entry of the next place has still tried at most the tickets of the
+-- log's places
 pub found_more : (n cap who op place : ℕ) (first log more : List Entry) (e : Entry)
     (before : List ℕ) (h next : Hand) → BeginsWith log first → place ≡ length log
     → more ≡ log ++ e ∷ []

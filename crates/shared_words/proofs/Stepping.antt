@@ -18,7 +18,8 @@ pub alone_here : (me : Me (Unit {0}) View) (who : ℕ) (h : List Access) → me 
     → has me.0 who ≡ Some h
 alone_here me who h alone = ap (λ (m : Me (Unit {0}) View). has m.0 who) alone ∙ only_here who h
 
--- A deed at a place, which makes of the word found f of it, by the one caller that a seat has.
+-- A deed at a place, by the one caller that a seat has, which makes f x of the word x that it
+-- finds.
 module _ (may : ℕ → Deed → Type 0) (n count words slots id who : ℕ) (me : Me (Unit {0}) View)
     (h : List Access) (same : count ≡ words) (alone : me ≡ (only who h, [])) (place : ℕ) (f : ℕ → ℕ)
     (deed : ℕ → Deed)

@@ -51,7 +51,7 @@ witness_is_illegal bytes text h =
       illegal = λ legal. h.illegal (evidence_tells h.kind h.book h.part h.evidence legal);
     }
 
--- bytes with a first fault are refused for it, where they have no answer
+-- where they have no answer, bytes with a first fault are refused for it, or memory was wanted
 first_answer : {V : Type 0} (IsFound : V → Type 0) (bytes : List ℕ) (result : Result V ReadFault)
     → IfOk result IsFound → IfErr result (IsNotGiven bytes)
     → ((v : V) (fault : TextFault) → IsFound v → IsFirstGivenFault bytes fault → ⊥)

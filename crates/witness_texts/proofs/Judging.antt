@@ -24,7 +24,8 @@ pub told_by : (bytes : List ℕ) (error : Option Call) → IfSome error (IsFirst
 told_by bytes (Some call) found none = found
 told_by bytes None found none = none
 
--- the number of calls of the first callers, with one caller more
+-- the calls of the first callers and those of the next are the calls of the first callers with this
+-- one
 pub calls_more : (book : List Page) (i total : ℕ) → i < length book → total
     ≡ sum (take i (announced book)) → total + calls_of book i ≡ sum (take (i + 1) (announced book))
 calls_more book i total inside was =

@@ -36,7 +36,7 @@ calls_at [] i = refl
 calls_at (l ∷ ls) zero = refl
 calls_at (l ∷ ls) (suc i) = calls_at ls i
 
--- The local of a call that has seen a cut.
+-- Call k of this local has seen this cut.
 record SeesIn (l : Local) (k : ℕ) (cut : List ℕ) : Type 0 where
   below : k < length l.seen
   is : cut ≡ slice_index_or l.seen k []

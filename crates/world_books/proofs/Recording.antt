@@ -188,8 +188,7 @@ invoked_is_announced s w (step ∷ steps) call op kept may h =
       | inr later ↦ invoked_is_announced s (after s w step) steps call op next parts.1 later
     ]
 
--- A call that is announced at the end of some steps, and wasn't at their beginning, was invoked in
--- them.
+-- The call was invoked in this history.
 abbrev pub IsInvokedIn : List Happening → Call → Type 0
 IsInvokedIn history call = (op : ℕ) × Contains history (Invoked call op)
 
@@ -338,7 +337,7 @@ returned_since s w (step ∷ steps) i k kept may before now =
           }
     ]
 
--- the history of two lists of steps in a row
+-- the history of two lists of steps in a row is that of the first and then that of the second
 pub history_from-append : (s : Shape) (w : World) (xs ys : List Step)
     → history_from s w (xs ++ ys) ≡ history_from s w xs ++ history_from s (after_all s w xs) ys
 history_from-append s w [] ys = refl

@@ -77,8 +77,9 @@ pub record Gave (s : Shape) (w : World) (i : ℕ) (cuts : List Given) (m : Local
   pub taking : Taking s i from given.region (scan.taken ++ word ∷ [])
   pub none : m.scan ≡ None
 
--- After an event of a caller that had these cuts, either it has them still, and its scan is under
--- way, or its scan gave one cut more.
+-- After an event of a caller that had these cuts, either it has them still, and its scan under way,
+-- if there is one, began at a world for which P holds; or a scan that began at such a world gave
+-- one cut more.
 abbrev pub ScanOutcome : Shape → World → ℕ → (World → Type 0) → List Given → Local
     → Option Scan → Type 0
 ScanOutcome s w i P cuts m o = ((m.cuts ≡ cuts) × IsBegun s w i P m m.scan)

@@ -334,7 +334,7 @@ steps_keep s w (step ∷ steps) sound all may =
     steps_keep s (after s w step) steps (sound_after s w step sound parts.0)
     (step_keeps s w step sound parts.0 all) parts.1
 
--- Locals that are together are those of a world with what is proved above.
+-- These locals are those of some sound world in which every local keeps its cuts.
 record Of (s : Shape) (locals : List Local) : Type 0 where
   world : World
   sound : Sound s world

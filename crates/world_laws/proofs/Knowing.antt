@@ -196,7 +196,7 @@ module _ (s : Shape) (w : World) (kept : Kept s w) (all : AllLow s w) where
               ]
         ]
 
--- A cut to embed that has an entry exists.
+-- where a cut to embed has an entry it exists, so it is low
 entry_there : (s : Shape) (w : World) (r : Region) (kept : Option (List ℕ)) (j x : ℕ)
     → is_entry_to_embed kept j x ≡ true → IsLowKept s w r kept → IsLowCut s w r (unwrap_or kept [])
 entry_there s w r None j x e h = absurd cc

@@ -33,7 +33,7 @@ pub record Ordered (l : Local) : Type 0 where
   pub few : (q : ℕ) (given : Given) → slice_get l.cuts q ≡ Some given
       → given.since ≤ length l.looked
 
--- The local m has looked at more counts than l, and lists them before those of l.
+-- The looks of the local m are those of l, with any further ones listed before them.
 abbrev pub LooksGrow : Local → Local → Type 0
 LooksGrow l m = (more : List Looked) × (m.looked ≡ more ++ l.looked)
 
@@ -98,8 +98,8 @@ looked_after (y ∷ more) xs zero since look is few late =
 looked_after (y ∷ more) xs (suc p) since look is few late =
     looked_after more xs p since look is few (omega (arith, late))
 
--- What holds of a local m that has the looks of an ordered local l and more, and the cuts of l,
--- with at most one more.
+-- What holds of a local m that has the looks of an ordered local l and perhaps more, and the cuts
+-- of l, with at most one more.
 module _ (l m : Local) (h : Ordered l) (grows : LooksGrow l m) where
   longer : length l.looked ≤ length m.looked
   longer = omega (arith, length-append grows.0 l.looked, ap length grows.1)
@@ -247,7 +247,7 @@ steps_placed s w (step ∷ steps) sound all may =
     steps_placed s (after s w step) steps (sound_after s w step sound parts.0)
     (step_placed s w step sound parts.0 all) parts.1
 
--- Locals of one reachable world are those of a world in which every caller is placed as above.
+-- These locals are those of some world in which every caller is placed.
 pub record Of (s : Shape) (locals : List Local) : Type 0 where
   pub world : World
   pub placed : AllPlaced s world

@@ -60,7 +60,8 @@ AllOwned s w = (i : ℕ) → i < s.callers → Owned s w i (local_of w i) (local
 owns_none : (i count : ℕ) (kept : Option (List ℕ)) → kept ≡ None → OwnsKept i count kept
 owns_none i count kept none = subst (λ (o : Option (List ℕ)). OwnsKept i count o) (sym none) tt
 
--- a list of cuts whose own entries are their numbers and some more, with one cut more
+-- where the own entry of each cut k of a list is k and some number more, it is so with one cut more
+-- whose own entry fits
 pushed_own : (i more : ℕ) (cuts : List (List ℕ)) (cut : List ℕ)
     → ((k : ℕ) → k < length cuts → slice_index (slice_index_or cuts k []) i ≡ k + more)
     → slice_index cut i ≡ length cuts + more → (k : ℕ) → k < length (cuts ++ cut ∷ [])
@@ -74,7 +75,7 @@ pushed_own i more cuts cut h new k below = elim (cases_lt k (length cuts)) [
       ∙ omega (arith, new, here)
 ]
 
--- a cut to embed that has an entry exists
+-- where a cut to embed has an entry it exists, so its own entry is the count
 owns_there : (i : ℕ) (kept : Option (List ℕ)) (count x : ℕ) → is_entry_to_embed kept 0 x ≡ true
     → OwnsKept i count kept → slice_index (unwrap_or kept []) i ≡ count
 owns_there i None count x e h = absurd cc

@@ -113,7 +113,7 @@ object_nothing n l o =
     (map-set_same (λ (steps : List Object_step). let none : List Object_step = [] in none)
     l.object_steps l.published (slice_index_or l.object_steps l.published [] ++ o ∷ []) [] refl)
 
--- a look may begin where the object is outside what it may begin in the world
+-- what a look may begin in the world, it may also begin where the object is outside
 may_begin_outside : (s : Shape) (me : ℕ) (l : Local) (q : Region) (j : ℕ) (o : Opening)
     → may_begin s me l q j o ≡ true → may_begin (outside_of s) me (without_steps l) q j o ≡ true
 may_begin_outside s me l q j Begins_none h = refl
@@ -265,7 +265,8 @@ module _ (s : Shape) (w v : World) (h : Sound s w) (p : IsPlain s w v) where
       ∙ same_happenings who (local_of w who) e
 
 -- The rest of a run, from a world w on, against the same steps without the object steps, from the
--- plain world v on: these are possible, and lead to the plain world with the same history.
+-- plain world v on: these are possible, make the same history, and lead to the plain world of the
+-- one to which the rest of the run leads.
 record Projects (s : Shape) (w v : World) (steps : List Step) : Type 0 where
   may : are_possible (outside_of s) v (plain steps) ≡ true
   at : IsPlain s (after_all s w steps) (after_all (outside_of s) v (plain steps))

@@ -18,7 +18,7 @@ use Rattle.world_laws.proofs.Since.{High, AllHigh, IsHighCut, IsHighKept, IsHigh
 use Rattle.world_laws.proofs.Knowing.{Sound, known_counted, none_asked, keeps_open}
 use Rattle.world_laws.proofs.Running.{possible, own_local, other_local}
 
--- a cut to embed that has an entry exists
+-- where a cut to embed has an entry it exists, so it is high
 high_there : (s : Shape) (from : World) (r : Region) (kept : Option (List ℕ)) (j x : ℕ)
     → is_entry_to_embed kept j x ≡ true → IsHighKept s from r kept
     → IsHighCut s from r (unwrap_or kept [])

@@ -137,7 +137,8 @@ steps_kept s w (step ∷ steps) h may =
     let parts = and_parts (is_possible s w step) (are_possible s (after s w step) steps) may in
     steps_kept s (after s w step) steps (step_kept s w step h parts.0) parts.1
 
--- a run of two lists of steps in a row is the second one's after the first one's
+-- the world after two lists of steps in a row is the one after the second list from the world after
+-- the first
 pub after_all-append : (s : Shape) (w : World) (xs ys : List Step)
     → after_all s w (xs ++ ys) ≡ after_all s (after_all s w xs) ys
 after_all-append s w [] ys = refl

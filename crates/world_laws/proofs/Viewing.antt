@@ -135,8 +135,8 @@ views_hold_no_later s before later who k j run low fits below =
     ∙ ap (λ (c : List ℕ). slice_index c j) kept.1 in
     omega (arith, bound, same)
 
--- The view of call k of a caller that returned at some world: the view's scan is under way, or the
--- view is taken and holds what the world had.
+-- The view of call k, of a caller that returned at some world, is being scanned, and no word of its
+-- scan is below the counts of that world.
 record Waiting (s : Shape) (from : World) (k : ℕ) (l : Local) : Type 0 where
   phase : l.phase ≡ Viewing
   number : length l.views ≡ k
