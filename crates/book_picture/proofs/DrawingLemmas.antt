@@ -31,7 +31,7 @@ at_lane lanes i lane items less here same k interval at =
     row_at lanes i lane (slice_get_read lanes (length lanes) i lane refl less here) ∙ sym same in
     ap (λ (xs : List Interval). slice_get xs k) row ∙ at
 
--- what holds of an interval of some lane holds of one of the lane at a place
+-- where all intervals of all lanes can be drawn, those of the lane at a place can
 pub drawable_lane : (book : List Page) (lanes : List (Vec Interval Global)) (i : ℕ)
     (lane : Vec Interval Global) (items : List Interval) → i < length lanes
     → lane ≡ get_or lanes i lane → items ≡ lane.items → AreAllDrawable book (rows_of lanes)

@@ -16,7 +16,7 @@ use Rattle.client_calls.specs.Stands.{local_at_stand, phases_at}
 use Rattle.client_calls.specs.Course.{HasCome}
 use Rattle.client_calls.specs.Finishing.{KeepsAsked}
 
--- a reply that a caller's program allows the program of its rows allows
+-- a reply that a caller's program allows, the program of its rows allows too
 allowed_by_rows : {P : Type 0} (meaning : P → ℕ → ℕ → Meaning) (r : Rows P) (c : Caller P)
     (who reply : ℕ) → IsCallerOf meaning r c → who_of c ≡ who
     → MayGet meaning c reply

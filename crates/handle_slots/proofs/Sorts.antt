@@ -74,7 +74,7 @@ gives_iff None found t is iff = (
 gives_iff (Some x) found t is iff =
     (λ some. (t, is, λ all. absurd (true≢false (iff.1 all))), λ may. refl)
 
--- what follows from two facts on the value that is found
+-- what follows from two facts on the value that is found holds of this value
 pub found_then : {X Y : Type 0} (r : Result (Option X) Y) (P Q R : X → Type 0)
     → IfOk r (λ found. IfSome found P) → IfOk r (λ found. IfSome found Q)
     → ((x : X) → P x → Q x → R x) → IfOk r (λ found. IfSome found R)

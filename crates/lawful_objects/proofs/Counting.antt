@@ -30,7 +30,7 @@ tallies_count history lawful =
     let all : 0 + length history ≡ length history = omega arith in
     counts 0 history (lawful_allowed tally_may [] history lawful) ∙ ap (λ (k : ℕ). k % 2 ^ 64) all
 
--- the word of the last store, or the first word where there is no store
+-- The word is that of the history's last store, or `first` where there is no store.
 LastFrom : ℕ → ℕ → List Access → Type 0
 LastFrom first word history =
     (All IsLoad history × (word ≡ first)) ⊎ ((before rest : List Access) × (who : ℕ)

@@ -115,7 +115,7 @@ module _ {M : Type 0} (reply_to : M → List Entry → ℕ) (has_seen : M → Li
           (All-head (λ q. IsSeatOf b.log (seat_in q)) p ps all)
           (All-of_map ps (All-tail (λ q. IsSeatOf b.log (seat_in q)) p ps all))
 
--- a new scratch has capacity
+-- a clear scratch has capacity for all calls of all callers
 pub clear_capacity : (n cap : ℕ) (s : Scratch) → IsClear n cap s → HasCapacity (n * cap) s
 clear_capacity n cap s clear =
     let state = ap (λ (c : Contents). c.room) clear.state in

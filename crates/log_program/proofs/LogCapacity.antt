@@ -36,8 +36,8 @@ module _ (init : List ℕ) (next : List ℕ → ℕ → List ℕ × ℕ) (n cap 
   abbrev ticket : ℕ → ℕ
   ticket p = ticket_at s w p
 
-  -- A place stands for the number of the call whose ticket it has, and the number after the last
-  -- place stands for that of one call more.
+  -- A place of the log stands for the number of the call whose ticket it has, and the place after
+  -- the last one stands for the number `own`.
   abbrev StandsFor : ℕ → ℕ → ℕ → Type 0
   StandsFor own p number = ((p < total) × (ticket p ≡ ticket_of number))
       ⊎ ((p ≡ total) × (number ≡ own))

@@ -352,7 +352,7 @@ module _ (init : List ℕ) (next : List ℕ → ℕ → List ℕ × ℕ) (n cap 
     now_lasting =
         each_at (Each (IsLasting s w)) me.object_steps k [] own_lasting made.call.has_steps
 
-    -- the words that the steps of all callers left last, if that of the new step does
+    -- where the new step's word lasts, the words that the steps of all callers left last too
     lasting_after : Keeps w u → IsLasting s u step → (i : ℕ) → i < n
         → Each (Each (IsLasting s u)) (local_of u i).object_steps
     lasting_after m new =

@@ -32,7 +32,7 @@ named_inside behaviour known is plan kind same findings of none answered = recor
   no_error = λ some. none;
 }
 
--- a report of a run over the object of a behaviour that is outside the world, by other names
+-- a report of a behaviour whose object is outside the world is one of a run of this behaviour
 pub named_outside : (behaviour : Behaviour) (plan : Plan) → inside_of behaviour plan.kind ≡ None
     → (findings : Findings) → IsNamedReport (outside_shape (length plan.operations)) behaviour plan
     (run_allotments plan) findings → IsNamedRunReport behaviour plan findings

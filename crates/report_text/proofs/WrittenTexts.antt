@@ -69,7 +69,7 @@ few_records l = of_end l.end where
   of_end (Delivered r cut) = omega arith
   of_end (Error r cut) = omega arith
 
--- no record comes after a pending line
+-- a caller whose last line is pending has at most as many records as lines before it
 before_pending : (own : List Line) (m : ℕ) (l : Line) → slice_get own m ≡ Some l → l.end ≡ Pending
     → length own ≤ m + 1 → length (flat_map records_in own) ≤ m
 before_pending [] m l e p le = omega arith

@@ -47,7 +47,7 @@ module _ {P T : Type 0} (meaning : P → ℕ → ℕ → Meaning) (r : Rows P) (
   abbrev Are : ℕ → Bench P → List T → List (List Line) → Bool → Type 0
   Are k b passes lines wanted = AreBack meaning r says fits count n k course b passes lines wanted
 
-  -- the callers that are back, with one more
+  -- the callers that were back are still back, with one more
   pub one_more_back : (b c : Bench P) (passes passes' : List T) (lines lines' : List (List Line))
       (wanted wanted' one : Bool) (k j more : ℕ) (pass : T) (own : List Line)
       → j ≡ k → more ≡ k + 1 → (wanted' ≡ false → (wanted ≡ false) × (one ≡ false))

@@ -165,7 +165,8 @@ module _ {A : Type 0} where
             ];
       }
 
-  -- where a seat gets the one caller of another seat back, and that seat is spent
+  -- what the seats have still fits where a seat gets the one caller of another seat back, and that
+  -- other seat is spent
   pub held_returned : (fits : ℕ → A → Type 0) (views : List (List (Option A))) (id other : ℕ)
       (v : List (Option A)) (who : ℕ) (x : A)
       → AreHeld fits views → get_elem? views id ≡ some v → other ≢ id

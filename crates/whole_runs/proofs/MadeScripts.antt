@@ -18,7 +18,7 @@ module _ (number calls : ℕ) (kind : Kind) where
   calls_of_all [] most le = tt
   calls_of_all (i ∷ callers) most le = (omega (arith, calls_of_one i), calls_of_all callers most le)
 
-  -- no caller makes more calls than the number of calls of each
+  -- no caller makes more than `most` calls, where each is to make at most as many
   pub made_calls : (n most : ℕ) → calls ≤ most
       → AreAtMost most (sizes (generated number n calls kind).operations)
   made_calls n most le = calls_of_all (range_with_len 0 n) most le

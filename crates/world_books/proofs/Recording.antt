@@ -192,6 +192,7 @@ invoked_is_announced s w (step ∷ steps) call op kept may h =
 abbrev pub IsInvokedIn : List Happening → Call → Type 0
 IsInvokedIn history call = (op : ℕ) × Contains history (Invoked call op)
 
+-- a call that is announced after an event, and wasn't before it, was invoked in what the event tells
 told_new : (me : ℕ) (l m : Local) (e : Event) (hs : List Happening) (k : ℕ)
     → length l.operations ≡ l.announced → Told me l m e hs
     → length l.operations ≤ k → k < length m.operations → IsInvokedIn hs (call_of me k)
@@ -213,6 +214,8 @@ told_new me l m e hs k long (Called x is operations replies) before now =
 told_new me l m e hs k long (Answered y reply event is operations replies phase) before now =
     absurd (omega (arith, before, now, ap (λ (xs : List ℕ). length xs) operations))
 
+-- a call that is announced at the end of some steps, and wasn't at their beginning, was invoked in
+-- them
 pub invoked_since : (s : Shape) (w : World) (steps : List Step) (j k : ℕ) → Kept s w
     → IsTrue (are_possible s w steps)
     → length (local_of w j).operations ≤ k

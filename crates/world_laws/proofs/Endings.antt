@@ -90,7 +90,7 @@ look_is Collects words j h = (refl, sym (eqb-true (length words) j h))
 look_is (Borrows i row) words j h = absurd cc
 look_is (Ends cut) words j h = absurd cc
 
--- a peek that is wanted is the one that the borrowed cut lacks
+-- A peek that is wanted is of the entry that the borrowed cut lacks next.
 pub record IsPeekOf (n : ℕ) (region : Region) (j k place : ℕ) (c : Course)
     (words : List ℕ) : Type 0 where
   pub borrows : c ≡ Borrows j k

@@ -129,7 +129,7 @@ module _ (s : Shape) (steps : List Step) (w : World) (some : 0 < s.callers) (reg
     | OfBorrowed j k is row ↦ let never : Collects ≡ Borrows j k = sym going ∙ is in absurd cc
   ]
 
-  -- the moment of the collect before stays one with one more word
+  -- a moment between the collect before and the words so far is still one with one word more
   between_more : (k : ℕ) → rounds n taken ≡ suc k → course n taken ≡ Collects
       → Between s steps region (round n taken k) (words ++ x ∷ [])
   between_more k is going =
