@@ -192,7 +192,8 @@ invoked_is_announced s w (step ∷ steps) call op kept may h =
 abbrev pub IsInvokedIn : List Happening → Call → Type 0
 IsInvokedIn history call = (op : ℕ) × Contains history (Invoked call op)
 
--- a call that is announced after an event, and wasn't before it, was invoked in what the event tells
+-- a call that is announced after an event, and wasn't before it, was invoked in what the event
+-- tells
 told_new : (me : ℕ) (l m : Local) (e : Event) (hs : List Happening) (k : ℕ)
     → length l.operations ≡ l.announced → Told me l m e hs
     → length l.operations ≤ k → k < length m.operations → IsInvokedIn hs (call_of me k)
