@@ -54,7 +54,7 @@ both_worked = record { callers = refl; worked = each }
     each (suc zero) low = second_worked
     each (suc (suc i)) low = absurd (omega (arith, low))
 
--- caller 1, before it peeked, isn't judged by a gathered book
+-- caller 1, before it peeked, has gathered no book by which this delivered line is judged
 pub unread : IsJudgedBy [] tenfold 2 (local_after two_calls 1) (Delivered sixty (1 ∷ 1 ∷ [])) → ⊥
 unread h =
     let records : List Record = (page_of h.0 0).records in

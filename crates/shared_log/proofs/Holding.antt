@@ -123,7 +123,7 @@ module _ {A : Type 0} where
             ];
       }
 
-  -- where a new seat gets one caller of a seat
+  -- what the seats have still fits where a new seat gets one caller of a seat
   pub held_parted : (fits : ℕ → A → Type 0) (views : List (List (Option A))) (id : ℕ)
       (v : List (Option A)) (who : ℕ) (x : A)
       → AreHeld fits views → get_elem? views id ≡ some v → has v who ≡ Some x

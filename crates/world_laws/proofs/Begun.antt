@@ -34,15 +34,15 @@ pub record Taking (s : Shape) (i : ℕ) (from : World) (region : Region)
   pub steady : IsSteady s.callers i taken
   pub wants : AreWanted s.callers taken
 
--- The counts that were looked at first, as many as `since` says, are none above those of a world.
--- Looked counts stand newest first.
+-- None of the counts that were looked at first, as many as `since` says, is above those of a world.
+-- Looked counts are in a list with the newest first.
 abbrev pub AreLowBefore : Shape → World → List Looked → ℕ → Type 0
 AreLowBefore s from looked since = (p : ℕ) (look : Looked) → slice_get looked p ≡ Some look
     → length looked ≤ p + since → IsLowLook s from look
 
 -- A scan under way of caller i, which began at a world in which the caller had the own count that
 -- it still has: what the caller had been given and had looked at then was not above that world's
--- counts.
+-- counts, and no word that the scan has taken since is below them.
 pub record Begun (s : Shape) (w : World) (i : ℕ) (l : Local) (from : World)
     (scan : Scan) : Type 0 where
   pub all : AllHigh s from w

@@ -103,7 +103,7 @@ module _ (s : Shape) (w : World) (kept : Kept s w) (all : AllLow s w) where
       entry.low e fits in
       omega (arith, is, word, bound)
 
-  -- A row that a local knows of, by a look, a cut, a view or a peek, is a row of the world.
+  -- A row that a local knows of, by a look, a cut or a peeked view, is a row of the world.
   module _ (l : Local) (h : Low s w l) (r : Region) (j k : ℕ) where
     by_look : list_any (λ (look : Looked). is_same_region look.region r
         && (look.caller == j && nat_lt k look.count)) l.looked ≡ true → IsRow s w r j k

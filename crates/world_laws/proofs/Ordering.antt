@@ -196,8 +196,8 @@ module _ (l m : Local) (h : Ordered l) (grows : LooksGrow l m) where
 abbrev pub Anywhere : World → Type 0
 Anywhere w = Unit {0}
 
--- A caller's scan under way began in some world and holds what was known there, and the caller's
--- cuts are ordered.
+-- A caller's scan under way, if there is one, began at some world, and the caller's cuts are
+-- ordered.
 pub record Placed (s : Shape) (w : World) (i : ℕ) (l : Local) : Type 0 where
   pub begun : IsBegun s w i Anywhere l l.scan
   pub ordered : Ordered l
