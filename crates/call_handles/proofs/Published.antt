@@ -195,6 +195,7 @@ module _ {P : Type 0} (meaning : P → ℕ → ℕ → Meaning) (r : Rows P) (ca
   judged_as init next before after standing
       (Err u) still peeks told cut own stance by_peeks verdict = tt
 
+  -- where a call isn't judged, its caller has published its record and has its seen cut
   pub unjudged_as : (before after : ℕ) (result : Result (Caller P × Judged) (Unjudged P))
       → IfErr result (λ u. IsStill meaning r (caller_seen s) u.caller) → IfErr result
       (λ u. HasOnlyPeeked (local_with (caller_seen s)) (local_with u.caller) before after)

@@ -261,8 +261,8 @@ operations-joined (own ∷ lines) h =
       split [] ys h = (tt, h)
       split (x ∷ xs) ys h = let more = split xs ys h.1 in ((h.0, more.0), more.1)
 
--- a caller's lines have at least c records, where each line but the last is delivered, and no line
--- before number c is pending
+-- a caller with at least c lines has at least c records, where each line but the last is delivered,
+-- and no line before number c is pending
 pub count_records : (own : List Line) (c : ℕ) → c ≤ length own → ((m : ℕ) (l : Line)
     → slice_get own m ≡ Some l → delivered_in l.end ≡ None → m + 1 < length own → ⊥)
     → ((m : ℕ) (l : Line) → slice_get own m ≡ Some l → l.end ≡ Pending → c ≤ m)
