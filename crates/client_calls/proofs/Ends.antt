@@ -53,8 +53,8 @@ module _ {P : Type 0} (meaning : P → ℕ → ℕ → Meaning) (r : Rows P)
             (length (local_with c).operations),
       )
 
-  -- the calls of a caller after one has ended, in whatever way, and the lines of the calls before
-  -- it
+  -- after a call has ended, in whatever way, the caller's calls are those that had ended before and
+  -- this one, with its seen cut
   ended_calls : (p : Published P) (e : Ended P) (h : Come (at.Published p) own)
       (end : HasEnded meaning r says p e)
       → calls_in (local_ended e)

@@ -33,7 +33,7 @@ lines_stay says says' more (call ∷ calls) (line ∷ own) h = (
   lines_stay says says' more calls own h.1,
 )
 
--- the lines of calls with one call more
+-- the lines of calls and then the line of one more call are the lines of the calls with this one
 pub one_more_line : (says : Record → List ℕ → LineEnd → Type 0) (calls : List Made)
     (own : List Line) (call : Made) (line : Line)
     → AreLinesOfCalls says calls own → IsLineOf says call line

@@ -128,7 +128,7 @@ module _ {P : Type 0} (meaning : P → ℕ → ℕ → Meaning) (r : Rows P)
   operation_left (Halted c) end h is = absurd (none-some end is)
   operation_left (Unjudged u) end h is = absurd (none-some end is)
 
-  -- the lines that are left with that of the call under way
+  -- a client that is left within a call leaves the lines of the ended calls and that of this one
   pending_left : (l : Local) (allotment p : ℕ) (ended : List Made) (call : Made) (end : LineEnd)
       → calls_in l ≡ ended ++ call ∷ [] → AreLinesOfCalls (says r.callers l) ended own
       → IsLineOf (says r.callers l) call (record { op = op; end = end }) → any_error own ≡ false
@@ -189,7 +189,7 @@ module _ {P : Type 0} (meaning : P → ℕ → ℕ → Meaning) (r : Rows P)
   noted_left (Halted c) end allotment h is spent = absurd (none-some end is)
   noted_left (Unjudged u) end allotment h is spent = absurd (none-some end is)
 
-  -- the lines that are left where no call is under way
+  -- where no call is under way, the lines are those of all calls of the caller
   all_left : (l : Local) (ended : List Made)
       → calls_in l ≡ ended ++ [] → AreLinesOfCalls (says r.callers l) ended own
       → AreLinesOfCalls (says r.callers l) (calls_in l) own

@@ -8,7 +8,7 @@ use Rattle.shared_words.specs.Histories.{Access, access, word_from, word_at, IsL
 use Rattle.shared_words.proofs.Histories.{lawful_allowed, lawful_prefix, lawful_last}
 use Rattle.faulty_objects.specs.Forms.{up, meeting_may, queue_may, item_index, HasRaised, FlagsAreRaised}
 
--- a choice between two equal words
+-- a choice between a word and the same word is this word
 either_one : (b : Bool) (word : ℕ) → (if b then word else word) ≡ word
 either_one true word = refl
 either_one false word = refl

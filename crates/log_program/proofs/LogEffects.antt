@@ -62,7 +62,7 @@ module _ (init : List ℕ) (next : List ℕ → ℕ → List ℕ × ℕ) (n cap 
     abbrev g : ℕ → ℕ
     g = object_word s u
 
-    -- the words of a call whose ticket is in the log
+    -- the words of a call whose ticket is in the log stay as they are
     module _ (q : ℕ) (low : q < total) (filled : ticket w q ≢ 0) (number : ℕ)
         (is : ticket w q ≡ ticket_of number) where
       words_stay : (f (low_place number) ≡ g (low_place number))

@@ -247,7 +247,7 @@ answer_text kind n call words op r suffix v h e =
     (h.answered.2 ∙ ap
     (λ (ws : List (List ℕ)). reply_word r.reply ∷ codes "view" ∷ (pair_words 0 r.view ++ ws)) e)
 
--- what the words of a line say with an answer
+-- words with a call's operation and answer, and then a verdict, say the line that ends so
 pub says_answer : (kind : Kind) (n : ℕ) (call : Call) (words : List (List ℕ)) (op : ℕ) (r : Record)
     (suffix : List (List ℕ)) (end : LineEnd) → n ≤ MAX_CALLERS → IsNamedCall call
     → IsPrefix kind n call words op (Some r) suffix

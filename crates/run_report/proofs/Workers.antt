@@ -30,7 +30,7 @@ use Rattle.client_scripts.specs.Plans.{Plan}
 use Rattle.run_report.specs.Passes.{IsOwnPass, IsUnusedPass, AreUnusedPasses}
 use Rattle.script_workers.specs.Returns.{IsCountOf, IsBack, AreBack, IsBackOn}
 
--- the local that a view has of a caller
+-- the local that a view has of a caller is at this caller's place among the view's locals
 pub the_local : (v : View) (i : ℕ) (l : Local) → has v i ≡ Some l
     → slice_index_or (map the v) i fresh ≡ l
 the_local [] i l here = absurd (none-some l here)

@@ -73,7 +73,8 @@ related_at R (x ∷ xs) (y' ∷ ys) zero y h there =
     (x, refl, subst (λ z. R x z) (same_Some y' y there) h.0)
 related_at R (x ∷ xs) (y' ∷ ys) (suc j) y h there = related_at R xs ys j y h.1 there
 
--- items of callers, each related to an item of a second list
+-- where each item of a caller is related to an item of a second list, and together they imply
+-- something of the latter, it holds of the items of the second list
 pub down_across : {X Y : Type 0} (n : ℕ) (Is : ℕ → X → Type 0) (Then : ℕ → Y → Type 0)
     (R : X → Y → Type 0) (xs : List X) (ys : List Y)
     → ((i : ℕ) (x : X) (y : Y) → Is i x → R x y → Then i y) → AreDownFrom n Is xs → AllZip R xs ys

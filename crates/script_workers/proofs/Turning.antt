@@ -146,7 +146,7 @@ more_other : (turns : List ℕ) (k i : ℕ) → k < length turns → get_or turn
 more_other turns k i low other =
     count_by_more_no (λ (turn : ℕ). turn == i) turns k 0 low (ne_eqb (get_or turns k 0) i other)
 
--- an element of a list in which one item was set
+-- an element of a list in which one item was set is this item, or an old one at another place
 set_cases : {X : Type 0} (xs : List X) (p j : ℕ) (y x : X) → slice_get (set xs p y) j ≡ Some x
     → ((j ≡ p) × (x ≡ y)) ⊎ ((j ≢ p) × (slice_get xs j ≡ Some x))
 set_cases [] p j y x there = absurd (none-some x there)

@@ -70,7 +70,7 @@ behaviour_read name None found none = here (behaviour_named name) refl
 
 -- ---- numbers
 
--- the number that a choice by two tests answers
+-- where a choice by two tests answers a number, both tests hold and the number is the one chosen
 chosen : (a b : Bool) (n number : ℕ) → (if a && b then Some n else None) ≡ Some number → (a ≡ true)
     × (b ≡ true) × (n ≡ number)
 chosen true true n number e = (refl, refl, cc)

@@ -32,7 +32,7 @@ pub record IsClosing (n : ℕ) (all rest : List LogSeat) (v : View)
   pub coming : IsComing caller_of hand_of n all rest gathered v
   pub got : IsLongestOf gathered longest
 
--- the last caller keeps its seat
+-- closing begins with the last caller's seat, to which the others come back
 pub starts_closing : (n : ℕ) (all rest : List LogSeat) (last : LogSeat) (me : Me (Unit {0}) View)
     → all ≡ rest ++ last ∷ [] → map caller_of all ≡ range_with_len 0 n → me ≡ last.seat.seat.me
     → IsClosing n all rest me.0 (log_of last)
@@ -217,7 +217,8 @@ pub last_seat : (l : SharedLog) (all rest : List LogSeat) (last : LogSeat) → A
 last_seat l all rest last seats is = All-head (IsSeatOf l) last [] (All-suffix (IsSeatOf l) rest
     (last ∷ []) (subst (λ (ss : List LogSeat). All (IsSeatOf l) ss) is seats.each))
 
--- a closed log, under the numbers that its table was given
+-- where all seats came back, the closed table determines their one log, under the numbers that the
+-- table was given
 pub closed : (l : SharedLog) (id : ℕ) (v : View) (all rest : List LogSeat) (longest : List Entry)
     (ws : List ℕ) (homes : List (Unit {0})) → AreSeatsOf l all
     → IsClosing l.callers all rest v longest
@@ -229,7 +230,8 @@ closed l id v all rest longest ws homes seats h none final =
     (subst (λ (k : ℕ × ℕ). Final (Seen (Ruled k.0 k.1) id v) ws homes)
     (λ i. (l.sized.2 i, l.sized.3 i)) final)
 
--- the seat of the item that was taken off the end
+-- the seats of some items are those of the items left, and then that of the item that was taken off
+-- the end
 pub seat_popped : {A : Type 0} (f : A → LogSeat) (all rest : List A) (last : A) (s : LogSeat)
     → all ≡ rest ++ last ∷ [] → s ≡ f last → map f all ≡ map f rest ++ s ∷ []
 seat_popped f all rest last s is own = ap (map f) is ∙ map-append f rest (last ∷ [])

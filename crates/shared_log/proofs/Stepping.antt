@@ -56,7 +56,7 @@ module _ (n cap slots id who : ℕ) (me : Me (Unit {0}) View) (h : Hand)
         },
       )
 
-  -- the hand after an entry is learnt
+  -- a caller that learns an entry has a next hand, with which the table keeps its rule
   learns : (t : State (Unit {0}) View) (r : HaveOneLog n cap t.words t.views)
       → get_elem? t.views id ≡ some me.0 → length h.log < n * cap
       → slice_index t.words (ticket_index n cap (length h.log)) ≢ 0 → (tried : List ℕ)

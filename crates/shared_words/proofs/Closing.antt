@@ -24,7 +24,7 @@ pub record IsClosing (n : ℕ) (all rest : List WordsPass) (v : View) : Type 0 w
   pub gathered : List WordsPass
   pub coming : IsComing caller_of_pass history_in n all rest gathered v
 
--- the last caller keeps its seat
+-- closing begins with the last caller's seat, to which the others come back
 pub starts_closing : (n : ℕ) (all rest : List WordsPass) (last : WordsPass) → all ≡ rest ++ last
     ∷ [] → map caller_of_pass all ≡ range_with_len 0 n → IsClosing n all rest last.seat.seat.me.0
 starts_closing n all rest last is callers =

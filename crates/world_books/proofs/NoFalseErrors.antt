@@ -27,7 +27,7 @@ use Rattle.world_books.proofs.Validity.{all_lengths, book_long, books_are_valid,
 use Rattle.world_books.proofs.LegalOrders.{stands, contained, linearizations_are_legal_orders}
 use Rattle.world_books.proofs.Recording.{steps_carry, invoked_is_announced, invoked_since, ReturnStep, returned_since, history_from-append, reply_stands}
 
--- the element at a place of a second list, after a first one
+-- the element at place k of a list is k places after the end of another list that is put before it
 slice_get-append_add : {X : Type 0} (xs ys : List X) (k : ℕ)
     → slice_get (xs ++ ys) (length xs + k) ≡ slice_get ys k
 slice_get-append_add [] ys k = let none : 0 + k ≡ k = omega arith in ap (slice_get ys) none
