@@ -34,6 +34,8 @@ record AreDelivered (n : ℕ) (own : List Line) : Type 0 where
   delivered : count_by is_delivered own ≡ n
   errors : count_by is_error own ≡ 0
 
+-- the lines of a caller are all delivered where it has seen a cut for each of its n calls, and no
+-- line is an error
 all_delivered : (n : ℕ) (own : List Line) → marks_of (map made_of own) ≡ replicate n Seen
     → any_error own ≡ false → AreDelivered n own
 all_delivered zero [] marks right = record { all = refl; delivered = refl; errors = refl }

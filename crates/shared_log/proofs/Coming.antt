@@ -45,7 +45,7 @@ module _ {S A : Type 0} (caller : S → ℕ) (known : S → A) where
       let deeper = caller_at (a + 1) n xs ys s tail in
       ((let same = deeper.0 in omega arith), (let long = deeper.1 in omega arith))
 
-  -- the seats come back to that of the last caller, which is the first to be there
+  -- coming back begins with the last caller's seat, to which the others come back
   pub starts_coming : (n : ℕ) (all rest : List S) (last : S) (v : List (Option A)) → all ≡ rest
       ++ last ∷ [] → map caller all ≡ range_with_len 0 n → v ≡ only (caller last) (known last)
       → IsComing caller known n all rest (last ∷ []) v
