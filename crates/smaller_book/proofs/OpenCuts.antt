@@ -34,7 +34,8 @@ open_view book cut call r i valid one held known =
 -- A record whose view has more than that is in no lesser cut at which the book has one open.
 pub open_lacks : (book : List Page) (cut other : List ℕ) (call : Call) (r : Record) (i : ℕ)
     → IsValid book → record_of book call ≡ Some r → get_or cut i 0 + 1 < get_or r.view i 0
-    → IsWithin other cut → HasOneOpen (book_at other book) → get_or other call.caller 0 ≤ call.number
+    → IsWithin other cut → HasOneOpen (book_at other book)
+    → get_or other call.caller 0 ≤ call.number
 open_lacks book cut other call r i valid known more within one =
     elim (cases_lt call.number (get_or other call.caller 0)) [
       | inl held ↦ absurd (omega (

@@ -67,5 +67,6 @@ pub record IsLeastOpenCut (init : List ℕ) (next : List ℕ → ℕ → List �
 pub record IsLeastCut (init : List ℕ) (next : List ℕ → ℕ → List ℕ × ℕ) (book : List Page)
     (cut : List ℕ) : Type 0 where
   pub here : IsIllegalCut init next book cut
-  pub least : (other : List ℕ) (i : ℕ) → IsWithin other cut → slice_index other i < slice_index cut i
+  pub least : (other : List ℕ) (i : ℕ) → IsWithin other cut
+      → slice_index other i < slice_index cut i
       → IsTried (book_at cut book) other → HasLegalOrder init next (book_at other book)

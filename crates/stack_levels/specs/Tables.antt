@@ -21,7 +21,8 @@ cut_at book node = take (length book) node.counts
 abbrev pub nodes_of : List Page → List (List ℕ) → List NodeKey → Nodes
 nodes_of book cuts nodes l cut = (k : ℕ) × (key : NodeKey) × (slice_get nodes k ≡ Some key)
     × (key.level ≡ l)
-    × ((counts : List ℕ) × (slice_get cuts key.cut ≡ Some counts) × (take (length book) counts ≡ cut))
+    × ((counts : List ℕ) × (slice_get cuts key.cut ≡ Some counts)
+    × (take (length book) counts ≡ cut))
 
 -- The bottom is the first level, and one of the nodes is the bottom after no call.
 pub record Begins (book : List Page) (levels : List Level) (cuts : List (List ℕ))

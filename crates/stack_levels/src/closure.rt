@@ -276,7 +276,8 @@ impl<R: Reader> Closure<'_, R> {
         ensures { IsTrue result
             → IsClosedAt (R.reading self.now.on.now.reader.now) self.now.on.now.book.now
             (layers_of self.now.table.now.levels.items)
-            (nodes_of self.now.on.now.book.now self.now.table.now.cuts.keys self.now.table.now.nodes.keys) node.now.level
+            (nodes_of self.now.on.now.book.now self.now.table.now.cuts.keys
+            self.now.table.now.nodes.keys) node.now.level
             (cut_at self.now.on.now.book.now node.now) }
     {
         let callers = self.on.book.callers() as usize;
@@ -298,7 +299,8 @@ impl<R: Reader> Closure<'_, R> {
         ensures { IsTrue result → (i : ℕ) → IsMarked look.now.marks i
             → IsFollowed (R.reading self.now.on.now.reader.now) self.now.on.now.book.now
             (layers_of self.now.table.now.levels.items)
-            (nodes_of self.now.on.now.book.now self.now.table.now.cuts.keys self.now.table.now.nodes.keys) node.now.level
+            (nodes_of self.now.on.now.book.now self.now.table.now.cuts.keys
+            self.now.table.now.nodes.keys) node.now.level
             (layer_of level.now) look.now.cut (next_call look.now.cut i) }
     {
         for caller in 0..self.on.book.callers() {
@@ -319,7 +321,8 @@ impl<R: Reader> Closure<'_, R> {
         ensures { IsTrue result → IsMarked look.now.marks caller
             → IsFollowed (R.reading self.now.on.now.reader.now) self.now.on.now.book.now
             (layers_of self.now.table.now.levels.items)
-            (nodes_of self.now.on.now.book.now self.now.table.now.cuts.keys self.now.table.now.nodes.keys) node.now.level
+            (nodes_of self.now.on.now.book.now self.now.table.now.cuts.keys
+            self.now.table.now.nodes.keys) node.now.level
             (layer_of level.now) look.now.cut (next_call look.now.cut caller) }
     {
         if !look.marks.has(caller) {
@@ -339,7 +342,8 @@ impl<R: Reader> Closure<'_, R> {
         requires number { call.number ≡ slice_index look.now.cut call.caller }
         ensures { IsTrue result → IsFollowed (R.reading self.now.on.now.reader.now)
             self.now.on.now.book.now (layers_of self.now.table.now.levels.items)
-            (nodes_of self.now.on.now.book.now self.now.table.now.cuts.keys self.now.table.now.nodes.keys) node.now.level
+            (nodes_of self.now.on.now.book.now self.now.table.now.cuts.keys
+            self.now.table.now.nodes.keys) node.now.level
             (layer_of level.now) look.now.cut call }
     {
         if self.on.shows_another(level.top.last, call) {
@@ -363,7 +367,8 @@ impl<R: Reader> Closure<'_, R> {
         requires call { IsCall self.now.on.now.book.now call }
         ensures { IsTrue result → IsServed (R.reading self.now.on.now.reader.now)
             self.now.on.now.book.now (layers_of self.now.table.now.levels.items)
-            (nodes_of self.now.on.now.book.now self.now.table.now.cuts.keys self.now.table.now.nodes.keys) node.now.level
+            (nodes_of self.now.on.now.book.now self.now.table.now.cuts.keys
+            self.now.table.now.nodes.keys) node.now.level
             (layer_of level.now) look.now.cut call }
     {
         for caller in 0..self.on.book.callers() {
@@ -385,7 +390,8 @@ impl<R: Reader> Closure<'_, R> {
         requires call { IsCall self.now.on.now.book.now call }
         ensures { IsTrue result → IsServed (R.reading self.now.on.now.reader.now)
             self.now.on.now.book.now (layers_of self.now.table.now.levels.items)
-            (nodes_of self.now.on.now.book.now self.now.table.now.cuts.keys self.now.table.now.nodes.keys) node.now.level
+            (nodes_of self.now.on.now.book.now self.now.table.now.cuts.keys
+            self.now.table.now.nodes.keys) node.now.level
             (layer_of level.now) look.now.cut call }
     {
         if !look.all.has(caller) {
@@ -407,7 +413,8 @@ impl<R: Reader> Closure<'_, R> {
         requires number { call.number ≡ slice_index look.now.cut call.caller }
         ensures { IsTrue result → CallLeads (R.reading self.now.on.now.reader.now)
             self.now.on.now.book.now (layers_of self.now.table.now.levels.items)
-            (nodes_of self.now.on.now.book.now self.now.table.now.cuts.keys self.now.table.now.nodes.keys) node.now.level
+            (nodes_of self.now.on.now.book.now self.now.table.now.cuts.keys
+            self.now.table.now.nodes.keys) node.now.level
             (layer_of level.now) look.now.cut call }
     {
         let _callers = self.on.book.callers();
@@ -423,7 +430,8 @@ impl<R: Reader> Closure<'_, R> {
     fn put_leads(&self, level: usize, value: u64, counts: [u16; MAX_CALLERS]) -> bool
         ensures { IsTrue result → (m : ℕ)
             × LiesOn (layers_of self.now.table.now.levels.items) m level value
-            × nodes_of self.now.on.now.book.now self.now.table.now.cuts.keys self.now.table.now.nodes.keys m
+            × nodes_of self.now.on.now.book.now self.now.table.now.cuts.keys
+            self.now.table.now.nodes.keys m
             (take (length self.now.on.now.book.now) counts) }
     {
         if self.put_leads_to(level, value, counts, true) {
@@ -436,7 +444,8 @@ impl<R: Reader> Closure<'_, R> {
     fn put_leads_to(&self, level: usize, value: u64, counts: [u16; MAX_CALLERS], kept: bool) -> bool
         ensures { IsTrue result → (m : ℕ)
             × LiesOn (layers_of self.now.table.now.levels.items) m level value
-            × nodes_of self.now.on.now.book.now self.now.table.now.cuts.keys self.now.table.now.nodes.keys m
+            × nodes_of self.now.on.now.book.now self.now.table.now.cuts.keys
+            self.now.table.now.nodes.keys m
             (take (length self.now.on.now.book.now) counts) }
     {
         let top = Top {
@@ -457,7 +466,8 @@ impl<R: Reader> Closure<'_, R> {
     fn leads_to(&self, above: usize, level: usize, value: u64, counts: [u16; MAX_CALLERS]) -> bool
         ensures { IsTrue result
             → LiesOn (layers_of self.now.table.now.levels.items) above level value
-            × nodes_of self.now.on.now.book.now self.now.table.now.cuts.keys self.now.table.now.nodes.keys above
+            × nodes_of self.now.on.now.book.now self.now.table.now.cuts.keys
+            self.now.table.now.nodes.keys above
             (take (length self.now.on.now.book.now) counts) }
     {
         if !self.lies_on(above, level, value) {
@@ -484,7 +494,8 @@ impl<R: Reader> Closure<'_, R> {
     // bottom nowhere else.
     fn take_leads(&self, place: usize, level: &Level, counts: [u16; MAX_CALLERS]) -> bool
         ensures { IsTrue result
-            → TakeLeads (nodes_of self.now.on.now.book.now self.now.table.now.cuts.keys self.now.table.now.nodes.keys) place
+            → TakeLeads (nodes_of self.now.on.now.book.now self.now.table.now.cuts.keys
+            self.now.table.now.nodes.keys) place
             level.now.top.last
             level.now.parents.items (take (length self.now.on.now.book.now) counts) }
     {

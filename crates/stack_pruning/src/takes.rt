@@ -86,7 +86,8 @@ fn takes_sooner<R: Reader>(
     requires wide { length view.now ≡ length book.now }
     requires caller { caller < length book.now }
     ensures { result ≡ false → (number : ℕ) → from ≤ number → number < slice_index view.now caller
-        → TakesOut (R.reading reader.now) book.now (record { caller = caller; number = number }) value
+        → TakesOut (R.reading reader.now) book.now
+        (record { caller = caller; number = number }) value
         → (s : Record) → record_of book.now (record { caller = caller; number = number }) ≡ Some s
         → IsWithin view.now s.view }
 {

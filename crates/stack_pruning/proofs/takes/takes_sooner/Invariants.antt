@@ -8,6 +8,7 @@ use Rattle.stack_pruning.proofs.takes.takes_sooner.Given as goal
 abbrev pub invariant-loop-number : goal.invariant-loop-number
 invariant-loop-number g l =
     (n : ℕ) → l.from ≤ n → n < l.number
-    → TakesOut (g.R.Reader.reading l.reader) l.book (record { caller = l.caller; number = n }) l.value
+    → TakesOut (g.R.Reader.reading l.reader) l.book
+    (record { caller = l.caller; number = n }) l.value
     → (s : Record) → record_of l.book (record { caller = l.caller; number = n }) ≡ Some s
     → IsWithin l.view s.view

@@ -11,4 +11,5 @@ returns-in-Announced-clause-caller c =
     c.stop.ensures.same.rows every_reply (rows_of self) stands.0
 
 pub returns-in-Announced-clause-stance : goal.returns-in-Announced-clause-stance
-returns-in-Announced-clause-stance c = λ none. absurd (none (c.in-Announced.call, c.in-Announced.is))
+returns-in-Announced-clause-stance c =
+    λ none. absurd (none (c.in-Announced.call, c.in-Announced.is))

@@ -11,6 +11,7 @@ returns-in-None g c told =
       bottom = layer_of bottom;
       first = layer_at c.args.self.now.table.now.levels.items 0 bottom c.in-Some.ensures;
       empty = c.in-None.is;
-      start = subst (λ (cut : List ℕ). nodes_of book c.args.self.now.table.now.cuts.keys c.args.self.now.table.now.nodes.keys 0 cut)
+      start = subst (λ (cut : List ℕ). nodes_of book c.args.self.now.table.now.cuts.keys
+          c.args.self.now.table.now.nodes.keys 0 cut)
           (zero_counts book c.callers-callers.ensures.small.callers) (c.has.ensures told);
     }

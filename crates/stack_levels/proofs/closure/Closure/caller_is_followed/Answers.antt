@@ -19,6 +19,7 @@ returns g c told marked =
     let book = c.args.self.now.on.now.book.now in
     subst (λ (n : ℕ). IsFollowed (g.R.Reader.reading c.args.self.now.on.now.reader.now) book
     (layers_of c.args.self.now.table.now.levels.items)
-    (nodes_of book c.args.self.now.table.now.cuts.keys c.args.self.now.table.now.nodes.keys) c.args.node.now.level
+    (nodes_of book c.args.self.now.table.now.cuts.keys c.args.self.now.table.now.nodes.keys)
+    c.args.node.now.level
     (layer_of c.args.level.now) c.args.look.now.cut (record { caller = c.args.caller; number = n }))
     c.get-number.ensures (c.is_followed.ensures told)

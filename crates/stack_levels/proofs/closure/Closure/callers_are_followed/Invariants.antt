@@ -9,5 +9,6 @@ abbrev pub invariant-loop-caller : goal.invariant-loop-caller
 invariant-loop-caller g l = (i : ℕ) → i < l.caller → IsMarked l.look.marks i
     → IsFollowed (g.R.Reader.reading l.self.on.now.reader.now) l.self.on.now.book.now
     (layers_of l.self.table.now.levels.items)
-    (nodes_of l.self.on.now.book.now l.self.table.now.cuts.keys l.self.table.now.nodes.keys) l.node.level
+    (nodes_of l.self.on.now.book.now l.self.table.now.cuts.keys l.self.table.now.nodes.keys)
+    l.node.level
     (layer_of l.level) l.look.cut (next_call l.look.cut i)

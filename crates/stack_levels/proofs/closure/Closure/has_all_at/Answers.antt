@@ -9,6 +9,7 @@ loop-k-preserved g c = below_more _ _ c.loop-k.invariant (c.has_at.ensures c.if-
 pub returns : goal.returns
 returns g c told =
     let book = c.args.self.now.on.now.book.now in
-    each_one (λ (p : ℕ). nodes_of book c.args.self.now.table.now.cuts.keys c.args.self.now.table.now.nodes.keys p
+    each_one (λ (p : ℕ).
+    nodes_of book c.args.self.now.table.now.cuts.keys c.args.self.now.table.now.nodes.keys p
     (take (length book) c.args.counts)) c.args.parents.now
     (λ j below. c.loop-k.invariant j (omega (arith, below, c.loop-k-test.false)))

@@ -14,7 +14,8 @@ returns g c told =
     = c.in-Some-look.ensures.cut ∙ ap (λ (n : ℕ). take n counts) c.callers-callers.ensures.count in
     closed_at (g.R.Reader.reading c.args.self.now.on.now.reader.now) book
     c.args.self.now.table.now.levels.items
-    (nodes_of book c.args.self.now.table.now.cuts.keys c.args.self.now.table.now.nodes.keys) c.args.node.now.level c.in-Some.level.now
+    (nodes_of book c.args.self.now.table.now.cuts.keys c.args.self.now.table.now.nodes.keys)
+    c.args.node.now.level c.in-Some.level.now
     (cut_at book c.args.node.now)
     c.in-Some-look.look.cut c.in-Some-look.look.marks
     (omega (arith, long, c.callers-callers.ensures.small.callers, length-take (length book) counts))
