@@ -14,3 +14,4 @@ pub mod Building
 pub mod Removing
 pub mod PartsOfParts
 pub mod KeyRemoval
+pub mod Moments

@@ -1,12 +1,16 @@
 -- A book that no rule makes smaller.
-use Rattle.std.specs.Prelude.{◌≡◌, ℕ, ◌+◌, ◌-◌, ◌<◌, ◌++◌, cond, nat_eq, List, length, map, slice_index, Some}
+use Rattle.std.specs.Prelude.{◌≡◌, ℕ, ◌+◌, ◌-◌, ◌<◌, ◌≤◌, ◌++◌, cond, nat_eq, List, length, map, slice_index, Some}
 use Rattle.std.specs.List.{range_with_len}
 use Rattle.book_base.specs.declared.call.Call.{Call}
-use Rattle.book_base.specs.Book.{Page, calls_of, IsCall}
+use Rattle.book_base.specs.declared.call.Record.{Record}
+use Rattle.book_base.specs.Cut.{Holds, IsWithin}
+use Rattle.book_base.specs.Book.{Page, calls_of, answers_of, answered, IsCall, IsValid, record_of}
+use Rattle.book_base.specs.BookAt.{book_at}
 use Rattle.book_base.specs.Order.{HasLegalOrder}
 use Rattle.book_base.specs.Pruning.{HasOneOpen}
 use Rattle.seq_objects.specs.declared.kind.Kind.{Kind}
 use Rattle.seq_objects.specs.Objects.{kind_init, kind_next}
+use Rattle.smaller_book.specs.declared.TheConstants.{FEW_CALLS}
 use Rattle.smaller_book.specs.Part.{size_of, numbers_of, IsPart, KeepsAnswers}
 use Rattle.smaller_book.specs.ReadOnly.{IsReadOnly}
 use Rattle.smaller_book.specs.Earliest.{IsEarliest}
@@ -78,3 +82,32 @@ pub record IsShrunk (kind : Kind) (book : List Page) (names : List (List ℕ))
   pub evidence : IsEvidence kind book part
   pub illegal : ¬ HasLegalOrder (kind_init kind) (kind_next kind) part
   pub earliest : IsEarliest (kind_init kind) (kind_next kind) part
+
+-- A cut of records is that of a moment of a run: where it holds a record, it holds each record
+-- whose view lies within that record's view.
+abbrev pub IsMoment : List Page → List ℕ → Type 0
+IsMoment book cut = (later earlier : Call) (r s : Record) → Holds cut later
+    → record_of book later ≡ Some r → record_of book earlier ≡ Some s → IsWithin s.view r.view
+    → Holds cut earlier
+
+-- The book has a legal order at a cut that lacks one of its records.
+abbrev pub IsLegalAt : Kind → List Page → List ℕ → Type 0
+IsLegalAt kind book cut = (i : ℕ) → IsWithin cut (answered book)
+    → slice_index cut i < answers_of book i
+    → HasLegalOrder (kind_init kind) (kind_next kind) (book_at cut book)
+
+-- A minimal book with one open has a legal order at each earlier moment.
+abbrev pub MinimalAtMoments : Type 0
+MinimalAtMoments = (kind : Kind) (book : List Page) (cut : List ℕ) → IsValid book → HasOneOpen book
+    → IsMinimal kind book → IsMoment book cut → IsLegalAt kind book cut
+
+-- A minimal book with few calls has a legal order at each earlier cut.
+abbrev pub FewCallsAtCuts : Type 0
+FewCallsAtCuts = (kind : Kind) (book : List Page) (cut : List ℕ) → size_of book ≤ FEW_CALLS
+    → IsMinimal kind book → IsLegalAt kind book cut
+
+-- A minimal book with a view that holds several unanswered calls of a caller has a legal order at
+-- each earlier cut.
+abbrev pub SeveralOpenAtCuts : Type 0
+SeveralOpenAtCuts = (kind : Kind) (book : List Page) (cut : List ℕ) → ¬ HasOneOpen book
+    → IsMinimal kind book → IsLegalAt kind book cut

@@ -1,0 +1,67 @@
+-- Minimal books at earlier cuts and moments.
+use Rattle.std.proofs.Common.{◌≡◌, ℕ, ◌+◌, ◌<◌, ◌≤◌, ◌∙◌, List, length, get_or, Some, ap, inl, inr, arith}
+use Rattle.std.proofs.lemmas.Bool.{cases_lt}
+use Rattle.std.proofs.lemmas.List.{length-take-le}
+use Rattle.book_base.specs.declared.call.Call.{Call}
+use Rattle.book_base.specs.declared.call.Record.{Record}
+use Rattle.book_base.specs.Cut.{Holds, IsWithin}
+use Rattle.book_base.specs.Book.{Page, page_of, answers_of, answered, record_of, IsValid}
+use Rattle.book_base.specs.BookAt.{book_at}
+use Rattle.book_base.specs.Pruning.{HasOneOpen}
+use Rattle.book_base.proofs.ViewLemmas.{answer_stands, record_from_part, answered_at}
+use Rattle.book_laws.proofs.BookAt.{records-book_at}
+use Rattle.book_laws.proofs.BookAtLaws.{is_the_book_at}
+use Rattle.smaller_book.specs.Minimal.{IsMoment, MinimalAtMoments, FewCallsAtCuts, SeveralOpenAtCuts}
+
+-- The book at a cut within its records has just the cut's records of each caller.
+answers-cut : (book : List Page) (cut : List ℕ) (i : ℕ) → IsWithin cut (answered book)
+    → answers_of (book_at cut book) i ≡ get_or cut i 0
+answers-cut book cut i within =
+    ap length (records-book_at cut book i)
+    ∙ length-take-le (get_or cut i 0) (page_of book i).records
+    (omega (arith, within i, answered_at book i))
+
+-- At a moment of a book with one open, each view that the moment's cut holds has at most one call
+-- more of each caller than the cut has records.
+moment_view : (book : List Page) (cut : List ℕ) (call : Call) (r : Record) (i : ℕ) → IsValid book
+    → HasOneOpen book → IsMoment book cut → Holds cut call → record_of book call ≡ Some r
+    → get_or r.view i 0 ≤ get_or cut i 0 + 1
+moment_view book cut call r i valid one moment held known =
+    elim (cases_lt (get_or cut i 0 + 1) (get_or r.view i 0)) [
+      | inl more ↦
+          let next : Call = record { caller = i; number = get_or cut i 0 } in
+          let answered_next : get_or cut i 0 < answers_of book i =
+          omega (arith, more, one call r i known) in
+          let there = answer_stands book next answered_next in
+          let s : Record = there.0 in
+          elim (valid.comparable call next r s known there.1) [
+            | inl within ↦ absurd (omega (arith, within i, valid.own next s there.1, more))
+            | inr within ↦ absurd (omega (arith, moment call next r s held known there.1 within))
+          ]
+      | inr few ↦ omega (arith, few)
+    ]
+
+-- At a moment of a book with one open, the book has one open.
+pub moment_open : (book : List Page) (cut : List ℕ) → IsValid book → HasOneOpen book
+    → IsMoment book cut → IsWithin cut (answered book) → HasOneOpen (book_at cut book)
+moment_open book cut valid one moment within call r i there =
+    let whole = record_from_part book cut (book_at cut book) (is_the_book_at book cut valid) call r
+    there in
+    omega (
+      arith,
+      moment_view book cut call r i valid one moment whole.0 whole.1,
+      answers-cut book cut i within,
+    )
+
+pub minimal_at_moments : MinimalAtMoments
+minimal_at_moments kind book cut valid one minimal moment i within less =
+    minimal.earliest.earlier cut i within less
+    (inr (inr (moment_open book cut valid one moment within)))
+
+pub few_calls_at_cuts : FewCallsAtCuts
+few_calls_at_cuts kind book cut few minimal i within less =
+    minimal.earliest.earlier cut i within less (inl few)
+
+pub several_open_at_cuts : SeveralOpenAtCuts
+several_open_at_cuts kind book cut several minimal i within less =
+    minimal.earliest.earlier cut i within less (inr (inl several))
