@@ -1,7 +1,7 @@
 -- A book has no pairs where the values put in by a moment and those taken out by another one aren't
 -- both prefixes of one list.
-use Rattle.std.proofs.Common.{◌≡◌, ℕ, ◌+◌, ◌<◌, ◌≤◌, ◌⊎◌, ◌∙◌, Bool, true, false, nat_le, cond, List, [], ◌∷◌, length, Some, refl, sym, ap, subst, inl, inr, slice_get, arith}
-use Rattle.std.proofs.lemmas.Bool.{cases_lt, cond-true, eq-eqb, eqb-true, leb-true, le-leb}
+use Rattle.std.proofs.Common.{◌≡◌, ℕ, ◌+◌, ◌<◌, ◌≤◌, ◌⊎◌, ◌∙◌, ◌||◌, Bool, true, false, nat_le, cond, List, [], ◌∷◌, length, set, Some, refl, sym, ap, subst, inl, inr, arith}
+use Rattle.std.proofs.lemmas.Bool.{cases_Bool, cases_lt, cond-true, eq-eqb, eqb-true, leb-true, le-leb}
 use Rattle.std.proofs.lemmas.List.{length-set, length-replicate}
 use Rattle.book_base.specs.declared.call.Call.{Call}
 use Rattle.book_base.specs.declared.call.Record.{Record}
@@ -16,69 +16,100 @@ use Rattle.queue_pairs.specs.declared.table.QueueDeal.{QueueDeal}
 use Rattle.queue_pairs.specs.declared.table.QueueDeal.TheVariants as did
 use Rattle.queue_pairs.specs.declared.table.Table.{Table}
 use Rattle.queue_pairs.specs.declared.table.TimedCall.{TimedCall}
-use Rattle.queue_pairs.specs.Moments.{moment_of, IsHeldBy}
-use Rattle.queue_pairs.specs.Pairs.{Paired, Pair, Step, Pairs, FindNothing, IsPut, IsTake, MayPair, after, AreSteps, none_paired}
-use Rattle.queue_pairs.specs.Tables.{known_deal, is_put, is_take, timed_at, IsTimed, IsTable}
-use Rattle.queue_pairs.proofs.Serving.{held_later, put-due, find-due}
+use Rattle.queue_pairs.specs.Moments.{moment_of}
+use Rattle.queue_pairs.specs.Pairs.{Paired, Pair, Step, Pairs, FindNothing, IsPut, IsTake, IsNext, MayPair, after, AreSteps, none_paired}
+use Rattle.queue_pairs.specs.Tables.{known_deal, is_put, is_take, rows_of, timed_at, IsTimed, IsTable}
 use Rattle.queue_pairs.proofs.Walking.{legal_orders_have_pairs}
-use Rattle.queue_refutation.specs.declared.counts.Counted.TheVariants as counted
-use Rattle.queue_refutation.specs.Counts.{puts_in, shows, may_take_out, is_counted, PutsAhead, TakesAhead, HasNoPairs}
-use Rattle.queue_refutation.specs.CountLaws.{TakesFollowPuts, FindsLeaveNothing}
+use Rattle.container_counts.specs.declared.counts.Counted.TheVariants as counted
+use Rattle.container_counts.specs.Counts.{listed, puts_one, shows_one, may_take_one, is_counted, PutsAhead, TakesAhead}
+use Rattle.queue_refutation.specs.Counts.{HasNoPairs}
+use Rattle.queue_refutation.specs.CountLaws.{TakesFollowPuts}
 use Rattle.queue_refutation.specs.DeadEnds.{QueueHasNoOrder}
-use Rattle.queue_refutation.proofs.Counting.{bit, left_in, left-start, left-next, left-some}
-use Rattle.queue_refutation.proofs.Entries.{timed-is, timed-there, put-is, took-is, open-is, puts-read, takes-read, answered-last}
+use Rattle.container_counts.proofs.Counting.{bit, left_in, left-start, left-some, outside-past}
+use Rattle.queue_refutation.proofs.Entries.{IsRead, timed-is, timed-there, put-is, took-is, open-is, puts-read, takes-read, answered-last}
 use Rattle.queue_refutation.proofs.Leading.{pair-puts-due, pair-takes-due}
 
 -- ---- what is counted
+
+-- Once the next call of a kind is covered, the count is less by one where that call passes.
+left-next : (reading : Reading) (book : List Page) (table : Table) (only : QueueDeal → Bool)
+    (kind : Call → Type 0) (test : TimedCall → Bool) (numbers : List ℕ) (call : Call)
+    (t : TimedCall) → IsTable reading book table → IsRead reading book only kind
+    → ((u : TimedCall) → test u ≡ true → only u.deal ≡ true) → IsNext kind numbers call
+    → timed_at table call.caller call.number ≡ Some t → call.caller < length numbers
+    → left_in test table numbers
+    ≡ bit (test t) + left_in test table (set numbers call.caller (call.number + 1))
+left-next reading book table only kind test numbers call t is read passes next at inside =
+    outside-past test numbers call t call.caller 0 (rows_of table) (omega arith) inside next.outside
+    at (λ k u low high there. elim (cases_Bool (test u)) [
+      | inl passed ↦
+          let one : Call = record { caller = call.caller; number = k } in
+          let timed : IsTimed reading book one u
+          = timed-is reading book table call.caller k u is there in
+          let mine : IsTimed reading book u.call u
+          = subst (λ (c : Call). IsTimed reading book c u) (sym timed.call) timed in
+          absurd (next.first k low high (subst kind timed.call (read.is u mine (passes u passed))))
+      | inr failed ↦ failed
+    ])
 
 both : (a b : Bool) → cond a b false ≡ true → (a ≡ true) × (b ≡ true)
 both true b e = (refl, e)
 both false b e = absurd cc
 
-put-value : (v : ℕ) (d : QueueDeal) → puts_in v d ≡ true → d ≡ did.Put v
-put-value v (did.Put w) e = ap did.Put (eqb-true w v e)
+or-false : (b : Bool) → (b || false) ≡ true → b ≡ true
+or-false true e = refl
+or-false false e = e
+
+listed-one : (v w : ℕ) → listed (v ∷ []) w ≡ true → w ≡ v
+listed-one v w e = sym (eqb-true v w (or-false _ e))
+
+is-listed : (v : ℕ) → listed (v ∷ []) v ≡ true
+is-listed v = ap (λ (b : Bool). b || false) (eq-eqb v v refl)
+
+put-value : (v : ℕ) (d : QueueDeal) → puts_one (listed (v ∷ [])) d ≡ true → d ≡ did.Put v
+put-value v (did.Put w) e = ap did.Put (listed-one v w e)
 put-value v (did.Took w) e = absurd cc
 put-value v did.FoundNothing e = absurd cc
 put-value v did.OpenTake e = absurd cc
 put-value v did.Other e = absurd cc
 
-take-value : (v : ℕ) (d : QueueDeal) → shows v d ≡ true → d ≡ did.Took v
+take-value : (v : ℕ) (d : QueueDeal) → shows_one (listed (v ∷ [])) d ≡ true → d ≡ did.Took v
 take-value v (did.Put w) e = absurd cc
-take-value v (did.Took w) e = ap did.Took (eqb-true w v e)
+take-value v (did.Took w) e = ap did.Took (listed-one v w e)
 take-value v did.FoundNothing e = absurd cc
 take-value v did.OpenTake e = absurd cc
 take-value v did.Other e = absurd cc
 
-takes-out : (v : ℕ) (d : QueueDeal) → may_take_out v d ≡ true → is_take d ≡ true
+takes-out : (v : ℕ) (d : QueueDeal) → may_take_one (listed (v ∷ [])) d ≡ true → is_take d ≡ true
 takes-out v (did.Put w) e = absurd cc
 takes-out v (did.Took w) e = refl
 takes-out v did.FoundNothing e = absurd cc
 takes-out v did.OpenTake e = refl
 takes-out v did.Other e = absurd cc
 
-due-puts-put : (v m : ℕ) (t : TimedCall) → is_counted counted.DuePuts v m t ≡ true
+due-puts-put : (v m : ℕ) (t : TimedCall) → is_counted counted.DuePuts (v ∷ []) m t ≡ true
     → is_put t.deal ≡ true
 due-puts-put v m t told = ap is_put (put-value v t.deal (both _ _ told).0)
 
-early-puts-put : (v m : ℕ) (t : TimedCall) → is_counted counted.EarlyPuts v m t ≡ true
+early-puts-put : (v m : ℕ) (t : TimedCall) → is_counted counted.EarlyPuts (v ∷ []) m t ≡ true
     → is_put t.deal ≡ true
 early-puts-put v m t told = ap is_put (put-value v t.deal (both _ _ told).0)
 
-due-takes-take : (v m : ℕ) (t : TimedCall) → is_counted counted.DueTakes v m t ≡ true
+due-takes-take : (v m : ℕ) (t : TimedCall) → is_counted counted.DueTakes (v ∷ []) m t ≡ true
     → is_take t.deal ≡ true
 due-takes-take v m t told = ap is_take (take-value v t.deal (both _ _ told).0)
 
-early-takes-take : (v m : ℕ) (t : TimedCall) → is_counted counted.EarlyTakes v m t ≡ true
+early-takes-take : (v m : ℕ) (t : TimedCall) → is_counted counted.EarlyTakes (v ∷ []) m t ≡ true
     → is_take t.deal ≡ true
 early-takes-take v m t told = takes-out v t.deal (both _ _ told).0
 
 -- a put that is due by a moment is an answered one
 due-put : (reading : Reading) (book : List Page) (v m : ℕ) (t : TimedCall)
-    → IsTimed reading book t.call t → is_counted counted.DuePuts v m t ≡ true → m < NEVER
+    → IsTimed reading book t.call t → is_counted counted.DuePuts (v ∷ []) m t ≡ true → m < NEVER
     → (r : Record) × IsPut reading book t.call × (record_of book t.call ≡ Some r)
     × (moment_of r ≤ m)
 due-put reading book v m t timed told few =
-    let parts : (puts_in v t.deal ≡ true) × (nat_le t.span.last m ≡ true) = both _ _ told in
+    let parts : (puts_one (listed (v ∷ [])) t.deal ≡ true) × (nat_le t.span.last m ≡ true) = both _ _ told in
     let low : t.span.last ≤ m = leb-true t.span.last m parts.1 in
     let there = answered-last reading book t timed (omega (arith, low, few)) in
     let put : deal_of reading book t.call ≡ deals.Put v
@@ -86,11 +117,11 @@ due-put reading book v m t timed told few =
     (there.0, (v, put), there.1, omega (arith, there.2, low))
 
 due-take : (reading : Reading) (book : List Page) (v n : ℕ) (t : TimedCall)
-    → IsTimed reading book t.call t → is_counted counted.DueTakes v n t ≡ true → n < NEVER
+    → IsTimed reading book t.call t → is_counted counted.DueTakes (v ∷ []) n t ≡ true → n < NEVER
     → (r : Record) × (deal_of reading book t.call ≡ deals.Took v) × (record_of book t.call ≡ Some r)
     × (moment_of r ≤ n)
 due-take reading book v n t timed told few =
-    let parts : (shows v t.deal ≡ true) × (nat_le t.span.last n ≡ true) = both _ _ told in
+    let parts : (shows_one (listed (v ∷ [])) t.deal ≡ true) × (nat_le t.span.last n ≡ true) = both _ _ told in
     let low : t.span.last ≤ n = leb-true t.span.last n parts.1 in
     let there = answered-last reading book t timed (omega (arith, low, few)) in
     let took : deal_of reading book t.call ≡ deals.Took v
@@ -99,24 +130,24 @@ due-take reading book v n t timed told few =
 
 -- a put of a value may take effect by a moment, or only later
 early-put : (v m : ℕ) (t : TimedCall) → t.deal ≡ did.Put v
-    → (is_counted counted.EarlyPuts v m t ≡ true) ⊎ (m < t.span.first)
+    → (is_counted counted.EarlyPuts (v ∷ []) m t ≡ true) ⊎ (m < t.span.first)
 early-put v m t is =
-    let put : puts_in v t.deal ≡ true = ap (puts_in v) is ∙ eq-eqb v v refl in
+    let put : puts_one (listed (v ∷ [])) t.deal ≡ true = ap (puts_one (listed (v ∷ []))) is ∙ is-listed v in
     elim (cases_lt m t.span.first) [
       | inl later ↦ inr later
-      | inr low ↦ inl (cond-true (puts_in v t.deal) _ false put ∙ le-leb t.span.first m low)
+      | inr low ↦ inl (cond-true (puts_one (listed (v ∷ [])) t.deal) _ false put ∙ le-leb t.span.first m low)
     ]
 
 early-take : (v n : ℕ) (t : TimedCall) → (t.deal ≡ did.Took v) ⊎ (t.deal ≡ did.OpenTake)
-    → (is_counted counted.EarlyTakes v n t ≡ true) ⊎ (n < t.span.first)
+    → (is_counted counted.EarlyTakes (v ∷ []) n t ≡ true) ⊎ (n < t.span.first)
 early-take v n t is =
-    let take : may_take_out v t.deal ≡ true = elim is [
-      | inl took ↦ ap (may_take_out v) took ∙ eq-eqb v v refl
-      | inr unseen ↦ ap (may_take_out v) unseen
+    let take : may_take_one (listed (v ∷ [])) t.deal ≡ true = elim is [
+      | inl took ↦ ap (may_take_one (listed (v ∷ []))) took ∙ is-listed v
+      | inr unseen ↦ ap (may_take_one (listed (v ∷ []))) unseen
     ] in
     elim (cases_lt n t.span.first) [
       | inl later ↦ inr later
-      | inr low ↦ inl (cond-true (may_take_out v t.deal) _ false take ∙ le-leb t.span.first n low)
+      | inr low ↦ inl (cond-true (may_take_one (listed (v ∷ [])) t.deal) _ false take ∙ le-leb t.span.first n low)
     ]
 
 bit-le : (a b : Bool) → (a ≡ true → b ≡ true) → bit a ≤ bit b
@@ -171,18 +202,18 @@ entered reading book table s pair is may =
 record IsCountedOff (reading : Reading) (book : List Page) (table : Table) (s : Paired)
     (pair : Pair)
     (v u m n : ℕ) (put take : TimedCall) : Type 0 where
-  due_puts : left_in (is_counted counted.DuePuts u m) table s.puts
-      ≡ bit (is_counted counted.DuePuts u m put)
-      + left_in (is_counted counted.DuePuts u m) table (after s (Pairs pair)).puts
-  early_puts : left_in (is_counted counted.EarlyPuts v m) table s.puts
-      ≡ bit (is_counted counted.EarlyPuts v m put)
-      + left_in (is_counted counted.EarlyPuts v m) table (after s (Pairs pair)).puts
-  due_takes : left_in (is_counted counted.DueTakes v n) table s.takes
-      ≡ bit (is_counted counted.DueTakes v n take)
-      + left_in (is_counted counted.DueTakes v n) table (after s (Pairs pair)).takes
-  early_takes : left_in (is_counted counted.EarlyTakes u n) table s.takes
-      ≡ bit (is_counted counted.EarlyTakes u n take)
-      + left_in (is_counted counted.EarlyTakes u n) table (after s (Pairs pair)).takes
+  due_puts : left_in (is_counted counted.DuePuts (u ∷ []) m) table s.puts
+      ≡ bit (is_counted counted.DuePuts (u ∷ []) m put)
+      + left_in (is_counted counted.DuePuts (u ∷ []) m) table (after s (Pairs pair)).puts
+  early_puts : left_in (is_counted counted.EarlyPuts (v ∷ []) m) table s.puts
+      ≡ bit (is_counted counted.EarlyPuts (v ∷ []) m put)
+      + left_in (is_counted counted.EarlyPuts (v ∷ []) m) table (after s (Pairs pair)).puts
+  due_takes : left_in (is_counted counted.DueTakes (v ∷ []) n) table s.takes
+      ≡ bit (is_counted counted.DueTakes (v ∷ []) n take)
+      + left_in (is_counted counted.DueTakes (v ∷ []) n) table (after s (Pairs pair)).takes
+  early_takes : left_in (is_counted counted.EarlyTakes (u ∷ []) n) table s.takes
+      ≡ bit (is_counted counted.EarlyTakes (u ∷ []) n take)
+      + left_in (is_counted counted.EarlyTakes (u ∷ []) n) table (after s (Pairs pair)).takes
 
 counted-off : (reading : Reading) (book : List Page) (table : Table) (s : Paired) (pair : Pair)
     (v u m n : ℕ) → IsTable reading book table → length book ≤ length s.puts
@@ -191,16 +222,16 @@ counted-off : (reading : Reading) (book : List Page) (table : Table) (s : Paired
     → IsCountedOff reading book table s pair v u m n e.put e.take
 counted-off reading book table s pair v u m n is wide_puts wide_takes may e = record {
   due_puts = left-next reading book table is_put (IsPut reading book)
-      (is_counted counted.DuePuts u m) s.puts pair.put e.put is (puts-read reading book)
+      (is_counted counted.DuePuts (u ∷ []) m) s.puts pair.put e.put is (puts-read reading book)
       (due-puts-put u m) may.put e.put_at (omega (arith, e.put_inside, wide_puts));
   early_puts = left-next reading book table is_put (IsPut reading book)
-      (is_counted counted.EarlyPuts v m) s.puts pair.put e.put is (puts-read reading book)
+      (is_counted counted.EarlyPuts (v ∷ []) m) s.puts pair.put e.put is (puts-read reading book)
       (early-puts-put v m) may.put e.put_at (omega (arith, e.put_inside, wide_puts));
   due_takes = left-next reading book table is_take (IsTake reading book)
-      (is_counted counted.DueTakes v n) s.takes pair.take e.take is (takes-read reading book)
+      (is_counted counted.DueTakes (v ∷ []) n) s.takes pair.take e.take is (takes-read reading book)
       (due-takes-take v n) may.take e.take_at (omega (arith, e.take_inside, wide_takes));
   early_takes = left-next reading book table is_take (IsTake reading book)
-      (is_counted counted.EarlyTakes u n) s.takes pair.take e.take is (takes-read reading book)
+      (is_counted counted.EarlyTakes (u ∷ []) n) s.takes pair.take e.take is (takes-read reading book)
       (early-takes-take u n) may.take e.take_at (omega (arith, e.take_inside, wide_takes));
 }
 
@@ -208,8 +239,8 @@ counted-off reading book table s pair v u m n is wide_puts wide_takes may e = re
 -- take is counted as early
 put-needs : (reading : Reading) (book : List Page) (table : Table) (s : Paired) (pair : Pair)
     (u m n : ℕ) → MayPair reading book s pair → (e : Entered reading book table pair)
-    → (n < pair.take_moment → ⊥) → is_counted counted.DuePuts u m e.put ≡ true
-    → is_counted counted.EarlyTakes u n e.take ≡ true
+    → (n < pair.take_moment → ⊥) → is_counted counted.DuePuts (u ∷ []) m e.put ≡ true
+    → is_counted counted.EarlyTakes (u ∷ []) n e.take ≡ true
 put-needs reading book table s pair u m n may e late told =
     let is : e.put.deal ≡ did.Put u = put-value u e.put.deal (both _ _ told).0 in
     let given : did.Put e.value ≡ did.Put u = sym e.put_did ∙ is in
@@ -229,8 +260,8 @@ put-needs reading book table s pair u m n may e late told =
 take-needs : (reading : Reading) (book : List Page) (table : Table) (s : Paired) (pair : Pair)
     (v m n : ℕ) → MayPair reading book s pair → (e : Entered reading book table pair)
     → (m < pair.put_moment → e.take.span.last ≤ n → ⊥)
-    → is_counted counted.DueTakes v n e.take ≡ true
-    → is_counted counted.EarlyPuts v m e.put ≡ true
+    → is_counted counted.DueTakes (v ∷ []) n e.take ≡ true
+    → is_counted counted.EarlyPuts (v ∷ []) m e.put ≡ true
 take-needs reading book table s pair v m n may e late told =
     let parts = both _ _ told in
     let is : e.take.deal ≡ did.Took v = take-value v e.take.deal parts.0 in
@@ -251,9 +282,9 @@ take-needs reading book table s pair v m n may e late told =
 take-in-time : (reading : Reading) (book : List Page) (table : Table) (v n : ℕ) (s : Paired)
     (pair : Pair) (steps : List Step) → IsTable reading book table → n < NEVER
     → AreSteps reading book s (Pairs pair ∷ steps)
-    → 0 < left_in (is_counted counted.DueTakes v n) table s.takes → n < pair.take_moment → ⊥
+    → 0 < left_in (is_counted counted.DueTakes (v ∷ []) n) table s.takes → n < pair.take_moment → ⊥
 take-in-time reading book table v n s pair steps is few are more later =
-    let there = left-some reading book table (is_counted counted.DueTakes v n) s.takes is more in
+    let there = left-some reading book table (is_counted counted.DueTakes (v ∷ []) n) s.takes is more in
     let due = due-take reading book v n there.0 there.1 there.3 few in
     omega (
       arith,
@@ -266,9 +297,9 @@ take-in-time reading book table v n s pair steps is few are more later =
 put-in-time : (reading : Reading) (book : List Page) (table : Table) (u m : ℕ) (s : Paired)
     (pair : Pair) (steps : List Step) → IsTable reading book table → m < NEVER
     → AreSteps reading book s (Pairs pair ∷ steps)
-    → 0 < left_in (is_counted counted.DuePuts u m) table s.puts → m < pair.put_moment → ⊥
+    → 0 < left_in (is_counted counted.DuePuts (u ∷ []) m) table s.puts → m < pair.put_moment → ⊥
 put-in-time reading book table u m s pair steps is few are more later =
-    let there = left-some reading book table (is_counted counted.DuePuts u m) s.puts is more in
+    let there = left-some reading book table (is_counted counted.DuePuts (u ∷ []) m) s.puts is more in
     let due = due-put reading book u m there.0 there.1 there.3 few in
     omega (
       arith,
@@ -282,13 +313,13 @@ put-in-time reading book table u m s pair steps is few are more later =
 takes-clash : (reading : Reading) (book : List Page) (table : Table) (v u m n : ℕ)
     → IsTable reading book table → m < NEVER → n < NEVER → (s : Paired) (steps : List Step)
     → length book ≤ length s.puts → length book ≤ length s.takes → AreSteps reading book s steps
-    → left_in (is_counted counted.EarlyPuts v m) table s.puts
-    < left_in (is_counted counted.DueTakes v n) table s.takes
-    → (left_in (is_counted counted.EarlyTakes u n) table s.takes
-    < left_in (is_counted counted.DuePuts u m) table s.puts) ⊎ (n ≤ m)
+    → left_in (is_counted counted.EarlyPuts (v ∷ []) m) table s.puts
+    < left_in (is_counted counted.DueTakes (v ∷ []) n) table s.takes
+    → (left_in (is_counted counted.EarlyTakes (u ∷ []) n) table s.takes
+    < left_in (is_counted counted.DuePuts (u ∷ []) m) table s.puts) ⊎ (n ≤ m)
     → ⊥
 takes-clash reading book table v u m n is few_m few_n s [] wide_puts wide_takes whole takes puts =
-    let there = left-some reading book table (is_counted counted.DueTakes v n) s.takes is
+    let there = left-some reading book table (is_counted counted.DueTakes (v ∷ []) n) s.takes is
     (omega (arith, takes)) in
     let due = due-take reading book v n there.0 there.1 there.3 few_n in
     omega (arith, there.2, whole.taken there.0.call v due.1)
@@ -297,12 +328,12 @@ takes-clash reading book table v u m n is few_m few_n s (Pairs pair ∷ steps) w
     let may = are.0 in
     let e = entered reading book table s pair is may in
     let off = counted-off reading book table s pair v u m n is wide_puts wide_takes may e in
-    let put_bit : bit (is_counted counted.DuePuts u m e.put)
-    ≤ bit (is_counted counted.EarlyTakes u n e.take)
+    let put_bit : bit (is_counted counted.DuePuts (u ∷ []) m e.put)
+    ≤ bit (is_counted counted.EarlyTakes (u ∷ []) n e.take)
     = bit-le _ _ (put-needs reading book table s pair u m n may e
     (take-in-time reading book table v n s pair steps is few_n are (omega (arith, takes)))) in
-    let take_bit : bit (is_counted counted.DueTakes v n e.take)
-    ≤ bit (is_counted counted.EarlyPuts v m e.put)
+    let take_bit : bit (is_counted counted.DueTakes (v ∷ []) n e.take)
+    ≤ bit (is_counted counted.EarlyPuts (v ∷ []) m e.put)
     = bit-le _ _ (take-needs reading book table s pair v m n may e (λ later due. elim puts [
       | inl ahead ↦ put-in-time reading book table u m s pair steps is few_m are
           (omega (arith, ahead)) later
@@ -328,76 +359,29 @@ takes-clash reading book table v u m n is few_m few_n s (FindNothing g ∷ steps
     takes-clash reading book table v u m n is few_m few_n (after s (FindNothing g)) steps wide_puts
     wide_takes are.1 takes puts
 
--- ---- takes that find nothing
-
--- While a take that finds nothing isn't covered, no puts up to an earlier moment are ahead.
-finds-clash : (reading : Reading) (book : List Page) (table : Table) (e : Call) (r : Record)
-    (u m n : ℕ) → IsTable reading book table → deal_of reading book e ≡ deals.FoundNothing
-    → record_of book e ≡ Some r → (IsHeldBy book e m → ⊥) → moment_of r ≤ n → m < NEVER
-    → (s : Paired) (steps : List Step) → length book ≤ length s.puts
-    → length book ≤ length s.takes → AreSteps reading book s steps → (IsHeldBy book e s.found → ⊥)
-    → left_in (is_counted counted.EarlyTakes u n) table s.takes
-    < left_in (is_counted counted.DuePuts u m) table s.puts → ⊥
-finds-clash reading book table e r u m n is nothing known before last few s [] wide_puts wide_takes
-    whole out ahead = out (whole.found e nothing)
-finds-clash reading book table e r u m n is nothing known before last few s (Pairs pair ∷ steps)
-    wide_puts wide_takes are out ahead =
-    let may = are.0 in
-    let entry = entered reading book table s pair is may in
-    let off = counted-off reading book table s pair u u m n is wide_puts wide_takes may entry in
-    let due : pair.take_moment ≤ moment_of r
-    = find-due reading book (after s (Pairs pair)) steps e r is.valid are.1 nothing known out in
-    let put_bit : bit (is_counted counted.DuePuts u m entry.put)
-    ≤ bit (is_counted counted.EarlyTakes u n entry.take)
-    = bit-le _ _ (put-needs reading book table s pair u m n may entry
-    (λ later. omega (arith, later, due, last))) in
-    finds-clash reading book table e r u m n is nothing known before last few (after s (Pairs pair))
-    steps (omega (arith, wide_puts, length-set s.puts pair.put.caller (pair.put.number + 1)))
-    (omega (arith, wide_takes, length-set s.takes pair.take.caller (pair.take.number + 1))) are.1
-    out (omega (arith, ahead, off.due_puts, off.early_takes, put_bit))
-finds-clash reading book table e r u m n is nothing known before last few s (FindNothing g ∷ steps)
-    wide_puts wide_takes are out ahead =
-    elim (cases_lt m g) [
-      | inl later ↦
-          let there = left-some reading book table (is_counted counted.DuePuts u m) s.puts is
-          (omega (arith, ahead)) in
-          let due = due-put reading book u m there.0 there.1 there.3 few in
-          omega (
-            arith,
-            later,
-            due.3,
-            put-due reading book (after s (FindNothing g)) steps there.0.call due.0 (omega arith)
-                are.1 due.1 due.2 there.2,
-          )
-      | inr low ↦
-          finds-clash reading book table e r u m n is nothing known before last few
-          (after s (FindNothing g)) steps wide_puts wide_takes are.1
-          (λ held. before (held_later book e g m low held)) ahead
-    ]
-
 -- ---- from the start
 
 wide-start : (book : List Page) → length book ≤ length (none_paired (length book)).puts
 wide-start book = omega (arith, length-replicate {A = ℕ} (length book) 0)
 
-takes-start : (table : Table) (callers v m n : ℕ) → TakesAhead table v m n
-    → left_in (is_counted counted.EarlyPuts v m) table (none_paired callers).puts
-    < left_in (is_counted counted.DueTakes v n) table (none_paired callers).takes
+takes-start : (table : Table) (callers v m n : ℕ) → TakesAhead table (v ∷ []) m n
+    → left_in (is_counted counted.EarlyPuts (v ∷ []) m) table (none_paired callers).puts
+    < left_in (is_counted counted.DueTakes (v ∷ []) n) table (none_paired callers).takes
 takes-start table callers v m n ahead = omega (
   arith,
   ahead,
-  left-start (is_counted counted.EarlyPuts v m) table callers,
-  left-start (is_counted counted.DueTakes v n) table callers,
+  left-start (is_counted counted.EarlyPuts (v ∷ []) m) table callers,
+  left-start (is_counted counted.DueTakes (v ∷ []) n) table callers,
 )
 
-puts-start : (table : Table) (callers u m n : ℕ) → PutsAhead table u m n
-    → left_in (is_counted counted.EarlyTakes u n) table (none_paired callers).takes
-    < left_in (is_counted counted.DuePuts u m) table (none_paired callers).puts
+puts-start : (table : Table) (callers u m n : ℕ) → PutsAhead table (u ∷ []) m n
+    → left_in (is_counted counted.EarlyTakes (u ∷ []) n) table (none_paired callers).takes
+    < left_in (is_counted counted.DuePuts (u ∷ []) m) table (none_paired callers).puts
 puts-start table callers u m n ahead = omega (
   arith,
   ahead,
-  left-start (is_counted counted.EarlyTakes u n) table callers,
-  left-start (is_counted counted.DuePuts u m) table callers,
+  left-start (is_counted counted.EarlyTakes (u ∷ []) n) table callers,
+  left-start (is_counted counted.DuePuts (u ∷ []) m) table callers,
 )
 
 pub takes_follow_puts : TakesFollowPuts
@@ -416,33 +400,14 @@ takes_follow_puts reading book table v u m n is has few_m few_n takes =
           ahead (inl (puts-start table (length book) u m n puts)),
     )
 
-pub finds_leave_nothing : FindsLeaveNothing
-finds_leave_nothing reading book table e r u m n is has nothing known before last few puts =
-    let wide = wide-start book in
-    finds-clash reading book table e r u m n is nothing known before last few
-    (none_paired (length book)) has.0 wide wide has.1
-    (λ held. before (held_later book e 0 m (omega arith) held))
-    (puts-start table (length book) u m n puts)
-
 -- ---- tables
 
 -- where takes are ahead, a table's book has no pairs
-pub takes-refute : (table : Table) (v u m n : ℕ) → m < NEVER → n < NEVER → TakesAhead table v m n
-    → (n ≤ m) ⊎ PutsAhead table u m n → HasNoPairs table
+pub takes-refute : (table : Table) (v u m n : ℕ) → m < NEVER → n < NEVER → TakesAhead table (v ∷ []) m n
+    → (n ≤ m) ⊎ PutsAhead table (u ∷ []) m n → HasNoPairs table
 takes-refute table v u m n few_m few_n takes puts reading book is has =
     let law = takes_follow_puts reading book table v u m n is has few_m few_n takes in
     elim puts [ inl late ↦ omega (arith, law.0, late) | inr ahead ↦ law.1 ahead ]
-
--- where puts are ahead before a take that finds nothing, a table's book has no pairs
-pub find-refutes : (table : Table) (place u m : ℕ) (t : TimedCall)
-    → slice_get table.finds.items place ≡ Some t → m < t.span.first → t.span.last < NEVER
-    → m < NEVER → PutsAhead table u m t.span.last → HasNoPairs table
-find-refutes table place u m t at before few_t few ahead reading book is has =
-    let right = is.finds.right place t at in
-    let there = answered-last reading book t right.0 few_t in
-    finds_leave_nothing reading book table t.call there.0 u m t.span.last is has right.1 there.1
-    (λ held. omega (arith, before, (right.0.span.least m held).0))
-    (omega (arith, there.2)) few ahead
 
 -- a book with one open whose table has no pairs has no legal order for a queue
 pub unpaired : (table : Table) (book : List Page)

@@ -5,5 +5,4 @@ pub mod Succeeding
 pub mod Entries
 pub mod Passing
 pub mod Ending
-pub mod Counting
 pub mod Clashing

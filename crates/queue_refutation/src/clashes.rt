@@ -1,10 +1,11 @@
-ghost use Rattle.std.specs.Prelude.{◌<◌, length, IfOk, IfSome, IsTrue};
+ghost use Rattle.std.specs.Prelude.{◌<◌, [], ◌∷◌, length, IfOk, IfSome, IsTrue};
+ghost use Rattle.container_counts.specs.Counts.{PutsAhead, TakesAhead};
 ghost use Rattle.queue_refutation.specs.Counts.{HasNoPairs};
 ghost use Rattle.queue_refutation.specs.DeadEnds.{QueueHasNoOrder};
 
-use crate::counts::{puts_are_ahead, takes_are_ahead};
 use crate::one_open::has_one_open;
 use book_base::{Book, NoMemory};
+use container_counts::{puts_are_ahead, takes_are_ahead};
 use queue_pairs::{NEVER, QueueDeal, Table, TimedCall};
 use std::alloc::Global;
 
@@ -24,10 +25,8 @@ struct Moments {
     early_takes: Vec<u64>,
 }
 
-/// Whether counts of calls show that a queue's book has no legal order: by some moment a value has
-/// been taken out more often than it was put in; or takes of one value are ahead of its puts while
-/// puts of another one are ahead of its takes, which no queue allows; or a take finds nothing where
-/// a value was left.
+/// Whether counts of calls show that a queue's book has no legal order: takes of one value are ahead
+/// of its puts while puts of another one are ahead of its takes, which no queue allows.
 ///
 /// The moments at which to count are found by lists of moments, which aren't trusted: the calls are
 /// counted once more at these moments.
@@ -48,28 +47,11 @@ fn refute(table: &Table, moments: &[Moments]) -> bool
     ensures { IsTrue result → HasNoPairs table.now }
 {
     for place in 0..moments.len() {
-        let ahead = &moments[place];
-        if takes_refute_alone(table, ahead) {
-            return true;
-        }
-        if takes_refute(table, moments, ahead) {
-            return true;
-        }
-        if finds_refute(table, ahead) {
+        if takes_refute(table, moments, &moments[place]) {
             return true;
         }
     }
     false
-}
-
-// Whether by some moment more of a value has been taken out than put in.
-fn takes_refute_alone(table: &Table, ahead: &Moments) -> bool
-    ensures { IsTrue result → HasNoPairs table.now }
-{
-    match overtaken(ahead) {
-        Some(moment) => refutes(table, ahead.value, ahead.value, moment, moment),
-        None => false,
-    }
 }
 
 // Whether more of the one value has been taken out than put in, while more of another one has been
@@ -88,18 +70,6 @@ fn takes_refute(table: &Table, moments: &[Moments], ahead: &Moments) -> bool
     false
 }
 
-// Whether a take finds nothing where some of this value was left.
-fn finds_refute(table: &Table, left: &Moments) -> bool
-    ensures { IsTrue result → HasNoPairs table.now }
-{
-    for place in 0..table.finds.len() {
-        if is_left(table, left, place) && find_refutes(table, left.value, place) {
-            return true;
-        }
-    }
-    false
-}
-
 // Whether takes of one value are ahead of its puts, while the takes' moment is no later than the
 // puts' or puts of another value are ahead of its takes at these moments.
 fn refutes(table: &Table, ahead: u64, other: u64, put_moment: u64, take_moment: u64) -> bool
@@ -111,43 +81,29 @@ fn refutes(table: &Table, ahead: u64, other: u64, put_moment: u64, take_moment: 
     if take_moment >= NEVER {
         return false;
     }
-    if !takes_are_ahead(table, ahead, put_moment, take_moment) {
+    if !takes_of_are_ahead(table, ahead, put_moment, take_moment) {
         return false;
     }
     if take_moment <= put_moment {
         return true;
     }
-    puts_are_ahead(table, other, put_moment, take_moment)
+    puts_of_are_ahead(table, other, put_moment, take_moment)
 }
 
-// Whether puts of a value are ahead of its takes where a take finds nothing.
-fn find_refutes(table: &Table, value: u64, place: usize) -> bool
-    ensures { IsTrue result → HasNoPairs table.now }
+// Whether more takes of a value have taken effect by the second moment than puts of it may have by
+// the first one.
+fn takes_of_are_ahead(table: &Table, value: u64, put_moment: u64, take_moment: u64) -> bool
+    ensures { IsTrue result → TakesAhead table.now (value ∷ []) put_moment take_moment }
 {
-    let Some(find) = table.finds.get(place) else {
-        return false;
-    };
-    if find.span.first == 0 {
-        return false;
-    }
-    if find.span.first >= NEVER {
-        return false;
-    }
-    if find.span.last >= NEVER {
-        return false;
-    }
-    puts_are_ahead(table, value, find.span.first - 1, find.span.last)
+    takes_are_ahead(table, &[value], put_moment, take_moment)
 }
 
-// The moment by which more of a value has been taken out than put in, if there is one.
-fn overtaken(ahead: &Moments) -> Option<u64> {
-    for place in 0..ahead.due_takes.len() {
-        let moment = ahead.due_takes[place];
-        if moment < moment_at(&ahead.early_puts, place) {
-            return Some(moment);
-        }
-    }
-    None
+// Whether more puts of a value have taken effect by one moment than takes may have taken out by
+// another one.
+fn puts_of_are_ahead(table: &Table, value: u64, put_moment: u64, take_moment: u64) -> bool
+    ensures { IsTrue result → PutsAhead table.now (value ∷ []) put_moment take_moment }
+{
+    puts_are_ahead(table, &[value], put_moment, take_moment)
 }
 
 // The moments up to which to count puts and takes so that the first value's puts are ahead, and the
@@ -162,19 +118,6 @@ fn clash_of(other: &Moments, ahead: &Moments) -> Option<(u64, u64)> {
         }
     }
     None
-}
-
-// Whether more items of a value were put in before a take that finds nothing than may have been
-// taken out.
-fn is_left(table: &Table, left: &Moments, place: usize) -> bool {
-    match table.finds.get(place) {
-        Some(find) => {
-            let put = up_to(&left.due_puts, find.span.first.saturating_sub(1));
-            let taken = up_to(&left.early_takes, find.span.last);
-            taken < put
-        }
-        None => false,
-    }
 }
 
 // How many of these moments, which are in order, are no later than the given one.

@@ -42,6 +42,9 @@ pub fn decide_queue<Q: SeqObject + Reader>(
     ensures { IfOk result (IsRightDecision (Q.init queue.now) (Q.next queue.now) book.now) }
 {
     let table = Table::of(alloc, queue, book)?;
+    if container_counts::refute_by_counts(alloc, &table)? {
+        return Ok(Decision::NoOrder);
+    }
     if refute_by_counts(alloc, &table, book)? {
         return Ok(Decision::NoOrder);
     }

@@ -1,7 +1,7 @@
 //! Laws of closed lists of standings, and of counts of calls. Each is the contract of a function
 //! with nothing in it.
 
-ghost use Rattle.queue_refutation.specs.CountLaws.{TakesFollowPuts, FindsLeaveNothing};
+ghost use Rattle.queue_refutation.specs.CountLaws.{TakesFollowPuts};
 ghost use Rattle.queue_refutation.specs.RefutationLaws.{
   ClosedStandingsAreDead,
   ClosedStartsHaveNoOrder,
@@ -45,9 +45,4 @@ pub fn successors_suffice()
 /// one moment and those taken out by another one have more of some value.
 pub fn takes_follow_puts()
     ensures { TakesFollowPuts }
-{}
-
-/// All that was put in before a take that finds nothing was taken out.
-pub fn finds_leave_nothing()
-    ensures { FindsLeaveNothing }
 {}

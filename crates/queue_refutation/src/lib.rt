@@ -4,7 +4,6 @@
 #![tactic(auto)]
 
 mod clashes;
-mod counts;
 mod dead_ends;
 mod decide;
 pub mod laws;

@@ -1,5 +1,6 @@
 ghost use Rattle.std.specs.Prelude.{◌≡◌, ℕ, [], IfOk};
 ghost use Rattle.book_base.specs.Decision.{IsRightDecision};
+ghost use Rattle.history_rules.specs.Container.{IsContainer};
 ghost use Rattle.stack_pruning.specs.LastFirst.{GivesLastFirst};
 
 use crate::closure::Closure;
@@ -8,15 +9,19 @@ use crate::search::{LevelSearch, LevelsFound};
 use crate::stack_book::StackBook;
 use crate::table::LevelTable;
 use book_base::{Book, Decision, NoMemory, SeqObject, Sight};
+use container_counts::refute_by_counts;
 use container_pruning::Reader;
 use next_calls::has_one_open;
 use order_check::check_order;
-use queue_pairs::places_of;
+use queue_pairs::{Table, places_of};
 use std::alloc::Global;
 use value_pruning::sight_of_values;
 
 /// What the levels of a stack's book say of it: a search of pairs of a level and a cut, as of a
 /// pushdown system (Bouajjani, Esparza and Maler 1997), so that no list is kept.
+///
+/// Counts of puts and takes are compared first: where they contradict one another, the book has no
+/// legal order, and there is no search.
 ///
 /// Levels serve where values are put in more than once, so that many lists end alike: where all
 /// values differ, nothing is said, and a search of orders has few lists at each cut.
@@ -33,6 +38,10 @@ pub fn decide_stack<S: SeqObject + Reader>(
     requires stack { (bound : ℕ) × GivesLastFirst (S.reading stack.now) (S.next stack.now) bound }
     // It begins with nothing.
     requires empty { S.init stack.now ≡ [] }
+    // It is a container: it gives out only what was put in.
+    requires container { IsContainer (S.reading stack.now) (S.next stack.now) }
+    // Its first list holds no value.
+    requires nothing { (S.reading stack.now).values (S.init stack.now) ≡ [] }
     // A decision with an order carries a legal one, and where it says that there is none, there is
     // none.
     ensures { IfOk result (IsRightDecision (S.init stack.now) (S.next stack.now) book.now) }
@@ -43,6 +52,10 @@ pub fn decide_stack<S: SeqObject + Reader>(
     let sight = sight_of_values(alloc, stack, book)?;
     if !has_equal_puts(&sight) {
         return Ok(Decision::Unsaid);
+    }
+    let calls = Table::of(alloc, stack, book)?;
+    if refute_by_counts(alloc, &calls)? {
+        return Ok(Decision::NoOrder);
     }
     let on = StackBook {
         reader: stack,

@@ -1,7 +1,9 @@
 use Rattle.std.proofs.Common.{◌^◌, IfOk, refl, sym, subst}
 use Rattle.book_base.specs.Decision.{IsRightDecision}
+use Rattle.history_rules.proofs.QueueRuns.{stack_is_container}
 use Rattle.seq_objects.specs.Objects.{kind_init, kind_next}
-use Rattle.seq_objects.proofs.Reading.{queue_is_read}
+use Rattle.seq_objects.specs.Readings.{stack_reading}
+use Rattle.seq_objects.proofs.Reading.{queue_is_read, stack_is_read}
 use Rattle.seq_objects.proofs.LastFirst.{stack_gives_last_first}
 use Rattle.seq_objects.proofs.kind.KindSeqObject.decide.Goals as goal
 
@@ -22,6 +24,12 @@ decide_stack-requires-clause-stack c = (2 ^ 32, stack_gives_last_first)
 
 pub decide_stack-requires-clause-empty : goal.decide_stack-requires-clause-empty
 decide_stack-requires-clause-empty c = refl
+
+pub decide_stack-requires-clause-container : goal.decide_stack-requires-clause-container
+decide_stack-requires-clause-container c = stack_is_container stack_reading _ stack_is_read
+
+pub decide_stack-requires-clause-nothing : goal.decide_stack-requires-clause-nothing
+decide_stack-requires-clause-nothing c = refl
 
 pub returns-in-Stack : goal.returns-in-Stack
 unfolding kind_next

@@ -8,13 +8,11 @@ use Rattle.list_laws.proofs.Places.{get_or-replicate_default}
 use Rattle.book_base.specs.declared.call.Call.{Call}
 use Rattle.book_base.specs.Book.{Page}
 use Rattle.history_rules.specs.Container.{Reading}
-use Rattle.queue_pairs.specs.declared.table.QueueDeal.{QueueDeal}
 use Rattle.queue_pairs.specs.declared.table.Table.{Table}
 use Rattle.queue_pairs.specs.declared.table.TimedCall.{TimedCall}
-use Rattle.queue_pairs.specs.Pairs.{IsNext}
-use Rattle.queue_pairs.specs.Tables.{rows_of, timed_at, IsTimed, IsTable}
-use Rattle.queue_refutation.specs.Counts.{count_in}
-use Rattle.queue_refutation.proofs.Entries.{IsRead, timed-is}
+use Rattle.queue_pairs.specs.Tables.{rows_of, IsTimed, IsTable}
+use Rattle.container_counts.specs.Counts.{count_in}
+use Rattle.container_counts.proofs.Entries.{timed-is}
 
 -- of two counts that are known the first is the lesser one
 pub less-counts : (one other : Option ℕ) (low high : ℕ)
@@ -121,7 +119,7 @@ outside-same test one other i (row ∷ rows) same =
 
 -- Once a call of a caller is covered, where no remaining call of the caller before it passes, the
 -- count is less by one if the call passes, and else the same.
-outside-past : (test : TimedCall → Bool) (numbers : List ℕ) (p : Call) (t : TimedCall) (gap i : ℕ)
+pub outside-past : (test : TimedCall → Bool) (numbers : List ℕ) (p : Call) (t : TimedCall) (gap i : ℕ)
     (rows : List (List TimedCall)) → p.caller ≡ i + gap → p.caller < length numbers
     → get_or numbers p.caller 0 ≤ p.number → slice_get (get_or rows gap []) p.number ≡ Some t
     → ((k : ℕ) (u : TimedCall) → get_or numbers p.caller 0 ≤ k → k < p.number
@@ -209,27 +207,6 @@ pub left-start : (test : TimedCall → Bool) (table : Table) (callers : ℕ)
 left-start test table callers =
     outside-none test (replicate callers 0) 0 (rows_of table)
     (λ j. get_or-replicate_default callers j 0)
-
--- Once the next call of a kind is covered, the count is less by one where that call passes.
-pub left-next : (reading : Reading) (book : List Page) (table : Table) (only : QueueDeal → Bool)
-    (kind : Call → Type 0) (test : TimedCall → Bool) (numbers : List ℕ) (call : Call)
-    (t : TimedCall) → IsTable reading book table → IsRead reading book only kind
-    → ((u : TimedCall) → test u ≡ true → only u.deal ≡ true) → IsNext kind numbers call
-    → timed_at table call.caller call.number ≡ Some t → call.caller < length numbers
-    → left_in test table numbers
-    ≡ bit (test t) + left_in test table (set numbers call.caller (call.number + 1))
-left-next reading book table only kind test numbers call t is read passes next at inside =
-    outside-past test numbers call t call.caller 0 (rows_of table) (omega arith) inside next.outside
-    at (λ k u low high there. elim (cases_Bool (test u)) [
-      | inl passed ↦
-          let one : Call = record { caller = call.caller; number = k } in
-          let timed : IsTimed reading book one u
-          = timed-is reading book table call.caller k u is there in
-          let mine : IsTimed reading book u.call u
-          = subst (λ (c : Call). IsTimed reading book c u) (sym timed.call) timed in
-          absurd (next.first k low high (subst kind timed.call (read.is u mine (passes u passed))))
-      | inr failed ↦ failed
-    ])
 
 -- where some calls of a table that aren't covered pass, there is one that does
 pub left-some : (reading : Reading) (book : List Page) (table : Table) (test : TimedCall → Bool)

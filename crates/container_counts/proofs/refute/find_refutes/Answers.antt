@@ -1,8 +1,8 @@
 use Rattle.std.proofs.Common.{◌≡◌, ◌∙◌, ◌<◌, ◌-◌, List, Some, length, get_or, slice_get, sym, ap, arith, rules}
 use Rattle.std.proofs.lemmas.Option.{slice_get-get_or}
 use Rattle.queue_pairs.specs.declared.table.TimedCall.{TimedCall}
-use Rattle.queue_refutation.proofs.Clashing.{find-refutes}
-use Rattle.queue_refutation.proofs.clashes.find_refutes.Goals as goal
+use Rattle.container_counts.proofs.Refuting.{find-refutes}
+use Rattle.container_counts.proofs.refute.find_refutes.Goals as goal
 
 pub returns : goal.returns
 returns c told =
@@ -14,6 +14,6 @@ returns c told =
     let at : slice_get c.args.table.now.finds.items c.args.place ≡ Some find
     = ap (λ (xs : List TimedCall). slice_get xs c.args.place) (sym all)
     ∙ (slice_get-get_or finds c.args.place find inside ∙ ap Some (sym same)) in
-    find-refutes c.args.table.now c.args.place c.args.value (find.span.first - 1) find at
+    find-refutes c.args.table.now c.args.place (find.span.first - 1) c.args.values.now find at
     (omega arith) (omega arith) (omega arith)
     (c.puts_are_ahead.ensures told)

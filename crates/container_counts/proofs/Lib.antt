@@ -1,0 +1,4 @@
+pub mod Entries
+pub mod Counting
+pub mod Holding
+pub mod Refuting

@@ -1,0 +1,196 @@
+ghost use Rattle.std.specs.Prelude.{IfOk, IsTrue};
+ghost use Rattle.container_counts.specs.Counts.{IsRefuted};
+
+use crate::counts::{puts_are_ahead, takes_are_ahead};
+use book_base::{NoMemory, Span};
+use queue_pairs::{NEVER, QueueDeal, Table, TimedCall};
+use std::alloc::Global;
+
+// How many different values are looked at, at most, where a take finds nothing.
+const MOST_VALUES: usize = 64;
+
+/// The calls of a table, each with its value and a moment, in order: of answered puts and takes
+/// that of their own view, of all puts, answered takes and unanswered ones that of the first view
+/// that holds them.
+#[derive(Drop)]
+struct Moments {
+    due_puts: Vec<(u64, u64)>,
+    early_puts: Vec<(u64, u64)>,
+    due_takes: Vec<(u64, u64)>,
+    early_takes: Vec<(u64, u64)>,
+    open_takes: Vec<(u64, u64)>,
+    values: Vec<u64>,
+}
+
+/// Whether counts of calls show that a container's book has no legal order: by some moment a value
+/// has been taken out more often than it was put in, or a take finds nothing where more values were
+/// left than unanswered takes may have taken out.
+///
+/// The moments and the values to count are found by lists of moments, which aren't trusted: the
+/// calls are counted once more.
+pub fn refute_by_counts(alloc: Global, table: &Table) -> Result<bool, NoMemory>
+    // `true` is answered only where no container has a legal order of a book with this table.
+    ensures refuted { IfOk result (λ refuted. IsTrue refuted → IsRefuted table.now) }
+{
+    let moments = moments_of(alloc, table)?;
+    if let Some((value, moment)) = overtaken(&moments)
+        && takes_refute(table, &[value], moment)
+    {
+        return Ok(true);
+    }
+    finds_refute(alloc, table, &moments)
+}
+
+// Whether more takes of these values have taken effect by a moment than puts of them may have.
+fn takes_refute(table: &Table, values: &[u64], moment: u64) -> bool
+    ensures { IsTrue result → IsRefuted table.now }
+{
+    if moment >= NEVER {
+        return false;
+    }
+    takes_are_ahead(table, values, moment, moment)
+}
+
+// Whether a take finds nothing where values were left.
+fn finds_refute(alloc: Global, table: &Table, moments: &Moments) -> Result<bool, NoMemory>
+    ensures { IfOk result (λ refuted. IsTrue refuted → IsRefuted table.now) }
+{
+    for place in 0..table.finds.len() {
+        let left = values_left(alloc, moments, table.finds[place].span)?;
+        if !left.is_empty() && find_refutes(table, &left, place) {
+            return Ok(true);
+        }
+    }
+    Ok(false)
+}
+
+// Whether more puts of these values come before a take that finds nothing than takes that may have
+// taken them out.
+fn find_refutes(table: &Table, values: &[u64], place: usize) -> bool
+    ensures { IsTrue result → IsRefuted table.now }
+{
+    let Some(find) = table.finds.get(place) else {
+        return false;
+    };
+    if find.span.first == 0 {
+        return false;
+    }
+    if find.span.first >= NEVER {
+        return false;
+    }
+    if find.span.last >= NEVER {
+        return false;
+    }
+    puts_are_ahead(table, values, find.span.first - 1, find.span.last)
+}
+
+// A value and a moment by which it has been taken out more often than put in, if there is one.
+fn overtaken(moments: &Moments) -> Option<(u64, u64)> {
+    let puts = &moments.early_puts;
+    let mut next = 0;
+    for place in 0..moments.due_takes.len() {
+        let (value, moment) = moments.due_takes[place];
+        let put = puts.partition_point(|other| other.0 < value).max(next);
+        match puts.get(put) {
+            Some(other) => {
+                if other.0 != value || other.1 > moment {
+                    return Some((value, moment));
+                }
+            }
+            None => return Some((value, moment)),
+        }
+        next = put + 1;
+    }
+    None
+}
+
+// The values of which more were put in before this span than answered takes show up to its end,
+// where unanswered takes are too few for what is left of them all, or else none.
+fn values_left(alloc: Global, moments: &Moments, span: Span) -> Result<Vec<u64>, NoMemory> {
+    let mut left = Vec::new(alloc);
+    let mut all: usize = 0;
+    for value in &moments.values {
+        let put = up_to(&moments.due_puts, *value, span.first.saturating_sub(1));
+        let taken = up_to(&moments.early_takes, *value, span.last);
+        if taken < put {
+            left.push(*value)?;
+            all = all.saturating_add(put - taken);
+        }
+    }
+    if all <= up_to(&moments.open_takes, 0, span.last) {
+        left.clear();
+    }
+    Ok(left)
+}
+
+// How many of these moments of a value, which are in order, are no later than the given one.
+fn up_to(moments: &[(u64, u64)], value: u64, moment: u64) -> usize {
+    let before = moments.partition_point(|other| other.0 < value);
+    let through = moments.partition_point(|other| other.0 < value
+        || (other.0 == value && other.1 <= moment));
+    through.saturating_sub(before)
+}
+
+// The moments of a table's calls.
+fn moments_of(alloc: Global, table: &Table) -> Result<Moments, NoMemory> {
+    let mut moments = Moments {
+        due_puts: Vec::new(alloc),
+        early_puts: Vec::new(alloc),
+        due_takes: Vec::new(alloc),
+        early_takes: Vec::new(alloc),
+        open_takes: Vec::new(alloc),
+        values: Vec::new(alloc),
+    };
+    for row in &table.rows {
+        for timed in row {
+            add(*timed, &mut moments)?;
+        }
+    }
+    sort(&mut moments)?;
+    add_values(&mut moments)?;
+    Ok(moments)
+}
+
+// Adds the moments of a call, if some view holds it.
+fn add(timed: TimedCall, moments: &mut Moments) -> Result<(), NoMemory> {
+    if !timed.is_held() {
+        return Ok(());
+    }
+    let Span { first, last } = timed.span;
+    match timed.deal {
+        QueueDeal::Put(value) => {
+            moments.early_puts.push((value, first))?;
+            if timed.is_answered() {
+                moments.due_puts.push((value, last))?;
+            }
+        }
+        QueueDeal::Took(value) => {
+            moments.early_takes.push((value, first))?;
+            moments.due_takes.push((value, last))?;
+        }
+        QueueDeal::OpenTake => moments.open_takes.push((0, first))?,
+        _ => {}
+    }
+    Ok(())
+}
+
+// Puts each list of moments in order.
+fn sort(moments: &mut Moments) -> Result<(), NoMemory> {
+    moments.due_puts.sort()?;
+    moments.early_puts.sort()?;
+    moments.due_takes.sort()?;
+    moments.early_takes.sort()?;
+    moments.open_takes.sort()?;
+    Ok(())
+}
+
+// Adds the values of the answered puts, each once, as long as there are few.
+fn add_values(moments: &mut Moments) -> Result<(), NoMemory> {
+    for place in 0..moments.due_puts.len() {
+        let value = moments.due_puts[place].0;
+        if moments.values.last() != Some(&value) && moments.values.len() < MOST_VALUES {
+            moments.values.push(value)?;
+        }
+    }
+    Ok(())
+}
