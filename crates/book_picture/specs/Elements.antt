@@ -14,7 +14,7 @@ use Rattle.book_picture.specs.Groups.{HasNoGroup, is_plain}
 use Rattle.book_picture.specs.Rows.{has_part, AreFolded}
 use Rattle.book_picture.specs.Values.{values_after, class_of_call}
 
--- A text begins with a bar, and has no group.
+-- A text begins with the tag of a bar, `<path class="bar`, and has no tag of a group.
 abbrev pub IsBar : List ℕ → Type 0
 IsBar text = (is_plain text ≡ true) × ((rest : List ℕ) × (text ≡ codes "<path class=\"bar" ++ rest))
 

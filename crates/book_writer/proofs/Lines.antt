@@ -170,7 +170,7 @@ answer_written old m1 m2 m3 new reply view pairs h k l m =
     (both_pieces old m2 m3 (32 ∷ reply) (32 ∷ view) (both_pieces old m1 m2 (32 ∷ []) reply h k) l) m
     ∙ ap (λ (x : List ℕ). old ++ x) (append_assoc (32 ∷ reply) (32 ∷ view) (spaced pairs))
 
--- what follows from a property of a value follows after an answer Ok
+-- Where a claim holds if a result is `Ok`, what follows from the claim holds if the result is.
 pub OnOk_then : {T E P Q : Type 0} (r : Result T E) → OnOk r P → (P → Q) → OnOk r Q
 OnOk_then (Ok x) holds gives = gives holds
 OnOk_then (Err e) holds gives = tt

@@ -1,4 +1,4 @@
--- How a scan ends, and that it ends soon.
+-- How a scan ends, and that it has taken fewer words than `most_words` until then.
 use Rattle.std.proofs.Common.{◌≡◌, ℕ, zero, suc, ◌+◌, ◌*◌, ◌<◌, ◌≤◌, false, List, [], ◌∷◌, ◌++◌, length, Option, Some, None, refl, sym, ap, ◌∙◌, arith}
 use Rattle.std.proofs.lemmas.Nat.{mul-le}
 use Rattle.world_core.specs.declared.region.Region.{Region}
@@ -19,7 +19,7 @@ use Rattle.collect_scan.specs.Scanned.{scan_with, local_in_scan, local_stood, mo
 use Rattle.collect_scan.specs.Turns.{HasTurned}
 use Rattle.collect_scan.proofs.Seen.{round_lends}
 
--- A scan that isn't done has taken fewer words than the bound.
+-- A scan that isn't done, and whose words are steady, has taken fewer words than `most_words`.
 module _ (n me : ℕ) (taken : List ℕ) (low : me < n) (steady : IsSteady n me taken) where
   few_rounds : (k : ℕ) (c : Course) (words : List ℕ) → course_after n taken k ≡ c
       → is_done (wanted_by c words) ≡ false → k * n ≤ length taken → k ≤ n + 1
@@ -41,6 +41,8 @@ module _ (n me : ℕ) (taken : List ℕ) (low : me < n) (steady : IsSteady n me 
       few_rounds (rounds n taken) (course n taken) (open_round n taken) refl goes fits in
       omega (arith, ends, mul-le (rounds n taken) n (n + 1) n few (omega arith))
 
+-- In each local of a reachable world, a scan under way that isn't done has taken fewer words than
+-- `most_words`.
 pub scanning_few : (s : Shape) (i : ℕ) (l : Local) (scan : Scan) → IsLocalOf s i l
     → l.scan ≡ Some scan → is_done (wanted s.callers scan.taken) ≡ false
     → length scan.taken < most_words s.callers
@@ -54,13 +56,15 @@ given_served l For_view cut = refl
 given_served l For_seen cut = refl
 given_served l For_nothing cut = refl
 
--- What the caller is given where the scan is done.
+-- After a scan took its last word, and is done with a cut, the local gives this cut as that of its
+-- last scan.
 given_done : (l : Local) (s : Scan) (cut : List ℕ) → given_now (went_on l s (Done cut)) ≡ Some cut
 given_done l s cut =
     given_served (record l { scan = None; cuts = l.cuts ++ given_by s cut ∷ [] })
     (purpose_of l.phase l.staged s) cut ∙ last_given-push l.cuts (given_by s cut)
 
--- Where nothing is given the scan goes on, and else it is done with that cut.
+-- A scan whose caller's local gives no cut after a word isn't done; and one whose caller's local
+-- gives a cut is done with that cut (`done_by`).
 goes_by : (l : Local) (s : Scan) (w : Want) → given_now (went_on l s w) ≡ None → is_done w ≡ false
 goes_by l s (Look j) h = refl
 goes_by l s (Peek j row entry) h = refl
@@ -86,14 +90,18 @@ module _ (n : ℕ) (before : Local) (region : Region) (opening : Opening) (taken
   abbrev scan : Scan
   scan = scan_with before region opening taken
 
+  -- Where the local after the words of a scan gives no cut, the scan isn't done.
   pub stood_goes : given_now (local_stood n before region opening taken) ≡ None
       → is_done (wanted n taken) ≡ false
   stood_goes h = goes_by here scan (wanted n taken) h
 
+  -- Where a scan isn't done, the local after its words is the one during the scan.
   pub stood_stays : is_done (wanted n taken) ≡ false
       → local_stood n before region opening taken ≡ here
   stood_stays goes = stays_by here scan (wanted n taken) goes
 
+  -- Where the local after at most `most_words` words of a scan gives a cut, these words are one
+  -- whole scan that ended with this cut, and the counter has risen by their number.
   pub stood_ticked : (cut : List ℕ) (now : Local) (first last : ℕ)
       → given_now (local_stood n before region opening taken) ≡ Some cut
       → length taken ≤ most_words n
@@ -107,12 +115,16 @@ module _ (n : ℕ) (before : Local) (region : Region) (opening : Opening) (taken
         ticks = ticks;
       }
 
+  -- Where the local after at most `most_words` words of a scan gives a cut, these words are one
+  -- whole scan that ended with this cut.
   pub stood_scanned : (cut : List ℕ) (now : Local)
       → given_now (local_stood n before region opening taken) ≡ Some cut
       → length taken ≤ most_words n
       → now ≡ local_stood n before region opening taken → HasScanned n region opening cut before now
   stood_scanned cut now h few is = (stood_ticked cut now 0 (0 + length taken) h few is refl).scanned
 
+-- `HasTurned` holds of a turn that took one more word of a scan, within the bound, and that answers
+-- the cut which its caller's local then gives, if it gives one.
 pub turned_by : (n : ℕ) (before : Local) (region : Region) (opening : Opening) (taken : List ℕ)
     (x : ℕ) (r : Option (List ℕ)) (now : Local)
     → r ≡ given_now (local_stood n before region opening (taken ++ x ∷ []))

@@ -1,4 +1,4 @@
--- What one more word does to what a scan has found, and to the local in its course.
+-- What one more word adds to what a scan has found, and to its caller's local during the scan.
 use Rattle.std.proofs.Common.{◌≡◌, ℕ, ◌*◌, Bool, true, ◌&&◌, ◌==◌, if◌then◌else◌, List, [], ◌∷◌, ◌++◌, drop, Option, Some, refl, sym, ap, ◌∙◌, append_assoc, eq-eqb, arith}
 use Rattle.std.proofs.Math.Nat.{zero-div}
 use Rattle.std.proofs.lemmas.List.{append-nil}
@@ -26,16 +26,19 @@ found_from_more n region before f (w ∷ words) x =
     ∙ ap (λ (ws : List ℕ). found_with n region (wanted n ws) x
     (found_from n region (before ++ w ∷ []) g words)) (append_assoc before (w ∷ []) words)
 
+-- What a scan has found with one word more is what it had found, with the word of the look or peek
+-- that it needed.
 pub found_more : (n : ℕ) (region : Region) (taken : List ℕ) (x : ℕ) → found_by n region
     (taken ++ x ∷ []) ≡ found_with n region (wanted n taken) x (found_by n region taken)
 found_more n region taken x =
     found_from_more n region [] (record { looks = []; peeks = [] }) taken x
 
+-- The test whether two regions are equal passes for a region and itself.
 pub same_region_self : (region : Region) → is_same_region region region ≡ true
 same_region_self N = refl
 same_region_self M = refl
 
--- A scan that begins wants the look at the first caller.
+-- A scan that has taken no word needs the look at caller 0.
 pub first_wanted : (n : ℕ) → wanted n [] ≡ Look 0
 first_wanted n =
     let none : 0 * n ≡ 0 = omega arith in
@@ -48,7 +51,8 @@ went_scan l s o (Look j) = refl
 went_scan l s o (Peek j row entry) = refl
 went_scan l s o (Done cut) = refl
 
--- The local of a scan of a region that began so, and found this.
+-- A scan of a region that began on the local `before` with this opening, had taken the words
+-- `taken`, and now takes the word `x`.
 module _ (n : ℕ) (before : Local) (region : Region) (opening : Opening) (taken : List ℕ)
     (x : ℕ) where
   abbrev more : List ℕ
@@ -74,7 +78,8 @@ module _ (n : ℕ) (before : Local) (region : Region) (opening : Opening) (taken
   took b saw so = ap (λ (c : Bool). if c then went_on saw scan (wanted n more) else saw) so
       ∙ went_scan saw scan (Some scan) (wanted n more)
 
-  -- the look that it wants
+  -- Where the scan needs a look at caller j, a look there that finds x leads from the local during
+  -- the scan to the local after the word x.
   pub look_goes : (j : ℕ) → wanted n taken ≡ Look j
       → looked_at n (local_in_scan n before region opening taken) region j x
       ≡ local_stood n before region opening more
@@ -88,7 +93,8 @@ module _ (n : ℕ) (before : Local) (region : Region) (opening : Opening) (taken
       (same_region_self region) it)
       ∙ stood_with (Look j) is
 
-  -- the peek that it wants
+  -- Where the scan needs a peek at an entry of an embedded cut, a peek at the place of that entry
+  -- that finds x leads from the local during the scan to the local after the word x.
   pub peek_goes : (j row entry place : ℕ) → wanted n taken ≡ Peek j row entry
       → place ≡ embedded_place n region entry
       → peeked_at n (local_in_scan n before region opening taken) region j row place x
@@ -117,11 +123,13 @@ module _ (n : ℕ) (before : Local) (region : Region) (opening : Opening) (taken
       (and_from (is_same_region region region) here (same_region_self region) it)
       ∙ stood_with (Peek j row entry) is
 
--- A look that begins a scan is its first.
+-- An opening that begins a scan: a plain one, without a reply, or the view's, with one.
 pub data Begins : Opening → Type 0 where
   Plainly : Begins Begins_scan
   With_reply : (reply : ℕ) → Begins (Begins_view reply)
 
+-- A look at caller 0 that begins a scan is the first step of this scan: its word is the first that
+-- the scan takes.
 pub first_goes : (n : ℕ) (before : Local) (region : Region) (opening : Opening) (x : ℕ)
     → Begins opening
     → looked_at n (opened before region opening) region 0 x

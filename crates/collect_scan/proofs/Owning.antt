@@ -1,4 +1,5 @@
--- What the cut of a scan says of its caller, and of what that had found before.
+-- What the cut of a scan has to do with the counts of its caller, and with the caller's earlier
+-- cuts and looks.
 use Rattle.std.proofs.Common.{◌≡◌, ◌≢◌, ℕ, suc, ◌+◌, ◌<◌, Bool, true, false, List, [], ◌∷◌, ◌++◌, length, Option, Some, None, slice_get, slice_index, slice_index_or, refl, sym, ap, ◌∙◌, subst, arith, inl, inr, length-append}
 use Rattle.std.proofs.lemmas.Bool.{cases_lt}
 use Rattle.std.proofs.lemmas.List.{get_or_push, get_or_past}
@@ -20,7 +21,9 @@ use Rattle.collect_scan.specs.Scanned.{scan_with, HasScanned}
 use Rattle.collect_scan.specs.Given.{given_with, AddsCut, CutsAreFew, OwnEntriesAreCounts, CutsHoldGiven, CutsHoldLooks, ViewScansHavePhase}
 use Rattle.collect_scan.proofs.ReadOnly.{scans_add_their_cut, ended, purpose, after_is}
 
--- What holds of a local of a reachable world.
+-- What holds of the local of caller `i` in a reachable world: which entries for `i` its views, its
+-- seen cuts and the cuts of its rows have, how long its lists are in its phase, and that its scan
+-- under way fits its phase.
 record Of (i : ℕ) (l : Local) : Type 0 where
   owns : Owns i l
   phase : HasPhase l
@@ -46,10 +49,12 @@ view_free Viewing (Some scan) h other = absurd (other refl)
 view_free Publishing (Some scan) h other = h
 view_free Judging (Some scan) h other = h
 
+-- A local of a reachable world that isn't in the phase view has no view's scan under way.
 pub view_scans_have_phase : ViewScansHavePhase
 view_scans_have_phase s i l is other = view_free l.phase l.scan (local_of_world s i l is).scan other
 
--- What the purpose of a cut says of its region.
+-- What a purpose says of the region of the scan whose cut serves it: for the row under way the
+-- phase stages that region, for the view it is N, and for the seen cut M.
 abbrev PurposeIs : Purpose → Phase → Region → Type 0
 PurposeIs For_row phase region = is_staging phase region ≡ true
 PurposeIs For_view phase region = region ≡ N
@@ -79,7 +84,8 @@ owns_some i count None cut is h = absurd cc
 owns_some i count (Some other) cut is h = let same : other ≡ cut = cc in
     subst (λ (c : List ℕ). slice_index c i ≡ count) same h
 
--- the last of a list of cuts
+-- Where each cut of a list has as its entry for caller i the number of the cut, counted from 1, the
+-- last cut's entry is the length of the list.
 last_own : (i : ℕ) (old new : List (List ℕ)) (cut : List ℕ) → new
     ≡ old ++ cut ∷ [] → ((k : ℕ) → k < length new → slice_index (slice_index_or new k []) i ≡ k + 1)
     → slice_index cut i ≡ length new
@@ -124,6 +130,8 @@ purpose_same Viewing staged region is_view since a b = refl
 purpose_same Publishing staged region is_view since a b = refl
 purpose_same Judging staged region is_view since a b = refl
 
+-- A scan's cut that serves something has as its caller's own entry the caller's count in the region
+-- after the scan.
 pub own_entries_are_counts : OwnEntriesAreCounts
 own_entries_are_counts s i region opening cut before after is h serves =
     let l : Local = opened before region opening in
@@ -135,7 +143,8 @@ own_entries_are_counts s i region opening cut before after is h serves =
     (λ none. serves (purpose_same l.phase l.staged region
     (scan_with before region opening []).is_view (length before.looked) [] h.taken ∙ none))
 
--- The cut is the last of those that were given.
+-- After a scan its cut is the last of those that its caller was given, and each earlier one is
+-- where it was.
 module _ (s : Shape) (i : ℕ) (region : Region) (opening : Opening) (cut : List ℕ)
     (before after : Local) (h : HasScanned s.callers region opening cut before after) where
   adds : AddsCut region cut before after
@@ -158,6 +167,7 @@ slice_get-suffix (y ∷ more) xs p = ap (slice_get (y ∷ (more ++ xs)))
     (let e : length (y ∷ more) + p ≡ suc (length more + p) = omega arith in e)
     ∙ slice_get-suffix more xs p
 
+-- No count of a scan's cut is above the cap.
 pub cuts_are_few : CutsAreFew
 cuts_are_few s i region opening cut before after (locals, t, low, is) h j =
     let there = ap (λ (m : Local). slice_get m.cuts (length before.cuts)) is
@@ -169,6 +179,7 @@ cuts_are_few s i region opening cut before after (locals, t, low, is) h j =
       | inr past ↦ omega (arith, get_or_past cut j 0 (omega (arith, past, small.0)))
     ]
 
+-- A scan's cut contains each cut of its region that its caller was given before the scan.
 pub cuts_hold_given : CutsHoldGiven
 cuts_hold_given s i p region opening cut before after given (locals, t, low, is) h there same =
     cuts_rise s locals i p (length before.cuts) given (given_with before region cut) t low
@@ -178,6 +189,7 @@ cuts_hold_given s i p region opening cut before after given (locals, t, low, is)
     (ap (λ (m : Local). slice_get m.cuts (length before.cuts)) is
     ∙ last_there s i region opening cut before after h) same
 
+-- A scan's cut contains each count of its region that its caller had looked at before the scan.
 pub cuts_hold_looks : CutsHoldLooks
 cuts_hold_looks s i region opening cut before after (locals, t, low, is) h p look there same =
     let a = adds s i region opening cut before after h in

@@ -1,4 +1,4 @@
--- What a scan leaves of its caller's local.
+-- What a scan changes in its caller's local, and what it keeps.
 use Rattle.std.proofs.Common.{◌≡◌, ℕ, Bool, true, ◌&&◌, nat_lt, List, [], ◌∷◌, ◌++◌, None, slice_index, refl, ap, ◌∙◌}
 use Rattle.std.proofs.lemmas.Bool.{and_from, or_left, or_right, lt-ltb}
 use Rattle.std.proofs.lemmas.List.Folds.{list_any_at}
@@ -46,21 +46,26 @@ opened_cuts l region Begins_none = refl
 opened_cuts l region Begins_scan = refl
 opened_cuts l region (Begins_view reply) = refl
 
--- The local as its scan ends, before the cut serves its purpose.
+-- A caller's local when its scan has ended, before the cut serves its purpose, and that purpose.
 module _ (n : ℕ) (region : Region) (opening : Opening) (cut : List ℕ) (before after : Local)
     (h : HasScanned n region opening cut before after) where
   abbrev pub here : Local
   here = local_in_scan n before region opening h.taken
 
+  -- The local when the scan has ended: its cut is the last one that was given, and it hasn't yet
+  -- served its purpose.
   abbrev pub ended : Local
   ended = record here { scan = None; cuts = here.cuts ++ given_with before region cut ∷ [] }
 
+  -- What the cut of the scan serves.
   abbrev pub purpose : Purpose
   purpose = purpose_of here.phase here.staged (scan_with before region opening h.taken)
 
+  -- The local after the scan is the one when the scan has ended, after the cut served its purpose.
   pub after_is : after ≡ served ended purpose cut
   after_is = h.is
 
+-- A scan adds its cut to those that its caller was given, as the last of them.
 pub scans_add_their_cut : ScansAddTheirCut
 scans_add_their_cut n region opening cut before after h =
     let is = after_is n region opening cut before after h in
@@ -77,11 +82,13 @@ scans_add_their_cut n region opening cut before after h =
       peeked = ap (λ (m : Local). m.peeked) is ∙ served_peeked l p cut;
     }
 
+-- A scan doesn't change its caller's calls once it has been opened.
 pub scans_leave_work : ScansLeaveWork
 scans_leave_work n region opening cut before after h =
     ap work_of (after_is n region opening cut before after h) ∙ served_work
     (ended n region opening cut before after h) (purpose n region opening cut before after h) cut
 
+-- A caller knows each row below an entry of a cut that a scan gave it.
 pub given_rows_are_known : GivenRowsAreKnown
 given_rows_are_known n l p j k given is below =
     let known : Given → Bool =

@@ -1,5 +1,5 @@
--- A scan that borrows from a row knows of it: it has looked at a count of that caller above the
--- row.
+-- A scan that peeks into a row has looked at a count of that row's caller which is above the row's
+-- number, so its caller knows the row.
 use Rattle.std.proofs.Common.{◌≡◌, ◌⊎◌, ℕ, zero, suc, ◌+◌, ◌-◌, ◌*◌, ◌<◌, ◌≤◌, Bool, true, false, ◌&&◌, ◌==◌, nat_lt, if◌then◌else◌, List, [], ◌∷◌, ◌++◌, length, take, Option, Some, None, slice_index, refl, sym, ap, ◌∙◌, subst, arith, inl, inr, IsTrue, length-append, length-drop, eq-eqb}
 use Rattle.std.specs.List.{list_any}
 use Rattle.std.proofs.Math.Nat.{zero-div}
@@ -20,7 +20,7 @@ use Rattle.world_core.proofs.Scans.{open_lacks, rounds_more, rounds_whole, open_
 use Rattle.collect_scan.specs.Scanned.{ScannedWords, found_with, found_by, local_in_scan}
 use Rattle.collect_scan.proofs.Going.{found_more, same_region_self}
 
--- This look is among those.
+-- The look is in the list of looks.
 abbrev HasLook : List Looked → Looked → Type 0
 HasLook [] look = ⊥
 HasLook (l ∷ looks) look = (l ≡ look) ⊎ HasLook looks look
@@ -34,21 +34,22 @@ looks_stay n region (Done cut) x f look h = h
 abbrev look_at : Region → ℕ → ℕ → Looked
 look_at region j x = record { region = region; caller = j; count = x }
 
--- A look at caller j that found a count above row k.
+-- Among these looks is one at caller j in the region that found a count above k.
 record HasLooked (looks : List Looked) (region : Region) (j k : ℕ) : Type 0 where
   count : ℕ
   above : k < count
   there : HasLook looks (look_at region j count)
 
--- While a scan collects, it has looked at each count of the round under way; and where it borrows
--- from a row, it has looked at a count above that.
+-- A scan that collects has looked at each count of the collect under way; and a scan that borrows
+-- from row k of caller j has looked at a count of j above k.
 record HasSeen (n : ℕ) (region : Region) (taken : List ℕ) : Type 0 where
   words : course n taken ≡ Collects → (t : ℕ) → t < length (open_round n taken) → HasLook
       (found_by n region taken).looks (look_at region t (slice_index (open_round n taken) t))
   row : (j k : ℕ) → course n taken ≡ Borrows j k
       → HasLooked (found_by n region taken).looks region j k
 
--- The caller from which a collect makes a scan borrow, and the row.
+-- What holds where a collect that found the counts `latest` makes the scan borrow row k of caller
+-- j: j is one of the callers, and its count is above k.
 pub record IsLent (latest : List ℕ) (j k : ℕ) : Type 0 where
   pub caller : j < length latest
   pub above : k < slice_index latest j
@@ -106,11 +107,14 @@ collect_lends first None latest j k h = absurd cc
 collect_lends first (Some before) latest j k h =
     lent_unless (is_same_cut before latest) first latest j k h
 
--- A round that makes the scan borrow was a collect.
+-- What holds of a round after which the scan borrows row k of caller j: it was a collect, in which
+-- the count of j is above k.
 pub record Lends (latest : List ℕ) (c : Course) (j k : ℕ) : Type 0 where
   pub was : c ≡ Collects
   pub lent : IsLent latest j k
 
+-- Where the scan borrows a row after a round, that round was a collect, in which the count of the
+-- row's caller is above the row's number.
 pub round_lends : (first : List ℕ) (last : Option (List ℕ)) (latest : List ℕ) (c : Course) (j k : ℕ)
     → course_on first last latest c ≡ Borrows j k → Lends latest c j k
 round_lends first last latest Collects j k h =
@@ -126,7 +130,7 @@ module _ (n : ℕ) (region : Region) (some : 0 < n) where
     abbrev more : List ℕ
     more = taken ++ x ∷ []
 
-    -- what the scan has looked at, with the word
+    -- Each look that the scan had made it has made after one word more.
     stays : (look : Looked) → HasLook (found_by n region taken).looks look
         → HasLook (found_by n region more).looks look
     stays look old =
@@ -224,7 +228,7 @@ module _ (n : ℕ) (region : Region) (some : 0 < n) where
   seen_all taken = subst (HasSeen n region) (take_all (length taken) taken (omega arith))
       (seen_up_to taken (length taken) (omega arith))
 
--- a peek that is wanted is into the row that the scan borrows from
+-- A scan that needs a peek into row k of caller j borrows from that row.
 peek_borrows : (c : Course) (words : List ℕ) (j k entry : ℕ) → wanted_by c words ≡ Peek j k entry
     → c ≡ Borrows j k
 peek_borrows Collects words j k entry h = absurd cc
@@ -248,7 +252,7 @@ looked_above (l ∷ looks) before region j k count above (inr later) =
     or_right (is_above region j k l) (list_any (is_above region j k) (looks ++ before))
     (looked_above looks before region j k count above later)
 
--- a scan knows the row that it wants to peek
+-- The local during a scan that needs a peek into row k of caller j knows that row.
 pub peek_known : (n : ℕ) (before : Local) (region : Region) (opening : Opening) (taken : List ℕ)
     (j k entry : ℕ) → 0 < n → wanted n taken ≡ Peek j k entry
     → IsTrue (knows_row n (local_in_scan n before region opening taken) region j k)

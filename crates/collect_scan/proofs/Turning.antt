@@ -1,4 +1,4 @@
--- What a step of a scan leaves, of the local of a caller of the table.
+-- What a step of a scan makes of its caller's local.
 use Rattle.std.proofs.Common.{◌≡◌, ℕ, ◌+◌, ◌-◌, ◌<◌, ◌≤◌, Bool, true, false, List, [], ◌∷◌, ◌++◌, length, Option, Some, None, refl, sym, ap, ◌∙◌, subst, arith, length-append}
 use Rattle.std.proofs.lemmas.Option.{same_Some}
 use Rattle.world_core.specs.declared.region.Region.{Region}
@@ -23,14 +23,15 @@ use Rattle.collect_scan.specs.Turns.{IsScanning, HasTurned, scanner_of, region_o
 use Rattle.collect_scan.proofs.Going.{Begins, Plainly, With_reply}
 use Rattle.collect_scan.proofs.Ending.{scanning_few, stood_goes, stood_stays, turned_by}
 
--- a look of a caller that means to scan begins a scan
+-- The next look of a caller that means to scan a region begins a scan.
 pub begins_with : (region : Region) (reply : Option ℕ)
     → Begins (opening_in (opening_with (Some region) reply))
 begins_with N None = Plainly
 begins_with N (Some reply) = With_reply reply
 begins_with M reply = Plainly
 
--- what a caller tells of its scan
+-- Where a caller answers that its scan needs `w` next, and its local is the one during a scan that
+-- has taken these words, `w` is what a scan with these words needs.
 pub wants_is : (n m : ℕ) (l before : Local) (region : Region) (opening : Opening) (taken : List ℕ)
     (r : Option Want) (v w : Want) → r ≡ wanted_next m l.scan → r ≡ Some v → v ≡ w
     → m ≡ n → l ≡ local_in_scan n before region opening taken → wanted n taken ≡ w
@@ -47,7 +48,7 @@ same_taken n l a b q r o p s t first second =
     ap (λ (c : Scan). c.taken) (same_Some (scan_with a q o s) (scan_with b r p t) e)
 
 module _ (s : Shape) (i : ℕ) (region : Region) where
-  -- a scan under way that isn't done has taken fewer words than the bound
+  -- A scan under way in a reachable world that isn't done has taken fewer words than `most_words`.
   pub scanning_short : (l : Local) → IsLocalOf s i l → IsScanning s.callers region l
       → (before : Local) (opening : Opening) (taken : List ℕ)
       → l ≡ local_in_scan s.callers before region opening taken
@@ -68,7 +69,8 @@ module _ (s : Shape) (i : ℕ) (region : Region) where
         (ap (λ (m : Local). m.scan) (stood ∙ stood_stays s.callers before region opening more goes))
         goes
 
-    -- where nothing is given the scan goes on
+    -- Where the local after the words of a scan gives no cut, that scan is under way and isn't
+    -- done.
     pub scans_on : given_now now ≡ None → IsScanning s.callers region now
     scans_on none =
         let goes =
@@ -81,6 +83,8 @@ module _ (s : Shape) (i : ℕ) (region : Region) where
           goes = goes;
         }
 
+  -- `HasTurned` holds of a turn that took one more word of a scan which had taken fewer than
+  -- `most_words`, and that answers the cut which its caller's local then gives, if it gives one.
   pub has_turned : (now before : Local) (opening : Opening) (taken : List ℕ) (x : ℕ)
       (r : Option (List ℕ)) → IsLocalOf s i now
       → now ≡ local_stood s.callers before region opening (taken ++ x ∷ []) → r ≡ given_now now
@@ -91,13 +95,15 @@ module _ (s : Shape) (i : ℕ) (region : Region) where
       (omega (arith, few, length-append taken (x ∷ [])))
       (still_short now before opening (taken ++ x ∷ []) is stood) stood
 
+-- The cut with which a scan of n callers ended, for n above 0, has n counts.
 pub scanned_wide : (n : ℕ) (region : Region) (opening : Opening) (cut : List ℕ) (before now : Local)
     → 0 < n → HasScanned n region opening cut before now → length cut ≡ n
 scanned_wide n region opening cut before now some h =
     let round = ended_round n h.taken some cut h.done in
     ap length round.is ∙ round_length n h.taken round.number round.whole
 
--- the measure of a scan: how many words it may still take, and one more while it is under way
+-- The measure of a scan: how many words it may still take, and one more, while it is under way; 0
+-- while no scan is under way.
 abbrev pub words_left : ℕ → Option Scan → ℕ
 words_left n None = 0
 words_left n (Some scan) = most_words n + 1 - length scan.taken
@@ -120,6 +126,7 @@ left_by n l s (Done cut) =
           (purpose_of l.phase l.staged s) cut),
     )
 
+-- A word that a scan takes which had taken fewer than `most_words` lowers the scan's measure.
 pub left_fewer : (n : ℕ) (old now before : Local) (region : Region) (opening : Opening)
     (taken : List ℕ) (x : ℕ) → old ≡ local_in_scan n before region opening taken
     → length taken < most_words n → now ≡ local_stood n before region opening (taken ++ x ∷ [])
@@ -136,6 +143,8 @@ left_fewer n old now before region opening taken x is few stood =
 
 module _ {P : Type 0} (meaning : P → ℕ → ℕ → Meaning) (r : Rows P) (c : Caller P)
     (s : driver.Scan P) (region : Region) where
+  -- A caller with a scan under way that isn't done, which means to begin no other scan, may make
+  -- the next turn of this scan of its own once the first was made.
   pub may_turn : has_begun s ≡ true → region_of s ≡ region → scanner_of s ≡ who_of c
       → (stance_of c).begins ≡ None → IsScanning r.callers region (local_with c)
       → MayTurn meaning r c s

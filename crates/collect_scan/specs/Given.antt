@@ -1,4 +1,5 @@
--- What the local of a caller has of the cut that its scan gave.
+-- What a scan adds to its caller's local, and what the cut that it gives has to do with the
+-- caller's earlier cuts, looks and counts.
 use Rattle.std.specs.Prelude.{◌≡◌, ◌≢◌, ℕ, ◌<◌, ◌≤◌, false, IsTrue, List, [], ◌∷◌, ◌++◌, length, Some, None, slice_get, slice_index}
 use Rattle.book_base.specs.Cut.{IsWithin}
 use Rattle.world_core.specs.declared.region.Region.{Region}
@@ -9,12 +10,14 @@ use Rattle.world_core.specs.Calls.{IsLocalOf}
 use Rattle.row_table.specs.Progress.{work_of}
 use Rattle.collect_scan.specs.Scanned.{scan_with, HasScanned}
 
--- The cut that a scan of a region gives which begins on this local.
+-- The entry that a scan of a region which began on the local `before` and ended with this cut adds
+-- to the cuts that its caller was given.
 abbrev pub given_with : Local → Region → List ℕ → Given
 given_with before region cut = record { region = region; cut = cut; since = length before.looked }
 
--- One cut is added to those that the caller's scans gave, no scan is under way, and what was looked
--- at and peeked before stands after what the scan found.
+-- The local `after` has the cuts that were given to the local `before`, and then this one, of this
+-- region; no scan is under way in it; and it has all looks and all peeks of `before`, after newer
+-- ones where there are any (both lists are newest first).
 pub record AddsCut (region : Region) (cut : List ℕ) (before after : Local) : Type 0 where
   pub cuts : after.cuts ≡ before.cuts ++ given_with before region cut ∷ []
   pub none : after.scan ≡ None
@@ -23,41 +26,45 @@ pub record AddsCut (region : Region) (cut : List ℕ) (before after : Local) : T
   pub peeks : List Peeked
   pub peeked : after.peeked ≡ peeks ++ before.peeked
 
--- A scan adds its cut.
+-- Each scan adds the cut with which it ended to the cuts that its caller was given, as the last of
+-- them; then no scan is under way, and no earlier look or peek is lost.
 abbrev pub ScansAddTheirCut : Type 0
 ScansAddTheirCut =
     (n : ℕ) (region : Region) (opening : Opening) (cut : List ℕ) (before after : Local)
     → HasScanned n region opening cut before after → AddsCut region cut before after
 
--- A scan leaves the calls of its caller as they are, but that the view's scan hands over the reply
--- with which it begins.
+-- A scan doesn't change its caller's operations, counts, replies and object steps, except that the
+-- view's scan adds the reply with which it begins.
 abbrev pub ScansLeaveWork : Type 0
 ScansLeaveWork =
     (n : ℕ) (region : Region) (opening : Opening) (cut : List ℕ) (before after : Local)
     → HasScanned n region opening cut before after
     → work_of after ≡ work_of (opened before region opening)
 
--- No count of the cut is above the cap.
+-- No count of the cut with which a scan ended is above the cap.
 abbrev pub CutsAreFew : Type 0
 CutsAreFew =
     (s : Shape) (i : ℕ) (region : Region) (opening : Opening) (cut : List ℕ) (before after : Local)
     → IsLocalOf s i after → HasScanned s.callers region opening cut before after
     → (j : ℕ) → slice_index cut j ≤ s.cap
 
--- What the cut of a scan serves which begins so.
+-- What the cut of a scan of this region serves that begins on the local `before` with this opening:
+-- the row under way, the view, the seen cut, or nothing.
 abbrev pub purpose_with : Local → Region → Opening → Purpose
 purpose_with before region opening =
     let l : Local = opened before region opening in
     purpose_of l.phase l.staged (scan_with before region opening [])
 
--- A cut that serves anything has its caller's own count in the region for its caller.
+-- Where the cut of a scan serves the row under way, the view or the seen cut, its entry for the
+-- scan's own caller is the count that this caller has in the region after the scan.
 abbrev pub OwnEntriesAreCounts : Type 0
 OwnEntriesAreCounts =
     (s : Shape) (i : ℕ) (region : Region) (opening : Opening) (cut : List ℕ) (before after : Local)
     → IsLocalOf s i after → HasScanned s.callers region opening cut before after
     → purpose_with before region opening ≢ For_nothing → slice_index cut i ≡ own_count after region
 
--- The cut contains each count of the region that a caller with this local has looked at.
+-- No count of the region that a caller with this local has looked at is above the cut's entry for
+-- the caller whose count it is.
 abbrev pub HoldsLooks : Region → List ℕ → Local → Type 0
 HoldsLooks region cut l = (p : ℕ) (look : Looked) → slice_get l.looked p ≡ Some look
     → look.region ≡ region → look.count ≤ slice_index cut look.caller
@@ -77,13 +84,14 @@ CutsHoldLooks =
     → IsLocalOf s i after → HasScanned s.callers region opening cut before after
     → HoldsLooks region cut before
 
--- A caller knows each row below a cut that a scan gave it.
+-- Where a scan of a region gave a caller with this local a cut, this caller knows each row of each
+-- caller `j` in the region whose number is below the cut's entry for `j`.
 abbrev pub GivenRowsAreKnown : Type 0
 GivenRowsAreKnown =
     (n : ℕ) (l : Local) (p j k : ℕ) (given : Given) → slice_get l.cuts p ≡ Some given
     → k < slice_index given.cut j → IsTrue (knows_row n l given.region j k)
 
--- The view's scan is under way in the phase of the view alone.
+-- In each local of a reachable world that isn't in the phase view, no view's scan is under way.
 abbrev pub ViewScansHavePhase : Type 0
 ViewScansHavePhase = (s : Shape) (i : ℕ) (l : Local) → IsLocalOf s i l → l.phase ≢ Viewing
     → is_view_under_way l.scan ≡ false

@@ -1,4 +1,5 @@
--- What a scan finds, and what it leaves of its caller's local (Afek and others 1993).
+-- What a scan of a region has found with the words that it took, and its caller's local during the
+-- scan and after it (Afek and others 1993).
 use Rattle.std.specs.Prelude.{◌≡◌, ℕ, ◌+◌, ◌*◌, ◌≤◌, Bool, true, false, List, [], ◌∷◌, ◌++◌, length, Some}
 use Rattle.world_core.specs.declared.region.Region.{Region}
 use Rattle.world_core.specs.declared.want.Want.{Want}
@@ -8,13 +9,15 @@ use Rattle.world_core.specs.Scan.{wanted}
 use Rattle.world_core.specs.Local.{Scan, Looked, Peeked, Local}
 use Rattle.world_core.specs.Event.{Opening, Begins_view, opened, went_on}
 
--- What a scan has looked at and peeked, each newest first.
+-- The counts that a scan has looked at, and the row words that it has peeked, each list newest
+-- first.
 pub record ScannedWords : Type 0 where
   pub looks : List Looked
   pub peeks : List Peeked
 
--- What it has found with one word more, by what it wanted: a count, or an entry of the cut that a
--- row embeds.
+-- What a scan has found with one more word `x`, by what it needed: where that was a look at a
+-- caller, one more look, which found the count `x`; where it was a peek into a row, one more peeked
+-- word of the cut that the row embeds; and nothing more where the scan is done.
 abbrev pub found_with : ℕ → Region → Want → ℕ → ScannedWords → ScannedWords
 found_with n region (Look j) x found =
     record found { looks = record { region = region; caller = j; count = x } ∷ found.looks }
@@ -30,23 +33,26 @@ found_with n region (Peek j row entry) x found =
     }
 found_with n region (Done cut) x found = found
 
--- What a scan has found that takes these further words after those that it had taken: each is what
--- it wanted then.
+-- What a scan of a region of n callers has found that had found `found` with the words `taken`,
+-- after it took these further words in turn: each is the word of the look or peek that the scan
+-- needed when it took that word.
 abbrev pub found_from : ℕ → Region → List ℕ → ScannedWords → List ℕ → ScannedWords
 found_from n region taken found [] = found
 found_from n region taken found (x ∷ words) =
     found_from n region (taken ++ x ∷ []) (found_with n region (wanted n taken) x found) words
 
--- What a scan of a region by one of n callers has found that has taken these words.
+-- What a scan of a region of n callers has found, from its beginning, with the words that it has
+-- taken.
 abbrev pub found_by : ℕ → Region → List ℕ → ScannedWords
 found_by n region taken = found_from n region [] (record { looks = []; peeks = [] }) taken
 
--- Whether a scan with this opening is the view's: whether it begins with a reply.
+-- Whether this opening begins the view's scan, the one that begins with a reply.
 abbrev pub is_view_opening : Opening → Bool
 is_view_opening (Begins_view reply) = true
 is_view_opening _ = false
 
--- The scan of a region that began so on this local, and has taken these words.
+-- The scan of a region that began on the local `before` with this opening, and has taken these
+-- words.
 abbrev pub scan_with : Local → Region → Opening → List ℕ → Scan
 scan_with before region opening taken =
     record {
@@ -56,7 +62,9 @@ scan_with before region opening taken =
       taken = taken;
     }
 
--- The local in the course of that scan: the scan was opened, and what it has found is known.
+-- A caller's local during a scan that began on the local `before` with this opening and has taken
+-- these words: the scan is under way, and what it has found is among what the caller has looked at
+-- and peeked.
 abbrev pub local_in_scan : ℕ → Local → Region → Opening → List ℕ → Local
 local_in_scan n before region opening taken =
     let found : ScannedWords = found_by n region taken in
@@ -66,26 +74,30 @@ local_in_scan n before region opening taken =
       peeked = found.peeks ++ before.peeked;
     }
 
--- The local after the scan has ended with this cut: no scan is under way, the cut is given, and it
--- serves its purpose.
+-- A caller's local after a scan that began on the local `before` with this opening, took these
+-- words and ended with this cut: no scan is under way, the cut is the last one that was given, and
+-- it has served its purpose.
 abbrev pub local_after_scan : ℕ → Local → Region → Opening → List ℕ → List ℕ → Local
 local_after_scan n before region opening taken cut =
     went_on (local_in_scan n before region opening taken)
     (scan_with before region opening taken) (Done cut)
 
--- The local as the scan has taken these words, by what it wants then: it goes on, or it has ended.
+-- A caller's local after a scan that began on the local `before` with this opening took these
+-- words: that of a scan under way where the scan needs a further word, and that after the scan
+-- where it is done.
 abbrev pub local_stood : ℕ → Local → Region → Opening → List ℕ → Local
 local_stood n before region opening taken =
     went_on (local_in_scan n before region opening taken) (scan_with before region opening taken)
     (wanted n taken)
 
--- A scan of n callers takes at most this many words: n + 1 collects, and n entries of an embedded
--- cut.
+-- The most words that a scan of n callers may take: those of n + 1 collects with n looks each, and
+-- the n entries of an embedded cut.
 abbrev pub most_words : ℕ → ℕ
 most_words n = n * (n + 1) + n
 
--- One scan of a region, which began so, and no other event, leads from the one local to the other,
--- and ended with this cut.
+-- The local `after` is the local `before`, changed by one scan of the region and no other event of
+-- the caller: the scan began with this opening, took no more words than a scan of n callers may
+-- take, and ended with this cut.
 pub record HasScanned (n : ℕ) (region : Region) (opening : Opening) (cut : List ℕ)
     (before after : Local) : Type 0 where
   pub taken : List ℕ
@@ -93,7 +105,8 @@ pub record HasScanned (n : ℕ) (region : Region) (opening : Opening) (cut : Lis
   pub few : length taken ≤ most_words n
   pub is : after ≡ local_after_scan n before region opening taken cut
 
--- The same, and the counter ticked once for each word that the scan took.
+-- The local `after` is the local `before`, changed by one scan as `HasScanned` says, and the
+-- counter of steps has risen from `first` to `last` by the number of words that this scan took.
 pub record HasTicked (n : ℕ) (region : Region) (opening : Opening) (cut : List ℕ)
     (before after : Local) (first last : ℕ) : Type 0 where
   pub scanned : HasScanned n region opening cut before after

@@ -1,4 +1,5 @@
-//! What a scan leaves of its caller's local, and what the cut says that it gave.
+//! What a scan changes in its caller's local and what it keeps, and what its cut has to do with the
+//! caller's earlier cuts, looks and counts.
 
 ghost use Rattle.std.specs.Prelude.{◌≡◌, ◌≢◌};
 ghost use Rattle.world_core.specs.Local.{Viewing};
@@ -11,28 +12,30 @@ ghost use Rattle.collect_scan.specs.Turns.{MayScan, opening_at};
 use row_table::{Caller, Rows};
 use world_core::{Program, Region};
 
-/// The cut of a scan is the last of those that its caller was given. The scan leaves the caller's
-/// calls as they are, but that the view's scan hands over the reply.
+/// The cut of a scan is the last of those that its caller was given. A scan doesn't change its
+/// caller's calls, except that the view's scan adds the reply with which it begins.
 pub fn scans_add_one_cut()
     // A scan adds its cut to the cuts that its caller was given, as the last of them.
     ensures cut { ScansAddTheirCut }
-    // A scan leaves its caller's calls as they are, but that the view's scan hands over the reply
-    // with which it begins.
+    // A scan doesn't change its caller's operations, counts, replies and object steps, except that
+    // the view's scan adds the reply with which it begins.
     ensures work { ScansLeaveWork }
 {}
 
-/// No count of a cut is above the cap; and a cut that embeds, is a view or is a seen cut has the
-/// caller's own count for the caller.
+/// No count of a scan's cut is above the cap. A scan's cut that a row may embed, that is a view, or
+/// that is a seen cut has as its entry for the scan's own caller the count that this caller has in
+/// the region after the scan.
 pub fn cuts_are_of_counts()
     // No count of a scan's cut is above the cap.
     ensures few { CutsAreFew }
-    // A scan's cut that serves for something has as its caller's entry the count that the caller
-    // has in the region after the scan.
+    // A scan's cut that serves the row under way, the view or the seen cut has as its entry for the
+    // scan's own caller the count that this caller has in the region after the scan.
     ensures own { OwnEntriesAreCounts }
 {}
 
-/// The cuts of a caller rise: a cut contains each earlier one of its region, and each count of it
-/// that the caller had looked at before the scan.
+/// The cuts of a caller rise: a scan's cut contains each cut of its region that its caller was
+/// given before the scan, and each count of that region that the caller had looked at before the
+/// scan.
 pub fn cuts_rise()
     // A scan's cut contains each cut of its region that the caller was given before the scan.
     ensures given { CutsHoldGiven }
@@ -40,13 +43,14 @@ pub fn cuts_rise()
     ensures looked { CutsHoldLooks }
 {}
 
-/// A caller may peek each row below a cut that it was given.
+/// A caller knows, and so may peek, each row of a region whose number is below the entry for the
+/// row's caller in a cut of that region that a scan gave the caller.
 pub fn given_rows_are_known()
     ensures { GivenRowsAreKnown }
 {}
 
-/// The view's scan is under way in the phase of the view alone, so that no other phase keeps a scan
-/// from beginning.
+/// In each local of a reachable world that isn't in the phase view, no view's scan is under way,
+/// which would keep another scan from beginning.
 pub fn view_scans_have_phase()
     ensures { ViewScansHavePhase }
 {}
@@ -61,13 +65,13 @@ pub fn few_words_in_numbers()
     ensures sixteen { most_words 16 ≡ 288 }
 {}
 
-/// In each phase but that of the view a caller may begin a scan that carries no reply.
+/// In each phase but the view's, a caller may begin a scan that carries no reply.
 pub fn plain_scan_may_begin<P: Program>(rows: &Rows<P>, caller: &Caller<P>, region: Region)
     // The caller is one of these rows.
     requires caller { IsCallerOf P.meaning rows.now caller.now }
-    // The caller isn't in the phase of its view.
+    // The caller isn't in the phase view.
     requires phase { (local_with caller.now).phase ≢ Viewing }
-    // A scan of the region by this caller carries no reply.
+    // A scan of the region that this caller begins carries no reply.
     requires plain { opening_at caller.now region ≡ Begins_scan }
     ensures { MayScan P.meaning rows.now caller.now region }
 {}

@@ -1,5 +1,5 @@
-//! The scan of a region by one caller of the table, with the cuts that rows embed: no memory, no
-//! lock, few steps.
+//! The scan of a region by one caller of the table, with the cuts that rows embed. It takes no
+//! memory and no lock, and of `n` callers at most `n * (n + 1) + n` steps.
 #![tactic(auto)]
 
 pub mod laws;

@@ -9,7 +9,7 @@ use row_table::{Caller, Rows, Steps};
 use std::sync::ledger::Ledger;
 use world_core::{Program, Region, Want};
 
-// The first look of a scan, which begins it.
+// Begins the caller's scan of a region, by its first look, which is at caller 0.
 pub fn set_out<P: Program, L: Ledger>(
     rows: &Rows<P>,
     caller: &mut Caller<P>,
@@ -28,7 +28,8 @@ pub fn set_out<P: Program, L: Ledger>(
     rows.look(caller, region, 0, steps);
 }
 
-// One step more of the scan under way: the look or the peek that it wants.
+// Makes one further step of the caller's scan under way: the look or the peek that the scan needs
+// next.
 pub fn go_on<P: Program, L: Ledger>(
     rows: &Rows<P>,
     caller: &mut Caller<P>,

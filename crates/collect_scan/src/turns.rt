@@ -11,7 +11,8 @@ use std::marker::PhantomData;
 use std::sync::ledger::Ledger;
 use world_core::{Outside, Program, Region};
 
-/// A scan of a region by one caller, which makes one step a turn, so that others may step between.
+/// A scan of a region by one caller, which makes one step a turn; other callers, and other work of
+/// the thread, may come between two turns.
 #[derive(Drop)]
 pub struct Scan<P = Outside> {
     who: u32,
@@ -23,7 +24,8 @@ pub struct Scan<P = Outside> {
 impl<P: Program> Scan<P> {
     ghost use Rattle.collect_scan.specs.Turns.{scanner_of, region_of, has_begun, opening_at, stance_turned, HasTurned, MayTurn};
 
-    /// A scan of a region by this caller of these rows, before its first turn. No step is made.
+    /// A scan of a region by this caller of these rows, before its first turn. It makes no step
+    /// yet.
     pub fn begin(_rows: &Rows<P>, caller: &Caller<P>, region: Region) -> Scan<P>
         // The scan is of this caller.
         ensures scanner { scanner_of result ≡ who_of caller.now }
@@ -40,9 +42,10 @@ impl<P: Program> Scan<P> {
         }
     }
 
-    /// Makes the one step that the scan wants, and answers its cut where it is done with that. The
-    /// first turn begins the scan. Between turns the caller makes no other step, and where the scan
-    /// is done there is no further turn. A scan of `n` callers has at most `n * (n + 1) + n` turns.
+    /// Makes the one step that the scan needs next, and answers the cut where the scan is done with
+    /// that step, and else `None`. The first turn begins the scan. Between two turns the caller
+    /// makes no other step, and after the turn that answers the cut there is no further one. A scan
+    /// of `n` callers has at most `n * (n + 1) + n` turns.
     pub fn turn<L: Ledger>(
         &mut self,
         rows: &Rows<P>,
@@ -51,30 +54,33 @@ impl<P: Program> Scan<P> {
     ) -> Option<Cut>
         // The caller is one of these rows.
         requires caller { IsCallerOf P.meaning rows.now caller.old }
-        // The caller may make the scan's next turn, and the scan is its own.
+        // The scan is this caller's, and the caller may make its next turn.
         requires turn { MayTurn P.meaning rows.now caller.old self.old }
         // The caller is still one of these rows, with the same number.
         ensures caller { IsStill P.meaning rows.now caller.old caller.new }
-        // The first turn begins the scan in the caller's stance, and each later turn leaves the
-        // stance.
+        // After the first turn the caller means to begin no scan any more, and where the region is
+        // N it has handed over the reply that it kept, if there was one; a later turn keeps the
+        // caller's stance.
         ensures stance { stance_of caller.new
             ≡ stance_turned (has_begun self.old) (stance_of caller.old) (region_of self.old) }
-        // The scan keeps its caller and its region, and has made its first turn.
+        // The scan keeps its caller and its region, and has now made its first turn.
         ensures scan { (scanner_of self.new ≡ scanner_of self.old)
             × (region_of self.new ≡ region_of self.old) × (has_begun self.new ≡ true) }
-        // The first turn takes one word, or ends the scan with the answered cut, from the local
-        // before.
+        // After the first turn, without an answered cut, the caller's local is the one before the
+        // turn with the scan begun, under way, and with one word taken; with an answered cut, it is
+        // the one before the turn, changed by one whole scan that ended with that cut.
         ensures first { has_begun self.old ≡ false → HasTurned rows.now.callers (region_of self.old)
             (opening_at caller.old (region_of self.old)) [] result (local_with caller.old)
             (local_with caller.new) }
-        // A later turn takes one word more than the scan had taken, or ends the scan with the
-        // answered cut.
+        // After a later turn, without an answered cut, the scan is under way with one word more
+        // than before the turn; with an answered cut, the caller's local is the one on which the
+        // scan began, changed by one whole scan that ended with that cut.
         ensures later { (before : Local) (opening : Opening) (taken : List ℕ)
             → has_begun self.old ≡ true → local_with caller.old
             ≡ local_in_scan rows.now.callers before (region_of self.old) opening taken
             → HasTurned rows.now.callers (region_of self.old) opening taken result before
             (local_with caller.new) }
-        // Where no cut is answered, the caller may make the scan's next turn.
+        // Where the turn answers no cut, the caller may make the scan's next turn.
         ensures goes_on { result ≡ None → MayTurn P.meaning rows.now caller.new self.new }
         // The counter of steps has risen by 1.
         ensures tick { steps.new ≡ steps.old + 1 }

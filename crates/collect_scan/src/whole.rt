@@ -10,15 +10,15 @@ use row_table::{Caller, Rows, Steps};
 use std::sync::ledger::Ledger;
 use world_core::{Program, Region};
 
-/// Scans a region, and answers the cut: the counts of the region at one moment of the scan. So it
-/// contains each count of the region that the caller had looked at before.
+/// Scans a region, and answers the cut: the counts that the region had at one moment during the
+/// scan. The cut contains each count of the region that the caller had looked at before the scan.
 ///
-/// Two equal collects end it. Where a caller has moved twice since the first collect, it ends with
-/// the cut that this caller's latest counted row embeds (Afek and others 1993). So a scan of `n`
-/// callers makes at most `n + 1` collects, which is `n * (n + 1)` looks, and at most `n` peeks,
-/// whatever the others do.
+/// Two equal collects in a row end the scan. Where a caller has moved twice since the first
+/// collect, the scan ends with the cut that this caller's latest counted row embeds (Afek and
+/// others 1993). A scan of `n` callers makes at most `n + 1` collects, which are `n * (n + 1)`
+/// looks, and at most `n` peeks, whatever the other callers do.
 ///
-/// A scan of N is the view's where the caller keeps a reply of the object. It takes no memory.
+/// A scan of N is the view's where the caller keeps a reply of the object. A scan takes no memory.
 pub fn scan<P: Program, L: Ledger>(
     rows: &Rows<P>,
     caller: &mut Caller<P>,
@@ -31,14 +31,14 @@ pub fn scan<P: Program, L: Ledger>(
     requires begins { MayScan P.meaning rows.now caller.old region }
     // The caller is still one of these rows, with the same number.
     ensures caller { IsStill P.meaning rows.now caller.old caller.new }
-    // The caller means to begin no scan any more, and has handed over a reply that it kept for a
-    // scan of N.
+    // After the scan the caller means to begin no scan any more, and where the region is N it has
+    // handed over the reply that it kept, if there was one; its stance is else the one before.
     ensures stance { stance_of caller.new ≡ stance_scanned (stance_of caller.old) region }
-    // The caller's local is its earlier one after one scan of the region, with no other event,
-    // which ended with the answered cut.
+    // The caller's local is the one that it had before, changed by one scan of the region and no
+    // other event of the caller; the scan ended with the answered cut.
     ensures scanned { HasScanned rows.now.callers region (opening_at caller.old region) result
         (local_with caller.old) (local_with caller.new) }
-    // The counter of steps has risen once for each word that this scan took.
+    // The counter of steps has risen by the number of words that this scan took.
     ensures exact { HasTicked rows.now.callers region (opening_at caller.old region) result
         (local_with caller.old) (local_with caller.new) steps.old steps.new }
     // The answered cut contains each count of the region that the caller had looked at before the

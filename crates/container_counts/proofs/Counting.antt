@@ -1,4 +1,4 @@
--- The calls of a table that pass a test, counted, and those of them that a standing doesn't cover.
+-- The calls of a table that pass a test, counted: all of them, and those that a cut doesn't hold.
 use Rattle.std.proofs.Common.{◌≡◌, ℕ, zero, suc, ◌+◌, ◌-◌, ◌<◌, ◌≤◌, ◌∙◌, Bool, true, false, cond, List, [], ◌∷◌, length, drop, replicate, get_or, set, count_by, sum_by, Option, Some, IfSome, refl, sym, ap, subst, inl, inr, slice_get, arith}
 use Rattle.std.proofs.lemmas.Bool.{cases_Bool, cases_eq}
 use Rattle.std.proofs.lemmas.List.{get_or-set_same, get_or-set_other, get_or_past, length-drop}
@@ -14,7 +14,8 @@ use Rattle.queue_pairs.specs.Tables.{rows_of, IsTimed, IsTable}
 use Rattle.container_counts.specs.Counts.{count_in}
 use Rattle.container_counts.proofs.Entries.{timed-is}
 
--- of two counts that are known the first is the lesser one
+-- Where two counts are known, the first is less than the second, and each is a given number if it
+-- is known, the first number is less than the second.
 pub less-counts : (one other : Option ℕ) (low high : ℕ)
     → ((a b : ℕ) × (one ≡ Some a) × (other ≡ Some b) × (a < b))
     → IfSome one (λ all. all ≡ low) → IfSome other (λ all. all ≡ high) → low < high
@@ -25,7 +26,7 @@ less-counts one other low high less first second =
 
 -- ---- the calls of a caller
 
--- how many calls a test adds: one where it passes, and else none
+-- What a test adds to a count: 1 where it is passed, and else 0.
 abbrev pub bit : Bool → ℕ
 bit b = cond b 1 0
 
@@ -57,7 +58,8 @@ row-past test row (suc gap) from n t is at none =
     (λ k v low high there. none k v (omega (arith, low)) high there) in
     omega (arith, nothing, first, rest)
 
--- where some calls of a row pass from a number on, there is one that does
+-- Where the calls of a row from a number on that pass are counted to more than 0, one of them
+-- passes.
 row-some : (test : TimedCall → Bool) (row : List TimedCall) (gap from : ℕ)
     → length row ≤ from + gap → 0 < count_by test (drop from row)
     → (n : ℕ) × (t : TimedCall) × (from ≤ n) × (slice_get row n ≡ Some t) × (test t ≡ true)
@@ -99,7 +101,8 @@ row-some test row (suc gap) from few more =
 
 -- ---- the calls of all callers
 
--- how many calls pass, of the callers from one on, of each the calls from its number on
+-- How many calls pass in the rows of the callers from i on: of each row the calls from the caller's
+-- number on.
 abbrev pub outside : (TimedCall → Bool) → List ℕ → ℕ → List (List TimedCall) → ℕ
 outside test numbers i [] = 0
 outside test numbers i (row ∷ rows) =
@@ -117,8 +120,9 @@ outside-same test one other i (row ∷ rows) same =
     = outside-same test one other (i + 1) rows (λ j low. same j (omega (arith, low))) in
     omega (arith, first, rest)
 
--- Once a call of a caller is covered, where no remaining call of the caller before it passes, the
--- count is less by one if the call passes, and else the same.
+-- Where no call of a caller passes from the caller's number up to a later call, the count of all
+-- calls that pass from their callers' numbers on is that with the number after the later call, and
+-- one more where the later call passes.
 pub outside-past : (test : TimedCall → Bool) (numbers : List ℕ) (p : Call) (t : TimedCall) (gap i : ℕ)
     (rows : List (List TimedCall)) → p.caller ≡ i + gap → p.caller < length numbers
     → get_or numbers p.caller 0 ≤ p.number → slice_get (get_or rows gap []) p.number ≡ Some t
@@ -162,7 +166,7 @@ outside-past test numbers p t (suc gap) i (row ∷ rows) is inside low at none =
     = outside-past test numbers p t gap (i + 1) rows (omega (arith, is)) inside low at none in
     omega (arith, first, rest)
 
--- where some calls that aren't covered pass, there is one that does
+-- Where more than 0 calls pass, of those from their callers' numbers on, there is such a call.
 outside-some : (test : TimedCall → Bool) (numbers : List ℕ) (i : ℕ) (rows : List (List TimedCall))
     → 0 < outside test numbers i rows
     → (gap : ℕ) × (n : ℕ) × (t : TimedCall) × (get_or numbers (i + gap) 0 ≤ n)
@@ -183,7 +187,7 @@ outside-some test numbers i (row ∷ rows) more =
           (0, here.0, here.1, omega (arith, here.2, same), here.3, here.4)
     ]
 
--- where no call is covered, all calls that pass are counted
+-- Where all numbers are 0, the calls that pass from their callers' numbers on are all that pass.
 outside-none : (test : TimedCall → Bool) (numbers : List ℕ) (i : ℕ) (rows : List (List TimedCall))
     → ((j : ℕ) → get_or numbers j 0 ≡ 0) → outside test numbers i rows ≡ sum_by (count_by test) rows
 outside-none test numbers i [] zeros = refl
@@ -198,17 +202,19 @@ outside-none test numbers i (row ∷ rows) zeros =
 
 -- ---- the calls of a table
 
--- how many calls of a table pass a test and aren't covered
+-- How many calls of a table pass a test and aren't in the cut with these numbers.
 abbrev pub left_in : (TimedCall → Bool) → Table → List ℕ → ℕ
 left_in test table numbers = outside test numbers 0 (rows_of table)
 
+-- With the cut that holds no call, all calls of the table that pass are counted.
 pub left-start : (test : TimedCall → Bool) (table : Table) (callers : ℕ)
     → left_in test table (replicate callers 0) ≡ count_in test table
 left-start test table callers =
     outside-none test (replicate callers 0) 0 (rows_of table)
     (λ j. get_or-replicate_default callers j 0)
 
--- where some calls of a table that aren't covered pass, there is one that does
+-- Where more than 0 calls of a table pass a test and aren't in a cut, the table has a right entry
+-- of a call that passes and isn't in the cut.
 pub left-some : (reading : Reading) (book : List Page) (table : Table) (test : TimedCall → Bool)
     (numbers : List ℕ) → IsTable reading book table → 0 < left_in test table numbers
     → (t : TimedCall) × IsTimed reading book t.call t

@@ -15,6 +15,7 @@ use Rattle.queue_pairs.specs.declared.table.TimedCall.{TimedCall}
 use Rattle.queue_pairs.specs.Moments.{moment_of}
 use Rattle.queue_pairs.specs.Tables.{rows_of, timed_at, IsTimed, IsTable}
 
+-- An entry of a book's table is right for the call of its caller and number.
 pub timed-is : (reading : Reading) (book : List Page) (table : Table) (i n : ℕ) (t : TimedCall)
     → IsTable reading book table → timed_at table i n ≡ Some t
     → IsTimed reading book (record { caller = i; number = n }) t
@@ -30,6 +31,7 @@ timed-is reading book table i n t is at =
           absurd (none-some t (ap (λ (r : List TimedCall). slice_get r n) (sym none) ∙ at))
     ]
 
+-- The table of a book has an entry for each call of the book.
 pub timed-there : (reading : Reading) (book : List Page) (table : Table) (call : Call)
     → IsTable reading book table → IsCall book call
     → (t : TimedCall) × (timed_at table call.caller call.number ≡ Some t)
@@ -51,7 +53,7 @@ timed-there reading book table call is there =
       | inr past ↦ absurd (omega (arith, past.0, inside))
     ]
 
--- a call whose last moment is before NEVER is answered, and its view has this moment
+-- A call whose last moment is before `NEVER` is answered, and this is the moment of its own view.
 pub answered-last : (reading : Reading) (book : List Page) (t : TimedCall)
     → IsTimed reading book t.call t → t.span.last < NEVER
     → (r : Record) × (record_of book t.call ≡ Some r) × (t.span.last ≡ moment_of r)

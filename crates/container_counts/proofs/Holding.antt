@@ -13,7 +13,7 @@ use Rattle.queue_pairs.specs.Tables.{known_deal}
 use Rattle.container_counts.proofs.Counting.{bit}
 use Rattle.container_counts.specs.Counts.{listed, puts_one, shows_one, may_take_one}
 
--- the sum over the numbers below a bound that pass a test
+-- The sum of what a function gives for the numbers below a bound that pass a test.
 abbrev pub tally : (ℕ → Bool) → (ℕ → ℕ) → ℕ → ℕ
 tally test f zero = 0
 tally test f (suc n) = cond (test n) (f n) 0 + tally test f n
@@ -38,6 +38,7 @@ cond-none : (b : Bool) (n : ℕ) → n ≡ 0 → cond b n 0 ≡ 0
 cond-none true n e = e
 cond-none false n e = refl
 
+-- A sum is 0 where the function gives 0 for each number below the bound.
 pub tally-none : (test : ℕ → Bool) (f : ℕ → ℕ) (n : ℕ) → ((w : ℕ) → w < n → f w ≡ 0)
     → tally test f n ≡ 0
 tally-none test f zero none = refl
@@ -46,7 +47,7 @@ tally-none test f (suc n) none =
     let rest : tally test f n ≡ 0 = tally-none test f n (λ w low. none w (omega (arith, low))) in
     omega (arith, here, rest)
 
--- one value below a bound counts once where it passes
+-- Of a value below the bound the sum is 1 where it passes, and else 0.
 tally-one : (test : ℕ → Bool) (v n : ℕ) → v < n
     → tally test (λ w. is_once w (Some v)) n ≡ bit (test v)
 tally-one test v zero low = absurd (omega (arith, low))
@@ -67,7 +68,7 @@ tally-one test v (suc n) low =
           omega (arith, here, rest)
     ]
 
--- no number from a bound on passes
+-- Each number that passes a test is below a bound.
 abbrev pub IsBelow : (ℕ → Bool) → ℕ → Type 0
 IsBelow test n = (w : ℕ) → test w ≡ true → w < n
 
@@ -98,7 +99,7 @@ tally-most : (test : ℕ → Bool) (o : Option ℕ) (n : ℕ) → IsBelow test n
 tally-most test None n below = omega (arith, tally-empty test n)
 tally-most test (Some v) n below = omega (arith, tally-shown test v n below, bit-one (test v))
 
--- the values that some are listed among are no greater than their sum
+-- Each of the listed values is at most the sum of them all.
 pub listed-below : (values : List ℕ) → IsBelow (listed values) (suc (sum values))
 listed-below [] w told = absurd cc
 listed-below (v ∷ values) w told =
@@ -113,7 +114,8 @@ listed-below (v ∷ values) w told =
 
 -- ---- one call
 
--- What a step puts in and takes out, where its call did this.
+-- What a step puts in and takes out is what a call with this deal puts in and takes out, where an
+-- unanswered take may take out any value or nothing.
 abbrev pub Does : KnownDeal → Option ℕ → Option ℕ → Type 0
 Does (deals.Put v) put taken = (put ≡ Some v) × (taken ≡ None)
 Does (deals.Took v) put taken = (put ≡ None) × (taken ≡ Some v)
@@ -121,6 +123,7 @@ Does deals.FoundNothing put taken = (put ≡ None) × (taken ≡ None)
 Does deals.OpenTake put taken = put ≡ None
 Does deals.Other put taken = (put ≡ None) × (taken ≡ None)
 
+-- 1 where an option has a value below a bound that passes a test, and else 0.
 abbrev pub amount : (ℕ → Bool) → ℕ → Option ℕ → ℕ
 amount test n o = tally test (λ w. is_once w o) n
 
@@ -131,7 +134,8 @@ amount-of test n o v below e = ap (amount test n) e ∙ tally-shown test v n bel
 amount-none : (test : ℕ → Bool) (n : ℕ) (o : Option ℕ) → o ≡ None → amount test n o ≡ 0
 amount-none test n o e = ap (amount test n) e ∙ tally-empty test n
 
--- What shows that a value is out, and what is put in, is no more than what puts in, and what is out.
+-- Of the values that pass, what the deal of a step shows and what the step puts in are together at
+-- most what its deal puts in and what the step takes out.
 pub shown-put : (test : ℕ → Bool) (n : ℕ) (d : QueueDeal) (put taken : Option ℕ) → IsBelow test n
     → Does (known_deal d) put taken
     → bit (shows_one test d) + amount test n put ≤ bit (puts_one test d) + amount test n taken
@@ -144,6 +148,8 @@ shown-put test n did.FoundNothing put taken below does =
 shown-put test n did.OpenTake put taken below does = omega (arith, amount-none test n put does)
 shown-put test n did.Other put taken below does = omega (arith, amount-none test n put does.0)
 
+-- Of the values that pass, what the deal of a step puts in and what the step takes out are together
+-- at most what its deal may take and what the step puts in.
 pub put-taken : (test : ℕ → Bool) (n : ℕ) (d : QueueDeal) (put taken : Option ℕ) → IsBelow test n
     → Does (known_deal d) put taken
     → bit (puts_one test d) + amount test n taken ≤ bit (may_take_one test d) + amount test n put
@@ -158,10 +164,12 @@ put-taken test n did.Other put taken below does = omega (arith, amount-none test
 
 -- ---- what is held
 
+-- How many of some values pass a test and are below a bound.
 abbrev pub held : (ℕ → Bool) → ℕ → List ℕ → ℕ
 held test n values = tally test (λ w. times w values) n
 
--- what is held before a step and put in by it is what is taken out by it and held afterwards
+-- Of the values that pass, what a container holds before a step and what the step puts in are
+-- together as many as what the step takes out and what is held after it.
 pub held-step : (reading : Reading) (next : List ℕ → ℕ → List ℕ × ℕ) (test : ℕ → Bool) (n : ℕ)
     (list : List ℕ) (step : ℕ × ℕ) → IsContainer reading next → (next list step.0).1 ≡ step.1
     → held test n (reading.values list) + amount test n (put_by reading step)

@@ -67,7 +67,8 @@ step-does reading book next cut list place may =
 
 -- ---- one place
 
--- What is known of a place that may come next: the entry of its call, and what the place changes.
+-- What is known of a place that may stand next: the entry of its call, what its step puts in and
+-- takes out, and how the counts of the remaining calls and the values that are held change with it.
 record IsMove (reading : Reading) (book : List Page) (next : List ℕ → ℕ → List ℕ × ℕ)
     (table : Table) (test : ℕ → Bool) (n : ℕ) (cut list : List ℕ) (place : Place) : Type 0 where
   t : TimedCall
@@ -115,7 +116,7 @@ held-next book cut one call r n known low out may =
     (λ before. absurd (omega (arith, out, may.preceded one before))) in
     (one, r, known, holds, low)
 
--- two tests in one
+-- A conjunction of two booleans is true only where both of them are.
 both : (a b : Bool) → cond a b false ≡ true → (a ≡ true) × (b ≡ true)
 both true b e = (refl, e)
 both false b e = absurd cc
@@ -129,7 +130,8 @@ bit-both : (a b : Bool) → b ≡ true → bit (cond a b false) ≡ bit a
 bit-both true b e = ap bit e
 bit-both false b e = refl
 
--- an entry whose moment is no later than another one is answered then
+-- Where the last moment of an entry is no later than m, and m is before `NEVER`, its call is
+-- answered, and the moment of its own view is no later than m.
 due : (reading : Reading) (book : List Page) (t : TimedCall) (m : ℕ)
     → IsTimed reading book t.call t → nat_le t.span.last m ≡ true → m < NEVER
     → (r : Record) × (record_of book t.call ≡ Some r) × (moment_of r ≤ m)
@@ -138,7 +140,7 @@ due reading book t m timed told few =
     let there = answered-last reading book t timed (omega (arith, low, few)) in
     (there.0, there.1, omega (arith, there.2, low))
 
--- the first moment of a call that a view holds by a moment is no later
+-- The first moment of an entry is no later than each moment by which some view holds its call.
 early : (reading : Reading) (book : List Page) (call : Call) (t : TimedCall) (m : ℕ)
     → IsTimed reading book call t → IsHeldBy book call m → nat_le t.span.first m ≡ true
 early reading book call t m timed held = le-leb t.span.first m (timed.span.least m held).0
@@ -149,8 +151,9 @@ wider book cut i wide = omega (arith, wide, length-set cut i (get_or cut i 0 + 1
 
 -- ---- takes follow puts
 
--- Of the calls that an order still has, takes by a moment are no more than what is held with the
--- puts that may be done by then.
+-- Where places continue an order, the takes outside the cut that have taken effect by a moment are
+-- at most as many as the puts outside it that may have taken effect by then and the values that are
+-- held.
 takes-behind : (reading : Reading) (book : List Page) (next : List ℕ → ℕ → List ℕ × ℕ)
     (table : Table) (values : List ℕ) (m : ℕ) → IsTable reading book table
     → IsContainer reading next → m < NEVER → (cut list : List ℕ) (rest : List Place)
@@ -200,7 +203,7 @@ takes-behind reading book next table values m is container few cut list (place �
 
 -- ---- finds leave nothing
 
--- what a take that finds nothing shows is that nothing is held
+-- Where a take that finds nothing may stand next, no value that passes is held.
 nothing-held : (reading : Reading) (book : List Page) (next : List ℕ → ℕ → List ℕ × ℕ)
     (cut list : List ℕ) (place : Place) (find : Call) (test : ℕ → Bool) (n : ℕ)
     → IsContainer reading next → MayStandNext book next cut list place → call_at place ≡ find
@@ -219,7 +222,8 @@ nothing-held reading book next cut list place find test n container may same fou
     (container.take list (step_at book place).0 (ap reading.deed word ∙ finds.4)) in
     tally-none test (λ w. times w (reading.values list)) n (λ w low. ap (times w) gives.0)
 
--- no puts up to a moment remain at a call that may come next and that no view holds by then
+-- Where a call may come next that no view up to a moment holds, the cut holds all puts that have
+-- taken effect by this moment.
 no-due : (reading : Reading) (book : List Page) (table : Table) (values : List ℕ) (m : ℕ)
     (cut : List ℕ) (call : Call) → IsTable reading book table → m < NEVER
     → MayComeNext book cut call → (IsHeldBy book call m → ⊥)
@@ -235,8 +239,9 @@ no-due reading book table values m cut call is few may before =
           (held-next book cut found.0.call call its.0 m its.1 its.2 found.2 may))
     ]
 
--- Until a take that finds nothing comes, puts up to an earlier moment, with what is held, are no
--- more than the takes that may come before it.
+-- Where places continue an order, and a take that finds nothing isn't in the cut, the puts outside
+-- the cut that have taken effect by an earlier moment and the values that are held are together at
+-- most as many as the takes outside it that may have taken effect by the take's own moment.
 finds-behind : (reading : Reading) (book : List Page) (next : List ℕ → ℕ → List ℕ × ℕ)
     (table : Table) (find : Call) (r : Record) (values : List ℕ) (m n : ℕ)
     → IsTable reading book table → IsContainer reading next
@@ -305,6 +310,8 @@ none-held : (reading : Reading) (init : List ℕ) (test : ℕ → Bool) (n : ℕ
 none-held reading init test n empty =
     tally-none test (λ w. times w (reading.values init)) n (λ w low. ap (times w) empty)
 
+-- Where more takes of some values have taken effect by a moment than puts of them may have by then,
+-- no container that begins empty has a legal order of a book with this table.
 pub takes_follow_puts : TakesFollowPuts
 takes_follow_puts reading book table values m few ahead init next is container empty has =
     let wide : length book ≤ length (start book) = wide-start book in
@@ -319,6 +326,9 @@ takes_follow_puts reading book table values m few ahead init next is container e
           (λ i. get_or-replicate_default (length book) i 0) has.1),
     )
 
+-- Where a take finds nothing, and before any view holds it more puts of some values have taken
+-- effect than takes may have taken out by its own view, no container that begins empty has a legal
+-- order of a book with this table.
 pub finds_leave_nothing : FindsLeaveNothing
 finds_leave_nothing reading book table find r values m n found known before low few ahead init
     next is container empty has =
@@ -338,12 +348,15 @@ finds_leave_nothing reading book table find r values m n found known before low 
 
 -- ---- tables
 
+-- A table is refuted where more takes of some values have taken effect by a moment than puts of
+-- them may have by then.
 pub takes-refute : (table : Table) (values : List ℕ) (m : ℕ) → m < NEVER
     → TakesAhead table values m m → IsRefuted table
 takes-refute table values m few ahead reading book =
     takes_follow_puts reading book table values m few ahead
 
--- where puts are ahead before a take that finds nothing, a table's book is refuted
+-- A table is refuted where a take finds nothing, and by a moment before the first view that holds
+-- it more puts of some values have taken effect than takes may have taken out by its own view.
 pub find-refutes : (table : Table) (place m : ℕ) (values : List ℕ) (t : TimedCall)
     → slice_get table.finds.items place ≡ Some t → m < t.span.first → t.span.last < NEVER
     → m < NEVER → PutsAhead table values m t.span.last → IsRefuted table

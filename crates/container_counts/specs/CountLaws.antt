@@ -11,14 +11,15 @@ use Rattle.queue_pairs.specs.declared.table.Table.{Table}
 use Rattle.queue_pairs.specs.Moments.{moment_of, IsHeldBy}
 use Rattle.container_counts.specs.Counts.{PutsAhead, TakesAhead, ContainerHasNoOrder}
 
--- Where takes of some values are ahead of the puts of them at a moment, a container's book has no
--- legal order.
+-- Where more takes of some values have taken effect by a moment than puts of them may have by then,
+-- no container that begins empty has a legal order of a book with this table.
 abbrev pub TakesFollowPuts : Type 0
 TakesFollowPuts = (reading : Reading) (book : List Page) (table : Table) (values : List ℕ) (m : ℕ)
     → m < NEVER → TakesAhead table values m m → ContainerHasNoOrder reading table book
 
--- Where puts of some values up to a moment before the first view that holds a take which finds
--- nothing are ahead of the takes up to its own view, a container's book has no legal order.
+-- Where a take finds nothing, and by a moment up to which no view holds it more puts of some values
+-- have taken effect than takes may have taken out by the moment of its own view, or by a later one,
+-- no container that begins empty has a legal order of a book with this table.
 abbrev pub FindsLeaveNothing : Type 0
 FindsLeaveNothing = (reading : Reading) (book : List Page) (table : Table) (find : Call)
     (r : Record) (values : List ℕ) (m n : ℕ) → deal_of reading book find ≡ deals.FoundNothing

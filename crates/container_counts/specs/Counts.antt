@@ -12,7 +12,7 @@ use Rattle.queue_pairs.specs.Tables.{rows_of, IsTable}
 use Rattle.container_counts.specs.declared.counts.Counted.{Counted}
 use Rattle.container_counts.specs.declared.counts.Counted.TheVariants as counted
 
--- whether a value is among these
+-- Whether a value is among these values.
 abbrev pub listed : List ℕ → ℕ → Bool
 listed values v = list_any (λ w. nat_eq w v) values
 
@@ -32,7 +32,8 @@ shows_one test did.FoundNothing = false
 shows_one test did.OpenTake = false
 shows_one test did.Other = false
 
--- whether a call with this deal is such a take, or an unanswered one
+-- Whether a call with this deal is a take that shows a value which passes a test, or an unanswered
+-- take.
 abbrev pub may_take_one : (ℕ → Bool) → QueueDeal → Bool
 may_take_one test (did.Put v) = false
 may_take_one test (did.Took v) = test v
@@ -40,7 +41,9 @@ may_take_one test did.FoundNothing = false
 may_take_one test did.OpenTake = true
 may_take_one test did.Other = false
 
--- The call is one of those that are counted, of these values and up to a moment.
+-- Whether a call is counted, of these values and up to a moment: a put or a take that shows a value
+-- is due where its own view is no later than the moment, and early where some view that is no later
+-- holds it; an unanswered take counts as an early take.
 abbrev pub is_counted : Counted → List ℕ → ℕ → TimedCall → Bool
 is_counted counted.DuePuts values m t =
     if puts_one (listed values) t.deal then nat_le t.span.last m else false
@@ -55,24 +58,25 @@ is_counted counted.EarlyTakes values m t =
 abbrev pub count_in : (TimedCall → Bool) → Table → ℕ
 count_in test table = sum_by (count_by test) (rows_of table)
 
--- More puts of these values have taken effect by one moment than takes may have taken out by
--- another one.
+-- More puts of these values have taken effect by the first moment than takes that show one of them,
+-- or are unanswered, may have taken effect by the second one.
 abbrev pub PutsAhead : Table → List ℕ → ℕ → ℕ → Type 0
 PutsAhead table values m n = count_in (is_counted counted.EarlyTakes values n) table
     < count_in (is_counted counted.DuePuts values m) table
 
--- More takes of these values have taken effect by the second moment than puts of them may have by
--- the first one.
+-- More takes that show one of these values have taken effect by the second moment than puts of them
+-- may have taken effect by the first one.
 abbrev pub TakesAhead : Table → List ℕ → ℕ → ℕ → Type 0
 TakesAhead table values m n = count_in (is_counted counted.EarlyPuts values m) table
     < count_in (is_counted counted.DueTakes values n) table
 
--- No container that begins empty has a legal order of a book with this table.
+-- Where the book has this table, no container that begins empty has a legal order of it.
 abbrev pub ContainerHasNoOrder : Reading → Table → List Page → Type 0
 ContainerHasNoOrder reading table book = (init : List ℕ) (next : List ℕ → ℕ → List ℕ × ℕ)
     → IsTable reading book table → IsContainer reading next → reading.values init ≡ []
     → HasLegalOrder init next book → ⊥
 
--- Whatever book has this table, and however it is read, no container has a legal order of it.
+-- Whatever book has this table, and however it is read, no container that begins empty has a legal
+-- order of it.
 abbrev pub IsRefuted : Table → Type 0
 IsRefuted table = (reading : Reading) (book : List Page) → ContainerHasNoOrder reading table book

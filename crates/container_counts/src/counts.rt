@@ -7,20 +7,24 @@ use queue_pairs::{QueueDeal, Table, TimedCall};
 /// Which calls of some values are counted, up to a moment.
 #[derive(Clone, Copy)]
 pub enum Counted {
-    /// The puts that have taken effect by the moment: their own view is no later.
+    /// The puts that have taken effect by the moment: their own view is no later than it.
     DuePuts,
-    /// The puts that may have taken effect by the moment: some view that is no later holds them.
+    /// The puts that may have taken effect by the moment: some view that is no later than it holds
+    /// them.
     EarlyPuts,
-    /// The takes that show a value and have taken effect by the moment.
+    /// The takes that show one of the values and have taken effect by the moment: their own view is
+    /// no later than it.
     DueTakes,
-    /// The takes that show a value, or are unanswered, and may have taken effect by the moment.
+    /// The takes that show one of the values, or are unanswered, and may have taken effect by the
+    /// moment: some view that is no later than it holds them.
     EarlyTakes,
 }
 
-/// Whether more puts of these values have taken effect by one moment than takes may have taken out
-/// by another one.
+/// Whether more puts of these values have taken effect by the first moment than takes may have
+/// taken out by the second one. `false` is answered too where there are too many calls to count.
 pub fn puts_are_ahead(table: &Table, values: &[u64], put_moment: u64, take_moment: u64) -> bool
-    // The counts say so.
+    // `true` is answered only where more puts of these values have taken effect by the first moment
+    // than takes may have taken out by the second one.
     ensures { IsTrue result → PutsAhead table.now values.now put_moment take_moment }
 {
     is_less(
@@ -30,9 +34,10 @@ pub fn puts_are_ahead(table: &Table, values: &[u64], put_moment: u64, take_momen
 }
 
 /// Whether more takes of these values have taken effect by the second moment than puts of them may
-/// have by the first one.
+/// have by the first one. `false` is answered too where there are too many calls to count.
 pub fn takes_are_ahead(table: &Table, values: &[u64], put_moment: u64, take_moment: u64) -> bool
-    // The counts say so.
+    // `true` is answered only where more takes of these values have taken effect by the second
+    // moment than puts of them may have by the first one.
     ensures { IsTrue result → TakesAhead table.now values.now put_moment take_moment }
 {
     is_less(

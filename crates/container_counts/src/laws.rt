@@ -1,15 +1,18 @@
-//! Laws of counts of calls. Each is the contract of a function with nothing in it.
+//! Laws of counts of calls. Each is the contract of a function with an empty body.
 
 ghost use Rattle.container_counts.specs.CountLaws.{TakesFollowPuts, FindsLeaveNothing};
 
 /// What a container gives out was put in before.
 pub fn takes_follow_puts()
-    // Takes of some values by a moment are no more than puts of them that may be done by then.
+    // Where more takes of some values have taken effect by a moment than puts of them may have by
+    // then, no container that begins empty has a legal order of the book.
     ensures { TakesFollowPuts }
 {}
 
-/// All that was put in before a take that finds nothing was taken out.
+/// All that was put in before a take that finds nothing was taken out before it.
 pub fn finds_leave_nothing()
-    // Puts before a take that finds nothing are no more than takes that may have taken them out.
+    // Where more puts of some values have taken effect before any view holds a take that finds
+    // nothing than takes may have taken out by the take's own view, no container that begins empty
+    // has a legal order of the book.
     ensures { FindsLeaveNothing }
 {}

@@ -1,4 +1,5 @@
-//! Refutes books of containers, whichever value a take gives out, by counts of puts and takes.
+//! Refutes books of containers by counts of puts and takes, whichever of its values a container
+//! gives out.
 #![tactic(auto)]
 
 mod counts;

@@ -9,9 +9,10 @@ use std::alloc::Global;
 // How many different values are looked at, at most, where a take finds nothing.
 const MOST_VALUES: usize = 64;
 
-/// The calls of a table, each with its value and a moment, in order: of answered puts and takes
-/// that of their own view, of all puts, answered takes and unanswered ones that of the first view
-/// that holds them.
+/// Those calls of a table that some view holds, each with its value and a moment, in order:
+/// answered puts and takes with the moment of their own view, and puts, answered takes and
+/// unanswered takes, these with the value 0, with that of the first view that holds them; and the
+/// values of some answered puts.
 #[derive(Drop)]
 struct Moments {
     due_puts: Vec<(u64, u64)>,
@@ -23,8 +24,8 @@ struct Moments {
 }
 
 /// Whether counts of calls show that a container's book has no legal order: by some moment a value
-/// has been taken out more often than it was put in, or a take finds nothing where more values were
-/// left than unanswered takes may have taken out.
+/// has been taken out more often than it may have been put in, or a take finds nothing where more
+/// values were left than unanswered takes may have taken out.
 ///
 /// The moments and the values to count are found by lists of moments, which aren't trusted: the
 /// calls are counted once more.
@@ -41,7 +42,8 @@ pub fn refute_by_counts(alloc: Global, table: &Table) -> Result<bool, NoMemory>
     finds_refute(alloc, table, &moments)
 }
 
-// Whether more takes of these values have taken effect by a moment than puts of them may have.
+// Whether more takes of these values have taken effect by a moment than puts of them may have by
+// then.
 fn takes_refute(table: &Table, values: &[u64], moment: u64) -> bool
     ensures { IsTrue result → IsRefuted table.now }
 {
@@ -51,7 +53,7 @@ fn takes_refute(table: &Table, values: &[u64], moment: u64) -> bool
     takes_are_ahead(table, values, moment, moment)
 }
 
-// Whether a take finds nothing where values were left.
+// Whether counts of calls show that some take finds nothing where values were left.
 fn finds_refute(alloc: Global, table: &Table, moments: &Moments) -> Result<bool, NoMemory>
     ensures { IfOk result (λ refuted. IsTrue refuted → IsRefuted table.now) }
 {
@@ -64,8 +66,8 @@ fn finds_refute(alloc: Global, table: &Table, moments: &Moments) -> Result<bool,
     Ok(false)
 }
 
-// Whether more puts of these values come before a take that finds nothing than takes that may have
-// taken them out.
+// Whether more puts of these values have taken effect before any view holds this take, which finds
+// nothing, than takes may have taken out by the take's own view.
 fn find_refutes(table: &Table, values: &[u64], place: usize) -> bool
     ensures { IsTrue result → IsRefuted table.now }
 {
@@ -84,7 +86,8 @@ fn find_refutes(table: &Table, values: &[u64], place: usize) -> bool
     puts_are_ahead(table, values, find.span.first - 1, find.span.last)
 }
 
-// A value and a moment by which it has been taken out more often than put in, if there is one.
+// A value and a moment by which it has been taken out more often than it may have been put in,
+// where the lists of moments have them.
 fn overtaken(moments: &Moments) -> Option<(u64, u64)> {
     let puts = &moments.early_puts;
     let mut next = 0;
@@ -104,8 +107,9 @@ fn overtaken(moments: &Moments) -> Option<(u64, u64)> {
     None
 }
 
-// The values of which more were put in before this span than answered takes show up to its end,
-// where unanswered takes are too few for what is left of them all, or else none.
+// The values of which more puts have taken effect before this span than answered takes may have
+// taken out by its end. No value is answered where the unanswered takes that may have taken effect
+// by its end are enough for all that is left of these values.
 fn values_left(alloc: Global, moments: &Moments, span: Span) -> Result<Vec<u64>, NoMemory> {
     let mut left = Vec::new(alloc);
     let mut all: usize = 0;
@@ -184,7 +188,7 @@ fn sort(moments: &mut Moments) -> Result<(), NoMemory> {
     Ok(())
 }
 
-// Adds the values of the answered puts, each once, as long as there are few.
+// Adds the values of the answered puts, each once, as long as there are fewer than `MOST_VALUES`.
 fn add_values(moments: &mut Moments) -> Result<(), NoMemory> {
     for place in 0..moments.due_puts.len() {
         let value = moments.due_puts[place].0;

@@ -1,4 +1,4 @@
--- What a seen cut says of the book at it.
+-- That a seen cut is one that a scan of M gave.
 use Rattle.std.proofs.Common.{◌≡◌, ℕ, ◌<◌, true, is_none, List, [], length, Option, Some, None, slice_index_or, refl, ap, subst, arith}
 use Rattle.world_core.specs.declared.region.Region.TheVariants.{M}
 use Rattle.world_core.specs.Shape.{Shape}
@@ -11,12 +11,13 @@ use Rattle.drv_wrapper.proofs.Locals.{local_has_phase}
 use Rattle.enforcer.specs.Recorded.{HasSeen, last_published}
 use Rattle.enforcer.proofs.Standing.{announcing_is}
 
--- no scan is under way where the test says so
+-- Where the test `is_none` passes for an optional scan, there is no scan.
 pub none_is : (o : Option Scan) → is_none o ≡ true → o ≡ None
 none_is None e = refl
 none_is (Some scan) e = absurd cc
 
--- a seen cut is one that a scan of M gave
+-- The seen cut of the call whose record a caller of a reachable world published last is one that a
+-- scan of M gave the caller.
 pub seen_is_given : (s : Shape) (i reply : ℕ) (view cut : List ℕ) (l : Local) → IsLocalOf s i l
     → HasSeen reply view cut l → IsGivenIn l.cuts M cut
 seen_is_given s i reply view cut l (locals, together, low, is) saw =

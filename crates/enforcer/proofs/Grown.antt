@@ -1,4 +1,5 @@
--- The book that a caller has gathered grows to its next one, and what stands in it stays.
+-- A caller's kept book grows to the one that it gathers at a cut which contains the kept one, and
+-- the marks of its kept order remain marks.
 use Rattle.std.proofs.Common.{◌≡◌, ℕ, List, Option, None, Some, IfSome, sym, subst, ◌∙◌, arith}
 use Rattle.std.proofs.lemmas.Option.{slice_get_within}
 use Rattle.book_base.specs.Cut.{IsWithin, Holds}
@@ -17,7 +18,7 @@ use Rattle.frontier_check.specs.Standing.{HasGrown, IsStandingFor}
 use Rattle.frontier_check.proofs.Resuming.{standing_stays}
 use Rattle.enforcer.specs.Lines.{StandsIn, IsHeldIn}
 
--- the books at two cuts of a book
+-- Where one cut is within another, the book at the first cut has grown to the book at the second.
 grown_at : (book : List Page) (early late : List ℕ) (a b : List Page) → IsWithin early late
     → IsBookAt book early a → IsBookAt book late b → HasGrown a b
 grown_at book early late a b within first second = record {
@@ -37,8 +38,8 @@ grown_at book early late a b within first second = record {
       record_of-part book late b second call low ∙ known.1;
 }
 
--- A caller's kept book has grown to the one that it has gathered at a cut that holds the kept
--- one's.
+-- A book that a caller has gathered at a cut has grown to each book that it has gathered at a cut
+-- which contains this one.
 grown : (s : Shape) (i : ℕ) (l : Local) (early late : List ℕ) (a b : List Page) → IsLocalOf s i l
     → IsGathered s.callers l early a → IsGathered s.callers l late b → IsWithin early late
     → HasGrown a b
@@ -51,7 +52,8 @@ grown s i l early late a b (locals, together, low, is) first second within =
     (book_at_is_the_book_at (book_in locals) cut valid) in
     grown_at (book_in locals) early late a b within (at early a first) (at late b second)
 
--- So what stood in the kept book, and was taken along, stands in the new one.
+-- An order that is taken from what was kept has its marks in the new book too, where the kept book
+-- is of the rows' callers and its cut is within that of the new book.
 pub stands_on : (init : List ℕ) (next : List ℕ → ℕ → List ℕ × ℕ) (s : Shape) (i n : ℕ) (l : Local)
     (kept : Option Gathered) (standing taken : Option KeptOrder) (cut : List ℕ) (book : List Page)
     → n ≡ s.callers → IsLocalOf s i l → IsGatheredBy l kept → IsGathered s.callers l cut book

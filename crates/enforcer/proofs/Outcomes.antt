@@ -6,12 +6,15 @@ use Rattle.world_books.proofs.Validity.{books_are_valid}
 use Rattle.enforcer.specs.declared.outcome.Outcome.TheVariants.{Delivered, Illegal}
 use Rattle.enforcer.specs.Enforced.{OutcomesAreVerdicts, ErrorsAreFinal}
 
+-- An outcome that is right by what its caller has peeked makes a right end of its call's line.
 pub outcomes_are_verdicts : OutcomesAreVerdicts
 outcomes_are_verdicts init next n l (Delivered reply view seen order) (book, gathered, legal) =
     (book, gathered, (order.items, legal))
 outcomes_are_verdicts init next n l (Illegal reply view seen carried)
     (book, gathered, (same, none)) = (book, gathered, none)
 
+-- An error is final: where the book of all callers' calls has no legal order at a cut, each outcome
+-- that is right at a cut which contains that one is an error.
 pub errors_are_final : ErrorsAreFinal
 errors_are_final init next s locals lower
     (Delivered reply view seen order) together within none legal =

@@ -1,4 +1,4 @@
--- What the publication of a record leaves of its caller's local.
+-- What the publication of a record, with the scan before it, changes in its caller's local.
 use Rattle.std.proofs.Common.{◌≡◌, ℕ, ◌+◌, ◌-◌, List, [], ◌∷◌, length, Some, slice_index, slice_index_or, refl, sym, ap, subst, ◌∙◌, arith}
 use Rattle.world_core.specs.declared.region.Region.TheVariants.{M}
 use Rattle.world_core.specs.Shape.{Shape}
@@ -21,7 +21,10 @@ use Rattle.enforcer.specs.Recorded.{IsPublishing}
 use Rattle.enforcer.specs.Events.{IsPublication}
 use Rattle.enforcer.proofs.Standing.{publishing_is, unstaged_is}
 
--- The scan before a publication leaves its cut to be embedded, and the record as it is.
+-- What holds where a caller with the local `l` has made the scan before a publication, which gave
+-- the cut, and now has the local `m`: it may publish this record in a row that embeds this cut; and
+-- after the publication the record is its last published one, its progress is that of `l` with one
+-- published record more, and it has each look, each peek and each given cut of `l`.
 pub record Readies (n reply : ℕ) (view cut : List ℕ) (l m : Local) : Type 0 where
   pub may : MayPublish n reply view cut m
   pub published : IsPublishing reply view (local_after n m Publish)
@@ -70,7 +73,8 @@ readies n op reply view cut l m view_wide wide recorded h =
     subst (Readies n reply view cut l) (sym is)
     (readied n op reply view cut l looks peeks view_wide wide phase recorded)
 
--- of a call that was viewed so, whose caller k has the local l
+-- A caller that made a scan of M after its call was viewed is ready to publish the record of that
+-- call, as `Readies` says.
 pub readies_of : (s : Shape) (op reply : ℕ) (view : List ℕ) (said : ℕ) (shown cut : List ℕ)
     (stance : Stance) (l k m : Local) → said ≡ reply → shown ≡ view → k ≡ l
     → length view ≡ s.callers → length cut ≡ s.callers → IsRecorded op reply view l
@@ -83,7 +87,8 @@ readies_of s op reply view said shown cut stance l k m same_reply same_view same
     (readies s.callers op reply view cut l m view_wide wide recorded
     (subst (λ (x : Local). HasScanned s.callers M Begins_scan cut x m) same h)))
 
--- of a scan that its caller made with this local, for the row that was published then
+-- A scan of M by a caller whose call is recorded, and the publication after it, make up what
+-- `IsPublication` says.
 pub publication : (n op reply : ℕ) (view cut : List ℕ) (l k scanned m : Local) → k ≡ l
     → IsRecorded op reply view l → HasScanned n M Begins_scan cut k scanned → HoldsLooks M cut k
     → m ≡ local_after n scanned Publish → IsPublication n l m

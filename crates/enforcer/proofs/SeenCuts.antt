@@ -1,4 +1,4 @@
--- What the scan that sees a cut leaves of its caller's local.
+-- What the scan that sees a cut changes in its caller's local.
 use Rattle.std.proofs.Common.{◌≡◌, ◌≢◌, ℕ, ◌-◌, List, [], ◌∷◌, ◌++◌, length, None, Some, slice_index, refl, sym, ap, subst, ◌∙◌, arith}
 use Rattle.std.proofs.lemmas.List.{get_or_push}
 use Rattle.world_core.specs.declared.region.Region.TheVariants.{M}
@@ -20,7 +20,8 @@ use Rattle.enforcer.specs.Recorded.{IsPublishing, HasSeen, last_of_M}
 use Rattle.enforcer.specs.Events.{IsSight}
 use Rattle.enforcer.proofs.Standing.{judging_is}
 
--- the local after a scan that gave the seen cut
+-- The local `l` after a scan of M that made these looks and these peeks, and whose cut is the seen
+-- cut.
 abbrev pub scanned_for_seen : List ℕ → List Looked → List Peeked → Local → Local
 scanned_for_seen cut looks peeks l =
     record l {
@@ -46,21 +47,24 @@ seen_scanned n cut l m phase h =
     ap (λ (p : Phase). purpose_of p l.staged scan) phase in
     (found.looks, found.peeks, h.is ∙ ap (λ (p : Purpose). served ended p cut) purpose)
 
--- What seeing a cut leaves.
+-- What holds where a caller with the local `l` has seen the cut, and now has the local `m`: this
+-- record is its last published one, and the cut is its seen cut; the cut's count for caller `who`
+-- is the number of its published records; its progress is that of `l` with the seen cut for its
+-- last call; and it has each look, each peek and each given cut of `l`.
 pub record Sees (who reply : ℕ) (view cut : List ℕ) (l m : Local) : Type 0 where
   pub saw : HasSeen reply view cut m
   pub own : slice_index cut who ≡ m.published
   pub progress : progress_of m ≡ after_seeing cut (progress_of l)
   pub grows : Grows l m
 
--- a scan of M while judging serves the seen cut
+-- The cut of a scan of M in the phase judge serves something: it becomes the seen cut.
 serves : (l : Local) → l.phase ≡ Judging → purpose_with l M Begins_scan ≢ For_nothing
 serves l phase none =
     let e : For_seen ≡ For_nothing =
     sym (ap (λ (p : Phase). purpose_of p l.staged (scan_with l M Begins_scan [])) phase) ∙ none in
     absurd cc
 
--- the last of some cuts is the one that was given last
+-- Where the last one of the given cuts is one of M, `last_of_M` is that cut.
 last_is : (cuts : List Given) (cut : List ℕ) (since : ℕ)
     → last_of_M (cuts ++ record { region = M; cut = cut; since = since } ∷ []) ≡ Some cut
 last_is [] cut since = refl
@@ -86,6 +90,8 @@ seen_leaves reply view cut l looks peeks has publishing =
       seen_is = get_or_push l.seen cut [] (l.published - 1) (omega (arith, has.seen, unseen));
     }
 
+-- After a scan of M, a caller of a reachable world that had published its record has seen the
+-- scan's cut, as `Sees` says.
 pub sees : (s : Shape) (who now reply : ℕ) (view cut : List ℕ) (l m : Local) → IsLocalOf s who l
     → IsLocalOf s now m → IsPublishing reply view l
     → HasScanned s.callers M Begins_scan cut l m → Sees now reply view cut l m
@@ -105,6 +111,7 @@ sees s who now reply view cut l m here there publishing h =
           (record { region = M; cut = cut; since = length l.looked } ∷ []) refl refl refl);
     }
 
+-- A scan of M by a caller that has published its record is what `IsSight` says.
 pub sight : (n reply : ℕ) (view cut : List ℕ) (l m : Local) → IsPublishing reply view l
     → HasScanned n M Begins_scan cut l m → HoldsLooks M cut l → IsSight n cut l m
 sight n reply view cut l m publishing h looked =

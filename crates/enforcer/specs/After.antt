@@ -1,4 +1,4 @@
--- What a judgement says that leaves its order with what stands.
+-- What a judgement says whose order isn't part of it: that order is kept beside it, with marks.
 use Rattle.std.specs.Prelude.{◌≡◌, ◌+◌, ◌*◌, ◌≤◌, ℕ, false, List, Option, Some, None, Result, Ok, Err, IfSome, IsSomeAnd, length}
 use Rattle.book_base.specs.declared.call.Record.{Record}
 use Rattle.frontier_check.specs.declared.mark.KeptOrder.{KeptOrder}
@@ -14,55 +14,60 @@ use Rattle.enforcer.specs.declared.outcome.Outcome.{Outcome}
 use Rattle.enforcer.specs.declared.outcome.Outcome.TheVariants as outcome
 use Rattle.enforcer.specs.declared.outcome.Unjudged.{Unjudged}
 
--- The record of the call that was judged, and the cut that was seen for it.
+-- The record of the call that was judged.
 abbrev pub record_judged : Judged → Record
 record_judged (Delivered reply view seen) = record { reply = reply; view = view }
 record_judged (Illegal reply view seen book) = record { reply = reply; view = view }
 
+-- The seen cut of the call that was judged.
 abbrev pub cut_judged : Judged → List ℕ
 cut_judged (Delivered reply view seen) = seen
 cut_judged (Illegal reply view seen book) = seen
 
--- How its caller stands: ready for its next call where the reply is delivered, and halted where the
--- call is an error.
+-- The stance of the caller after its call was judged: ready for its next call after `Delivered`,
+-- and halted after `Illegal`.
 abbrev pub stance_judged : Judged → Stance
 stance_judged (Delivered reply view seen) = ready
 stance_judged (Illegal reply view seen book) = record ready { live = false }
 
--- The outcome that a judgement is with the order of what stands. A reply that is delivered where
--- nothing stands is none.
+-- The outcome that a judgement and the kept order make together: for `Delivered` the outcome with
+-- the kept order, and no outcome where no order is kept; and for `Illegal` the outcome with the
+-- book of the judgement, whether an order is kept or not.
 abbrev pub outcome_of : Judged → Option KeptOrder → Option Outcome
 outcome_of (Delivered reply view seen) None = None
 outcome_of (Delivered reply view seen) (Some s) = Some (outcome.Delivered reply view seen s.order)
 outcome_of (Illegal reply view seen book) standing = Some (outcome.Illegal reply view seen book)
 
--- A judgement is, with the order of what stands, an outcome of which this holds.
+-- The judgement and the kept order make an outcome together, and `holds` is true of it.
 abbrev pub IsOutcome : Judged → Option KeptOrder → (Outcome → Type 0) → Type 0
 IsOutcome judged standing holds = IsSomeAnd (outcome_of judged standing) holds
 
--- After a reply that is delivered to one of n callers its book is kept, at the seen cut; an error
--- takes its book along, and none is kept.
+-- After `Delivered` a book of n callers is kept with the seen cut of the judgement; after
+-- `Illegal`, which carries its book, no book is kept.
 abbrev pub IsKeptAfter : ℕ → Judged → Option Gathered → Type 0
 IsKeptAfter n (Delivered reply view seen) gathered =
     IsSomeAnd gathered (λ g. (length g.book ≡ n) × (g.cut ≡ seen))
 IsKeptAfter n (Illegal reply view seen book) gathered = gathered ≡ None
 
--- The book that was judged, with its cut: the one that is kept, or the one that an error carries.
+-- The book that was judged, with its cut: after `Delivered` the book that is now kept, where one
+-- is; and after `Illegal` the book that the judgement carries, with its seen cut.
 abbrev pub judged_book : Judged → Option Gathered → Option Gathered
 judged_book (Delivered reply view seen) gathered = gathered
 judged_book (Illegal reply view seen book) gathered = Some (record { book = book; cut = seen })
 
--- The reply that came of a call, judged or not.
+-- The reply of a call, judged or not.
 abbrev pub reply_after : {P : Type 0} → Result (Caller P × Judged) (Unjudged P) → ℕ
 reply_after (Ok r) = (record_judged r.1).reply
 reply_after (Err u) = u.reply
 
--- The counter ticks once for each word of the judged book that the book kept before lacks.
+-- Where there is a judged book, the counter has risen from `before` to `after` by the number of
+-- words that this book has and the book kept before lacks, as `TicksForNew` says.
 abbrev pub TicksForJudged : ℕ → Option Gathered → Judged → Option Gathered → ℕ → ℕ → Type 0
 TicksForJudged n kept judged gathered before after =
     IfSome (judged_book judged gathered) (λ g. TicksForNew n kept g before after)
 
--- The counter ticks at most as often as four scans may, and then for the judged book.
+-- The counter has risen from `before` to some number by at most the most words that four scans may
+-- take, and from there to `after` for the judged book, as `TicksForJudged` says.
 abbrev pub TicksForCallAfter : ℕ → Option Gathered → Judged → Option Gathered → ℕ → ℕ → Type 0
 TicksForCallAfter n kept judged gathered before after =
     (scanned : ℕ) × (before ≤ scanned) × (scanned ≤ before + 4 * most_words n)

@@ -1,4 +1,5 @@
--- What a whole call comes to, and what an outcome says of later ones.
+-- What a whole call adds to its caller's progress and to the counter of steps, and what an outcome
+-- says of its call's line and of later outcomes.
 use Rattle.std.specs.Prelude.{◌≡◌, ◌≤◌, ◌+◌, ◌*◌, ℕ, true, List, Option, Result, Ok, Err}
 use Rattle.book_base.specs.declared.call.Record.{Record}
 use Rattle.book_base.specs.Cut.{IsWithin}
@@ -18,35 +19,39 @@ use Rattle.enforcer.specs.declared.outcome.Unjudged.{Unjudged}
 use Rattle.enforcer.specs.Judged.{record_in, cut_in, end_of, is_illegal, IsRightFor, IsRightByPeeks}
 use Rattle.enforcer.specs.Kept.{TicksForNewAfter}
 
--- How far a caller has come after a whole call: one call more, with this operation, this record and
--- this seen cut, and published.
+-- The progress of a caller after a whole call: it has one more call, with this operation, this
+-- record and this seen cut, and one more published record.
 abbrev pub after_call : ℕ → Record → List ℕ → Progress → Progress
 after_call op r cut progress =
     after_seeing cut (after_publishing (after_viewing r (after_announcing op progress)))
 
--- The record of a call that wasn't judged; and the reply that came of a call, judged or not.
+-- The record of a call that wasn't judged.
 abbrev pub record_unjudged : {P : Type 0} → Unjudged P → Record
 record_unjudged u = record { reply = u.reply; view = u.view }
 
+-- The reply of a call, judged or not.
 abbrev pub reply_of : {P : Type 0} → Result (Caller P × Outcome) (Unjudged P) → ℕ
 reply_of (Ok r) = (record_in r.1).reply
 reply_of (Err u) = u.reply
 
--- The counter ticks at most as often as four scans may, and then once for each word of the call's
--- book that is new, as against the book that was kept before.
+-- The counter has risen from `before` to some number by at most the most words that four scans may
+-- take, and from there to `after` by the number of words that the call's book has and the book kept
+-- before lacks, as `TicksForNewAfter` says.
 abbrev pub TicksForWholeCall : ℕ → Option Gathered → Outcome → Option Gathered → ℕ → ℕ → Type 0
 TicksForWholeCall n kept outcome gathered before after =
     (scanned : ℕ) × (before ≤ scanned) × (scanned ≤ before + 4 * most_words n)
     × TicksForNewAfter n kept outcome gathered scanned after
 
--- An outcome that is right by what its caller peeked is the verdict at the end of the call's line.
+-- An outcome that is right by what its caller has peeked makes a right end of its call's line:
+-- where that is `Delivered`, a book that the caller has gathered at the seen cut has a legal order;
+-- and where it is `Error`, such a book has no legal order.
 abbrev pub OutcomesAreVerdicts : Type 0
 OutcomesAreVerdicts =
     (init : List ℕ) (next : List ℕ → ℕ → List ℕ × ℕ) (n : ℕ) (l : Local) (outcome : Outcome)
     → IsRightByPeeks init next n l outcome → IsJudgedBy init next n l (end_of outcome)
 
--- An error is final: where the book of all callers' calls has no legal order at a cut, an outcome
--- that is right at a greater cut is an error.
+-- An error is final: where the book of all callers' calls has no legal order at the cut `lower`,
+-- each outcome that is right at a cut which contains `lower` is an error.
 abbrev pub ErrorsAreFinal : Type 0
 ErrorsAreFinal =
     (init : List ℕ) (next : List ℕ → ℕ → List ℕ × ℕ) (s : Shape) (locals : List Local)

@@ -1,5 +1,5 @@
--- Which events of its caller publishing a record and seeing a cut are, and what they leave of the
--- lists of its local.
+-- Which events of its caller the publication of a record is, and which the scan that sees a cut,
+-- and what they add to the lists of the caller's local.
 use Rattle.std.specs.Prelude.{◌≡◌, ℕ, List, [], ◌∷◌, ◌++◌}
 use Rattle.world_core.specs.declared.region.Region.TheVariants.{M}
 use Rattle.world_core.specs.Local.{Local}
@@ -7,9 +7,10 @@ use Rattle.world_core.specs.Event.{Publish, Begins_scan, local_after}
 use Rattle.collect_scan.specs.Scanned.{HasScanned}
 use Rattle.collect_scan.specs.Given.{given_with, HoldsLooks}
 
--- A scan of M, then the publication of the row that was staged, and no other event that isn't a
--- stage, lead one of n callers from the one local to the other. The row embeds the cut that this
--- scan gave, which contains each count of M that was looked at before.
+-- The local `after` is the local `before` of one of n callers, changed by a scan of M, the
+-- publication of the row that was staged, and no other event but stages. The row embeds the cut
+-- that this scan gave, which is the last cut that was given, and which contains each count of M
+-- that the caller had looked at before the scan.
 pub record IsPublication (n : ℕ) (before after : Local) : Type 0 where
   pub cut : List ℕ
   pub scanned : Local
@@ -19,9 +20,9 @@ pub record IsPublication (n : ℕ) (before after : Local) : Type 0 where
   pub given : after.cuts ≡ before.cuts ++ given_with before M cut ∷ []
   pub looked : HoldsLooks M cut before
 
--- A scan of M which gave this cut, and no other event, leads one of n callers from the one local to
--- the other. The cut is the last that was given, contains each count of M that was looked at
--- before, and is the last seen cut.
+-- The local `after` is the local `before` of one of n callers, changed by a scan of M that ended
+-- with this cut, and no other event. The cut is the last one that was given and the last seen cut,
+-- and it contains each count of M that the caller had looked at before the scan.
 pub record IsSight (n : ℕ) (cut : List ℕ) (before after : Local) : Type 0 where
   pub scan : HasScanned n M Begins_scan cut before after
   pub given : after.cuts ≡ before.cuts ++ given_with before M cut ∷ []

@@ -1,4 +1,4 @@
--- What a judgement says: of which call, and by which book.
+-- What the outcome of a call says: of which record, at which seen cut, and by which book.
 use Rattle.std.specs.Prelude.{◌≡◌, ℕ, Bool, true, false, List, length}
 use Rattle.book_base.specs.declared.call.Record.{Record}
 use Rattle.book_base.specs.Book.{Page}
@@ -17,38 +17,40 @@ use Rattle.drv_wrapper.specs.Stands.{ready}
 use Rattle.enforcer.specs.declared.outcome.Outcome.{Outcome}
 use Rattle.enforcer.specs.declared.outcome.Outcome.TheVariants.{Delivered, Illegal}
 
--- The record of the call that an outcome is of, and the cut that was seen for it.
+-- The record of the call that an outcome is of.
 abbrev pub record_in : Outcome → Record
 record_in (Delivered reply view seen order) = record { reply = reply; view = view }
 record_in (Illegal reply view seen book) = record { reply = reply; view = view }
 
+-- The seen cut of the call that an outcome is of.
 abbrev pub cut_in : Outcome → List ℕ
 cut_in (Delivered reply view seen order) = seen
 cut_in (Illegal reply view seen book) = seen
 
--- A view and a seen cut have an entry for each of n callers.
+-- The view and the seen cut have n counts each, one for each of n callers.
 abbrev pub AreWide : ℕ → List ℕ → List ℕ → Type 0
 AreWide n view seen = (length view ≡ n) × (length seen ≡ n)
 
--- The call is an error.
+-- The outcome is an error.
 abbrev pub is_illegal : Outcome → Bool
 is_illegal (Delivered reply view seen order) = false
 is_illegal (Illegal reply view seen book) = true
 
--- How the line of the call ends.
+-- How the line of a call with this outcome ends: with `Delivered` or with `Error`, and with the
+-- record and the seen cut of the outcome.
 abbrev pub end_of : Outcome → LineEnd
 end_of (Delivered reply view seen order) =
     line.Delivered (record { reply = reply; view = view }) seen
 end_of (Illegal reply view seen book) = line.Error (record { reply = reply; view = view }) seen
 
--- How its caller stands: ready for its next call where the reply is delivered, and halted where the
--- call is an error.
+-- The stance of the caller after its call had this outcome: ready for its next call after
+-- `Delivered`, and halted after `Illegal`.
 abbrev pub stance_after : Outcome → Stance
 stance_after (Delivered reply view seen order) = ready
 stance_after (Illegal reply view seen book) = record ready { live = false }
 
--- The outcome is right for a book: what is delivered has a legal order of it, which the outcome
--- carries; and an error carries the book, which has none.
+-- The outcome is right for a book: after `Delivered` the order that the outcome carries is a legal
+-- order of the book; after `Illegal` the outcome carries this book, which has no legal order.
 abbrev pub IsRightFor : (init : List ℕ) → (next : List ℕ → ℕ → List ℕ × ℕ) → List Page
     → Outcome → Type 0
 IsRightFor init next book (Delivered reply view seen order) =
@@ -56,21 +58,23 @@ IsRightFor init next book (Delivered reply view seen order) =
 IsRightFor init next book (Illegal reply view seen carried) = (carried ≡ book)
     × ¬ HasLegalOrder init next book
 
--- It is right for a book at the seen cut, each word of which this caller of n has peeked.
+-- The outcome is right for a book at its seen cut which a caller of n with this local has gathered,
+-- by peeking each of its words.
 abbrev pub IsRightByPeeks : (init : List ℕ) → (next : List ℕ → ℕ → List ℕ × ℕ) → ℕ → Local
     → Outcome → Type 0
 IsRightByPeeks init next n l outcome = (book : List Page) × IsGathered n l (cut_in outcome) book
     × IsRightFor init next book outcome
 
--- It is right for the book at the seen cut of all callers' calls, in whatever reachable world has
--- this local at caller i.
+-- In each reachable world in which caller `i` has this local, the outcome is right for the book at
+-- its seen cut of the book of all callers' calls.
 abbrev pub IsRightInWorlds : (init : List ℕ) → (next : List ℕ → ℕ → List ℕ × ℕ) → Shape → ℕ → Local
     → Outcome → Type 0
 IsRightInWorlds init next s i l outcome =
     (locals : List Local) → AreTogether s locals → local_at locals i ≡ l
     → IsRightFor init next (book_at (cut_in outcome) (book_in locals)) outcome
 
--- The same of the caller of some rows.
+-- In each reachable world of these rows in which this caller has its local, the outcome is right
+-- for the book at its seen cut of the book of all callers' calls.
 abbrev pub IsRightOf : {P : Type 0} → (init : List ℕ) → (next : List ℕ → ℕ → List ℕ × ℕ)
     → (P → ℕ → ℕ → Meaning) → Rows P → Caller P → Outcome → Type 0
 IsRightOf init next meaning r c outcome =

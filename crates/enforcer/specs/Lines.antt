@@ -1,4 +1,5 @@
--- What a judgement says at the end of a call's line, and what it leaves standing for the next one.
+-- How a judgement ends the line of its call, and which book and order are kept after it for the
+-- caller's next one.
 use Rattle.std.specs.Prelude.{◌≡◌, ℕ, ◌⊎◌, false, List, Option, Some, None, IsSomeAnd, length}
 use Rattle.book_base.specs.declared.call.Record.{Record}
 use Rattle.book_base.specs.Cut.{IsWithin}
@@ -10,29 +11,31 @@ use Rattle.row_table.specs.declared.stance.Stance.{Stance}
 use Rattle.row_gather.specs.declared.gathered.Gathered.{Gathered}
 use Rattle.drv_wrapper.specs.Stands.{ready}
 
--- Where a book is kept, what is kept of an order stands for an object in that book, or in one from
--- which it has grown.
+-- Where a book and an order are kept, each mark of the order is a mark, for this object, in that
+-- book: the places up to the mark followed one another in the book, or in one from which the book
+-- has grown.
 abbrev pub StandsIn : (init : List ℕ) → (next : List ℕ → ℕ → List ℕ × ℕ) → Option Gathered
     → Option KeptOrder → Type 0
 StandsIn init next gathered None = Unit {0}
 StandsIn init next None (Some s) = Unit {0}
 StandsIn init next (Some g) (Some s) = IsStandingFor init next g.book s
 
--- The book that was gathered is of n callers, and a cut holds its own.
+-- A book is kept, it is of n callers, and the cut that is kept with it is within this cut.
 abbrev pub IsHeldIn : ℕ → Option Gathered → List ℕ → Type 0
 IsHeldIn n gathered cut = IsSomeAnd gathered (λ g. (length g.book ≡ n) × IsWithin g.cut cut)
 
--- The line of a call ends with a verdict, with this record and this seen cut.
+-- The line of a call ends with `Delivered` or with `Error`, and with this record and this seen cut.
 abbrev pub IsVerdictOn : Record → List ℕ → LineEnd → Type 0
 IsVerdictOn r cut end = (end ≡ Delivered r cut) ⊎ (end ≡ Error r cut)
 
--- How the caller stands after that: halted after an error, and else ready for its next call.
+-- The stance of a caller after the line of its call ended so: halted after `Error`, and ready for
+-- its next call after any other end.
 abbrev pub stance_after : LineEnd → Stance
 stance_after (Error r cut) = record ready { live = false }
 stance_after _ = ready
 
--- After a reply that is delivered to one of n callers its book is kept, at the seen cut; after an
--- error none is.
+-- After `Delivered` a book of n callers is kept with the seen cut of the line; after any other end
+-- no book is kept.
 abbrev pub IsKeptAfterLine : ℕ → LineEnd → Option Gathered → Type 0
 IsKeptAfterLine n (Delivered r cut) gathered =
     IsSomeAnd gathered (λ g. (length g.book ≡ n) × (g.cut ≡ cut))

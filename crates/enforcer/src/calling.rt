@@ -19,9 +19,9 @@ use row_table::{Caller, Rows, Steps};
 use std::sync::ledger::Ledger;
 use world_core::{Outside, Program};
 
-/// Makes one call up to its seen cut: the call is announced, the object asked, the view taken and
-/// the record published; then the cut of what is published is seen. It ticks at most as often as
-/// four scans.
+/// Makes one call up to its seen cut: the call is announced, the object is asked, the view is
+/// taken, and the record is published; then a cut of the published records is seen. The counter of
+/// steps rises by at most the most words that four scans may take.
 pub fn call_and_see<B: BlackBox, L: Ledger>(
     caller: Caller,
     rows: &Rows,

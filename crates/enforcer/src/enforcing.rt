@@ -23,12 +23,13 @@ use std::alloc::Global;
 use std::sync::ledger::Ledger;
 use world_core::{Outside, Program};
 
-/// Makes one call of an object, which checks itself: the reply comes back only where all replies
-/// that are published by then, of all callers and this one among them, are those that a sequential
+/// Makes one call of an object, and checks it: the reply is delivered only where all replies that
+/// the call's seen cut holds, of all callers and this one among them, are those that a sequential
 /// object gives in one order.
 ///
-/// The call is announced, the object is asked, the view is taken, and the record, reply and view,
-/// is published; then the cut of what is published is seen, and the book at that cut is judged.
+/// The call is announced, the object is asked, the view is taken, and the record, a reply and a
+/// view, is published; then a cut of the published records is seen, and the book at that cut is
+/// judged.
 ///
 /// This is the call to make instead of the object's own. Two callers of a queue, one after the
 /// other, over an object `Replies` and its `RepliesPass` that are written as on the page of
@@ -109,7 +110,7 @@ use world_core::{Outside, Program};
 ///
 /// Where the object replies `done` and `=5`, the second outcome is `Delivered` with the order `enq
 /// 5`, `deq`. Where it replies `none` to both, the first outcome is `Illegal` already: no queue
-/// answers an `enq` so.
+/// replies `none` to an `enq`.
 ///
 /// What you hand in:
 ///
@@ -121,31 +122,32 @@ use world_core::{Outside, Program};
 /// - `object` and `pass`: the object under test, and this caller's own pass of it, with a call
 ///   left. One call is made with it, neither more nor fewer, whatever becomes of the judgement.
 /// - `gathered`: the book that this caller gathered last, and `None` before its first call. The
-///   book of a call is grown from it, so that only words that are new are peeked: the cut that a
-///   caller sees later holds what it gathered before. After `Delivered` it is the book that was
-///   judged: hand it to the same caller's next call. After `Illegal`, which takes its book along,
-///   and after `Unjudged` it is `None`. Like the guide it never changes a verdict, so `None` is
-///   always good; but then the words of all calls before are peeked again.
+///   book of a call grows from it, so that only the words that it lacks are peeked: each later seen
+///   cut of a caller contains its earlier ones. After `Delivered` it is the book that was judged:
+///   hand it to the same caller's next call. After `Illegal`, which carries its book, and after
+///   `Unjudged` it is `None`. Like the guide it never changes a verdict, so `None` is always good;
+///   but then the words of all earlier calls are peeked again.
 /// - `guide`: the last order that was found, after whose places the search for the next one begins.
 ///   It costs or saves time alone, and never changes a verdict, so a new one is always good. The
 ///   sequential object is asked for each of these places again;
-///   [`enforce_after`](crate::enforce_after) asks for those after the last mark that still stands.
-/// - `steps`: the counter that ticks with each word of the table that is looked at or peeked: those
-///   of four scans, and those of the book that are new.
+///   [`enforce_after`](crate::enforce_after) asks only for those after the last mark up to which
+///   the places still follow one another.
+/// - `steps`: the counter that rises by 1 with each word of the table that is looked at or peeked:
+///   with the words of four scans, and with those of the book that `gathered` lacks.
 ///
 /// Each caller keeps one pass, one gathered book, one guide and one counter of its own, and makes
-/// its calls from its own thread. On one thread, as above, guide and counter may be shared, but
-/// never the pass or the gathered book. No call takes a lock or waits for another caller, and a
-/// caller that stops in the midst of its call holds up nobody.
+/// its calls from its own thread. On one thread, as in the example, guide and counter may be
+/// shared, but never the pass or the gathered book. No call takes a lock or waits for another
+/// caller, and a caller that stops in the midst of its call holds up no other caller.
 ///
 /// What you may conclude from an answer:
 ///
 /// - `Delivered`: the order is a legal one of the book at the seen cut. The book has every record
-///   that is published below the cut, with this call's record, the last of its caller's; so the
-///   order explains this reply and each one that was delivered with a seen cut within this one. A
-///   call that a view shows to have come before another does so in the order too. The caller is
-///   live and idle. The object may still be wrong: where calls overlap, a wrong reply may be a
-///   right one in the wider intervals from announcement to view, and then it isn't found.
+///   that the cut holds, and with them this call's record, the last of its caller's; so the order
+///   explains this reply and each one that was delivered with a seen cut within this one. A call
+///   that precedes another one by the views comes before it in the order too. The caller is live
+///   and idle. The object may still be wrong: where calls overlap, a wrong reply may be a right one
+///   in the wider intervals from announcement to view, and then it isn't found.
 /// - `Illegal`: no order explains the book at the seen cut, which the outcome carries. It is
 ///   evidence against the object that needs no trust in this run: written as text, `selfcheck
 ///   verify` answers the same to anyone. No run whose object calls are linearizable has such an
@@ -155,8 +157,8 @@ use world_core::{Outside, Program};
 ///   judgements of the other callers hold it, and the caller is halted.
 ///
 /// An error is final: every judgement at a cut that contains an illegal one is an error too
-/// ([`errors_are_final`](crate::laws::errors_are_final)). Callers whose calls begin afterwards are
-/// all halted, each at its next call (Castañeda and Rodríguez 2023).
+/// ([`errors_are_final`](crate::laws::errors_are_final)). After an error each caller whose next
+/// call begins later is halted at that call (Castañeda and Rodríguez 2023).
 pub fn enforce<S: SeqObject, B: BlackBox, L: Ledger>(
     alloc: Global,
     rows: &Rows,
@@ -175,7 +177,7 @@ pub fn enforce<S: SeqObject, B: BlackBox, L: Ledger>(
     requires idle { IsIdle (local_with caller) }
     // The caller has announced fewer calls than the cap.
     requires row { (local_with caller).announced < rows.now.cap }
-    // The caller makes calls, means to begin no scan, and keeps no reply.
+    // The caller is live, means to begin no scan, and keeps no reply.
     requires stands { stance_of caller ≡ ready }
     // The pass is one of this object's.
     requires own { B.is_own object.now pass.old }
@@ -183,14 +185,14 @@ pub fn enforce<S: SeqObject, B: BlackBox, L: Ledger>(
     requires pass { B.Pass.caller pass.old ≡ who_of caller }
     // The pass has made fewer calls than it may make.
     requires left { B.Pass.made pass.old < B.Pass.cap pass.old }
-    // The caller has peeked each word of the book that is kept, where there is one, and that book
-    // is one at its cut.
+    // Where a book is kept, it is one at the cut that is kept with it, and the caller has peeked
+    // each of its words.
     requires gathered { IsGatheredBy (local_with caller) gathered.old }
     // With an outcome the caller is still one of these rows, with the same number.
     ensures caller { IfOk result (λ r. IsStill ⟦<Outside as Program>⟧.meaning rows.now caller r.0) }
     // With an outcome the caller is idle.
     ensures idle { IfOk result (λ r. IsIdle (local_with r.0)) }
-    // With `Delivered` the caller is ready for its next call, and with `Illegal` it is halted.
+    // After `Delivered` the caller is ready for its next call, and after `Illegal` it is halted.
     ensures stands { IfOk result (λ r. stance_of r.0 ≡ stance_after r.1) }
     // With an outcome the caller has made one call more than before, with this operation and the
     // record and the seen cut of the outcome, and has published one record more.
@@ -198,30 +200,33 @@ pub fn enforce<S: SeqObject, B: BlackBox, L: Ledger>(
         ≡ after_call op (record_in r.1) (cut_in r.1) (progress_of (local_with caller))) }
     // The view and the seen cut of an outcome have one count for each caller.
     ensures wide { IfOk result (λ r. AreWide rows.now.callers (record_in r.1).view (cut_in r.1)) }
-    // The seen cut of an outcome holds each record that the caller has published, and no more of
-    // it.
+    // The count for the caller in the seen cut of an outcome is the number of records that the
+    // caller has published.
     ensures own { IfOk result (λ r. HoldsOwn (cut_in r.1) r.0) }
-    // With an outcome the caller's local has each look, peek and cut that it had before.
+    // With an outcome the caller's local has each look, each peek and each given cut that it had
+    // before the call.
     ensures grows { IfOk result (λ r. Grows (local_with caller) (local_with r.0)) }
-    // An outcome is right for a book at its seen cut each of whose words the caller has peeked: the
-    // order that it carries is a legal one of that book; or it carries the book, which has no legal
-    // order.
+    // An outcome is right for a book at its seen cut each of whose words the caller has peeked:
+    // after `Delivered` the order that it carries is a legal order of that book, and after
+    // `Illegal` it carries that book, which has no legal order.
     ensures gathered { IfOk result (λ r. IsRightByPeeks (S.init sequential.now)
         (S.next sequential.now) rows.now.callers (local_with r.0) r.1) }
-    // In whichever reachable world has this local at the caller, the outcome is right for the book
-    // at the seen cut of all callers' calls: its order is a legal one of that book; or it carries
-    // that book, which has no legal order.
+    // In each reachable world in which the caller has its local, an outcome is right for the book
+    // at its seen cut of the book of all callers' calls: after `Delivered` the order that it
+    // carries is a legal order of that book, and after `Illegal` it carries that book, which has no
+    // legal order.
     ensures verdict { IfOk result (λ r. IsRightOf (S.init sequential.now)
         (S.next sequential.now) ⟦<Outside as Program>⟧.meaning rows.now r.0 r.1) }
-    // With an outcome the caller has peeked each word of the book that is now kept, where there is
-    // one, and that book is one at its cut.
+    // With an outcome, where a book is now kept, it is one at the cut that is kept with it, and the
+    // caller has peeked each of its words.
     ensures kept { IfOk result (λ r. IsGatheredBy (local_with r.0) gathered.new) }
-    // After `Delivered` a book of as many callers as the rows have is kept, at the seen cut, and
-    // after `Illegal` none is.
+    // After `Delivered` a book of as many callers as the rows have is kept, with the seen cut, and
+    // after `Illegal` no book is kept.
     ensures kept_book { IfOk result (λ r. IsKeptAfterOutcome rows.now.callers r.1 gathered.new) }
-    // With an outcome the counter of steps has risen by at most four times the most words that a
-    // scan takes, and then once for each word of the call's book that the book kept before lacks,
-    // where that is of as many callers and its cut is within the seen one.
+    // With an outcome the counter of steps has risen by at most the most words that four scans may
+    // take, and then by the number of words that the call's book has and the book kept before
+    // lacks, where that one is of as many callers as the rows have and its cut is within the seen
+    // one; where no book was kept before, then by the number of words of the call's book.
     ensures new_words { IfOk result (λ r.
         TicksForWholeCall rows.now.callers gathered.old r.1 gathered.new steps.old steps.new) }
     // The caller of an unjudged call is still one of these rows, with the same number.
@@ -236,22 +241,23 @@ pub fn enforce<S: SeqObject, B: BlackBox, L: Ledger>(
         ≡ after_call op (record_unjudged u) u.seen (progress_of (local_with caller))) }
     // The view and the seen cut of an unjudged call have one count for each caller.
     ensures unjudged_wide { IfErr result (λ u. AreWide rows.now.callers u.view u.seen) }
-    // The seen cut of an unjudged call holds each record that its caller has published, and no more
-    // of it.
+    // The count for the caller of an unjudged call in its seen cut is the number of records that
+    // this caller has published.
     ensures unjudged_own { IfErr result (λ u. HoldsOwn u.seen u.caller) }
-    // The local of the caller of an unjudged call has each look, peek and cut that it had before.
+    // The local of the caller of an unjudged call has each look, each peek and each given cut that
+    // it had before the call.
     ensures unjudged_grows { IfErr result (λ u. Grows (local_with caller) (local_with u.caller)) }
     // After an unjudged call no book is kept.
     ensures unjudged_kept { IfErr result (λ u. gathered.new ≡ None) }
     // The pass is still one of this object's.
     ensures pass { B.is_own object.now pass.new }
-    // The pass has made one call more.
+    // The pass has made one call more than before.
     ensures made { B.Pass.made pass.new ≡ B.Pass.made pass.old + 1 }
-    // The pass keeps its caller and how many calls it may make.
+    // The pass keeps its caller and the number of calls that it may make.
     ensures same { (B.Pass.caller pass.new ≡ B.Pass.caller pass.old)
         × (B.Pass.cap pass.new ≡ B.Pass.cap pass.old) }
-    // A pass that tells its calls tells one more, with this operation and the reply of the call,
-    // judged or not; one that tells none still tells none.
+    // Where the pass tells its calls, it tells one more, as the last, with this operation and the
+    // reply of the call, judged or not; a pass that tells no calls still tells no calls.
     ensures told { B.Pass.told pass.new ≡ told_after op (reply_of result) (B.Pass.told pass.old) }
     // The counter of steps has not fallen.
     ensures ticks { steps.old ≤ steps.new }

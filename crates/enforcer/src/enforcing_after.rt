@@ -25,17 +25,19 @@ use std::alloc::Global;
 use std::sync::ledger::Ledger;
 use world_core::{Outside, Program};
 
-/// Makes one call of an object, which checks itself, as [`enforce`](crate::enforce) does, for a
-/// caller that keeps what stands of the last order: a call mostly costs what is new, where
+/// Makes one call of an object, and checks it, as [`enforce`](crate::enforce) does, for a caller
+/// that keeps its last order with marks: a call mostly costs no more than what is new, where
 /// `enforce` steps through all places of the last order.
 ///
-/// What is handed in and what may be concluded from an answer is as told there, but for two things:
+/// What is handed in, and what may be concluded from an answer, is as the page of
+/// [`enforce`](crate::enforce) says, but for two things:
 ///
-/// - `standing` takes the place of the guide: what stands of an order in the book that is kept in
+/// - `standing` replaces the guide: it is an order with its marks in the book that is kept in
 ///   `gathered`, for this sequential object. Both are `None` before the caller's first call.
-///   Whoever hands in what the last call of this caller left, with the same sequential object,
-///   meets the condition `stands`; so does `None`, for either.
-/// - [`Judged`] has no order: after `Delivered` it is the one in `standing`, and costs no copy.
+///   Whoever hands in both as the last call of this caller left them, with the same sequential
+///   object, meets the condition `stands`; and so does whoever hands in `None` for either of them.
+/// - [`Judged`] has no order: after `Delivered` the order is the one in `standing`, and it is not
+///   copied.
 pub fn enforce_after<S: SeqObject, B: BlackBox, L: Ledger>(
     alloc: Global,
     rows: &Rows,
@@ -54,7 +56,7 @@ pub fn enforce_after<S: SeqObject, B: BlackBox, L: Ledger>(
     requires idle { IsIdle (local_with caller) }
     // The caller has announced fewer calls than the cap.
     requires row { (local_with caller).announced < rows.now.cap }
-    // The caller makes calls, means to begin no scan, and keeps no reply.
+    // The caller is live, means to begin no scan, and keeps no reply.
     requires stance { stance_of caller ≡ ready }
     // The pass is one of this object's.
     requires own { B.is_own object.now pass.old }
@@ -62,18 +64,18 @@ pub fn enforce_after<S: SeqObject, B: BlackBox, L: Ledger>(
     requires pass { B.Pass.caller pass.old ≡ who_of caller }
     // The pass has made fewer calls than it may make.
     requires left { B.Pass.made pass.old < B.Pass.cap pass.old }
-    // The caller has peeked each word of the book that is kept, where there is one, and that book
-    // is one at its cut.
+    // Where a book is kept, it is one at the cut that is kept with it, and the caller has peeked
+    // each of its words.
     requires gathered { IsGatheredBy (local_with caller) gathered.old }
-    // Where a book is kept, what is kept of an order stands, for the sequential object, in that
-    // book or in one from which it has grown.
+    // Where a book and an order are kept, each mark of the order is one, for the sequential object,
+    // in that book or in one from which that book has grown.
     requires stands { StandsIn (S.init sequential.now)
         (S.next sequential.now) gathered.old standing.old }
     // With a judgement the caller is still one of these rows, with the same number.
     ensures caller { IfOk result (λ r. IsStill ⟦<Outside as Program>⟧.meaning rows.now caller r.0) }
     // With a judgement the caller is idle.
     ensures idle { IfOk result (λ r. IsIdle (local_with r.0)) }
-    // With `Delivered` the caller is ready for its next call, and with `Illegal` it is halted.
+    // After `Delivered` the caller is ready for its next call, and after `Illegal` it is halted.
     ensures stance { IfOk result (λ r. stance_of r.0 ≡ stance_judged r.1) }
     // With a judgement the caller has made one call more than before, with this operation and the
     // record and the seen cut of the judgement, and has published one record more.
@@ -82,37 +84,40 @@ pub fn enforce_after<S: SeqObject, B: BlackBox, L: Ledger>(
     // The view and the seen cut of a judgement have one count for each caller.
     ensures wide { IfOk result
         (λ r. AreWide rows.now.callers (record_judged r.1).view (cut_judged r.1)) }
-    // The seen cut of a judgement holds each record that the caller has published, and no more of
-    // it.
+    // The count for the caller in the seen cut of a judgement is the number of records that the
+    // caller has published.
     ensures own { IfOk result (λ r. HoldsOwn (cut_judged r.1) r.0) }
-    // With a judgement the caller's local has each look, peek and cut that it had before.
+    // With a judgement the caller's local has each look, each peek and each given cut that it had
+    // before the call.
     ensures grows { IfOk result (λ r. Grows (local_with caller) (local_with r.0)) }
-    // A judgement is, with the order that stands now, an outcome that is right for a book at its
-    // seen cut each of whose words the caller has peeked: that order is a legal one of the book; or
-    // the judgement carries the book, which has no legal order.
+    // A judgement makes, with the order that is now kept, an outcome that is right for a book at
+    // its seen cut each of whose words the caller has peeked: after `Delivered` an order is kept,
+    // and it is a legal order of that book; after `Illegal` the judgement carries that book, which
+    // has no legal order.
     ensures gathered { IfOk result (λ r. IsOutcome r.1 standing.new
         (IsRightByPeeks (S.init sequential.now) (S.next sequential.now) rows.now.callers
         (local_with r.0))) }
-    // In whichever reachable world has this local at the caller, a judgement is, with the order
-    // that stands now, an outcome that is right for the book at the seen cut of all callers' calls:
-    // that order is a legal one of the book; or the judgement carries the book, which has no legal
-    // order.
+    // In each reachable world in which the caller has its local, a judgement makes, with the order
+    // that is now kept, an outcome that is right for the book at its seen cut of the book of all
+    // callers' calls: after `Delivered` an order is kept, and it is a legal order of that book;
+    // after `Illegal` the judgement carries that book, which has no legal order.
     ensures verdict { IfOk result (λ r. IsOutcome r.1 standing.new
         (IsRightOf (S.init sequential.now) (S.next sequential.now)
         ⟦<Outside as Program>⟧.meaning rows.now r.0)) }
-    // With a judgement the caller has peeked each word of the book that is now kept, where there is
-    // one, and that book is one at its cut.
+    // With a judgement, where a book is now kept, it is one at the cut that is kept with it, and
+    // the caller has peeked each of its words.
     ensures kept { IfOk result (λ r. IsGatheredBy (local_with r.0) gathered.new) }
-    // After `Delivered` a book of as many callers as the rows have is kept, at the seen cut, and
-    // after `Illegal` none is.
+    // After `Delivered` a book of as many callers as the rows have is kept, with the seen cut, and
+    // after `Illegal` no book is kept.
     ensures kept_book { IfOk result (λ r. IsKeptAfter rows.now.callers r.1 gathered.new) }
-    // Where a book is now kept, what is kept of an order stands, for the sequential object, in that
-    // book or in one from which it has grown.
+    // Where a book and an order are now kept, each mark of the order is one, for the sequential
+    // object, in that book or in one from which that book has grown.
     ensures stands { StandsIn (S.init sequential.now)
         (S.next sequential.now) gathered.new standing.new }
-    // With a judgement the counter of steps has risen by at most four times the most words that a
-    // scan takes, and then once for each word of the judged book that the book kept before lacks,
-    // where that is of as many callers and its cut is within the seen one.
+    // With a judgement the counter of steps has risen by at most the most words that four scans may
+    // take, and then by the number of words that the judged book has and the book kept before
+    // lacks, where that one is of as many callers as the rows have and its cut is within the seen
+    // one; where no book was kept before, then by the number of words of the judged book.
     ensures new_words { IfOk result (λ r.
         TicksForCallAfter rows.now.callers gathered.old r.1 gathered.new steps.old steps.new) }
     // The caller of an unjudged call is still one of these rows, with the same number.
@@ -127,22 +132,23 @@ pub fn enforce_after<S: SeqObject, B: BlackBox, L: Ledger>(
         ≡ after_call op (record_unjudged u) u.seen (progress_of (local_with caller))) }
     // The view and the seen cut of an unjudged call have one count for each caller.
     ensures unjudged_wide { IfErr result (λ u. AreWide rows.now.callers u.view u.seen) }
-    // The seen cut of an unjudged call holds each record that its caller has published, and no more
-    // of it.
+    // The count for the caller of an unjudged call in its seen cut is the number of records that
+    // this caller has published.
     ensures unjudged_own { IfErr result (λ u. HoldsOwn u.seen u.caller) }
-    // The local of the caller of an unjudged call has each look, peek and cut that it had before.
+    // The local of the caller of an unjudged call has each look, each peek and each given cut that
+    // it had before the call.
     ensures unjudged_grows { IfErr result (λ u. Grows (local_with caller) (local_with u.caller)) }
     // After an unjudged call no book is kept.
     ensures unjudged_kept { IfErr result (λ u. gathered.new ≡ None) }
     // The pass is still one of this object's.
     ensures pass { B.is_own object.now pass.new }
-    // The pass has made one call more.
+    // The pass has made one call more than before.
     ensures made { B.Pass.made pass.new ≡ B.Pass.made pass.old + 1 }
-    // The pass keeps its caller and how many calls it may make.
+    // The pass keeps its caller and the number of calls that it may make.
     ensures same { (B.Pass.caller pass.new ≡ B.Pass.caller pass.old)
         × (B.Pass.cap pass.new ≡ B.Pass.cap pass.old) }
-    // A pass that tells its calls tells one more, with this operation and the reply of the call,
-    // judged or not; one that tells none still tells none.
+    // Where the pass tells its calls, it tells one more, as the last, with this operation and the
+    // reply of the call, judged or not; a pass that tells no calls still tells no calls.
     ensures told { B.Pass.told pass.new
         ≡ told_after op (reply_after result) (B.Pass.told pass.old) }
     // The counter of steps has not fallen.

@@ -1,10 +1,11 @@
 use book_base::{Book, Cut};
 
-/// What became of a call that was judged after the places that still stood: the outcome but for its
-/// order, which stays with what stands.
+/// What became of a call that was judged for a caller which keeps its last order with marks: an
+/// [`Outcome`](crate::Outcome) without its order, which is kept beside it.
 #[derive(Debug, Drop)]
 pub enum Judged {
-    /// The reply is delivered: the book at the seen cut has a legal order, the one that stands now.
+    /// The reply is delivered: the book at the seen cut has a legal order, the one that is now
+    /// kept.
     Delivered {
         reply: u64,
         view: Cut,

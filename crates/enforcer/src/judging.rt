@@ -23,13 +23,13 @@ use std::alloc::Global;
 use std::sync::ledger::Ledger;
 use world_core::Program;
 
-/// The book at the seen cut of a call, with that cut: the records that were published by then, of
-/// all callers, and the calls that some of their views hold.
+/// Gathers the book at the seen cut of a call: the records that this cut holds, of all callers, and
+/// the calls that some of their views hold.
 ///
-/// What the caller has gathered before, where it hands that in, is grown to it, and only what is
-/// new is peeked, where the seen cut contains that of the kept book, as a later one of the same
-/// caller does. After want of memory the caller may have peeked a part of the new words, what it
-/// handed in is gone, and all else is as it was.
+/// The book that the caller has gathered before, where it hands one in, grows to the new one where
+/// the seen cut contains the cut of that book, as each later seen cut of the same caller does; then
+/// only the words that the earlier book lacks are peeked. Where memory is lacking, the caller may
+/// have peeked some of these words, the book that it handed in is gone, and all else is as it was.
 pub fn gather<P: Program, L: Ledger>(
     alloc: Global,
     rows: &Rows<P>,
@@ -39,8 +39,8 @@ pub fn gather<P: Program, L: Ledger>(
 ) -> Result<Gathered, NoMemory>
     // The caller of the seen call is one of these rows.
     requires rows { IsCallerOf P.meaning rows.now (caller_seen seen.old) }
-    // The caller has peeked each word of the book that it gathered before, where there is one, and
-    // that book is one at its cut.
+    // Where a book is handed in, it is one at the cut that it is kept with, and the caller has
+    // peeked each of its words.
     requires gathered { IsGatheredBy (local_with (caller_seen seen.old)) gathered }
     // The caller is still one of these rows, with the same number.
     ensures caller { IsStill P.meaning rows.now (caller_seen seen.old) (caller_seen seen.new) }
@@ -49,28 +49,33 @@ pub fn gather<P: Program, L: Ledger>(
         × (view_seen seen.new ≡ view_seen seen.old) }
     // The seen call keeps its cut.
     ensures cut { cut_seen seen.new ≡ cut_seen seen.old }
-    // The caller has made peeks alone, and the counter of steps has risen by 1 for each of them.
+    // The caller has made peeks and no other event, and the counter of steps has risen by 1 for
+    // each of them.
     ensures peeks { OnlyPeeks (caller_seen seen.old) (caller_seen seen.new) steps.old steps.new }
-    // What was gathered is at the seen cut.
+    // The gathered book is answered with the seen cut.
     ensures at { IfOk result (λ g. g.cut ≡ cut_seen seen.new) }
-    // The caller has peeked each word of the book, which is one at the seen cut.
+    // The gathered book is one at the seen cut, of as many callers as the rows have, and the caller
+    // has peeked each of its words.
     ensures gathered { IfOk result (λ g.
         IsGathered rows.now.callers (local_with (caller_seen seen.new))
         (cut_seen seen.new) g.book) }
-    // In whichever reachable world has this local at the caller, the book is the one at the seen
-    // cut of all callers' calls.
+    // In each reachable world in which the caller has its local, the gathered book is the book at
+    // the seen cut of the book of all callers' calls.
     ensures exact { IfOk result (λ g.
         IsTheBookAt P.meaning rows.now (caller_seen seen.new) (cut_seen seen.new) g.book) }
-    // The counter of steps has risen once for each word of the book that what was gathered before
-    // lacks, where that is of as many callers and its cut is within this one.
+    // Where no book was handed in, the counter of steps has risen by the number of row words of the
+    // gathered book. Where the book that was handed in is of as many callers as the rows have, and
+    // its cut is within the seen one, the counter has risen by the number of row words that the
+    // gathered book has and that one lacks.
     ensures ticks { IfOk result (λ g. TicksForNew rows.now.callers gathered g steps.old steps.new) }
-    // The counter of steps has risen by at most the number of row words that the book has.
+    // The counter of steps has risen by at most the number of row words of the gathered book.
     ensures most { IfOk result (λ g. steps.new ≤ steps.old + words_of_book g.book) }
 {
     grow_at(alloc, rows, &mut seen.caller, gathered, &seen.cut, steps)
 }
 
-// The gathered book, and whether it has a legal order.
+// Gathers the book at the seen cut, and answers it with a legal order of it, or with `Illegal`
+// where it has no legal order.
 fn decide<P: Program, S: SeqObject, L: Ledger>(
     alloc: Global,
     object: &S,
@@ -103,7 +108,7 @@ fn decide<P: Program, S: SeqObject, L: Ledger>(
     Ok((gathered, verdict))
 }
 
-// The caller of these rows, which makes no more calls.
+// Halts a caller of these rows, which makes no further call then; its local is as it was.
 pub(crate) fn halted<P: Program>(rows: &Rows<P>, caller: Caller<P>) -> Caller<P>
     requires rows { IsCallerOf P.meaning rows.now caller }
     ensures caller { IsStill P.meaning rows.now caller result }
@@ -113,16 +118,18 @@ pub(crate) fn halted<P: Program>(rows: &Rows<P>, caller: Caller<P>) -> Caller<P>
     caller.halt()
 }
 
-/// Judges a call by the book at its seen cut: delivers the reply with a legal order of the book,
-/// where it has one, and else answers the error with that book (Castañeda and Rodríguez 2023).
+/// Judges a call by the book at its seen cut: delivers the reply with a legal order of the book
+/// where the book has one, and else answers the error with that book (Castañeda and Rodríguez
+/// 2023).
 ///
 /// After `Delivered` the caller is live and idle, and after `Illegal` it is halted. `Unjudged`
-/// comes for want of memory alone. The guide keeps the last order that was found; it costs or saves
+/// comes for lack of memory alone. The guide keeps the last order that was found; it costs or saves
 /// time, and never changes a verdict.
 ///
-/// `gathered` is what this caller has gathered before, or `None`: the book is grown from it, and
-/// only what is new is peeked. After `Delivered` it is the book that was judged, for the caller's
-/// next call, and else it is `None`: an error takes its book along.
+/// `gathered` is the book that this caller has gathered before, or `None`: the new book grows from
+/// it, and only the words that it lacks are peeked. After `Delivered` it is the book that was
+/// judged, for the caller's next call; after `Illegal`, which carries its book, and after
+/// `Unjudged` it is `None`.
 pub fn judge<P: Program, S: SeqObject, L: Ledger>(
     alloc: Global,
     object: &S,
@@ -134,51 +141,54 @@ pub fn judge<P: Program, S: SeqObject, L: Ledger>(
 ) -> Result<(Caller<P>, Outcome), Unjudged<P>>
     // The caller of the seen call is one of these rows.
     requires rows { IsCallerOf P.meaning rows.now (caller_seen seen) }
-    // The caller has peeked each word of the book that is kept, where there is one, and that book
-    // is one at its cut.
+    // Where a book is kept, it is one at the cut that is kept with it, and the caller has peeked
+    // each of its words.
     requires gathered { IsGatheredBy (local_with (caller_seen seen)) gathered.old }
     // With an outcome the caller is still one of these rows, with the same number.
     ensures caller { IfOk result (λ r. IsStill P.meaning rows.now (caller_seen seen) r.0) }
-    // With an outcome the caller has made peeks alone, and the counter of steps has risen by 1 for
-    // each of them.
+    // With an outcome the caller has made peeks and no other event, and the counter of steps has
+    // risen by 1 for each of them.
     ensures peeks { IfOk result (λ r. OnlyPeeks (caller_seen seen) r.0 steps.old steps.new) }
     // With an outcome the caller is idle.
     ensures idle { IfOk result (λ r. IsIdle (local_with r.0)) }
-    // With `Delivered` the caller is ready for its next call, and with `Illegal` it is halted.
+    // After `Delivered` the caller is ready for its next call, and after `Illegal` it is halted.
     ensures stands { IfOk result (λ r. stance_of r.0 ≡ stance_after r.1) }
     // The reply and the view of an outcome are those of the seen call.
     ensures record { IfOk result
         (λ r. record_in r.1 ≡ record { reply = reply_seen seen; view = view_seen seen }) }
     // The seen cut of an outcome is that of the seen call.
     ensures cut { IfOk result (λ r. cut_in r.1 ≡ cut_seen seen) }
-    // The seen cut of an outcome holds each record that the caller has published, and no more of
-    // it.
+    // The count for the caller in the seen cut of an outcome is the number of records that the
+    // caller has published.
     ensures own { IfOk result (λ r. HoldsOwn (cut_in r.1) r.0) }
-    // An outcome is right for a book at its seen cut each of whose words the caller has peeked: the
-    // order that it carries is a legal one of that book; or it carries the book, which has no legal
-    // order.
+    // An outcome is right for a book at its seen cut each of whose words the caller has peeked:
+    // after `Delivered` the order that it carries is a legal order of that book, and after
+    // `Illegal` it carries that book, which has no legal order.
     ensures gathered { IfOk result (λ r. IsRightByPeeks (S.init object.now)
         (S.next object.now) rows.now.callers (local_with r.0) r.1) }
-    // In whichever reachable world has this local at the caller, the outcome is right for the book
-    // at the seen cut of all callers' calls: its order is a legal one of that book; or it carries
-    // that book, which has no legal order.
+    // In each reachable world in which the caller has its local, an outcome is right for the book
+    // at its seen cut of the book of all callers' calls: after `Delivered` the order that it
+    // carries is a legal order of that book, and after `Illegal` it carries that book, which has no
+    // legal order.
     ensures verdict { IfOk result
         (λ r. IsRightOf (S.init object.now) (S.next object.now) P.meaning rows.now r.0 r.1) }
-    // With an outcome the caller has peeked each word of the book that is now kept, where there is
-    // one, and that book is one at its cut.
+    // With an outcome, where a book is now kept, it is one at the cut that is kept with it, and the
+    // caller has peeked each of its words.
     ensures kept { IfOk result (λ r. IsGatheredBy (local_with r.0) gathered.new) }
-    // After `Delivered` a book of as many callers as the rows have is kept, at the seen cut, and
-    // after `Illegal` none is.
+    // After `Delivered` a book of as many callers as the rows have is kept, with the seen cut, and
+    // after `Illegal` no book is kept.
     ensures kept_book { IfOk result (λ r. IsKeptAfterOutcome rows.now.callers r.1 gathered.new) }
-    // With an outcome the counter of steps has risen once for each word of the call's book that the
-    // book kept before lacks, where that is of as many callers and its cut is within the seen one.
+    // With an outcome the counter of steps has risen by the number of words that the call's book
+    // has and the book kept before lacks, where that one is of as many callers as the rows have and
+    // its cut is within the seen one; where no book was kept before, by the number of words of the
+    // call's book.
     ensures new_words { IfOk result (λ r.
         TicksForNewAfter rows.now.callers gathered.old r.1 gathered.new steps.old steps.new) }
     // The caller of an unjudged call is still one of these rows, with the same number.
     ensures unjudged_caller { IfErr result
         (λ u. IsStill P.meaning rows.now (caller_seen seen) u.caller) }
-    // The caller of an unjudged call has made peeks alone, and the counter of steps has risen by 1
-    // for each of them.
+    // The caller of an unjudged call has made peeks and no other event, and the counter of steps
+    // has risen by 1 for each of them.
     ensures unjudged_peeks { IfErr result
         (λ u. OnlyPeeks (caller_seen seen) u.caller steps.old steps.new) }
     // The caller of an unjudged call is halted.
@@ -187,8 +197,8 @@ pub fn judge<P: Program, S: SeqObject, L: Ledger>(
     // The reply, the view and the cut of an unjudged call are those of the seen call.
     ensures unjudged_record { IfErr result
         (λ u. (u.reply ≡ reply_seen seen) × (u.view ≡ view_seen seen) × (u.seen ≡ cut_seen seen)) }
-    // The seen cut of an unjudged call holds each record that its caller has published, and no more
-    // of it.
+    // The count for the caller of an unjudged call in its seen cut is the number of records that
+    // this caller has published.
     ensures unjudged_own { IfErr result (λ u. HoldsOwn u.seen u.caller) }
     // After an unjudged call no book is kept.
     ensures unjudged_kept { IfErr result (λ u. gathered.new ≡ None) }

@@ -1,5 +1,5 @@
-//! The enforcer of Castañeda and Rodríguez (2023): a record is published, a cut is seen, and the
-//! book at it judged.
+//! The enforcer of Castañeda and Rodríguez (2023): the record of a call is published, a cut of the
+//! published records is seen, and the book at this cut is judged.
 #![tactic(auto)]
 
 mod calling;

@@ -25,19 +25,19 @@ use std::alloc::Global;
 use std::sync::ledger::Ledger;
 use world_core::Program;
 
-/// What stands, where the book that was gathered is of `n` callers, and this cut contains its own;
-/// else nothing. So it stands in the book that is gathered at this cut, which has grown from that
-/// one.
+/// The kept order, where a book of `n` callers is kept and this cut contains the cut that is kept
+/// with it; and else `None`. The marks of an order that is answered are marks in the book that its
+/// caller gathers at this cut, too, since that book has grown from the kept one.
 pub fn standing_in(
     n: u32,
     gathered: &Option<Gathered>,
     standing: Option<KeptOrder>,
     cut: &Cut,
 ) -> Option<KeptOrder>
-    // What is answered, where anything is, is what was handed in.
+    // An order that is answered is the one that was handed in.
     ensures same { IfSome result (λ s. standing ≡ Some s) }
-    // Where anything is answered, a book is kept, it is of `n` callers, and its cut is within this
-    // one.
+    // Where an order is answered, a book is kept, it is of `n` callers, and the cut that is kept
+    // with it is within this cut.
     ensures held { IfSome result (λ _. IsHeldIn n gathered.now cut.now) }
 {
     let Some(kept) = gathered else {
@@ -52,7 +52,8 @@ pub fn standing_in(
     }
 }
 
-/// The gathered book, and what stands in it, where it has a legal order.
+/// Gathers the book at the seen cut, and answers it with a legal order of it and the marks of that
+/// order, or with `None` where the book has no legal order.
 pub(crate) fn decide_after<P: Program, S: SeqObject, L: Ledger>(
     alloc: Global,
     object: &S,
@@ -92,18 +93,19 @@ pub(crate) fn decide_after<P: Program, S: SeqObject, L: Ledger>(
 }
 
 /// Judges a call as [`judge`](crate::judge) does, for a caller that keeps the line of the call and
-/// not the order: answers how the line ends (Castañeda and Rodríguez 2023).
+/// its last order with marks: answers how the line ends (Castañeda and Rodríguez 2023).
 ///
 /// After `Delivered` the caller is live and idle, and after `Error` it is halted. `Unjudged` comes
-/// for want of memory alone.
+/// for lack of memory alone.
 ///
-/// `gathered` is what this caller has gathered before, and `standing` what stands of an order in
-/// that book, for this object; both are `None` before the caller's first call. The book is grown,
-/// and only what is new is peeked, where the seen cut contains that of the book, as it does where
-/// both are the same caller's; the search goes on after the places that the new records leave
-/// standing. So a call mostly costs what is new; no clause says how long a search takes. After
-/// `Delivered` both are those for the caller's next call, and else `gathered` is `None`. Without a
-/// book what stands counts for nothing, so it needn't be forgotten.
+/// `gathered` is the book that this caller has gathered before, and `standing` an order with its
+/// marks in that book, for this object; both are `None` before the caller's first call. The new
+/// book grows from the kept one, and only the words that the kept one lacks are peeked, where the
+/// seen cut contains the cut of the kept book, as it does where both are cuts of one caller. The
+/// search begins after the last mark up to which the order's places still follow one another in the
+/// grown book. A call mostly costs no more than what is new; no clause says how long a search
+/// takes. After `Delivered` both are those for the caller's next call. After `Error` and `Unjudged`
+/// `gathered` is `None`, and without a book a kept order is not used, so it needn't be removed.
 pub fn judge_line<P: Program, S: SeqObject, L: Ledger>(
     alloc: Global,
     object: &S,
@@ -115,49 +117,52 @@ pub fn judge_line<P: Program, S: SeqObject, L: Ledger>(
 ) -> Result<(Caller<P>, LineEnd), Unjudged<P>>
     // The caller of the seen call is one of these rows.
     requires rows { IsCallerOf P.meaning rows.now (caller_seen seen) }
-    // The caller has peeked each word of the book that is kept, where there is one, and that book
-    // is one at its cut.
+    // Where a book is kept, it is one at the cut that is kept with it, and the caller has peeked
+    // each of its words.
     requires gathered { IsGatheredBy (local_with (caller_seen seen)) gathered.old }
-    // Where a book is kept, what is kept of an order stands, for this object, in that book or in
-    // one from which it has grown.
+    // Where a book and an order are kept, each mark of the order is one, for this object, in that
+    // book or in one from which that book has grown.
     requires stands { StandsIn (S.init object.now) (S.next object.now) gathered.old standing.old }
     // With an end of the line the caller is still one of these rows, with the same number.
     ensures caller { IfOk result (λ r. IsStill P.meaning rows.now (caller_seen seen) r.0) }
-    // With an end of the line the caller has made peeks alone, and the counter of steps has risen
-    // by 1 for each of them.
+    // With an end of the line the caller has made peeks and no other event, and the counter of
+    // steps has risen by 1 for each of them.
     ensures peeks { IfOk result (λ r. OnlyPeeks (caller_seen seen) r.0 steps.old steps.new) }
     // With an end of the line the caller is idle.
     ensures idle { IfOk result (λ r. IsIdle (local_with r.0)) }
-    // With `Error` the caller is halted, and with any other end it is ready for its next call.
+    // After `Error` the caller is halted, and after any other end it is ready for its next call.
     ensures stance { IfOk result (λ r. stance_of r.0 ≡ stance_after r.1) }
-    // The line ends with `Delivered` or with `Error`, with the record and the cut of the seen call.
+    // The line ends with `Delivered` or with `Error`, and with the record and the seen cut of the
+    // seen call.
     ensures end { IfOk result (λ r. IsVerdictOn
         (record { reply = reply_seen seen; view = view_seen seen }) (cut_seen seen) r.1) }
-    // With an end of the line the seen cut holds each record that the caller has published, and no
-    // more of it.
+    // With an end of the line, the count for the caller in the seen cut is the number of records
+    // that the caller has published.
     ensures own { IfOk result (λ r. HoldsOwn (cut_seen seen) r.0) }
     // The end of the line is right for a book at its cut each of whose words the caller has peeked:
-    // after `Delivered` that book has a legal order, and after `Error` it has none.
+    // after `Delivered` that book has a legal order, and after `Error` it has no legal order.
     ensures verdict { IfOk result (λ r.
         IsJudgedBy (S.init object.now) (S.next object.now) rows.now.callers (local_with r.0) r.1) }
-    // With an end of the line the caller has peeked each word of the book that is now kept, where
-    // there is one, and that book is one at its cut.
+    // With an end of the line, where a book is now kept, it is one at the cut that is kept with it,
+    // and the caller has peeked each of its words.
     ensures kept { IfOk result (λ r. IsGatheredBy (local_with r.0) gathered.new) }
-    // After `Delivered` a book of as many callers as the rows have is kept, at the seen cut, and
-    // after any other end none is.
+    // After `Delivered` a book of as many callers as the rows have is kept, with the seen cut, and
+    // after any other end no book is kept.
     ensures kept_book { IfOk result (λ r. IsKeptAfterLine rows.now.callers r.1 gathered.new) }
-    // Where a book is now kept, what is kept of an order stands, for this object, in that book or
-    // in one from which it has grown.
+    // Where a book and an order are now kept, each mark of the order is one, for this object, in
+    // that book or in one from which that book has grown.
     ensures stands { StandsIn (S.init object.now) (S.next object.now) gathered.new standing.new }
-    // Where a book is now kept, the counter of steps has risen once for each of its words that the
-    // book kept before lacks, where that is of as many callers and its cut is within the new one.
+    // With an end of the line, where a book is now kept, the counter of steps has risen by the
+    // number of words that this book has and the book kept before lacks, where that one is of as
+    // many callers as the rows have and its cut is within the new one; where no book was kept
+    // before, by the number of words of the book that is now kept.
     ensures new_words { IfOk result (λ r. IfSome gathered.new (λ g.
         TicksForNew rows.now.callers gathered.old g steps.old steps.new)) }
     // The caller of an unjudged call is still one of these rows, with the same number.
     ensures unjudged_caller { IfErr result
         (λ u. IsStill P.meaning rows.now (caller_seen seen) u.caller) }
-    // The caller of an unjudged call has made peeks alone, and the counter of steps has risen by 1
-    // for each of them.
+    // The caller of an unjudged call has made peeks and no other event, and the counter of steps
+    // has risen by 1 for each of them.
     ensures unjudged_peeks { IfErr result
         (λ u. OnlyPeeks (caller_seen seen) u.caller steps.old steps.new) }
     // The caller of an unjudged call is halted.
@@ -166,8 +171,8 @@ pub fn judge_line<P: Program, S: SeqObject, L: Ledger>(
     // The reply, the view and the cut of an unjudged call are those of the seen call.
     ensures unjudged_record { IfErr result
         (λ u. (u.reply ≡ reply_seen seen) × (u.view ≡ view_seen seen) × (u.seen ≡ cut_seen seen)) }
-    // The seen cut of an unjudged call holds each record that its caller has published, and no more
-    // of it.
+    // The count for the caller of an unjudged call in its seen cut is the number of records that
+    // this caller has published.
     ensures unjudged_own { IfErr result (λ u. HoldsOwn u.seen u.caller) }
     // After an unjudged call no book is kept.
     ensures unjudged_kept { IfErr result (λ u. gathered.new ≡ None) }

@@ -2,8 +2,7 @@ use book_base::{Book, Cut, Place};
 use row_table::Caller;
 use world_core::Outside;
 
-/// What became of a call whose record is published: its reply with its view, and the cut that was
-/// seen.
+/// What became of a call that was judged, with its record, a reply and a view, and its seen cut.
 #[derive(Debug, Drop)]
 pub enum Outcome {
     /// The reply is delivered: the book at the seen cut has a legal order, which explains this
@@ -14,9 +13,9 @@ pub enum Outcome {
         seen: Cut,
         order: Vec<Place>,
     },
-    /// The object is wrong: the book at the seen cut has no legal order. It is evidence that anyone
-    /// can check again without the object, and every judgement at a cut that contains this one is
-    /// an error too.
+    /// The object is wrong: the book at the seen cut has no legal order. The book is evidence that
+    /// anyone can check again without the object, and every judgement at a cut that contains the
+    /// seen cut is an error too.
     Illegal {
         reply: u64,
         view: Cut,
@@ -25,10 +24,11 @@ pub enum Outcome {
     },
 }
 
-/// A call that was not judged for want of memory, which says nothing about the object.
+/// A call that wasn't judged, since memory was refused, which says nothing about the object.
 ///
-/// Its caller is halted, and its record stays published, so that the judgements of others hold it.
-/// Its reply and view are those of the record, and nobody has checked the reply.
+/// Its caller is halted, and its record stays published, so that the books which other callers
+/// judge may hold it. The reply and the view are those of the record, and this call hasn't checked
+/// the reply.
 pub struct Unjudged<P = Outside> {
     pub caller: Caller<P>,
     pub reply: u64,

@@ -22,7 +22,7 @@ impl<P> Published<P> {
     ghost use Rattle.drv_wrapper.specs.Stands.{IsStopped};
     ghost use Rattle.enforcer.specs.States.{caller_published, reply_published, view_published};
 
-    /// The reply of the object.
+    /// The reply that the object gave.
     pub fn reply(&self) -> u64
         ensures { result ≡ reply_published self.now }
     {
@@ -36,7 +36,8 @@ impl<P> Published<P> {
         self.view
     }
 
-    /// The caller, halted, with its local as it is: its record is published, and nobody judges it.
+    /// The caller, halted, with its local as it was: the record of the call stays published, and
+    /// the call isn't judged.
     pub fn stop(self) -> Caller<P>
         ensures { IsStopped (caller_published self) result }
     {

@@ -15,12 +15,13 @@ use row_table::{Rows, Steps, publish_row};
 use std::sync::ledger::Ledger;
 use world_core::{Program, Region};
 
-/// Publishes the record of a call: scans M, stages reply and view with the cut of this scan in the
-/// caller's row of M, and raises the caller's count there. The scan begins after the view was
-/// taken, and its cut contains each count of M that the caller had looked at. From then on every
-/// cut that is seen holds the record.
+/// Publishes the record of a call: scans M, stages the reply and the view with the cut of this scan
+/// in the caller's row of M, and raises the caller's count in M. The scan begins after the view was
+/// taken, and its cut contains each count of M that the caller had looked at before. Each scan of M
+/// that begins after the publication gives a cut that holds the record.
 ///
-/// It ticks at most as often as one scan, and takes no memory.
+/// The counter of steps rises by at most the most words that one scan may take, and no memory is
+/// taken.
 pub fn publish<P: Program, L: Ledger>(
     viewed: Viewed<P>,
     rows: &Rows<P>,
@@ -35,18 +36,21 @@ pub fn publish<P: Program, L: Ledger>(
     // The published call has the reply and the view of the viewed one.
     ensures record { (reply_published result ≡ reply_viewed viewed)
         × (view_published result ≡ view_viewed viewed) }
-    // The caller's local is its earlier one after a scan of M and the publication of the row that
-    // was staged, with no other event but stages; the row embeds the cut of that scan, which
-    // contains each count of M that the caller had looked at before.
+    // The caller's local is the one that it had before, changed by a scan of M, the publication of
+    // the row that was staged, and no other event but stages. The row embeds the cut of that scan,
+    // which is the last cut that the caller was given, and which contains each count of M that the
+    // caller had looked at before the scan.
     ensures published { IsPublication rows.now.callers (local_with (caller_viewed viewed))
         (local_with (caller_published result)) }
-    // The caller has published one record more, and its progress is as before besides.
+    // The caller's progress is the one before the publication, with one published record more.
     ensures progress { progress_of (local_with (caller_published result))
         ≡ after_publishing (progress_of (local_with (caller_viewed viewed))) }
-    // The caller's local has each look, peek and cut that it had before.
+    // The caller's local has each look, each peek and each given cut that it had before the
+    // publication.
     ensures grows { Grows (local_with (caller_viewed viewed))
         (local_with (caller_published result)) }
-    // The counter of steps has risen by at most the most words that a scan takes.
+    // The counter of steps has not fallen, and has risen by at most the most words that one scan
+    // may take.
     ensures ticks { (steps.old ≤ steps.new)
         × (steps.new ≤ steps.old + most_words rows.now.callers) }
 {

@@ -15,10 +15,12 @@ use row_table::{Rows, Steps};
 use std::sync::ledger::Ledger;
 use world_core::{Program, Region};
 
-/// Sees which records are published: the cut of a scan of M that begins now, so that it holds the
-/// caller's own record and every one that was published before (Castañeda and Rodríguez 2023).
+/// Sees which records are published: makes a scan of M, which begins after the caller's own record
+/// was published, so that its cut holds this record and every other one that was published before
+/// the scan (Castañeda and Rodríguez 2023).
 ///
-/// It ticks at most as often as one scan, and takes no memory.
+/// The counter of steps rises by at most the most words that one scan may take, and no memory is
+/// taken.
 pub fn seen<P: Program, L: Ledger>(
     published: Published<P>,
     rows: &Rows<P>,
@@ -33,20 +35,22 @@ pub fn seen<P: Program, L: Ledger>(
         × (view_seen result ≡ view_published published) }
     // The seen cut has one count for each caller.
     ensures wide { length (cut_seen result) ≡ rows.now.callers }
-    // The seen cut holds each record that the caller has published, and no more of it.
+    // The seen cut's count for the caller is the number of records that the caller has published.
     ensures own { HoldsOwn (cut_seen result) (caller_seen result) }
-    // The caller's local is its earlier one after a scan of M that gave the seen cut, with no other
-    // event; the cut contains each count of M that the caller had looked at before.
+    // The caller's local is the one that it had before, changed by a scan of M that ended with the
+    // seen cut, and no other event. This cut is the last one that the caller was given and its last
+    // seen cut, and it contains each count of M that the caller had looked at before the scan.
     ensures seen { IsSight rows.now.callers (cut_seen result)
         (local_with (caller_published published)) (local_with (caller_seen result)) }
-    // The caller's progress is the one before, but that its last call, where that has its record
-    // and no seen cut yet, now has this one.
+    // The caller's progress is the one before the scan, except that the caller's last call now has
+    // this seen cut where it had its record and no seen cut.
     ensures progress { progress_of (local_with (caller_seen result))
         ≡ after_seeing (cut_seen result) (progress_of (local_with (caller_published published))) }
-    // The caller's local has each look, peek and cut that it had before.
+    // The caller's local has each look, each peek and each given cut that it had before the scan.
     ensures grows { Grows (local_with (caller_published published))
         (local_with (caller_seen result)) }
-    // The counter of steps has risen by at most the most words that a scan takes.
+    // The counter of steps has not fallen, and has risen by at most the most words that one scan
+    // may take.
     ensures ticks { (steps.old ≤ steps.new)
         × (steps.new ≤ steps.old + most_words rows.now.callers) }
 {

@@ -7,7 +7,8 @@ use book_base::Cut;
 use row_table::Caller;
 use world_core::Outside;
 
-/// A call whose record is published, with a cut of the published records that was seen since.
+/// A call whose record is published, with its seen cut: a cut of the published records that its
+/// caller has seen since.
 ///
 /// The state has to be spent: by [`judge`](crate::judge), by `defer`, or by `stop`.
 pub struct Seen<P = Outside> {
@@ -24,7 +25,7 @@ impl<P> Seen<P> {
     ghost use Rattle.drv_wrapper.specs.Stands.{IsSame, IsStopped};
     ghost use Rattle.enforcer.specs.States.{caller_seen, reply_seen, view_seen, cut_seen};
 
-    /// The reply of the object.
+    /// The reply that the object gave.
     pub fn reply(&self) -> u64
         ensures { result ≡ reply_seen self.now }
     {
@@ -38,14 +39,15 @@ impl<P> Seen<P> {
         self.view
     }
 
-    /// How many records of each caller were published, all at one moment since this call's own was.
+    /// The seen cut: how many records of each caller were published, all at one moment after this
+    /// call's own record was.
     pub fn cut(&self) -> Cut
         ensures { result ≡ cut_seen self.now }
     {
         self.cut
     }
 
-    /// The live caller, with its local as it is: the call isn't judged.
+    /// The caller, live, with its local as it was: the call isn't judged.
     pub fn defer(self) -> Caller<P>
         // The caller that comes back is that of the seen call: it has the same number and the same
         // local, and is of the same rows.
@@ -62,7 +64,7 @@ impl<P> Seen<P> {
         live
     }
 
-    /// The caller, halted, with its local as it is: the call isn't judged.
+    /// The caller, halted, with its local as it was: the call isn't judged.
     pub fn stop(self) -> Caller<P>
         ensures { IsStopped (caller_seen self) result }
     {

@@ -1,4 +1,5 @@
--- What may be tried after the calls of a cut, and that nothing else goes on from there.
+-- Which places are to be tried after a cut and at a list, such that where any places continue an
+-- order from there, some that begin with one of these do.
 use Rattle.std.proofs.Common.{◌≡◌, ◌⊎◌, ℕ, zero, suc, ◌+◌, ◌<◌, ◌≤◌, ◌∙◌, ◌↔◌, Bool, IsTrue, List, [], ◌∷◌, ◌++◌, length, get_or, set, Option, None, Some, unwrap_or, refl, sym, ap, subst, inl, inr, arith}
 use Rattle.std.specs.List.{AllByRecursion, insert}
 use Rattle.std.specs.Option.{IsSomeAnd, IfSome, IfNone}
@@ -26,8 +27,9 @@ use Rattle.book_base.specs.declared.marks.Marks.{Marks}
 use Rattle.book_base.specs.Pruning.{ViewsAreWithin, IsLeast, IsDeadEnd, StandsAtOnce, IsReached, IsMarked, MarksAllNext, MarksSuffice}
 use Rattle.frontier_check.specs.Search.{IsAmong, places_of, AreServedBy, IsOneMore, AreChosen, IsOpen, IsServed, GoesOnBy, IsRankIn}
 
--- a place among the places of choices, with one more choice
+-- a place among the places of some choices, with one more choice inserted
 
+-- An old place is still among the places.
 pub among-insert_old : (choices : List Choice) (i : ℕ) (new : Choice) (place : Place)
     → IsAmong place (places_of choices) → IsAmong place (places_of (insert choices i new))
 among-insert_old [] i new place h = absurd h
@@ -37,6 +39,7 @@ among-insert_old (first ∷ choices) (suc i) new place h = elim h [
   | inr there ↦ inr (among-insert_old choices i new place there)
 ]
 
+-- The place of the inserted choice is among the places.
 pub among-insert_new : (choices : List Choice) (i : ℕ) (new : Choice)
     → IsAmong new.place (places_of (insert choices i new))
 among-insert_new [] zero new = inl refl
@@ -44,6 +47,7 @@ among-insert_new [] (suc i) new = inl refl
 among-insert_new (first ∷ choices) zero new = inl refl
 among-insert_new (first ∷ choices) (suc i) new = inr (among-insert_new choices i new)
 
+-- What holds of all old places and of the new one holds of all places.
 pub all-insert : (P : Place → Type 0) (choices : List Choice) (i : ℕ) (new : Choice) → P new.place
     → AllByRecursion P (places_of choices) → AllByRecursion P (places_of (insert choices i new))
 all-insert P [] zero new p all = (p, all)
@@ -51,7 +55,7 @@ all-insert P [] (suc i) new p all = (p, all)
 all-insert P (first ∷ choices) zero new p all = (p, all)
 all-insert P (first ∷ choices) (suc i) new p all = (all.0, all-insert P choices i new p all.1)
 
--- the last choice comes first
+-- some choices and a last one, with the place of the last one put first
 
 among-last : (choices : List Choice) (last : Choice) (place : Place)
     → IsAmong place (places_of (choices ++ last ∷ []))
@@ -72,6 +76,7 @@ all-last P [] last all = all
 all-last P (first ∷ choices) last all = let rest = all-last P choices last all.1 in
     (rest.0, (all.0, rest.1))
 
+-- What is to be tried by choices stays so with the place of the last choice put first.
 pub open-last : (book : List Page) (next : List ℕ → ℕ → List ℕ × ℕ) (cut list : List ℕ) (choices : List Choice) (last : Choice)
     → IsOpen book next cut list (places_of (choices ++ last ∷ []))
     → IsOpen book next cut list (last.place ∷ places_of choices)
@@ -82,7 +87,7 @@ open-last book next cut list choices last h = record {
       (found.0, found.1, among-last choices last found.0 found.2, found.3);
 }
 
--- Of each caller one place may stand next.
+-- Two places of one caller that may come next in an order after a cut and at a list are equal.
 pub same_next : (book : List Page) (next : List ℕ → ℕ → List ℕ × ℕ) (cut list : List ℕ)
     (a b : Place) → MayStandNext book next cut list a → MayStandNext book next cut list b
     → a.caller ≡ b.caller → a ≡ b
@@ -93,7 +98,8 @@ same_next book next cut list a b ha hb caller =
     same_place a b caller number (sym ha.reply
     ∙ (ap (λ (c : Call). (next list (unwrap_or (operation_of book c) 0)).1) call ∙ hb.reply))
 
--- What may be tried, once a place leads to a dead end.
+-- Where the first of the places to be tried leads to a dead end, the others are what is to be
+-- tried.
 pub open-rest : (book : List Page) (next : List ℕ → ℕ → List ℕ × ℕ) (cut list : List ℕ) (place : Place) (places : List Place)
     → IsDeadEnd book next (raised cut place.caller) (list_after book next list place)
     → IsOpen book next cut list (place ∷ places) → IsOpen book next cut list places
@@ -109,13 +115,14 @@ open-rest book next cut list place places dead h = record {
       ];
 }
 
--- Where nothing is left to be tried, there is a dead end.
+-- A cut and a list at which no place is to be tried are a dead end.
 pub dead_end : (book : List Page) (next : List ℕ → ℕ → List ℕ × ℕ) (cut list : List ℕ)
     → IsOpen book next cut list [] → IsDeadEnd book next cut list
 dead_end book next cut list h rest goes = absurd (h.covered rest goes).2
 
--- one caller after another
+-- callers considered one after another
 
+-- No caller is below 0, and so no place is to be chosen for one.
 pub chosen-start : (book : List Page) (next : List ℕ → ℕ → List ℕ × ℕ) (cut list : List ℕ)
     (marks : Marks) → AreChosen book next cut list marks 0 []
 chosen-start book next cut list marks = record {
@@ -124,6 +131,8 @@ chosen-start book next cut list marks = record {
       absurd (omega arith);
 }
 
+-- Where the places are chosen for the callers below a number, and become new ones by this caller's
+-- next call, the new ones are chosen for the callers below the next number.
 pub chosen-next : (book : List Page) (next : List ℕ → ℕ → List ℕ × ℕ) (cut list : List ℕ)
     (marks : Marks) (caller : ℕ) (old new : List Place)
     → AreChosen book next cut list marks caller old → IsOneMore book next cut list caller old new
@@ -141,11 +150,13 @@ chosen-next book next cut list marks caller old new h more = record {
       ];
 }
 
--- the places are kept
+-- the places serve for themselves
 served_same : (book : List Page) (next : List ℕ → ℕ → List ℕ × ℕ) (cut list : List ℕ)
     (places : List Place) → AreServedBy book next cut list places places
 served_same book next cut list places place rest among goes = (place, rest, among, goes)
 
+-- The places stay as they are when one more caller is considered, where they already serve for that
+-- caller's next call.
 pub more-kept : (book : List Page) (next : List ℕ → ℕ → List ℕ × ℕ) (cut list : List ℕ) (caller : ℕ)
     (places : List Place) → AllByRecursion (MayStandNext book next cut list) places
     → ((place : Place) (rest : List Place) → place.caller ≡ caller → Continues book next cut list
@@ -154,6 +165,7 @@ pub more-kept : (book : List Page) (next : List ℕ → ℕ → List ℕ × ℕ)
 more-kept book next cut list caller places sound own =
     record { sound = sound; served = served_same book next cut list places; own = own }
 
+-- One more caller is considered where its choice is inserted among the others.
 pub more-insert : (book : List Page) (next : List ℕ → ℕ → List ℕ × ℕ) (cut list : List ℕ)
     (choices : List Choice) (i : ℕ) (new : Choice)
     → AllByRecursion (MayStandNext book next cut list) (places_of choices)
@@ -176,7 +188,8 @@ more-insert book next cut list choices i new sound may = record {
       );
 }
 
--- The step that the search makes: what may stand next.
+-- A place may come next in an order where its call may come next, the object gives its reply at the
+-- list, and that reply is the recorded one where the call is answered.
 pub may_stand-from_step : (book : List Page) (next : List ℕ → ℕ → List ℕ × ℕ) (cut list : List ℕ)
     (place : Place) (op : ℕ) → MayComeNext book cut (call_at place)
     → operation_of book (call_at place) ≡ Some op
@@ -189,7 +202,8 @@ may_stand-from_step book next cut list place op may known recorded gives = recor
   reply = ap (λ (o : Option ℕ). (next list (unwrap_or o 0)).1) known ∙ sym gives;
 }
 
--- Where the object doesn't give the recorded reply, no place of the caller may stand next.
+-- Where a place of a caller may come next in an order, the reply that the object gives to the
+-- caller's next call is the recorded one, if that call is answered.
 pub recorded-from_may : (book : List Page) (next : List ℕ → ℕ → List ℕ × ℕ) (cut list : List ℕ)
     (caller op reply : ℕ) (place : Place)
     → operation_of book (next_call cut caller) ≡ Some op → reply ≡ (next list op).1
@@ -202,14 +216,14 @@ recorded-from_may book next cut list caller op reply place known gives by may r 
     ap (λ (o : Option ℕ). (next list (unwrap_or o 0)).1) (ap (operation_of book) same ∙ known) in
     may.recorded r (ap (record_of book) same ∙ there) ∙ (sym may.reply ∙ (asked ∙ sym gives))
 
--- Where the caller's first call outside a cut has the least view, it is answered and stands
--- outside.
+-- Where the next call of a caller after a cut has the least view, it is an answered call that the
+-- cut lacks, and the cut doesn't hold all answered calls.
 pub unended-from_least : (book : List Page) (cut : List ℕ) (first : ℕ)
     → IsLeast book cut (length book) first → HoldsAnswered book cut → ⊥
 unended-from_least book cut first least all = let held : get_or cut first 0 < get_or cut first 0 =
     all (next_call cut first) least.answered in absurd (omega arith)
 
--- an order of no more than this many places goes on by one of the places that are chosen
+-- where no more than this many places continue an order, some that begin with a chosen place do
 goes_on-by : (book : List Page) (next : List ℕ → ℕ → List ℕ × ℕ) (cut list : List ℕ) (marks : Marks)
     (places : List Place) → MarksSuffice book next cut list marks
     → AreChosen book next cut list marks (length book) places → (few : ℕ) (rest : List Place)
@@ -225,7 +239,8 @@ goes_on-by book next cut list marks places suffice h (suc few) rest short goes =
           (omega (arith, by.4, shorter.2)) shorter.1
     ]
 
--- Once all callers are looked at, what is chosen is all that may be tried.
+-- Where the next call of a caller has the least view, the marks suffice, and places are chosen for
+-- the marked ones of all callers of the book, these places are what is to be tried.
 pub open-from_chosen : (book : List Page) (next : List ℕ → ℕ → List ℕ × ℕ) (cut list : List ℕ) (marks : Marks) (first : ℕ) (places : List Place) → IsLeast book cut (length book) first
     → MarksSuffice book next cut list marks
     → AreChosen book next cut list marks (length book) places → IsOpen book next cut list places
@@ -236,7 +251,8 @@ open-from_chosen book next cut list marks first places least suffice h = record 
       goes_on-by book next cut list marks places suffice h (length rest) rest (omega arith) goes;
 }
 
--- What may stand at once is all that has to be tried.
+-- A place that may be taken at once is all that is to be tried, where the next call of a caller has
+-- the least view.
 pub open-from_once : (book : List Page) (next : List ℕ → ℕ → List ℕ × ℕ) (cut list : List ℕ) (first : ℕ) (place : Place) → IsLeast book cut (length book) first
     → StandsAtOnce book next cut list place → IsOpen book next cut list (place ∷ [])
 open-from_once book next cut list first place least h = record {
@@ -245,8 +261,8 @@ open-from_once book next cut list first place least h = record {
   covered = λ rest goes. let found = h.goes_on rest goes in (place, found.0, inl refl, found.1);
 }
 
--- An answered call that may come next, gives its recorded reply and leaves every list with it may
--- stand at once.
+-- The place of an answered call that may come next may be taken at once, where the object gives its
+-- recorded reply and the operation is read-only with it.
 pub at_once : (book : List Page) (next : List ℕ → ℕ → List ℕ × ℕ) (cut list : List ℕ)
     (place : Place) (r : Record) (op : ℕ) → length cut ≡ length book
     → MayComeNext book cut (next_call cut place.caller) → place.number ≡ get_or cut place.caller 0
@@ -280,7 +296,8 @@ at_once book next cut list place r op wide may number known made reply gives lea
           );
     }
 
--- The next call of a caller has a place that may stand next where the reply is the recorded one,
+-- A place of a caller's next call, which may come next, may come next in an order with the reply
+-- that the object gives, where that is the recorded one or the call is unanswered.
 pub considered-place : (book : List Page) (next : List ℕ → ℕ → List ℕ × ℕ) (cut list : List ℕ)
     (place : Place) (op : ℕ)
     → place.number ≡ get_or cut place.caller 0 → MayComeNext book cut (next_call cut place.caller)
@@ -295,7 +312,8 @@ considered-place book next cut list place op number may known recorded gives =
     subst (λ (c : Call). MayComeNext book cut c) (sym same) may in
     may_stand-from_step book next cut list place op comes known recorded gives
 
--- and none where it isn't.
+-- Where the object doesn't give the recorded reply of a caller's next call, the places to be tried
+-- stay as they are when this caller is considered.
 pub considered-skip : (book : List Page) (next : List ℕ → ℕ → List ℕ × ℕ) (cut list : List ℕ)
     (places : List Place) (call : Call) (op reply : ℕ)
     → AllByRecursion (MayStandNext book next cut list) places
@@ -313,7 +331,7 @@ considered-skip book next cut list places call op reply sound number known gives
     (sym (ap (operation_of book) same) ∙ known) gives by goes.0 r
     (sym (ap (record_of book) same) ∙ there))))
 
--- A caller that isn't marked isn't looked at.
+-- The places that are chosen stay as they are when a caller is considered that isn't marked.
 pub unmarked-skip : (book : List Page) (next : List ℕ → ℕ → List ℕ × ℕ) (cut list : List ℕ)
     (marks : Marks) (places : List Place) (caller : ℕ)
     → AreChosen book next cut list marks caller places → (IsMarked marks caller → ⊥)
@@ -329,7 +347,7 @@ unmarked-skip book next cut list marks places caller h not = record {
       ];
 }
 
--- the view of the record of a caller's first call outside a cut
+-- the view of the record of a caller's next call after a cut, found by the number of that call
 pub view-of : (book : List Page) (cut : List ℕ) (first number : ℕ) (found : Record) → number
     ≡ get_or cut first 0 → record_of book (record { caller = first; number = number }) ≡ Some found
     → (r : Record) → record_of book (next_call cut first) ≡ Some r → r.view ≡ found.view
@@ -338,7 +356,8 @@ view-of book cut first number found is at r there =
     ap (λ (x : Record). x.view)
     (same_Some r found (sym there ∙ (sym (ap (λ (n : ℕ). record_of book (made n)) is) ∙ at)))
 
--- Nothing goes on with a call that is infeasible where an order from the start reaches,
+-- No places that begin with an infeasible call continue an order from a cut and a list that some
+-- order reaches.
 pub infeasible-ends : (init : List ℕ) (next : List ℕ → ℕ → List ℕ × ℕ) (book : List Page)
     (cut list : List ℕ) (place : Place) (rest : List Place) → IsReached init next book cut list
     → IsInfeasible init next book cut list (next_call cut place.caller)
@@ -349,7 +368,8 @@ infeasible-ends init next book cut list place rest reached infeasible goes =
     (subst (λ (n : ℕ). IsLegalOrder init next book (reached.before ++ made n ∷ rest))
     goes.0.may_come.next (reached.legal (place ∷ rest) goes))
 
--- so that its caller has no place that is to be tried.
+-- The places that are chosen stay as they are when a caller is considered whose next call is
+-- infeasible, at a cut and a list that some order reaches.
 pub infeasible-skip : (init : List ℕ) (next : List ℕ → ℕ → List ℕ × ℕ) (book : List Page)
     (cut list : List ℕ) (marks : Marks) (places : List Place) (caller : ℕ)
     → IsReached init next book cut list → AreChosen book next cut list marks caller places
@@ -362,7 +382,7 @@ infeasible-skip init next book cut list marks places caller reached h infeasible
     absurd (infeasible-ends init next book cut list place rest reached (subst
     (λ (i : ℕ). IsInfeasible init next book cut list (next_call cut i)) (sym by) infeasible) goes)))
 
--- the rank of a word of a list is one in the list
+-- A list has a word whose rank is at most that of its word at an index.
 pub rank_in : (ranks : List (ℕ × ℕ)) (list words : List ℕ) (i rank : ℕ) → words ≡ list
     → i < length words → rank_of ranks (get_or words i 0) ≡ Some rank → IsRankIn ranks list rank
 rank_in ranks list words i rank same below known limit low =

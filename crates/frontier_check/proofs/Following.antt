@@ -1,4 +1,4 @@
--- The places of a prefix: one more, and what goes on after them.
+-- The places of a prefix: with one more, and with places that continue an order after them.
 use Rattle.std.proofs.Common.{◌≡◌, ℕ, ◌+◌, ◌*◌, ◌<◌, ◌≤◌, ◌∙◌, List, [], ◌∷◌, ◌++◌, length, get_or, set, sum, Some, refl, sym, ap, subst, inl, inr, arith}
 use Rattle.std.specs.Option.{IsSomeAnd}
 use Rattle.std.proofs.lemmas.Bool.{cases_eq}
@@ -22,7 +22,8 @@ use Rattle.frontier_check.specs.declared.walk.TheConstants.{CAPACITY}
 use Rattle.frontier_check.specs.Prefix.{no_calls, IsNext, Follow, LeavesOpen, PrefixReaches, IsPut, IsPrefix}
 use Rattle.frontier_check.proofs.Leading.{zeros, raised_within, sum_raised, sum_small}
 
--- one place more
+-- places that follow one another still do with one more after them, which is next and has the reply
+-- that the object gives
 follow-push : (book : List Page) (next : List ℕ → ℕ → List ℕ × ℕ) (cut list : List ℕ)
     (places : List Place) (to_cut to_list : List ℕ) (place : Place)
     → Follow book next cut list places to_cut to_list → IsNext book to_cut place
@@ -44,12 +45,14 @@ follow-push book next cut list (first ∷ places) to_cut to_list place (at, repl
       (list_after book next list first) places to_cut to_list place later is gives,
 )
 
--- the first call of another caller outside a cut is outside the raised cut too
+-- the next call of a caller after a cut that is raised for another caller is its next call after
+-- the cut
 same_next : (cut : List ℕ) (i j : ℕ) → (j ≡ i → ⊥) → next_call (raised cut i) j ≡ next_call cut j
 same_next cut i j other =
     same_call (next_call (raised cut i) j) (next_call cut j) refl (raised_other cut i j other)
 
--- A place that is next may come next, where after it the view of each caller's first call holds it.
+-- The call at a place that is next may come next, where after it each answered call that is its
+-- caller's next has a view that holds the raised cut.
 next-may_come : (book : List Page) (cut : List ℕ) (place : Place) → IsValid book
     → place.caller < length cut → IsNext book cut place → LeavesOpen book (raised cut place.caller)
     → MayComeNext book cut (call_at place)
@@ -89,7 +92,8 @@ next-may_come book cut place valid inside is leaves =
       ]
     ])
 
--- So before it the view of each caller's first call holds the cut.
+-- Where each answered call that is its caller's next after a place has a view that holds the raised
+-- cut, each answered call that is its caller's next before the place has a view that holds the cut.
 leaves-before : (book : List Page) (cut : List ℕ) (place : Place) → place.caller < length cut
     → IsNext book cut place → LeavesOpen book (raised cut place.caller) → LeavesOpen book cut
 leaves-before book cut place inside is leaves i r known =
@@ -105,7 +109,9 @@ leaves-before book cut place inside is leaves i r known =
           λ (j : ℕ). omega (arith, leaves i r there j, raised_more cut place.caller j inside)
     ]
 
--- What goes on after places goes on from where they begin.
+-- Places that follow one another lead on: where any places continue an order from where they lead
+-- to, they and then those continue one from where they begin. Where the next call of a caller after
+-- the first cut is answered, its view holds that cut.
 pub record Closing (book : List Page) (next : List ℕ → ℕ → List ℕ × ℕ) (cut list : List ℕ)
     (places : List Place) (to_cut to_list : List ℕ) : Type 0 where
   pub goes : (rest : List Place) → Continues book next to_cut to_list rest
@@ -141,7 +147,8 @@ closing book next cut list (first ∷ places) to_cut to_list valid wide (at, rep
       leaves = leaves-before book cut first inside at rest.leaves;
     }
 
--- The places that were put are a prefix, where they leave each other call its place.
+-- The places of a prefix that is put may begin legal orders, where each answered call that is its
+-- caller's next after them has a view that holds the prefix's cut.
 pub prefix-from_put : (init : List ℕ) (next : List ℕ → ℕ → List ℕ × ℕ) (book : List Page)
     (prefix : Prefix) → IsPut init next book prefix → LeavesOpen book prefix.cut
     → IsPrefix init next book prefix
@@ -155,7 +162,7 @@ prefix-from_put init next book prefix put leaves =
           (prefix.places.items ++ rest) (omega arith) (zeros book) (closed.goes rest goes);
     }
 
--- the prefix without places
+-- The prefix without places reaches the cut without calls and the first list of the object.
 pub stands-start : (init : List ℕ) (next : List ℕ → ℕ → List ℕ × ℕ) (book : List Page)
     (prefix : Prefix) → IsValid book → IsSmall book → length init ≤ 1
     → prefix.places.items ≡ [] → prefix.cut ≡ no_calls book → prefix.here.words ≡ init
@@ -176,6 +183,7 @@ stands-start init next book prefix valid small begins places cut list =
           (no_places_reach_the_start init next book (length book))));
     }
 
+-- The prefix without places is put.
 pub put-start : (init : List ℕ) (next : List ℕ → ℕ → List ℕ × ℕ) (book : List Page)
     (prefix : Prefix) → IsValid book → IsSmall book → length init ≤ 1
     → prefix.places.items ≡ [] → prefix.cut ≡ no_calls book → prefix.here.words ≡ init
@@ -186,6 +194,7 @@ put-start init next book prefix valid small begins places cut list = record {
       (no_calls book) init order prefix.cut prefix.here.words) (sym places) (sym cut, sym list);
 }
 
+-- After the prefix without places, whatever places continue an order make a legal one.
 pub prefix-start : (init : List ℕ) (next : List ℕ → ℕ → List ℕ × ℕ) (book : List Page)
     (prefix : Prefix) → IsValid book → IsSmall book → length init ≤ 1
     → prefix.places.items ≡ [] → prefix.cut ≡ no_calls book → prefix.here.words ≡ init
@@ -201,12 +210,14 @@ prefix-start init next book prefix valid small begins places cut list =
           (subst (λ (l : List ℕ). Continues book next prefix.cut l rest) list goes)));
     }
 
--- what is known of the next place of a prefix that stands
+-- bounds for a place that is next after a prefix: on its caller, its number, and the words of the
+-- list
 pub record Putting (book : List Page) (prefix : Prefix) (place : Place) : Type 0 where
   pub caller : place.caller < length prefix.cut
   pub number : place.number < MAX_CALLS
   pub words : length prefix.here.words < CAPACITY
 
+-- The bounds hold for each place that is next after a prefix that reaches its cut and its list.
 pub putting : (init : List ℕ) (next : List ℕ → ℕ → List ℕ × ℕ) (book : List Page) (prefix : Prefix)
     (place : Place) → PrefixReaches init next book prefix → IsNext book prefix.cut place
     → Putting book prefix place
@@ -226,7 +237,8 @@ putting init next book prefix place s is =
       words = omega (arith, s.words);
     }
 
--- One more place is put.
+-- A prefix that is put stays so with one more place, which is next and has the reply that the
+-- object gives.
 pub put-more : (init : List ℕ) (next : List ℕ → ℕ → List ℕ × ℕ) (book : List Page)
     (old new : Prefix) (place : Place)
     → ((list : List ℕ) (op : ℕ) → length (next list op).0 ≤ length list + 1)
@@ -282,7 +294,7 @@ put-more init next book old new place grows put is gives places cut list =
           (old.places.items ++ place ∷ []) (raised old.cut place.caller) l) (sym list) follow));
     }
 
--- The list of a prefix that reaches its cut fits the capacity of a state.
+-- The list of a prefix that reaches it has no more words than the capacity of a state.
 pub stands-fit : (init : List ℕ) (next : List ℕ → ℕ → List ℕ × ℕ) (book : List Page)
     (prefix : Prefix) → PrefixReaches init next book prefix → length prefix.here.words ≤ CAPACITY
 stands-fit init next book prefix s =

@@ -1,4 +1,4 @@
--- The levels of a walk: one more, one fewer, and the order that they make.
+-- The levels of a walk: with one more, with one fewer, and the order that their places make.
 use Rattle.std.proofs.Common.{◌≡◌, ℕ, ◌+◌, ◌*◌, ◌<◌, ◌≤◌, ◌∙◌, List, [], ◌∷◌, ◌++◌, length, get_or, set, sum, Option, Some, None, Result, Ok, Err, IfOk, IfNone, refl, sym, ap, subst, inl, inr, arith}
 use Rattle.std.specs.List.{All}
 use Rattle.std.proofs.lemmas.Bool.{cases_eq}
@@ -23,7 +23,7 @@ use Rattle.frontier_check.specs.Prefix.{no_calls, IsPrefix}
 use Rattle.book_base.specs.Pruning.{IsDeadEnd, IsReached}
 use Rattle.frontier_check.specs.Search.{places_of, IsOpen, Leads, Fits, order_of}
 
--- one level more
+-- Levels with one more at their end lead to the cut and the list after the call at its place.
 pub leads-push : (book : List Page) (next : List ℕ → ℕ → List ℕ × ℕ) (cut list : List ℕ)
     (levels : List WalkLevel) (to_cut to_list : List ℕ) (level : WalkLevel)
     → Leads book next cut list levels to_cut to_list → level.words.items ≡ to_list
@@ -49,7 +49,7 @@ leads-push book next cut list (first ∷ levels) to_cut to_list level (at, way, 
       (list_after book next list first.place) levels to_cut to_list level later words here,
 )
 
--- where a walk stood before its last level
+-- the cut and the list from which the last level of a walk leads on
 pub record Back (book : List Page) (next : List ℕ → ℕ → List ℕ × ℕ) (cut list : List ℕ)
     (levels : List WalkLevel) (level : WalkLevel) (to_cut to_list : List ℕ) : Type 0 where
   pub from : List ℕ
@@ -58,7 +58,7 @@ pub record Back (book : List Page) (next : List ℕ → ℕ → List ℕ × ℕ)
   pub to_cut_is : to_cut ≡ raised from level.place.caller
   pub to_list_is : to_list ≡ list_after book next level.words.items level.place
 
--- one level fewer
+-- Levels without the last one lead to the cut and the list before the call at its place.
 pub leads-pop : (book : List Page) (next : List ℕ → ℕ → List ℕ × ℕ) (cut list : List ℕ)
     (levels : List WalkLevel) (level : WalkLevel) (to_cut to_list : List ℕ)
     → Leads book next cut list (levels ++ level ∷ []) to_cut to_list
@@ -83,7 +83,8 @@ leads-pop book next cut list (first ∷ levels) level to_cut to_list (words, her
       to_list_is = back.to_list_is;
     }
 
--- what the levels lead to goes on from where they begin
+-- where levels lead to a cut that holds all answered calls, their places continue an order from
+-- where the levels begin
 leads-continues : (book : List Page) (next : List ℕ → ℕ → List ℕ × ℕ) (cut list : List ℕ)
     (levels : List WalkLevel) (to_cut to_list : List ℕ)
     → Leads book next cut list levels to_cut to_list → HoldsAnswered book to_cut
@@ -96,11 +97,12 @@ leads-continues book next cut list (first ∷ levels) to_cut to_list (words, her
       (list_after book next list first.place) levels to_cut to_list later all,
 )
 
--- the cut without calls
+-- Each count of the cut without calls is 0.
 pub zeros : (book : List Page) (i : ℕ) → get_or (no_calls book) i 0 ≡ 0
 zeros book i = get_or-replicate_default (length book) i 0
 
--- what goes on from where the levels lead to goes on, after them, from where they begin
+-- where places continue an order from where levels lead to, the places of the levels and then these
+-- continue one from where the levels begin
 leads-more : (book : List Page) (next : List ℕ → ℕ → List ℕ × ℕ) (cut list : List ℕ)
     (levels : List WalkLevel) (to_cut to_list : List ℕ) (rest : List Place)
     → Leads book next cut list levels to_cut to_list → Continues book next to_cut to_list rest
@@ -114,7 +116,8 @@ leads-more book next cut list (first ∷ levels) to_cut to_list rest (words, her
       (list_after book next list first.place) levels to_cut to_list rest later goes,
 )
 
--- what the levels lead to is reached by their places, where it is reached from where they begin
+-- where an order reaches the cut and the list where levels begin, that order and then their places
+-- reach those to which they lead
 leads-reaches : (init : List ℕ) (next : List ℕ → ℕ → List ℕ × ℕ) (book : List Page)
     (before : List Place) (cut list : List ℕ) (levels : List WalkLevel) (to_cut to_list : List ℕ)
     → length book ≤ length cut → Reaches init next book before cut list
@@ -143,7 +146,8 @@ leads-reaches init next book before cut list (first ∷ levels) to_cut to_list w
     (leads-reaches init next book (before ++ first.place ∷ []) (raised cut first.place.caller)
     (list_after book next list first.place) levels to_cut to_list (omega arith) one later)
 
--- The levels that lead from a prefix to a cut and a list reach them, after its places.
+-- Where levels lead from the end of a prefix to a cut and a list, some order reaches these, and
+-- whatever places continue it from there make a legal order with it.
 pub reached-from_leads : (init : List ℕ) (next : List ℕ → ℕ → List ℕ × ℕ) (book : List Page)
     (prefix : Prefix) (levels : List WalkLevel) (cut list : List ℕ)
     → IsPrefix init next book prefix → Leads book next prefix.cut prefix.here.words levels cut list
@@ -158,11 +162,12 @@ reached-from_leads init next book prefix levels cut list f leads = record {
       (leads-more book next prefix.cut prefix.here.words levels cut list rest leads goes));
 }
 
--- a raised cut holds one call more
+-- A cut that is raised for a caller for which it has a count counts one call more.
 pub sum_raised : (cut : List ℕ) (i : ℕ) → i < length cut → sum (raised cut i) ≡ sum cut + 1
 sum_raised cut i h = omega (arith, sum_by-set (λ (n : ℕ). n) cut i (get_or cut i 0 + 1) 0 h)
 
--- counts within those of the book still are with one more call, which is its caller's next
+-- Where a cut counts no more calls than a book has, so does the cut that is raised by a caller's
+-- next call, which the book has.
 pub raised_within : (book : List Page) (cut : List ℕ) (call : Call) → call.caller < length cut
     → IsCall book call → call.number ≡ get_or cut call.caller 0
     → ((i : ℕ) → get_or cut i 0 ≤ calls_of book i) → (i : ℕ)
@@ -180,7 +185,9 @@ raised_within book cut call inside is at within i =
       | inr other ↦ omega (arith, raised_other cut call.caller i other, within i)
     ]
 
--- how far levels lead
+-- how far levels lead: the cut there has as many counts as the first one, counts one call more for
+-- each level, and no more calls than the book has; the list has at most one word more for each
+-- level
 pub record Reach (book : List Page) (cut list : List ℕ) (levels : List WalkLevel)
     (to_cut to_list : List ℕ) : Type 0 where
   pub wide : length to_cut ≡ length cut
@@ -216,7 +223,7 @@ leads-reach book next cut list (first ∷ levels) to_cut to_list grows wide with
       within = rest.within;
     }
 
--- counts within those of a small book sum up to no more than it may have
+-- Counts within those of a small book sum up to no more than the most calls of a book.
 pub sum_small : (book : List Page) (counts : List ℕ) → IsSmall book → length counts ≡ length book
     → ((i : ℕ) → get_or counts i 0 ≤ calls_of book i) → sum counts ≤ MAX_CALLERS * MAX_CALLS
 sum_small book counts small wide within =
@@ -226,7 +233,8 @@ sum_small book counts small wide within =
     let callers = small.callers in
     omega (arith, sum_by-le (λ (n : ℕ). n) MAX_CALLS counts few)
 
--- What is known of where a walk from the start stands, where one more place may stand next.
+-- Bounds at the cut and the list of a walk after which the call at a place may come next: on the
+-- caller and the number of that place, on the levels, and on the words of the list.
 pub record WalkFacts (book : List Page) (levels : List WalkLevel) (cut list : List ℕ)
     (place : Place) : Type 0 where
   pub wide : length cut ≡ length book
@@ -236,6 +244,8 @@ pub record WalkFacts (book : List Page) (levels : List WalkLevel) (cut list : Li
   pub fits : Fits cut list
   pub after : length levels + 1 < CAPACITY
 
+-- Where levels lead from the end of a prefix to a cut and a list after which a call may come next,
+-- these bounds hold there.
 pub standing : (book : List Page) (prefix : Prefix) (init : List ℕ) (next : List ℕ → ℕ → List ℕ × ℕ)
     (levels : List WalkLevel) (cut list : List ℕ) (place : Place)
     → IsPrefix init next book prefix
@@ -265,7 +275,7 @@ standing book prefix init next levels cut list place f grows leads may =
       after = omega (arith, reach.calls);
     }
 
--- the cut at which a walk stands has a count for each caller
+-- A cut to which levels lead from the end of a prefix has one count for each caller.
 pub leads-wide : (book : List Page) (prefix : Prefix) (init : List ℕ)
     (next : List ℕ → ℕ → List ℕ × ℕ) (levels : List WalkLevel) (cut list : List ℕ)
     → IsPrefix init next book prefix
@@ -275,8 +285,8 @@ leads-wide book prefix init next levels cut list f grows leads =
     (leads-reach book next prefix.cut prefix.here.words levels cut list grows
     (omega (arith, f.stands.wide)) f.stands.within leads).wide ∙ f.stands.wide
 
--- The levels that lead to a cut with all answered calls make a legal order, after the places of the
--- prefix.
+-- Where levels lead from the end of a prefix to a cut with all answered calls, the places of the
+-- prefix and then of the levels are a legal order.
 pub legal-from_leads : (book : List Page) (prefix : Prefix) (init : List ℕ)
     (next : List ℕ → ℕ → List ℕ × ℕ) (levels : List WalkLevel) (cut list : List ℕ)
     → IsPrefix init next book prefix
@@ -286,7 +296,7 @@ legal-from_leads book prefix init next levels cut list f leads all =
     f.legal (order_of levels)
     (leads-continues book next prefix.cut prefix.here.words levels cut list leads all)
 
--- Where the start is a dead end, the book has no legal order.
+-- Where the cut without calls and the first list are a dead end, the book has no legal order.
 pub none-from_dead : (book : List Page) (init : List ℕ) (next : List ℕ → ℕ → List ℕ × ℕ)
     → IsDeadEnd book next (no_calls book) init → HasLegalOrder init next book → ⊥
 none-from_dead book init next dead legal =
@@ -294,12 +304,13 @@ none-from_dead book init next dead legal =
     dead legal.0 (continues_from_legal_order book init next (no_calls book) legal.0 (omega arith)
     (zeros book) legal.1)
 
--- a raised cut, with the caller's count as it was
+-- A raised cut with the old count set again is the cut from before.
 pub lowered : (cut : List ℕ) (i n : ℕ) → n ≡ get_or cut i 0 → set (raised cut i) i n ≡ cut
 lowered cut i n e =
     set-set cut i (get_or cut i 0 + 1) n ∙ (ap (λ (m : ℕ). set cut i m) e ∙ set-get_or cut i 0)
 
--- So a search after a prefix without places that finds none is right.
+-- Where a search that finds no places says that the cut without calls and the first list are a dead
+-- end, it says that the book has no legal order.
 pub none-found : {X E : Type 0} (book : List Page) (init : List ℕ) (next : List ℕ → ℕ → List ℕ × ℕ)
     (cut list : List ℕ) (result : Result (Option X) E) → cut ≡ no_calls book → list ≡ init
     → IfOk result (λ found. IfNone found (IsDeadEnd book next cut list))

@@ -1,4 +1,4 @@
--- Pairs in the long lists of a memo.
+-- The pairs that a memo has in its long lists of counts and of words.
 use Rattle.std.proofs.Common.{◌≡◌, ℕ, ◌+◌, ◌-◌, ◌*◌, ◌<◌, ◌≤◌, ◌⊎◌, ◌∙◌, ◌^◌, List, [], ◌∷◌, ◌++◌, length, take, drop, Some, Result, Ok, Err, OnOk, sym, ap, subst, inl, inr, arith, slice_get}
 use Rattle.std.specs.List.{slice_range}
 use Rattle.std.proofs.lemmas.List.{length-append, length-drop, length_push, drop-append-le, take-append-le, drop_at, take_all}
@@ -9,7 +9,7 @@ use Rattle.frontier_check.specs.declared.memo.MemoEntry.{MemoEntry}
 use Rattle.frontier_check.specs.declared.memo.Memo.{Memo}
 use Rattle.frontier_check.specs.Memo.{IsMemo, Remembers, counts_at, words_at}
 
--- a part of a longer list that lies in its prefix
+-- a part of a list that ends in its prefix is the part of that prefix
 range-append_left : (xs ys : List ℕ) (from to : ℕ) → from ≤ to → to ≤ length xs
     → slice_range (xs ++ ys) from to ≡ slice_range xs from to
 range-append_left xs ys from to le within =
@@ -17,19 +17,19 @@ range-append_left xs ys from to le within =
     ap (λ (l : List ℕ). take (to - from) l) e
     ∙ take-append-le (to - from) (drop from xs) ys (omega (arith, length-drop from xs))
 
--- the end of a longer list
+-- the part of a list after its prefix is its suffix
 range-append_right : (xs ys : List ℕ) (from to : ℕ) → from ≡ length xs → to ≡ from + length ys
     → slice_range (xs ++ ys) from to ≡ ys
 range-append_right xs ys from to at end =
     ap (λ (l : List ℕ). take (to - from) l) (drop_at xs ys from (sym at))
     ∙ take_all (to - from) ys (omega arith)
 
--- the counts of a pair lie below those of all
+-- The counts of one entry lie within those of all entries.
 pub counts_inside : (k n callers : ℕ) → k < n → k * callers + callers ≤ n * callers
 counts_inside k n callers h = let le : (k + 1) * callers ≤ n * callers =
     mul-le-mul_right callers (omega arith) in omega arith
 
--- What is added at the end of a memo is the one pair that it remembers beside those that it did.
+-- A new memo is the old one with one entry added at its end, for a cut and a list.
 pub record IsAdded (old new : Memo) (cut list : List ℕ) (entry : MemoEntry) : Type 0 where
   pub callers : new.callers ≡ old.callers
   pub counts : new.counts.items ≡ old.counts.items ++ cut
@@ -39,6 +39,7 @@ pub record IsAdded (old new : Memo) (cut list : List ℕ) (entry : MemoEntry) : 
   pub from : entry.from ≡ length old.words.items
   pub len : entry.len ≡ length list
 
+-- A memo stays sound with one entry more, where its entries are still few enough.
 pub memo-added : (old new : Memo) (cut list : List ℕ) (entry : MemoEntry) → IsMemo old
     → IsAdded old new cut list entry → length old.entries.items + 1 < 2 ^ 32 → IsMemo new
 memo-added old new cut list entry h a few =
@@ -72,6 +73,8 @@ memo-added old new cut list entry h a few =
       few = omega arith;
     }
 
+-- A memo with one entry more remembers no pair but that of this entry and those that it remembered
+-- before.
 pub remembers-added : (old new : Memo) (cut list : List ℕ) (entry : MemoEntry) → IsMemo old
     → IsAdded old new cut list entry
     → (c l : List ℕ) → Remembers new c l → Remembers old c l ⊎ ((c ≡ cut) × (l ≡ list))
@@ -111,17 +114,17 @@ remembers-added old new cut list entry h a c l (k, e, at, counts, words) =
           )
     ]
 
--- the table plays no part in what is remembered
+-- A memo with another table remembers no other pairs.
 pub remembers-slots : (old new : Memo) → new ≡ record old { slots = new.slots }
     → (cut list : List ℕ) → Remembers new cut list → Remembers old cut list
 remembers-slots old new is cut list h = subst (λ (m : Memo). Remembers m cut list) is h
 
--- what holds anyway holds where a result is Ok
+-- What holds in any case holds after an answer Ok.
 pub OnOk-holds : {T E P : Type 0} (r : Result T E) → P → OnOk r P
 OnOk-holds (Ok x) p = p
 OnOk-holds (Err e) p = tt
 
--- what is remembered, in other words for the memo, the cut and the list
+-- A memo remembers a pair where an equal memo remembers an equal pair.
 pub remembers-moved : (old new : Memo) (old_cut new_cut old_list new_list : List ℕ) → new ≡ old
     → new_cut ≡ old_cut → new_list ≡ old_list → Remembers new new_cut new_list
     → Remembers old old_cut old_list

@@ -1,4 +1,5 @@
--- What stands of an order: in a book that grows, with more places, and up to a mark.
+-- Which places of an order still follow one another: in a book that grows, with more places, and up
+-- to a mark.
 use Rattle.std.proofs.Common.{◌≡◌, ℕ, zero, suc, ◌+◌, ◌-◌, ◌<◌, ◌≤◌, ◌∙◌, List, [], ◌∷◌, ◌++◌, length, get_or, sum, take, drop, map, replicate, Some, refl, sym, ap, subst, inl, inr, arith}
 use Rattle.std.specs.List.{remove}
 use Rattle.std.specs.Option.{unwrap_or}
@@ -36,7 +37,7 @@ grown_on a b c one two = record {
 }
 
 module _ (a b : List Page) (grown : HasGrown a b) where
-  -- the operation of a call
+  -- the operation of a call is the one on its caller's page
   op_of : (call : Call) → IsCall a call
       → operation_of a call ≡ Some (get_or (page_of a call.caller).operations call.number 0)
   op_of call there = slice_get-get_or (page_of a call.caller).operations call.number 0 there
@@ -64,7 +65,7 @@ module _ (a b : List Page) (grown : HasGrown a b) where
       ap (λ o. (unwrap_or o 0, place.reply)) (op_of (call_at place) there
       ∙ sym (grown.operations (call_at place) op (op_of (call_at place) there)))
 
--- places that follow one another raise each count of the cut, or leave it
+-- places that follow one another lead to a cut with no lesser count than the cut where they begin
 follow_rises : (book : List Page) (next : List ℕ → ℕ → List ℕ × ℕ) (cut list : List ℕ)
     (places : List Place) (to_cut to_list : List ℕ) → length book ≤ length cut
     → Follow book next cut list places to_cut to_list → (i : ℕ) → get_or cut i 0 ≤ get_or to_cut i 0
@@ -89,7 +90,8 @@ follow_rises book next cut list (place ∷ places) to_cut to_list wide (is, repl
       | inr other ↦ omega (arith, on, raised_other cut place.caller i other)
     ]
 
--- No call of a cut was answered while a book grew.
+-- Each call of a cut with a record in the new book has that record in the old book: no call of the
+-- cut was answered while the book grew.
 abbrev NoneAnswered : List Page → List Page → List ℕ → Type 0
 NoneAnswered a b cut = (call : Call) (r : Record) → call.number < get_or cut call.caller 0
     → record_of b call ≡ Some r → record_of a call ≡ Some r
@@ -112,7 +114,8 @@ none_answered a b cut before grown records quiet call r held e =
 
 module _ (a b : List Page) (next : List ℕ → ℕ → List ℕ × ℕ) (grown : HasGrown a b) (end : List ℕ)
     (none : NoneAnswered a b end) where
-  -- places that followed one another still do
+  -- places that follow one another in the old book up to a cut none of whose calls was answered
+  -- since do so in the new book
   follow_stays : (cut list : List ℕ) (places : List Place) (to_list : List ℕ)
       → length a ≤ length cut
       → Follow a next cut list places end to_list → Follow b next cut list places end to_list
@@ -148,8 +151,8 @@ module _ (a b : List Page) (next : List ℕ → ℕ → List ℕ × ℕ) (grown 
       steps_stay (raised cut place.caller) (list_after a next list place) places to_list later in
       λ i. same i ∷ on i
 
--- A prefix that was put stays put in a book that has grown, where none of its calls was answered
--- since; and so does one with the same places, cut and list.
+-- A prefix that is put in a book is put in a valid and small one that has grown from it, where no
+-- call of its cut was answered since; and so is a prefix with equal places, cut and list.
 put_stays : (init : List ℕ) (next : List ℕ → ℕ → List ℕ × ℕ) (a b : List Page) (old new : Prefix)
     → HasGrown a b → NoneAnswered a b old.cut → IsValid b → IsSmall b → IsPut init next a old
     → new.places.items ≡ old.places.items → new.cut ≡ old.cut → new.here.words ≡ old.here.words
@@ -273,7 +276,7 @@ module _ (init : List ℕ) (next : List ℕ → ℕ → List ℕ × ℕ) where
     stands-fit init next is.earlier is.prefix is.put.stands,
   )
 
-  -- a mark where a prefix ends
+  -- a mark at the end of a prefix that is put is a mark of its places
   mark_here : (book : List Page) (prefix : Prefix) (m : Mark) → IsPut init next book prefix
       → MarksEnd prefix (answered book) m → IsMark init next book prefix.places.items m
   mark_here book prefix m put e = record {
@@ -295,12 +298,13 @@ module _ (init : List ℕ) (next : List ℕ → ℕ → List ℕ × ℕ) where
   marks_stay a b order least (m ∷ ms) grown (low, is, later) =
       (low, mark_stays a b order m grown is, marks_stay a b order m.len ms grown later)
 
-  -- What stands stays in a book that has grown.
+  -- The marks of a kept order stay marks of it in a book that has grown.
   pub standing_stays : (a b : List Page) (s : KeptOrder) → HasGrown a b
       → IsStandingFor init next a s
       → IsStandingFor init next b s
   standing_stays a b s grown h = marks_stay a b s.order.items 0 s.marks.items grown h
 
+  -- The marks of an order are marks of a longer order that begins with it.
   pub marks_longer : (book : List Page) (order more : List Place) (least : ℕ) (ms : List Mark)
       → AreMarks init next book order least ms → AreMarks init next book (order ++ more) least ms
   marks_longer book order more least [] h = tt
@@ -314,7 +318,7 @@ module _ (init : List ℕ) (next : List ℕ → ℕ → List ℕ × ℕ) where
   marks_more book order least (x ∷ ms) m is here low (le, first, later) =
       (le, first, marks_more book order x.len ms m is here (mark_low book order x first) later)
 
-  -- one mark more, where a prefix ends
+  -- The marks of a prefix that is put, and then one at its end, are marks of its places.
   pub marks_push : (book : List Page) (prefix : Prefix) (ms : List Mark) (m : Mark)
       → IsPut init next book prefix → MarksEnd prefix (answered book) m
       → AreMarks init next book prefix.places.items 0 ms
@@ -347,13 +351,15 @@ module _ (init : List ℕ) (next : List ℕ → ℕ → List ℕ × ℕ) where
         marks_cut book order x.len ms k m (omega (arith, low)) is later,
       )
 
-  -- The width and the words of a mark among others, and how many places are before it.
+  -- The cut and the numbers of records of each mark of an order have one count for each caller of
+  -- the book.
   pub marks_wide : (book : List Page) (order : List Place) (ms : List Mark)
       → AreMarks init next book order 0 ms → (k : ℕ) (m : Mark) → k < length ms → m ≡ get_or ms k m
       → IsAsWide book m
   marks_wide book order ms h k m low is =
       mark_wide book order m (marks_at book order 0 ms k m low is h).1
 
+  -- Each mark of an order counts no more places than the order has, and its words fit the capacity.
   pub marks_fit : (book : List Page) (order : List Place) (ms : List Mark)
       → AreMarks init next book order 0 ms → (k : ℕ) (m : Mark) → k < length ms → m ≡ get_or ms k m
       → (m.len ≤ length order) × (length m.words.items ≤ CAPACITY)
@@ -361,7 +367,7 @@ module _ (init : List ℕ) (next : List ℕ → ℕ → List ℕ × ℕ) where
       let found = (marks_at book order 0 ms k m low is h).1 in
       (mark_low book order m found, mark_fits book order m found)
 
-  -- the marks up to one of them, of the places up to that one
+  -- The marks up to one of them, and that one with them, are marks of the places before it.
   pub marks_taken : (book : List Page) (order places : List Place) (ms some : List Mark) (k : ℕ)
       (m : Mark) → k < length ms → m ≡ get_or ms k m → AreMarks init next book order 0 ms
       → places ≡ take m.len order → some ≡ take (k + 1) ms → AreMarks init next book places 0 some
@@ -371,7 +377,8 @@ module _ (init : List ℕ) (next : List ℕ → ℕ → List ℕ × ℕ) where
       (subst (λ (xs : List Mark). AreMarks init next book (take m.len order) 0 xs)
       (sym (fewer ∙ ap (λ (n : ℕ). take n ms) on)) (marks_cut book order 0 ms k m low is h))
 
-  -- A prefix is put whose places are those up to a mark that still stands.
+  -- A prefix is put where its places are those before a mark which may still begin an order of the
+  -- book, and its cut and its list are those of the mark.
   pub mark_resumed : (book : List Page) (order : List Place) (ms : List Mark) (k : ℕ) (m : Mark)
       (new : Prefix) → IsValid book → IsSmall book → k < length ms → m ≡ get_or ms k m
       → AreMarks init next book order 0 ms → StillStands book m
@@ -396,7 +403,7 @@ module _ (init : List ℕ) (next : List ℕ → ℕ → List ℕ × ℕ) where
   marks_lower book order least most (m ∷ ms) low (le, is, later) =
       (omega (arith, low, le), is, later)
 
-  -- all marks but one
+  -- the marks of an order without one of them are marks of it
   marks_removed : (book : List Page) (order : List Place) (least : ℕ) (ms : List Mark) (k : ℕ)
       → AreMarks init next book order least ms → AreMarks init next book order least (remove ms k)
   marks_removed book order least [] zero h = tt
@@ -406,7 +413,7 @@ module _ (init : List ℕ) (next : List ℕ → ℕ → List ℕ × ℕ) where
   marks_removed book order least (m ∷ ms) (suc k) (le, is, later) =
       (le, is, marks_removed book order m.len ms k later)
 
-  -- the first marks, this many
+  -- The first marks of an order, this many, are marks of it.
   pub marks_fewer : (book : List Page) (order : List Place) (least n : ℕ) (ms : List Mark)
       → AreMarks init next book order least ms → AreMarks init next book order least (take n ms)
   marks_fewer book order least zero ms h = tt
@@ -414,7 +421,8 @@ module _ (init : List ℕ) (next : List ℕ → ℕ → List ℕ × ℕ) where
   marks_fewer book order least (suc n) (m ∷ ms) (le, is, later) =
       (le, is, marks_fewer book order m.len n ms later)
 
-  -- The marks of a prefix that was put are kept after one more place.
+  -- Where marks become others at the end of a prefix that is put, and the old ones are marks of its
+  -- places but the last, the new ones are marks of its places.
   pub marks_put : (book : List Page) (prefix : Prefix) (before : List Place) (place : Place)
       (records : List ℕ) (marks more : List Mark) → IsPut init next book prefix
       → records ≡ answered book
@@ -424,14 +432,14 @@ module _ (init : List ℕ) (next : List ℕ → ℕ → List ℕ × ℕ) where
       keeps init next book put same (subst (λ (ps : List Place). AreMarks init next book ps 0 marks)
       (sym longer) (marks_longer book before (place ∷ []) 0 marks h))
 
--- ---- marks that are kept
+-- ---- marks that become others at the end of a prefix
 
 pub keeps_same : (prefix : Prefix) (records : List ℕ) (marks more : List Mark) → more ≡ marks
     → KeepsMarks prefix records marks more
 keeps_same prefix records marks more same init next book put known h =
     subst (λ (ms : List Mark). AreMarks init next book prefix.places.items 0 ms) (sym same) h
 
--- with one more where the prefix ends
+-- The marks of a prefix, with one more at its end, are marks of it.
 pub keeps_one : (prefix : Prefix) (records : List ℕ) (marks more : List Mark) (m : Mark)
     → MarksEnd prefix records m → more ≡ marks ++ m ∷ [] → KeepsMarks prefix records marks more
 keeps_one prefix records marks more m ends longer init next book put known h =
@@ -439,7 +447,8 @@ keeps_one prefix records marks more m ends longer init next book put known h =
     (marks_push init next book prefix marks m put
     (subst (λ (c : List ℕ). MarksEnd prefix c m) known ends) h)
 
--- but for one of them
+-- Where the marks of a prefix become other marks of it, they may become those others without one of
+-- them.
 pub keeps_removed : (prefix : Prefix) (records : List ℕ) (marks more fewer : List Mark) (k : ℕ)
     → KeepsMarks prefix records marks more → fewer ≡ remove more k
     → KeepsMarks prefix records marks fewer

@@ -1,4 +1,5 @@
--- Twins and idle calls: what needn't be tried after the calls of a cut.
+-- Twins, and unanswered calls that leave the list as it is: which places needn't be tried after a
+-- cut.
 use Rattle.std.proofs.Common.{◌≡◌, ℕ, zero, suc, ◌+◌, ◌<◌, ◌≤◌, ◌∙◌, ◌⊎◌, ◌↔◌, Bool, IsTrue, IsFalse, List, [], ◌∷◌, length, get_or, Option, Some, unwrap_or, refl, sym, ap, subst, inl, inr, arith}
 use Rattle.std.specs.List.{AllByRecursion, insert, remove}
 use Rattle.std.proofs.lemmas.Bool.{cases_lt, cases_eq}
@@ -24,8 +25,9 @@ use Rattle.frontier_check.specs.Twin.{HasOperationOf, ServesFor, IsKeptOf, IsAdd
 use Rattle.next_calls.proofs.Least.{views_comparable}
 use Rattle.frontier_check.proofs.Choosing.{same_next, among-insert_old, among-insert_new, all-insert, more-kept, more-insert}
 
--- choices by their places
+-- choices by index, and what holds of all their places
 
+-- What holds of the places of all choices holds of that at an index.
 pub all-read : (P : Place → Type 0) (choices : List Choice) (k : ℕ) (d : Choice)
     → AllByRecursion P (places_of choices) → k < length choices → P (get_or choices k d).place
 all-read P [] k d all inside = absurd (omega arith)
@@ -38,7 +40,8 @@ all-at : (P : Place → Type 0) (choices : List Choice) (k : ℕ) (at : Choice)
 all-at P choices k at all inside is =
     subst (λ (c : Choice). P c.place) (sym is) (all-read P choices k at all inside)
 
--- The choice at an index has the operation that was read there.
+-- Where the operation that is read of the choice at an index is that of a new place's call, the
+-- call of that choice is one of the book with that operation.
 pub twin_found : (book : List Page) (choices : List Choice) (k : ℕ) (d twin : Choice) (new : Place)
     (got other : Call) (op one : ℕ)
     → AllByRecursion (λ place. IsCall book (call_at place)) (places_of choices) → k < length choices
@@ -77,7 +80,7 @@ among-remove (first ∷ choices) (suc k) at place is h = elim h [
   ]
 ]
 
--- the calls of places that may stand next
+-- places that may come next in an order are places of calls of the book
 pub all_calls : (book : List Page) (next : List ℕ → ℕ → List ℕ × ℕ) (cut list : List ℕ)
     (places : List Place) → AllByRecursion (MayStandNext book next cut list) places
     → AllByRecursion (λ place. IsCall book (call_at place)) places
@@ -87,8 +90,8 @@ all_calls book next cut list (place ∷ places) all =
 
 -- twins
 
--- The second of two answered calls of one operation serves for the first, where the first one's
--- view isn't within its own.
+-- Of two answered calls of one operation in a valid book the second serves for the first, where the
+-- view of the first isn't within that of the second.
 pub serves-second : (book : List Page) (a b : Call) (r s : Record) (answer : Bool) → IsValid book
     → operation_of book a ≡ operation_of book b → IsAnswered book b
     → record_of book a ≡ Some r → record_of book b ≡ Some s → IsTrue answer ↔ IsWithin r.view s.view
@@ -102,7 +105,9 @@ serves-second book a b r s answer valid same answered at there says untrue = rec
   );
 }
 
--- What an answered call does that serves for another one.
+-- Where the places of two calls of one operation may come next in an order at a list, and the view
+-- of the first, which is answered, is within that of the second: the second is answered with the
+-- reply of the first, or is unanswered and the object gives this reply.
 does_the_same : (book : List Page) (next : List ℕ → ℕ → List ℕ × ℕ) (cut list : List ℕ)
     (a b : Place) (r : Record) → MayStandNext book next cut list a
     → MayStandNext book next cut list b
@@ -121,7 +126,9 @@ does_the_same book next cut list a b r ha hb same at views =
       | inr free ↦ inr (λ answered. absurd (omega arith), gives)
     ]
 
--- Where an order goes on by a place, one goes on by the place whose call serves for it.
+-- In a book with one open, where places that begin with a place continue an order, some that begin
+-- with another one do, which may come next in an order and whose call serves for the call at the
+-- first.
 pub twin_goes_on : (book : List Page) (next : List ℕ → ℕ → List ℕ × ℕ) (cut list : List ℕ)
     (a b : Place) (rest : List Place) → length cut ≡ length book → IsValid book → HasOneOpen book
     → MayStandNext book next cut list a → ServesFor book (call_at a) (call_at b)
@@ -157,7 +164,8 @@ twin_goes_on book next cut list a b rest wide valid one ha serves goes =
           (found.0, subst (λ (p : Place). Continues book next cut list (p ∷ found.0)) is found.1)
     ]
 
--- Of two places the one that is kept goes on where the other does.
+-- In a book with one open, where places that begin with one of two places continue an order, some
+-- that begin with the kept one do.
 kept_goes_on : (book : List Page) (next : List ℕ → ℕ → List ℕ × ℕ) (cut list : List ℕ)
     (a b kept : Place) → length cut ≡ length book → IsValid book → HasOneOpen book
     → MayStandNext book next cut list a → MayStandNext book next cut list b → IsKeptOf book a b kept
@@ -191,7 +199,8 @@ may_stand-kept book next cut list a b kept ha hb is = elim is [
   | inr second ↦ subst (λ (p : Place). MayStandNext book next cut list p) (sym second.0) hb
 ]
 
--- One more caller's place is exchanged for its twin, or a twin for it.
+-- One more caller is considered where its choice and an old one are exchanged for the one of them
+-- that serves for the other.
 more-exchanged : (book : List Page) (next : List ℕ → ℕ → List ℕ × ℕ) (cut list : List ℕ)
     (old : List Choice) (new : Choice) (items : List Choice) → length cut ≡ length book
     → IsValid book → AllByRecursion (MayStandNext book next cut list) (places_of old)
@@ -224,7 +233,8 @@ more-exchanged book next cut list old new items wide valid sound may x =
           (inr (same_next book next cut list place new.place goes.0 may by)) goes);
     })
 
--- A choice is added, or exchanged.
+-- One more caller is considered where its choice is inserted among the others, or it and an old one
+-- are exchanged for the one of them that serves for the other.
 pub considered-choice : (book : List Page) (next : List ℕ → ℕ → List ℕ × ℕ) (cut list : List ℕ)
     (old items : List Choice) (new : Choice) → length cut ≡ length book → IsValid book
     → AllByRecursion (MayStandNext book next cut list) (places_of old)
@@ -238,7 +248,8 @@ considered-choice book next cut list old items new wide valid sound may which = 
   | inr exchanged ↦ more-exchanged book next cut list old new items wide valid sound may exchanged
 ]
 
--- An unanswered read-only call isn't tried.
+-- In a book with one open, the places to be tried stay as they are when a caller is considered
+-- whose next call is unanswered and leaves the list as it is.
 pub considered-idle : (book : List Page) (next : List ℕ → ℕ → List ℕ × ℕ) (cut list : List ℕ)
     (places : List Place) (call : Call) (op : ℕ) → length cut ≡ length book → HasOneOpen book
     → AllByRecursion (MayStandNext book next cut list) places → call.number

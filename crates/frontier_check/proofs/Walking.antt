@@ -23,7 +23,7 @@ use Rattle.frontier_check.proofs.Choosing.{open-last, open-rest, dead_end}
 use Rattle.frontier_check.proofs.Leading.{leads-push, leads-pop, standing, reached-from_leads, legal-from_leads, lowered}
 use Rattle.frontier_check.proofs.Weighing.{weigh-push, weigh-skip, weigh-pop}
 
--- what a walk leads to, in the words of another with the same levels, counts and list
+-- levels lead from a cut and a list to others where equal levels lead from there to equal ones
 same_leads : (book : List Page) (next : List ℕ → ℕ → List ℕ × ℕ) (cut list : List ℕ)
     (levels new_levels : List WalkLevel) (to_cut new_cut to_list new_list : List ℕ)
     → new_levels ≡ levels → new_cut ≡ to_cut → new_list ≡ to_list
@@ -34,6 +34,7 @@ same_leads book next cut list levels new_levels to_cut new_cut to_list new_list 
     (subst (λ (c : List ℕ). Leads book next cut list levels c new_list) (sym f)
     (subst (λ (l : List ℕ). Leads book next cut list levels to_cut l) (sym k) h))
 
+-- What is to be tried at a cut and a list is what is to be tried at equal ones.
 pub same_open : (book : List Page) (next : List ℕ → ℕ → List ℕ × ℕ)
     (cut new_cut list new_list : List ℕ) (places new_places : List Place)
     → new_cut ≡ cut → new_list ≡ list → new_places ≡ places → IsOpen book next cut list places
@@ -43,7 +44,8 @@ same_open book next cut new_cut list new_list places new_places e f k h =
     (subst (λ (l : List ℕ). IsOpen book next cut l new_places) (sym f)
     (subst (λ (ps : List Place). IsOpen book next cut list ps) (sym k) h))
 
--- the last choice is taken
+-- A walk whose last choice is taken off has its place and the other choices to try, with as much
+-- weight as before.
 pub walk-choose : (book : List Page) (prefix : Prefix) (init : List ℕ)
     (next : List ℕ → ℕ → List ℕ × ℕ) (old new : Walk) (choice : Choice)
     → IsWalk book prefix init next old (places_of old.choices.items)
@@ -77,7 +79,7 @@ walk-choose book prefix init next old new choice h choices levels counts here me
           ∙ ap (λ (n : ℕ). weigh CAPACITY old.levels.items n) long,
     )
 
--- one more dead end is remembered
+-- A walk with nothing left to try stays right once its memo remembers its cut and its list as well.
 pub walk-remember : (book : List Page) (prefix : Prefix) (init : List ℕ)
     (next : List ℕ → ℕ → List ℕ × ℕ) (old new : Walk)
     → IsWalk book prefix init next old [] → new.levels ≡ old.levels → new.counts ≡ old.counts
@@ -104,7 +106,7 @@ walk-remember book prefix init next old new h levels counts here memo callers on
   room = ap (λ s. s.room) here ∙ h.room;
 }
 
--- a place leads to a remembered dead end
+-- A walk goes without a place that leads to a remembered dead end, and weighs less then.
 pub walk-skip : (book : List Page) (prefix : Prefix) (init : List ℕ)
     (next : List ℕ → ℕ → List ℕ × ℕ) (old new : Walk) (place : Place)
     → IsWalk book prefix init next old (place ∷ places_of old.choices.items) → Remembers old.memo
@@ -136,7 +138,8 @@ walk-skip book prefix init next old new place h there levels counts here choices
       omega (arith, same, weigh-skip CAPACITY old.levels.items (length old.choices.items)),
     )
 
--- What a place that is put next adds to a walk.
+-- A walk is one level deeper than another: a level is put at its end that has the list and the
+-- choices of the other walk, and the cut and the list become those after the call at its place.
 pub record IsDeeper (book : List Page) (next : List ℕ → ℕ → List ℕ × ℕ) (old new : Walk)
     (level : WalkLevel) : Type 0 where
   pub levels : new.levels.items ≡ old.levels.items ++ level ∷ []
@@ -163,6 +166,8 @@ deeper-leads book prefix init next old new level h d =
     (leads-push book next prefix.cut prefix.here.words old.levels.items old.counts.items
     old.here.words level h.leads d.words here)
 
+-- A walk that is one level deeper is right, with less weight, where its choices are what is to be
+-- tried and are no more than the callers of the book.
 pub walk-deeper : (book : List Page) (prefix : Prefix) (init : List ℕ)
     (next : List ℕ → ℕ → List ℕ × ℕ) (old new : Walk) (level : WalkLevel)
     → ((list : List ℕ) (op : ℕ) → length (next list op).0 ≤ length list + 1)
@@ -199,6 +204,8 @@ walk-deeper book prefix init next old new level grows h d here few =
       ),
     )
 
+-- Where the cut of a walk that is one level deeper holds all answered calls, the places of the
+-- prefix and then of the levels are a legal order.
 pub walk-found : (book : List Page) (prefix : Prefix) (init : List ℕ)
     (next : List ℕ → ℕ → List ℕ × ℕ) (old new : Walk) (level : WalkLevel)
     → IsWalk book prefix init next old (level.place ∷ places_of old.choices.items)
@@ -208,7 +215,8 @@ walk-found book prefix init next old new level h d all =
     legal-from_leads book prefix init next new.levels.items new.counts.items new.here.words h.begins
     (deeper-leads book prefix init next old new level h d) all
 
--- Where a place that is put next leads to.
+-- The cut and the list to which a level with the list and the choices of a walk leads from there:
+-- the ones after the call at its place.
 pub record LeadsTo (book : List Page) (next : List ℕ → ℕ → List ℕ × ℕ) (old : Walk)
     (level : WalkLevel)
     (cut list : List ℕ) : Type 0 where
@@ -233,7 +241,8 @@ leads-to book prefix init next old level cut list h to =
     (leads-push book next prefix.cut prefix.here.words old.levels.items old.counts.items
     old.here.words level h.leads to.words here)
 
--- Where a place leads to a pair that isn't the end, one more word fits the list there.
+-- Where a level leads from a walk to a cut after which an answered call is due, one more word fits
+-- the list there.
 pub deeper-fits : (book : List Page) (prefix : Prefix) (init : List ℕ)
     (next : List ℕ → ℕ → List ℕ × ℕ) (old : Walk) (level : WalkLevel)
     (cut list : List ℕ) (first : ℕ)
@@ -252,7 +261,8 @@ deeper-fits book prefix init next old level cut list first grows h to least =
     (standing book prefix init next (old.levels.items ++ level ∷ []) cut list place h.begins grows
     (leads-to book prefix init next old level cut list h to) may).fits
 
--- An order from the start reaches where a place leads to.
+-- Some order reaches the cut and the list to which a level leads from a walk, and whatever places
+-- continue it from there make a legal order with it.
 pub deeper-reached : (book : List Page) (prefix : Prefix) (init : List ℕ)
     (next : List ℕ → ℕ → List ℕ × ℕ) (old : Walk) (level : WalkLevel) (cut list : List ℕ)
     → IsWalk book prefix init next old (level.place ∷ places_of old.choices.items)
@@ -261,7 +271,7 @@ deeper-reached book prefix init next old level cut list h to =
     reached-from_leads init next book prefix (old.levels.items ++ level ∷ []) cut list h.begins
     (leads-to book prefix init next old level cut list h to)
 
--- one level back from a dead end
+-- A walk that goes back by one level from a dead end is right, with less weight.
 pub walk-back : (book : List Page) (prefix : Prefix) (init : List ℕ)
     (next : List ℕ → ℕ → List ℕ × ℕ) (old new : Walk) (level : WalkLevel)
     → IsWalk book prefix init next old [] → old.levels.items ≡ new.levels.items ++ level ∷ []
@@ -307,12 +317,13 @@ walk-back book prefix init next old new level h levels counts here room choices 
       omega (arith, same, old_is, weigh-pop CAPACITY new.levels.items level),
     )
 
--- what is known of the last level of a walk
+-- bounds on the last level of a walk: on the caller and the number of its place, and on its words
 pub record LastLevel (old : Walk) (level : WalkLevel) : Type 0 where
   pub caller : level.place.caller < length old.counts.items
   pub number : level.place.number ≤ MAX_CALLS
   pub words : length level.words.items ≤ CAPACITY
 
+-- The bounds hold for the last level of each walk with nothing left to try.
 pub last_level : (book : List Page) (prefix : Prefix) (init : List ℕ)
     (next : List ℕ → ℕ → List ℕ × ℕ) (old : Walk) (levels : List WalkLevel) (level : WalkLevel)
     → ((list : List ℕ) (op : ℕ) → length (next list op).0 ≤ length list + 1)
@@ -334,7 +345,7 @@ last_level book prefix init next old levels level grows h is =
       words = omega (arith, s.fits);
     }
 
--- a dead end where the prefix ends
+-- Where a walk without levels has nothing left to try, the end of the prefix is a dead end.
 pub walk-none : (book : List Page) (prefix : Prefix) (init : List ℕ)
     (next : List ℕ → ℕ → List ℕ × ℕ) (walk : Walk)
     → IsWalk book prefix init next walk [] → walk.levels.items ≡ []
@@ -348,7 +359,8 @@ walk-none book prefix init next walk h none =
     (subst (λ (l : List ℕ). IsDeadEnd book next walk.counts.items l) (sym leads.1)
     (dead_end book next walk.counts.items walk.here.words h.here))
 
--- the walk where the prefix ends
+-- A walk without levels, at the cut and the list of a prefix and with an empty memo, is right with
+-- what is to be tried there.
 pub walk-start : (book : List Page) (prefix : Prefix) (init : List ℕ)
     (next : List ℕ → ℕ → List ℕ × ℕ) (walk : Walk) → IsPrefix init next book prefix
     → walk.levels.items ≡ [] → walk.counts.items ≡ prefix.cut → walk.here.words ≡ prefix.here.words
@@ -367,7 +379,7 @@ walk-start book prefix init next walk f levels counts here room memo callers non
   room = room;
 }
 
--- One more word fits the list of a prefix after which a call is open.
+-- One more word fits the list of a prefix after whose cut an answered call is due.
 pub prefix-fits : (book : List Page) (prefix : Prefix) (init : List ℕ)
     (next : List ℕ → ℕ → List ℕ × ℕ) (cut list : List ℕ) (first : ℕ)
     → ((list : List ℕ) (op : ℕ) → length (next list op).0 ≤ length list + 1)

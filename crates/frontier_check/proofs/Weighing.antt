@@ -23,7 +23,8 @@ lighter choices fresh above below e positive few =
     let le : fresh * below ≤ MAX_CALLERS * below = mul-le-mul_right below few in
     omega arith
 
--- what goes down by a choice weighs less than the choice
+-- Levels with a further one at their end, and at most as many fresh choices as there may be
+-- callers, weigh less than those levels with the choices of the further one and one more.
 pub weigh-push : (depth : ℕ) (levels : List WalkLevel) (level : WalkLevel) (fresh : ℕ)
     → length levels < depth → fresh ≤ MAX_CALLERS
     → weigh depth (levels ++ level ∷ []) fresh < weigh depth levels (length level.choices.items + 1)
@@ -33,14 +34,15 @@ weigh-push depth [] level fresh h few = lighter (length level.choices.items) fre
 weigh-push depth (first ∷ levels) level fresh h few =
     omega (arith, weigh-push (depth - 1) levels level fresh (omega arith) few)
 
--- a choice fewer weighs less
+-- Levels weigh less with one choice fewer after them.
 pub weigh-skip : (depth : ℕ) (levels : List WalkLevel) (choices : ℕ)
     → weigh depth levels choices < weigh depth levels (choices + 1)
 unfolding weigh
 weigh-skip depth [] choices = omega (arith, ways_positive depth)
 weigh-skip depth (first ∷ levels) choices = omega (arith, weigh-skip (depth - 1) levels choices)
 
--- what is left of a level weighs less than the level and what is below it
+-- Levels with the choices of a further level after them weigh less than those levels and the
+-- further one with no choice after them.
 pub weigh-pop : (depth : ℕ) (levels : List WalkLevel) (level : WalkLevel)
     → weigh depth levels (length level.choices.items) < weigh depth (levels ++ level ∷ []) 0
 unfolding weigh

@@ -1,4 +1,4 @@
--- Prefixes of orders: the places that were put already.
+-- Prefixes of orders: the places that are put already, and the cut and the list that they reach.
 use Rattle.std.specs.Prelude.{◌≡◌, ℕ, ◌+◌, ◌≤◌, List, [], ◌∷◌, ◌++◌, length, replicate, sum, slice_index, Some}
 use Rattle.book_base.specs.declared.call.Place.{Place}
 use Rattle.book_base.specs.declared.call.Record.{Record}
@@ -13,16 +13,17 @@ use Rattle.frontier_check.specs.declared.prefix.Prefix.{Prefix}
 abbrev pub no_calls : List Page → List ℕ
 no_calls book = replicate (length book) 0
 
--- A place is its caller's next after the calls of a cut; where its call is answered, the place has
--- the recorded reply, and the view holds all calls of the cut.
+-- The call at a place is its caller's next call in a book after a cut; where it is answered, the
+-- place has the recorded reply, and the recorded view holds all calls of the cut.
 pub record IsNext (book : List Page) (cut : List ℕ) (place : Place) : Type 0 where
   pub is_call : IsCall book (call_at place)
   pub next : place.number ≡ slice_index cut place.caller
   pub recorded : (r : Record) → record_of book (call_at place) ≡ Some r → (r.reply ≡ place.reply)
       × IsWithin cut r.view
 
--- Places follow one another, from one cut and list to another: each is the next one, and has the
--- reply that the object gives.
+-- Places follow one another from one cut and list to another: each is next, as `IsNext` says, after
+-- the cut that those before it reach, and has the reply that the object gives at the list that
+-- those before it reach.
 abbrev pub Follow : List Page → (List ℕ → ℕ → List ℕ × ℕ) → List ℕ → List ℕ → List Place → List ℕ
     → List ℕ → Type 0
 Follow book next cut list [] to_cut to_list = (cut ≡ to_cut) × (list ≡ to_list)
@@ -31,14 +32,14 @@ Follow book next cut list (place ∷ places) to_cut to_list =
     × Follow book next (raised cut place.caller)
     (list_after book next list place) places to_cut to_list
 
--- The view of each caller's first call outside a cut holds all calls of the cut, where that call is
--- answered.
+-- Where the next call of a caller after a cut is answered, its view holds all calls of the cut.
 abbrev pub LeavesOpen : List Page → List ℕ → Type 0
 LeavesOpen book cut = (i : ℕ) (r : Record) → record_of book (next_call cut i) ≡ Some r
     → IsWithin cut r.view
 
--- A prefix of orders of a valid and small book reaches its cut and its list by its places, and
--- neither is larger than these places make it.
+-- The places of a prefix reach its cut and its list, in a valid and small book. The cut has one
+-- count for each caller of the book and counts no more of its calls than the book has, and the list
+-- has at most one word more than the cut counts calls.
 pub record PrefixReaches (init : List ℕ) (next : List ℕ → ℕ → List ℕ × ℕ) (book : List Page)
     (prefix : Prefix) : Type 0 where
   pub valid : IsValid book
@@ -48,15 +49,16 @@ pub record PrefixReaches (init : List ℕ) (next : List ℕ → ℕ → List ℕ
   pub words : length prefix.here.words ≤ sum prefix.cut + 1
   pub reaches : Reaches init next book prefix.places.items prefix.cut prefix.here.words
 
--- The places of a prefix follow one another from the start.
+-- A prefix is put in a book: its places reach its cut and its list, and follow one another from the
+-- cut without calls and the first list of the object.
 pub record IsPut (init : List ℕ) (next : List ℕ → ℕ → List ℕ × ℕ) (book : List Page)
     (prefix : Prefix) : Type 0 where
   pub stands : PrefixReaches init next book prefix
   pub follow : Follow book next
       (no_calls book) init prefix.places.items prefix.cut prefix.here.words
 
--- A prefix of orders: whatever goes on from its cut and its list makes a legal order after its
--- places.
+-- The places of a prefix reach its cut and its list, and whatever places continue an order from
+-- there make a legal order after those of the prefix.
 pub record IsPrefix (init : List ℕ) (next : List ℕ → ℕ → List ℕ × ℕ) (book : List Page)
     (prefix : Prefix) : Type 0 where
   pub stands : PrefixReaches init next book prefix

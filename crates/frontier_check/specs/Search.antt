@@ -1,4 +1,4 @@
--- The search for a legal order: where it stands, and what is known there.
+-- The search for a legal order: the walk that it keeps, and what is known at a cut and a list.
 use Rattle.std.specs.Prelude.{◌≡◌, ℕ, zero, suc, ◌+◌, ◌*◌, ◌-◌, ◌<◌, ◌≤◌, ◌⊎◌, List, [], ◌∷◌, ◌++◌, length, map}
 use Rattle.std.specs.List.{AllByRecursion}
 use Rattle.book_base.specs.declared.call.Place.{Place}
@@ -19,27 +19,29 @@ use Rattle.frontier_check.specs.declared.walk.TheConstants.{CAPACITY}
 use Rattle.frontier_check.specs.Memo.{IsMemo, Remembers}
 use Rattle.frontier_check.specs.Prefix.{IsPrefix}
 
--- the object's list may grow by one word for each call of a book
+-- One more word fits a list of the object: the list has fewer words than the capacity. The cut
+-- plays no part.
 abbrev pub Fits : List ℕ → List ℕ → Type 0
 Fits cut list = length list + 1 ≤ CAPACITY
 
--- the place is one of these
+-- a place is among the places of a list
 abbrev pub IsAmong : Place → List Place → Type 0
 IsAmong place [] = ⊥
 IsAmong place (first ∷ places) = (place ≡ first) ⊎ IsAmong place places
 
--- the places of choices
+-- the places of some choices, in their order
 abbrev pub places_of : List Choice → List Place
 places_of choices = map (λ choice. choice.place) choices
 
--- An order goes on from a cut and a list by one of these places.
+-- Some places continue an order from a cut and a list, and the first of them is one of these
+-- places.
 abbrev pub GoesOnBy : List Page → (List ℕ → ℕ → List ℕ × ℕ) → List ℕ → List ℕ → List Place → Type 0
 GoesOnBy book next cut list places = (place : Place) × (rest : List Place) × IsAmong place places
     × Continues book next cut list (place ∷ rest)
 
--- What is known of a cut and a list where these places are still to be tried: not all answered
--- calls stand, each of the places may stand next, and where an order goes on at all, one goes on by
--- one of them.
+-- What is known of a cut and a list at which these places are still to be tried: the cut lacks an
+-- answered call, each of the places may come next, and where places continue an order from there,
+-- some that begin with one of these places do.
 pub record IsOpen (book : List Page) (next : List ℕ → ℕ → List ℕ × ℕ) (cut list : List ℕ)
     (places : List Place) : Type 0 where
   pub unended : HoldsAnswered book cut → ⊥
@@ -47,28 +49,31 @@ pub record IsOpen (book : List Page) (next : List ℕ → ℕ → List ℕ × �
   pub covered : (rest : List Place) → Continues book next cut list rest
       → GoesOnBy book next cut list places
 
--- A list has a word of this rank: where it is below a limit, the list has a word of a rank below
--- that limit.
+-- A list has a word whose rank is at most this one: for each limit above this rank, the list has a
+-- word of a rank below that limit.
 abbrev pub IsRankIn : List (ℕ × ℕ) → List ℕ → ℕ → Type 0
 IsRankIn ranks list rank = (limit : ℕ) → rank < limit → HasEarly ranks list limit
 
--- An order goes on by one of these places, or one goes on that has no more than this many places.
+-- From a cut and a list, some places that begin with one of these continue an order, or at most
+-- this many places do.
 abbrev pub IsServed : List Page → (List ℕ → ℕ → List ℕ × ℕ) → List ℕ → List ℕ → List Place
     → ℕ → Type 0
 IsServed book next cut list places few =
     GoesOnBy book next cut list places
     ⊎ ((other : List Place) × Continues book next cut list other × (length other ≤ few))
 
--- Where an order goes on by one of the old places, one goes on by one of the new ones.
+-- Where places that begin with one of the old places continue an order from a cut and a list, some
+-- that begin with one of the new places do.
 abbrev pub AreServedBy : List Page → (List ℕ → ℕ → List ℕ × ℕ) → List ℕ → List ℕ → List Place
     → List Place → Type 0
 AreServedBy book next cut list old new = (place : Place) (rest : List Place) → IsAmong place old
     → Continues book next cut list (place ∷ rest)
     → GoesOnBy book next cut list new
 
--- The next call of one more caller is looked at: each of the new places may stand next, they serve
--- for the old ones, and where an order goes on by that call, one goes on by one of the new places,
--- or a shorter one goes on.
+-- The places to be tried become new ones when the next call of one more caller is considered: each
+-- new place may come next; the new places serve for the old ones; and where places that begin with
+-- a call of that caller continue an order, some that begin with one of the new places do, or fewer
+-- places do.
 pub record IsOneMore (book : List Page) (next : List ℕ → ℕ → List ℕ × ℕ) (cut list : List ℕ)
     (caller : ℕ) (old new : List Place) : Type 0 where
   pub sound : AllByRecursion (MayStandNext book next cut list) new
@@ -77,9 +82,9 @@ pub record IsOneMore (book : List Page) (next : List ℕ → ℕ → List ℕ ×
       → Continues book next cut list (place ∷ rest)
       → IsServed book next cut list new (length rest)
 
--- The places that were chosen so far, of the marked callers below a number: each may stand next,
--- and where an order goes on by one of these callers, one goes on by one of the places, or a
--- shorter one goes on.
+-- The places that are chosen for the marked callers below a number: each place may come next, and
+-- where places that begin with a call of one of these callers continue an order, some that begin
+-- with one of the chosen places do, or fewer places do.
 pub record AreChosen (book : List Page) (next : List ℕ → ℕ → List ℕ × ℕ) (cut list : List ℕ)
     (marks : Marks) (below : ℕ) (places : List Place) : Type 0 where
   pub sound : AllByRecursion (MayStandNext book next cut list) places
@@ -87,15 +92,16 @@ pub record AreChosen (book : List Page) (next : List ℕ → ℕ → List ℕ ×
       → IsMarked marks place.caller → Continues book next cut list (place ∷ rest)
       → IsServed book next cut list places (length rest)
 
--- The marked callers are those that a search has to try: the next call of each may come next, and
--- they suffice.
+-- The marked callers are the ones to try at a cut and a list: the next call of each may come next,
+-- and the marks suffice.
 pub record AreToTry (book : List Page) (next : List ℕ → ℕ → List ℕ × ℕ) (cut list : List ℕ)
     (marks : Marks) : Type 0 where
   pub may : (i : ℕ) → IsMarked marks i → MayComeNext book cut (next_call cut i)
   pub suffice : MarksSuffice book next cut list marks
 
--- The levels lead from a cut and a list to others: at each level its words are the list, its place
--- stands next, and the places besides its own that are still to be tried are those of its choices.
+-- Levels lead from a cut and a list to another cut and list, each by the call at its place: the
+-- words of each level are the list before that call, and its place and those of its choices are
+-- what is still to be tried at the cut and the list before that call.
 abbrev pub Leads : List Page → (List ℕ → ℕ → List ℕ × ℕ) → List ℕ → List ℕ → List WalkLevel → List ℕ
     → List ℕ → Type 0
 Leads book next cut list [] to_cut to_list = (cut ≡ to_cut) × (list ≡ to_list)
@@ -105,12 +111,14 @@ Leads book next cut list (level ∷ levels) to_cut to_list =
     × Leads book next (raised cut level.place.caller)
     (list_after book next list level.place) levels to_cut to_list
 
--- all remembered pairs are dead ends
+-- Each pair of a cut and a list that the memo of a walk remembers is a dead end.
 abbrev pub AllDead : List Page → (List ℕ → ℕ → List ℕ × ℕ) → Walk → Type 0
 AllDead book next walk = (cut list : List ℕ) → Remembers walk.memo cut list
     → IsDeadEnd book next cut list
 
--- A walk from where a prefix ends, at whose own end these places are still to be tried.
+-- What holds of a walk of a search after a prefix: its levels lead from the cut and the list of the
+-- prefix to those of the walk, where these places are still to be tried; its memo remembers dead
+-- ends alone, and is for as many callers as the book has; and its state has the whole capacity.
 pub record IsWalk (book : List Page) (prefix : Prefix) (init : List ℕ)
     (next : List ℕ → ℕ → List ℕ × ℕ) (walk : Walk) (places : List Place) : Type 0 where
   pub begins : IsPrefix init next book prefix
@@ -122,29 +130,34 @@ pub record IsWalk (book : List Page) (prefix : Prefix) (init : List ℕ)
   pub callers : walk.memo.callers ≡ length book
   pub room : walk.here.room ≡ CAPACITY
 
--- the places of levels, in order
+-- the places of some levels, in their order
 abbrev pub order_of : List WalkLevel → List Place
 order_of levels = map (λ level. level.place) levels
 
--- how many ways there may be of this many places, where at each of them no more may be tried than
--- there are callers
+-- A bound on the ways to put this many places, where at each of them no more may be tried than
+-- there are callers: two more than the most callers that a book may have, to the power of this
+-- many.
 unfoldable pub ways : ℕ → ℕ
 ways zero = 1
 ways (suc depth) = (MAX_CALLERS + 2) * ways depth
 
--- how much may be left to try, where at most this many places follow the first cut: each choice of
--- a level weighs more than all that may come below it
+-- A number for how much is left to try, where at most this many places follow the first cut: for
+-- each level one more than its choices, and in the end one more than these choices, each times the
+-- ways of as many places as may still follow there. One choice of a level weighs more than all
+-- levels after it, where these have no more choices than there are callers.
 unfoldable pub weigh : ℕ → List WalkLevel → ℕ → ℕ
 weigh depth [] choices = (choices + 1) * ways depth
 weigh depth (level ∷ levels) choices =
     (length level.choices.items + 1) * ways depth + weigh (depth - 1) levels choices
 
--- the weight of a walk
+-- the number for how much is left to try in a walk
 abbrev pub weight : Walk → ℕ
 weight walk = weigh CAPACITY walk.levels.items (length walk.choices.items)
 
--- What came of a step is so: the levels make a legal order after the prefix, nothing goes on from
--- the prefix, or the walk goes on with less weight than before.
+-- The outcome of a step of the search is right: with `Found` the places of the prefix and then of
+-- the levels are a legal order; with `NoneLeft` the cut and the list of the prefix are a dead end;
+-- and with `GoesOn` the walk is a right one, with the places of its choices still to be tried, and
+-- weighs less than the number before.
 abbrev pub IsRightOutcome : List Page → Prefix → List ℕ → (List ℕ → ℕ → List ℕ × ℕ) → ℕ → Walk
     → StepOutcome → Type 0
 IsRightOutcome book prefix init next before walk Found =

@@ -1,4 +1,4 @@
--- What stands of an order in a book that has grown since.
+-- Which places of a kept order still follow one another in a book that has grown since.
 use Rattle.std.specs.Prelude.{◌≡◌, ℕ, ◌<◌, ◌≤◌, ◌⊎◌, ◌++◌, List, [], ◌∷◌, Some, length, slice_index}
 use Rattle.book_base.specs.declared.call.Call.{Call}
 use Rattle.book_base.specs.declared.call.Place.{Place}
@@ -9,8 +9,8 @@ use Rattle.frontier_check.specs.declared.mark.Mark.{Mark}
 use Rattle.frontier_check.specs.declared.mark.KeptOrder.{KeptOrder}
 use Rattle.frontier_check.specs.Prefix.{LeavesOpen, IsPut}
 
--- A book has grown to another one: it has the same callers, and all its calls and records are the
--- other's.
+-- A new book has grown from an old one: they have equally many callers, and each operation and each
+-- record of a call in the old book is that of the call in the new book.
 pub record HasGrown (old new : List Page) : Type 0 where
   pub callers : length new ≡ length old
   pub operations : (call : Call) (op : ℕ) → operation_of old call ≡ Some op
@@ -18,14 +18,15 @@ pub record HasGrown (old new : List Page) : Type 0 where
   pub records : (call : Call) (r : Record) → record_of old call ≡ Some r
       → record_of new call ≡ Some r
 
--- The calls of a cut that a book has answered were answered already when it had this many records
--- of each caller.
+-- For each caller, a cut counts no more calls than the caller had records before, or the book has
+-- no more records of the caller than before: no call of the cut was answered since.
 abbrev pub IsQuiet : List ℕ → List ℕ → List Page → Type 0
 IsQuiet cut before book = (i : ℕ) → i < length book → (slice_index cut i ≤ slice_index before i)
     ⊎ (answers_of book i ≤ slice_index before i)
 
--- The places up to a mark of an order followed one another in this book, or in one from which it
--- has grown: they lead to the cut and the words of the mark.
+-- A mark is one of an order: it counts the places of a prefix with which the order begins, and has
+-- its cut and its words. These places were put in this book or in one from which it has grown, and
+-- the mark has how many records of each caller that book had.
 pub record IsMark (init : List ℕ) (next : List ℕ → ℕ → List ℕ × ℕ) (book : List Page)
     (order : List Place) (mark : Mark) : Type 0 where
   pub earlier : List Page
@@ -39,7 +40,8 @@ pub record IsMark (init : List ℕ) (next : List ℕ → ℕ → List ℕ × ℕ
   pub words : prefix.here.words ≡ mark.words.items
   pub put : IsPut init next earlier prefix
 
--- These are marks of an order, one after another, none of them before the least number of places.
+-- These are marks of an order; the first of them counts no fewer places than the least number, and
+-- each other one no fewer than the mark before it.
 abbrev pub AreMarks : (init : List ℕ) → (next : List ℕ → ℕ → List ℕ × ℕ) → List Page → List Place
     → ℕ → List Mark → Type 0
 AreMarks init next book order least [] = Unit {0}
@@ -47,30 +49,33 @@ AreMarks init next book order least (mark ∷ marks) =
     (least ≤ mark.len) × IsMark init next book order mark
     × AreMarks init next book order mark.len marks
 
--- What stands is of this book, or of one from which it has grown.
+-- The marks of a kept order are marks of its places, in this book or in ones from which it has
+-- grown.
 abbrev pub IsStandingFor : (init : List ℕ) → (next : List ℕ → ℕ → List ℕ × ℕ) → List Page
     → KeptOrder → Type 0
 IsStandingFor init next book standing =
     AreMarks init next book standing.order.items 0 standing.marks.items
 
--- A mark has a count for each caller of a book.
+-- The cut of a mark and its numbers of records have one count for each caller of a book.
 abbrev pub IsAsWide : List Page → Mark → Type 0
 IsAsWide book mark = (length mark.cut ≡ length book) × (length mark.answered ≡ length book)
 
--- The places up to a mark follow one another in a book still: none of their calls was answered
--- since, and the view of each caller's first call after them holds them.
+-- No call of the cut of a mark was answered in a book since the mark was left, and where the next
+-- call of a caller after that cut is answered, its view holds the cut. Then the places before the
+-- mark may still begin an order of the book.
 abbrev pub StillStands : List Page → Mark → Type 0
 StillStands book mark = IsQuiet mark.cut mark.answered book × LeavesOpen book mark.cut
 
--- A mark is where a prefix ends, in a book with these numbers of records.
+-- A mark is at the end of a prefix: it has the number of its places, its cut and its words, and
+-- these numbers of records.
 pub record MarksEnd (prefix : Prefix) (records : List ℕ) (mark : Mark) : Type 0 where
   pub len : mark.len ≡ length prefix.places.items
   pub cut : mark.cut ≡ prefix.cut
   pub words : mark.words.items ≡ prefix.here.words
   pub answered : mark.answered ≡ records
 
--- The marks of an order up to where a prefix ends, in a book with these numbers of records, become
--- marks of it as well.
+-- In each book with these numbers of records in which a prefix is put, whatever the object is:
+-- where the old marks are marks of the places of the prefix, so are the new ones.
 abbrev pub KeepsMarks : Prefix → List ℕ → List Mark → List Mark → Type 0
 KeepsMarks prefix records marks more =
     (init : List ℕ) (next : List ℕ → ℕ → List ℕ × ℕ) (book : List Page)

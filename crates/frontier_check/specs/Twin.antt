@@ -1,4 +1,4 @@
--- Twins among choices: of two calls of one operation one is kept that serves for the other.
+-- Twins among choices: of two calls with one operation the one is kept that serves for the other.
 use Rattle.std.specs.Prelude.{◌≡◌, ℕ, ◌<◌, ◌⊎◌, List, length, slice_index_or}
 use Rattle.std.specs.List.{insert, remove}
 use Rattle.book_base.specs.declared.call.Call.{Call}
@@ -8,29 +8,31 @@ use Rattle.book_base.specs.Order.{call_at}
 use Rattle.book_base.specs.Pruning.{HasOneOpen, ViewsAreWithin}
 use Rattle.frontier_check.specs.declared.choice.Choice.{Choice}
 
--- A call serves for another one of its operation wherever both may stand next: it is answered, with
--- a view within that of the other where the other is answered too, or neither is answered.
+-- Call `a` may serve for call `b` in a book: they have the same operation, and either `a` is
+-- answered, with a view within that of `b` where `b` is answered too, or neither of them is
+-- answered.
 pub record ServesFor (book : List Page) (a b : Call) : Type 0 where
   pub same : operation_of book a ≡ operation_of book b
   pub sooner : (IsAnswered book a × ViewsAreWithin book a b)
       ⊎ ((IsAnswered book a → ⊥) × (IsAnswered book b → ⊥))
 
--- A place is of a call of the book with the operation of another place's call.
+-- The call at a place is a call of the book, and has the operation of the call at another place.
 abbrev pub HasOperationOf : List Page → Place → Place → Type 0
 HasOperationOf book other place = IsCall book (call_at place)
     × (operation_of book (call_at place) ≡ operation_of book (call_at other))
 
--- Of two places one is kept, whose call serves for the other's.
+-- The kept place is one of two, and its call serves for the call at the other one.
 abbrev pub IsKeptOf : List Page → Place → Place → Place → Type 0
 IsKeptOf book a b kept = ((kept ≡ a) × ServesFor book (call_at a) (call_at b))
     ⊎ ((kept ≡ b) × ServesFor book (call_at b) (call_at a))
 
--- A choice is added to the old ones as one more of them.
+-- The choices are the old ones with a new one inserted at some index.
 abbrev pub IsAdded : List Choice → Choice → List Choice → Type 0
 IsAdded old new items = (i : ℕ) × (items ≡ insert old i new)
 
--- In a book with one open, of a new choice and an old one with its operation the one is kept that
--- serves for the other.
+-- In a book with one open, the choices are the old ones with one of them removed and another one
+-- inserted: the place of the inserted one is that of the removed choice or that of the new choice,
+-- and its call serves for the call at the other of these two places.
 pub record IsExchanged (book : List Page) (old : List Choice) (new : Choice)
     (items : List Choice) : Type 0 where
   pub one_open : HasOneOpen book

@@ -1,4 +1,4 @@
--- What the search answers.
+-- Which verdicts of the search are right.
 use Rattle.std.specs.Prelude.{◌≡◌, ℕ, List}
 use Rattle.book_base.specs.declared.call.Place.{Place}
 use Rattle.book_base.specs.Book.{Page}
@@ -6,12 +6,14 @@ use Rattle.book_base.specs.Order.{IsLegalOrder, HasLegalOrder}
 use Rattle.frontier_check.specs.declared.verdict.Verdict.{Verdict}
 use Rattle.frontier_check.specs.declared.verdict.Verdict.TheVariants.{Legal, Illegal}
 
--- The verdict on a book is right: it carries a legal order, or there is none.
+-- A verdict on a book is right: `Legal` carries a legal order of the book, and with `Illegal` the
+-- book has no legal order.
 abbrev pub IsRight : List ℕ → (List ℕ → ℕ → List ℕ × ℕ) → List Page → Verdict → Type 0
 IsRight init next book (Legal order) = IsLegalOrder init next book order.items
 IsRight init next book Illegal = HasLegalOrder init next book → ⊥
 
--- A guide keeps the legal order that was found, and else the one that it had.
+-- A guide has the places of the legal order that a verdict carries, and with `Illegal` those that
+-- it had before.
 abbrev pub IsKept : List Place → List Place → Verdict → Type 0
 IsKept old new (Legal order) = new ≡ order.items
 IsKept old new Illegal = new ≡ old

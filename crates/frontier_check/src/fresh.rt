@@ -25,8 +25,9 @@ pub fn holds_answered(book: &Book, cut: &Cut) -> bool
     true
 }
 
-// The place of a caller's first call outside a prefix, with the reply that the object gives, where
-// the call is next and within a limit. The spare state has the list after it.
+// The place of a caller's next call after a prefix, with the reply that the object gives, if the
+// place may follow those of the prefix and the call is within a limit. The spare state has the list
+// after the call.
 fn next_place<S: SeqObject>(
     object: &S,
     book: &Book,
@@ -60,21 +61,23 @@ fn next_place<S: SeqObject>(
     }
 }
 
-// The turn of a call that changes the list of a prefix, by what it does: first come those that take
-// out a word, then puts, then answered puts of what no answered call takes out, and last what
-// changes it otherwise.
+// The least turns of calls that change the list of a prefix, by what they do. A call that makes the
+// list shorter has a lesser turn than all of these; `PUT` is for a call that makes it longer and
+// whose word a take is known to take out, `KEPT` for any other answered call that makes it longer,
+// where a guess goes by the takes, and `OTHER` for each other answered call that changes it.
 const PUT: u64 = 1 << 32;
 
 const KEPT: u64 = 2 << 32;
 
 const OTHER: u64 = 3 << 32;
 
-// The turn of two calls that change the list otherwise: no guess says which of them comes first.
+// The turn of the best choice where several have the turn `OTHER`: no guess says which of them
+// comes first.
 const UNSURE: u64 = 4 << 32;
 
-// The turn of a caller's first call outside a prefix, after which the list is that of a state: by
-// its view, or by that of the call which takes out what it puts in. Where no answered call does, an
-// unanswered one has none.
+// The turn of a caller's next call after a prefix, by the list after that call (`after`), by how
+// many calls its view counts, and by how many the view of the take of its word counts. An
+// unanswered call has a turn only where it makes the list longer and the take of its word is known.
 fn turn_of(prefix: &Prefix, after: &State, guess: &Guess, caller: u32) -> Option<u64>
     requires counts { caller < length guess.now.counts }
     requires taken { caller < length guess.now.taken }
@@ -97,7 +100,8 @@ fn turn_of(prefix: &Prefix, after: &State, guess: &Guess, caller: u32) -> Option
     }
 }
 
-// A caller's first call outside a prefix with its turn, where it may come next.
+// A choice for a caller's next call after a prefix, if its place may follow those of the prefix,
+// `view` holds the call, and the call has a turn.
 fn choice_of<S: SeqObject>(
     object: &S,
     book: &Book,
@@ -121,7 +125,8 @@ fn choice_of<S: SeqObject>(
     Some(Choice { turn, place })
 }
 
-// Of the callers' first calls outside a prefix that may come next the one with the least turn.
+// Of the callers' next calls after a prefix that `view` holds, the best choice, if any of these
+// calls has a choice.
 fn best_choice<S: SeqObject>(
     object: &S,
     book: &Book,
@@ -148,8 +153,9 @@ fn best_choice<S: SeqObject>(
     best
 }
 
-// The better one of two choices after a cut, where there are two. Of two calls that change the list
-// otherwise none is the better one.
+// Of two choices after a cut the one with the lesser turn, the found one where their turns are
+// equal, and where one is missing the other one. Where the found one has the turn `OTHER` and the
+// best one that turn or `UNSURE`, the turn becomes `UNSURE`.
 fn better_of(
     _book: &Book,
     _cut: &Cut,
@@ -180,7 +186,9 @@ fn better_of(
     })
 }
 
-// The place of an unanswered call after which an answered one has its recorded reply.
+// The place of some caller's next call after a prefix, which is unanswered and held by `view`, if
+// after it the object gives the recorded reply of another caller's next call. `None` comes where no
+// caller has such a call.
 fn opening_place<S: SeqObject>(
     object: &S,
     book: &Book,
@@ -205,7 +213,8 @@ fn opening_place<S: SeqObject>(
     None
 }
 
-// Whether after a place that is put next an answered call has its recorded reply.
+// Whether, once a place is put after a prefix, the object gives the recorded reply of the next call
+// of some caller, which is answered and held by `view`.
 fn opens<S: SeqObject>(
     object: &S,
     book: &Book,
@@ -241,9 +250,10 @@ fn opens<S: SeqObject>(
     false
 }
 
-// Of the callers' first calls outside a prefix the one to put next. Of those that may come next one
-// is guessed, by what the views say of the calls and of their words; where none has its recorded
-// reply, an unanswered one, after which another one has it. Where no guess is made, a search looks.
+// The place to put next after a prefix, as far as one is guessed: that of the best choice, or,
+// where no call has a choice, that of an unanswered call after which an answered one has its
+// recorded reply. `None` comes where no next call is answered, where the best choice is `UNSURE`,
+// and where no such unanswered call is found: then a search looks.
 fn place_after<S: SeqObject>(
     object: &S,
     book: &Book,
@@ -274,7 +284,7 @@ fn place_after<S: SeqObject>(
     }
 }
 
-/// How many calls of a book a cut doesn't hold. No clause says so: it costs or saves time alone.
+/// How many calls of a book a cut lacks. No clause says so: it costs or saves time alone.
 pub fn calls_after(book: &Book, cut: &Cut) -> u64
     requires { length cut.now ≡ length book.now }
 {
@@ -285,8 +295,9 @@ pub fn calls_after(book: &Book, cut: &Cut) -> u64
     left
 }
 
-/// Puts calls after the places of a prefix, as long as a guess says which one comes next, and leaves
-/// marks at intervals. Whether the object gave the replies; no clause says how far it comes.
+/// Puts places after those of a prefix, as long as the next one is guessed, and leaves a mark
+/// wherever the number of places is a multiple of `INTERVAL`. Whether the object gave the reply of
+/// each place that was put; no clause says how many are put.
 pub fn put_fresh<S: SeqObject>(
     alloc: Global,
     object: &S,

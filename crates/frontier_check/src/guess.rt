@@ -6,10 +6,12 @@ use crate::walk::CAPACITY;
 use book_base::{Book, Call, Cut, NoMemory, SeqObject, State};
 use std::alloc::Global;
 
-/// By what it is guessed which call comes next after a cut: by caller, how many calls the view of
-/// its first call outside the cut counts, and that of the call which takes out what it puts in.
+/// What a guess of the next call after a cut goes by. For each caller, of its next call after the
+/// cut: how many calls its view counts, and how many calls are counted by the view of the call that
+/// takes out the word which it puts in.
 ///
-/// No clause says what they are: they cost or save time alone.
+/// Either is `u64::MAX` where it isn't known. No clause says what they are: they cost or save time
+/// alone.
 #[derive(Drop)]
 pub struct Guess {
     pub counts: Cut,
@@ -18,7 +20,7 @@ pub struct Guess {
 }
 
 impl Guess {
-    /// What is guessed by after this cut.
+    /// What a guess goes by after this cut.
     pub fn new<S: SeqObject>(
         alloc: Global,
         object: &S,
@@ -43,7 +45,7 @@ impl Guess {
         Ok(guess)
     }
 
-    /// Looks at a caller's first call outside a cut, after it was raised.
+    /// Sets what a guess goes by for one caller to what its next call after this cut has.
     pub fn look<S: SeqObject>(
         &mut self,
         object: &S,
@@ -73,12 +75,14 @@ impl Guess {
         self.taken.set(caller, taken);
     }
 
-    /// Whether a put is guessed by the call that takes its word out.
+    /// Whether a call that puts a word in is guessed by the view of the call that takes this word
+    /// out.
     pub fn knows_takes(&self) -> bool {
         !self.takes.differ
     }
 
-    /// The caller whose first call outside the cut has the least view, where any is answered.
+    /// The caller whose next call after the cut has a view that counts the fewest calls, where any
+    /// of these calls is answered, and else caller 0.
     pub fn first(&self) -> u32
         ensures { result < length self.now.counts }
     {
@@ -92,7 +96,8 @@ impl Guess {
     }
 }
 
-// How many calls the view of a call counts; more than any view does, where the call isn't answered.
+// How many calls the view of a caller's call with this number counts, and `u64::MAX` where that
+// call isn't answered.
 fn count_of(book: &Book, caller: u32, number: u64) -> u64
     requires { caller < length book.now }
 {

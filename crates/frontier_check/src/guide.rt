@@ -4,9 +4,11 @@ use book_base::{NoMemory, Place};
 use std::alloc::Global;
 use std::marker::Model;
 
-/// The last legal order that was found, after whose places the next search begins.
+/// The last legal order that was found, with whose places the next search tries to begin; no places
+/// where no order was found yet.
 ///
-/// Clauses see it as that order. Every guide is a good one: it costs or saves time alone.
+/// Clauses see a guide as the list of these places. Any places are right: they cost or save time
+/// alone.
 #[derive(Debug, Drop)]
 pub struct Guide {
     order: Vec<Place>,
@@ -22,7 +24,7 @@ impl Model for Guide {
 }
 
 impl Guide {
-    /// A guide that no search has found an order for: it has no places.
+    /// A guide without places, for which no search has found an order yet.
     pub fn new(alloc: Global) -> Result<Guide, NoMemory>
         ensures { IfOk result (λ guide. guide ≡ []) }
     {
@@ -31,14 +33,14 @@ impl Guide {
         })
     }
 
-    /// The places of the order.
+    /// The places of the order that the guide keeps.
     pub fn places(&self) -> &[Place]
         ensures { result.now ≡ self.now }
     {
         &self.order
     }
 
-    /// Keeps an order instead of the last one.
+    /// Keeps the places of another order instead of those that the guide had.
     pub fn keep(&mut self, alloc: Global, order: &[Place]) -> Result<(), NoMemory>
         ensures { OnOk result (self.new ≡ order.now) }
     {

@@ -1,4 +1,4 @@
-//! The search for a legal order of a book: `check` finds one, or says that there is none.
+//! The search for a legal order of a book: `check` finds one, or says that the book has none.
 #![tactic(auto)]
 
 mod choice;

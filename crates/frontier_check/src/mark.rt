@@ -1,8 +1,8 @@
 use book_base::{Cut, Place};
 
-/// A place in an order that was found: how many places are before it, and the cut and the words of
-/// the object's list after those; and how many records of each caller the book had for which they
-/// follow one another.
+/// A mark in an order: how many places are before it, the cut and the words of the object's list
+/// that those places lead to, and how many records of each caller the book had in which they follow
+/// one another.
 #[derive(Debug, Drop)]
 pub struct Mark {
     pub len: usize,
@@ -11,8 +11,8 @@ pub struct Mark {
     pub answered: Cut,
 }
 
-/// The last legal order that was found, with marks at intervals. The next search begins after the
-/// last of them whose places still follow one another.
+/// The last legal order that was found, with some marks in it. The next search begins after the
+/// places before the last mark for which these still follow one another in the grown book.
 #[derive(Debug, Drop)]
 pub struct KeptOrder {
     pub order: Vec<Place>,

@@ -4,15 +4,16 @@ ghost use Rattle.frontier_check.specs.declared.memo.MemoEntry.{MemoEntry};
 use book_base::NoMemory;
 use std::alloc::Global;
 
-/// Where the words of a remembered pair lie.
+/// Where the words of a remembered pair lie in a memo's list of words: the index of the first one,
+/// and how many there are.
 #[derive(Clone, Copy)]
 pub struct MemoEntry {
     pub from: u32,
     pub len: u32,
 }
 
-/// Pairs of a cut and a list, each with the counts of the cut and the words of the list in a few
-/// long lists, and a table by which a pair is found.
+/// Remembered pairs of a cut and a list. The counts of all cuts are in one long list and the words
+/// of all lists in another, and a hash table finds the entry of a pair.
 #[derive(Drop)]
 pub struct Memo {
     pub callers: usize,
@@ -43,7 +44,8 @@ impl Memo {
         }
     }
 
-    /// Whether a pair is found. No clause says that each remembered one is: that costs time alone.
+    /// Whether the table finds an entry of a pair. No clause says that it finds each remembered
+    /// pair: where it doesn't, that costs time alone.
     pub fn remembers(&self, counts: &[u16], words: &[u64]) -> bool
         // The pair of each entry lies in the memo's lists.
         requires { IsMemo self.now }
@@ -67,7 +69,7 @@ impl Memo {
         false
     }
 
-    // Whether the pair at an index has these counts and words.
+    // Whether there is an entry with this index, for these counts and words.
     fn is_at(&self, index: usize, counts: &[u16], words: &[u64]) -> bool
         requires { IsMemo self.now }
         ensures { IsTrue result → Remembers self.now counts.now words.now }
@@ -78,7 +80,7 @@ impl Memo {
         self.counts_of(index) == counts && self.words_of(index) == words
     }
 
-    // The counts of the pair at an index.
+    // The counts of the entry with an index.
     fn counts_of(&self, index: usize) -> &[u16]
         requires memo { IsMemo self.now }
         requires index { index < length self.now.entries.items }
@@ -88,7 +90,7 @@ impl Memo {
         &self.counts[from..from + self.callers]
     }
 
-    // The words of the pair at an index.
+    // The words of the entry with an index.
     fn words_of(&self, index: usize) -> &[u64]
         requires memo { IsMemo self.now }
         requires index { index < length self.now.entries.items }
@@ -99,18 +101,19 @@ impl Memo {
         &self.words[entry.from as usize..entry.from as usize + entry.len as usize]
     }
 
-    /// Remembers a pair, where it finds room in 32 bits for its place.
+    /// Remembers a pair. The memo stays as it is where it has so many entries or words that an
+    /// index of the pair might not fit in 32 bits.
     pub fn remember(&mut self, alloc: Global, counts: &[u16], words: &[u64]) -> Result<(), NoMemory>
         // The pair of each entry lies in the memo's lists.
         requires memo { IsMemo self.old }
         // The cut has one count for each of the memo's callers.
         requires wide { length counts.now ≡ self.old.callers }
-        // Want of memory aside, the pair of each entry still lies in the memo's lists.
+        // After an answer Ok the pair of each entry still lies in the memo's lists.
         ensures memo { OnOk result (IsMemo self.new) }
         // The memo is for cuts of as many callers as before.
         ensures callers { self.new.callers ≡ self.old.callers }
-        // Want of memory aside, the memo remembers no pair but this one and those that it
-        // remembered before.
+        // After an answer Ok the memo remembers no pair but this one and those that it remembered
+        // before.
         ensures only { OnOk result ((cut list : List ℕ) → Remembers self.new cut list
             → Remembers self.old cut list ⊎ ((cut ≡ counts.now) × (list ≡ words.now))) }
     {
@@ -123,7 +126,7 @@ impl Memo {
         self.place(alloc, counts, words, index as u32 + 1)
     }
 
-    // Adds a pair at the end.
+    // Adds an entry for a pair after all others, which the table doesn't find yet.
     fn add(&mut self, counts: &[u16], words: &[u64]) -> Result<(), NoMemory>
         requires memo { IsMemo self.old }
         requires wide { length counts.now ≡ self.old.callers }
@@ -144,7 +147,9 @@ impl Memo {
         Ok(())
     }
 
-    // Puts a mark into the table for a pair. Nothing else changes.
+    // Lets the table find the entry of a pair by its number, which counts from 1. Where the entries
+    // are half as many as the slots or more, the table is made anew for all pairs. Nothing but the
+    // table changes.
     fn place(
         &mut self,
         alloc: Global,
@@ -163,7 +168,7 @@ impl Memo {
         Ok(())
     }
 
-    // A table of twice the size, with a mark for each pair.
+    // A table of twice as many slots, and of at least 64, which finds the entry of each pair.
     fn wider(&self, alloc: Global) -> Result<Vec<u32>, NoMemory>
         requires { IsMemo self.now }
     {
@@ -181,7 +186,8 @@ impl Memo {
     }
 }
 
-// Puts a mark into the first free slot from a pair's own one on.
+// Puts the number of a pair's entry into the first free slot, from the slot on at which the pair is
+// sought first. The first slot follows the last one; where no slot is free, nothing changes.
 fn mark_slot(slots: &mut [u32], counts: &[u16], words: &[u64], mark: u32) {
     let size = slots.len();
     let mut at = first_slot(counts, words, size);
@@ -197,7 +203,7 @@ fn mark_slot(slots: &mut [u32], counts: &[u16], words: &[u64], mark: u32) {
     }
 }
 
-// The slot of a table of this size at which a pair is sought first.
+// The slot at which a pair is sought first in a table of this size, and 0 where the size is 0.
 fn first_slot(counts: &[u16], words: &[u64], size: usize) -> usize
     ensures { 1 ≤ size → result < size }
 {
@@ -214,7 +220,7 @@ fn first_slot(counts: &[u16], words: &[u64], size: usize) -> usize
     (hash % size as u64) as usize
 }
 
-// A number made of two, in which each bit of both counts.
+// A hash made of a hash and one more word, to which each bit of both contributes.
 fn mixed(hash: u64, word: u64) -> u64 {
     let product = (hash ^ word).wrapping_mul(0x9e37_79b9_7f4a_7c15);
     product ^ (product >> 29)

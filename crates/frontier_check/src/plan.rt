@@ -4,10 +4,10 @@ use crate::prefix::Prefix;
 use book_base::{Book, Call, Cut, NoMemory, Place};
 use std::alloc::Global;
 
-/// The turn of each call after a prefix among those that may come next: the least is tried first.
+/// The turn of each call after a prefix: of the calls that may come next, the one with the least
+/// turn is tried first.
 ///
-/// The turns are a guess. A search comes to the same verdict with any, so that no clause says what
-/// they are.
+/// The turns are a guess. A search is right with any turns, so that no clause says what they are.
 #[derive(Drop)]
 pub struct Plan {
     turns: Vec<u32>,
@@ -17,8 +17,9 @@ pub struct Plan {
 }
 
 impl Plan {
-    /// After the places of a prefix the calls of a guide's later places come first, in its order,
-    /// then the answered calls by what their views count, and last all others.
+    /// A plan for the calls after a prefix: first come the calls of a guide's later places, in the
+    /// order of these places; then the other answered calls, the one whose view counts the fewest
+    /// calls first; and last all others.
     pub fn new(
         alloc: Global,
         book: &Book,
@@ -44,8 +45,8 @@ impl Plan {
         Ok(plan)
     }
 
-    // Guesses that the answered calls of a caller, from this one on, took effect in the order of
-    // what their views count.
+    // Gives each answered call of a caller, from this number on, a turn after as many turns as the
+    // guide has later places: the more calls its view counts, the later its turn.
     fn guess(&mut self, book: &Book, caller: u32, first: u64, later: usize)
         requires { caller < length book.now }
     {
@@ -55,7 +56,7 @@ impl Plan {
         }
     }
 
-    // Gives a call its turn, where it has a place among the turns.
+    // Sets the turn of a call, where the list of turns has an entry for it.
     fn put(&mut self, caller: u32, number: u64, turn: usize) {
         let turn = u32::try_from(turn).unwrap_or(u32::MAX);
         if let Some(at) = self.place_of(caller, number)
@@ -65,7 +66,8 @@ impl Plan {
         }
     }
 
-    // Where the turn of a call lies.
+    // The index of a call's turn in the list of turns. `None` comes for a call that the prefix's
+    // cut holds, and for a caller or a number that the plan has no turn for.
     fn place_of(&self, caller: u32, number: u64) -> Option<usize> {
         if caller >= self.first.n() || number < self.first.get(caller) {
             return None;
@@ -78,8 +80,8 @@ impl Plan {
         Some(before.saturating_add(number as usize))
     }
 
-    /// The turn of a call. Beside those of the guide a call that leaves the object's list comes
-    /// first: it takes no other call's turn away.
+    /// The turn of a call. Beside the calls of the guide, those that leave the object's list as it
+    /// is (`stays`) come before those that may change it: to put them first hinders no other call.
     pub fn turn(&self, caller: u32, number: u64, stays: bool) -> u64 {
         let turn = match self.place_of(caller, number) {
             Some(at) if at < self.turns.len() => self.turns[at],
@@ -93,10 +95,11 @@ impl Plan {
     }
 }
 
-// What is added to the turn of a call that changes the object's list: more than any turn.
+// What is added to the turn of a call beside the guide's that may change the object's list: more
+// than any turn in the list of turns.
 const LATER: u64 = 1 << 32;
 
-// The most calls that a caller of a book made after a cut.
+// The greatest number of calls that a caller of a book has after a cut.
 fn most_calls(book: &Book, cut: &Cut) -> u64
     requires { length cut.now ≡ length book.now }
 {
@@ -107,7 +110,7 @@ fn most_calls(book: &Book, cut: &Cut) -> u64
     most
 }
 
-/// How many calls a view counts.
+/// How many calls a view counts, of all callers together.
 pub fn total(view: &Cut) -> usize {
     let mut calls = 0usize;
     for count in view.counts() {

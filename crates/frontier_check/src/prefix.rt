@@ -12,7 +12,7 @@ use crate::walk::CAPACITY;
 use book_base::{Book, Call, Cut, NoMemory, Place, SeqObject, State};
 use std::alloc::Global;
 
-/// A prefix of an order: the places that stand, and the cut and the object's list after them.
+/// A prefix of an order: its places, and the cut and the object's list that they lead to.
 #[derive(Drop)]
 pub struct Prefix {
     pub places: Vec<Place>,
@@ -21,7 +21,7 @@ pub struct Prefix {
 }
 
 impl Prefix {
-    /// The prefix without places.
+    /// The prefix without places, at the cut without calls and the object's first list.
     pub fn new<S: SeqObject>(alloc: Global, object: &S, book: &Book) -> Result<Prefix, NoMemory>
         ensures put { IfOk result (IsPut (S.init object.now) (S.next object.now) book.now) }
         ensures prefix { IfOk result (IsPrefix (S.init object.now) (S.next object.now) book.now) }
@@ -39,11 +39,13 @@ impl Prefix {
         })
     }
 
-    /// A prefix of the first of these places, as far as they follow one another and leave each
-    /// answered call of the book that isn't at them a place after them.
+    /// A prefix of the first of these places: those before the first place that isn't next after
+    /// the places before it, or whose call is preceded by an answered call that is at none of the
+    /// places.
     ///
-    /// There is none where the object gives another reply than a place has, or where such a call is
-    /// left no place. No clause says how far the places are taken: that costs time alone.
+    /// `None` comes where the object gives another reply than a place has, or where an answered
+    /// call is its caller's next after the prefix and has a view that doesn't hold the prefix's
+    /// cut. No clause says how many places are taken: that costs or saves time alone.
     pub fn following<S: SeqObject>(
         alloc: Global,
         object: &S,
@@ -62,7 +64,8 @@ impl Prefix {
         }
     }
 
-    // Puts places after the others as long as they follow. Whether the object gave their replies.
+    // Puts these places after the prefix's own, up to the first one that isn't next or isn't within
+    // the limit. Whether the object gave the reply of each place that was put.
     fn put_all<S: SeqObject>(
         &mut self,
         object: &S,
@@ -87,8 +90,9 @@ impl Prefix {
         Ok(true)
     }
 
-    /// Puts places after the others as long as they follow, and leaves a mark at intervals. Whether
-    /// the object gave their replies.
+    /// Puts these places after the prefix's own, up to the first one that isn't next or isn't
+    /// within the limit, and leaves a mark wherever the number of places is a multiple of
+    /// `INTERVAL`. Whether the object gave the reply of each place that was put.
     pub fn put_marked<S: SeqObject>(
         &mut self,
         alloc: Global,
@@ -123,9 +127,10 @@ impl Prefix {
         Ok(true)
     }
 
-    /// Leaves a mark where the places end, in a book with these records, if as many are put as lie
-    /// between two marks. Where there are many marks, one of the earlier half goes, another one
-    /// each time: so they are the fewer, the earlier the places.
+    /// Leaves a mark at the end of the prefix, with these numbers of records, if the number of
+    /// places is a multiple of `INTERVAL`. Where there are then more than `MOST_MARKS`, one of the
+    /// earlier half is removed, each time at another index: the earlier the places, the fewer the
+    /// marks.
     pub fn mark_at_interval(
         &self,
         alloc: Global,
@@ -140,8 +145,8 @@ impl Prefix {
         Ok(())
     }
 
-    // Leaves a mark where the places end, in a book with these records. Where there are many marks,
-    // one of the earlier half goes.
+    // Leaves a mark at the end of the prefix, with these numbers of records. Where there are then
+    // more than `MOST_MARKS`, one of the earlier half is removed.
     fn leave_mark(
         &self,
         alloc: Global,
@@ -158,7 +163,9 @@ impl Prefix {
         Ok(())
     }
 
-    /// Leaves a mark where the places end, in a book with these records, wherever they end.
+    /// Leaves a mark at the end of the prefix, with these numbers of records, where the number of
+    /// places isn't a multiple of `INTERVAL`. Where it is one, a mark was left when the last place
+    /// was put, or the prefix has no places.
     pub fn mark_end(
         &self,
         alloc: Global,
@@ -174,7 +181,7 @@ impl Prefix {
         Ok(())
     }
 
-    // A mark where the places end, in a book with these records.
+    // A mark at the end of the prefix, with these numbers of records.
     fn mark(&self, alloc: Global, records: &Cut) -> Result<Mark, NoMemory>
         ensures { IfOk result (MarksEnd self.now records.now) }
     {
@@ -186,8 +193,9 @@ impl Prefix {
         })
     }
 
-    /// Whether a place is the next of its caller, is within the limit, and has the recorded reply
-    /// and a view that holds the cut, where its call is answered.
+    /// Whether the call at a place is its caller's next call in the book after the prefix's cut and
+    /// is within the limit; and, where the call is answered, whether the place has the recorded
+    /// reply and the view holds the prefix's cut.
     pub fn may_take(&self, book: &Book, limit: &Cut, place: Place) -> bool
         requires wide { length self.now.cut ≡ length book.now }
         requires limit { length limit.now ≡ length book.now }
@@ -211,7 +219,8 @@ impl Prefix {
         book.reply(call) == reply && self.cut.within(book.view(call))
     }
 
-    /// Puts a place after the others. Whether the object gave its reply.
+    /// Puts a place after the prefix's own; the cut and the list become those after its call.
+    /// Whether the object gave the reply of the place, which is put in either case.
     pub fn put<S: SeqObject>(
         &mut self,
         object: &S,
@@ -237,15 +246,16 @@ impl Prefix {
     }
 }
 
-/// After how many places there is a mark that is kept: as many are stepped through again where a
-/// search goes on from one.
+/// While places are put one by one, a mark is left wherever their number is a multiple of this one.
+/// Such a mark may be removed later, where there are more than `MOST_MARKS`; one at another number
+/// of places is dropped when places are put after it.
 pub const INTERVAL: usize = 32;
 
-/// How many marks there are at most: each has a copy of the object's list.
+/// How many marks are kept at most when one is left at an interval, since each has a copy of the
+/// object's list. One more may be left at the end of a prefix.
 const MOST_MARKS: usize = 32;
 
-/// Whether the view of each caller's first call outside a cut holds the cut, where that call is
-/// answered.
+/// Whether each answered call that is its caller's next after a cut has a view that holds the cut.
 pub fn leaves_open(book: &Book, cut: &Cut) -> bool
     requires { length cut.now ≡ length book.now }
     ensures { IsTrue result → LeavesOpen book.now cut.now }
@@ -270,8 +280,9 @@ pub fn answers_in(book: &Book) -> Cut
     answered
 }
 
-// How many calls of each caller are in a cut or stand at these places after it, where they are
-// places of the book.
+// For each caller, the number after that of the call at its last one of these places, and the count
+// of the cut where no place is of this caller. It counts the calls in the cut and at the places,
+// where these are of calls that follow the cut.
 fn calls_at(cut: &Cut, places: &[Place]) -> Cut
     ensures { length result ≡ length cut.now }
 {
@@ -284,9 +295,11 @@ fn calls_at(cut: &Cut, places: &[Place]) -> Cut
     calls
 }
 
-/// The calls of a cut and of the places after it before which no answered call has to stand that is
-/// at none of them: by caller, the least count in the views of those calls. No clause says so: it
-/// costs or saves time alone.
+/// A limit for putting these places after a cut: for each caller, the least of the number of its
+/// calls in the cut and at the places, and of the counts in the views of answered calls that are
+/// their callers' next after all the places. A call whose number isn't below the limit is preceded
+/// by one of these answered calls, or is none of those at the places. No clause says so: it costs
+/// or saves time alone.
 pub fn limit_of(book: &Book, cut: &Cut, places: &[Place]) -> Cut
     requires { length cut.now ≡ length book.now }
     ensures { length result ≡ length book.now }
@@ -302,7 +315,7 @@ pub fn limit_of(book: &Book, cut: &Cut, places: &[Place]) -> Cut
     limit
 }
 
-// By caller the lesser count of two cuts.
+// The cut that has for each caller the lesser one of the counts of two cuts.
 fn least_of(a: &Cut, b: &Cut) -> Cut
     requires { length a.now ≡ length b.now }
     ensures { length result ≡ length a.now }

@@ -1,5 +1,5 @@
-//! What is left of a book after a prefix, as a book of its own, of which the object may say more
-//! than a search from there finds soon.
+//! The calls of a book after a prefix, as a book of their own, which the object may decide where a
+//! search doesn't soon find an order.
 ghost use Rattle.std.specs.Prelude.{◌≡◌, length};
 
 use crate::prefix::Prefix;
@@ -8,11 +8,12 @@ use crate::walk::CAPACITY;
 use book_base::{Book, BookFault, Call, Cut, Decision, NoMemory, OpWord, Place, SeqObject, State};
 use std::alloc::Global;
 
-/// The places of an order that the object decides on for what is left after a prefix, if it does.
+/// The places of the order that the object finds for the calls after a prefix, if it decides that
+/// there is one.
 ///
-/// It is asked of a book of those calls alone, before which caller 0 makes calls that lead to the
-/// prefix's list. No clause says that the places follow the prefix's: who takes them steps through
-/// them.
+/// The object is asked about a book of those calls alone, in which caller 0 first makes calls that
+/// lead to the prefix's list. No clause says that the places follow those of the prefix: whoever
+/// takes them puts them one by one.
 pub fn decided_after<S: SeqObject>(
     alloc: Global,
     object: &S,
@@ -39,8 +40,9 @@ pub fn decided_after<S: SeqObject>(
     }
 }
 
-// The operations of a prefix's last places that put in the words of its list, the last word first:
-// each of them alone makes a list of this word alone. There are fewer where a word has none.
+// Operations of a prefix's places that put in the words of its list, from the last word and the
+// last place on backward: each makes a list of its word alone of the object's first list. They are
+// fewer than the words where no place is found for a word.
 fn puts_of<S: SeqObject>(
     alloc: Global,
     object: &S,
@@ -63,7 +65,7 @@ fn puts_of<S: SeqObject>(
     Ok(puts)
 }
 
-// The operation of the call at a place, where it is one of the book's.
+// The operation of the call at a place, if the book has this call.
 fn operation_at(book: &Book, place: Place) -> Option<OpWord> {
     let Place {
         caller,
@@ -77,8 +79,8 @@ fn operation_at(book: &Book, place: Place) -> Option<OpWord> {
     }
 }
 
-// The operation of the call at a place, where it makes a list of this word alone of the list that
-// the object begins with.
+// The operation of the call at a place, if it makes a list of this word alone of the object's first
+// list.
 fn put_at<S: SeqObject>(
     object: &S,
     book: &Book,
@@ -99,8 +101,9 @@ fn put_at<S: SeqObject>(
     }
 }
 
-// Adds calls of caller 0 with these operations, the last one first, to a book without calls, each
-// with the reply that the object gives. Whether they lead to the list of these words.
+// Adds answered calls of caller 0 to a book without calls, with these operations, the last one
+// first, each with the reply that the object gives and a view that holds caller 0's calls up to it.
+// Whether the book takes them all and they lead to the list of these words.
 fn add_puts<S: SeqObject>(
     alloc: Global,
     object: &S,
@@ -123,16 +126,16 @@ fn add_puts<S: SeqObject>(
     Ok(here.words() == words)
 }
 
-// A view that holds the calls of caller 0 up to this one, and no others.
+// A view that holds the calls of caller 0 up to the one with this number, and no others.
 fn view_of_first(left: &Book, number: u64) -> Cut {
     let mut view = Cut::zero(left.callers());
-    // That there is a caller 0 is known by this.
+    // This call is for its contract, by which there is a caller 0.
     let _callers = view.n();
     view.set(0, number.saturating_add(1));
     view
 }
 
-// Adds the calls of a book after a cut. It answers whether all of them fit.
+// Adds the calls of a book that a cut lacks. Whether the smaller book takes them all.
 fn add_calls(book: &Book, cut: &Cut, left: &mut Book) -> Result<bool, NoMemory>
     requires { length cut.now ≡ length book.now }
 {
@@ -146,8 +149,8 @@ fn add_calls(book: &Book, cut: &Cut, left: &mut Book) -> Result<bool, NoMemory>
     Ok(true)
 }
 
-// Adds the answers of a book after a cut, where caller 0 has this many calls before those of the
-// book. Whether all fit.
+// Adds the answers of those calls of a book that a cut lacks, where caller 0 has this many calls
+// before its own of the book. Whether the smaller book takes them all.
 fn add_answers(book: &Book, cut: &Cut, before: u64, left: &mut Book) -> Result<bool, NoMemory>
     requires { length cut.now ≡ length book.now }
 {
@@ -163,7 +166,8 @@ fn add_answers(book: &Book, cut: &Cut, before: u64, left: &mut Book) -> Result<b
     Ok(true)
 }
 
-// What a view counts of the calls after a cut, and this many calls of caller 0 before those.
+// The view that counts of each caller the calls of a view that a cut lacks, and of caller 0 this
+// many calls more.
 fn view_after(view: &Cut, cut: &Cut, before: u64) -> Cut
     requires { length view.now ≡ length cut.now }
 {
@@ -176,7 +180,8 @@ fn view_after(view: &Cut, cut: &Cut, before: u64) -> Cut
     after
 }
 
-// Adds a call. Whether it fits.
+// Adds an unanswered call of a caller to a book. Whether the book has the caller and takes the
+// call.
 fn add_call(left: &mut Book, caller: u32, op: OpWord) -> Result<bool, NoMemory> {
     if caller >= left.callers() {
         return Ok(false);
@@ -184,7 +189,7 @@ fn add_call(left: &mut Book, caller: u32, op: OpWord) -> Result<bool, NoMemory> 
     is_taken(left.add_call(caller, op))
 }
 
-// Adds an answer. Whether it fits.
+// Adds an answer of a caller to a book. Whether the book has the caller and takes the answer.
 fn add_answer(left: &mut Book, caller: u32, reply: u64, view: Cut) -> Result<bool, NoMemory> {
     if caller >= left.callers() || view.n() != left.callers() {
         return Ok(false);
@@ -201,8 +206,8 @@ fn is_taken(added: Result<(), BookFault>) -> Result<bool, NoMemory> {
     }
 }
 
-// The places in the book of an order of what is left after a cut, without those of the first calls
-// of caller 0.
+// The places of an order of the smaller book without those of the first calls of caller 0, this
+// many, each with the number that its call has in the whole book.
 fn places_after(
     alloc: Global,
     cut: &Cut,

@@ -9,8 +9,9 @@ use crate::walk::{CAPACITY, load};
 use book_base::{Book, Cut, NoMemory, Place, SeqObject, State};
 use std::alloc::Global;
 
-// Whether the calls of a cut that a book has answered were answered already when it had this many
-// records.
+// Whether for each caller a cut counts no more calls than the caller had records before, or the
+// book has no more records of the caller than before: whether no call of the cut was answered
+// since.
 fn is_quiet(book: &Book, cut: &Cut, before: &Cut) -> bool
     requires cut { length cut.now ≡ length book.now }
     requires before { length before.now ≡ length book.now }
@@ -25,8 +26,9 @@ fn is_quiet(book: &Book, cut: &Cut, before: &Cut) -> bool
     true
 }
 
-// Whether the places up to a mark follow one another in a book still, and leave each answered call
-// that isn't at them a place after them.
+// Whether the places before a mark may still begin an order of a book: no call of the mark's cut
+// was answered since the mark was left, and each answered call that is its caller's next after that
+// cut has a view that holds it.
 fn still_stands(book: &Book, mark: &Mark) -> bool
     requires { IsAsWide book.now mark.now }
     ensures { IsTrue result → StillStands book.now mark.now }
@@ -34,7 +36,8 @@ fn still_stands(book: &Book, mark: &Mark) -> bool
     is_quiet(book, &mark.cut, &mark.answered) && leaves_open(book, &mark.cut)
 }
 
-// The last mark whose places still follow one another.
+// The index of the last mark for which the places before it may still begin an order of a book, if
+// there is such a mark.
 fn last_standing(book: &Book, marks: &[Mark]) -> Option<usize>
     requires { (k : ℕ) (mark : Mark) → k < length marks.now → mark ≡ slice_index_or marks.now k mark
         → IsAsWide book.now mark }
@@ -51,7 +54,8 @@ fn last_standing(book: &Book, marks: &[Mark]) -> Option<usize>
     None
 }
 
-// The places of an order up to a mark, as a prefix, and the other places.
+// The places of an order before a mark, as a prefix with the cut and the words of the mark, and the
+// other places of the order.
 fn prefix_at(
     alloc: Global,
     order: Vec<Place>,
@@ -77,8 +81,9 @@ fn prefix_at(
     Ok((prefix, later))
 }
 
-// How many marks are kept where the places go on after one with this index, which is left after so
-// many places: the mark itself is, unless it was left at the end of an order.
+// How many of the first marks are kept where places are put after the mark with this index, before
+// which there are `len` places: those before that mark, and the mark itself where `len` is a
+// multiple of `INTERVAL`.
 fn kept_of(index: usize, len: usize) -> usize
     ensures { result ≤ index + 1 }
 {
@@ -89,8 +94,11 @@ fn kept_of(index: usize, len: usize) -> usize
     }
 }
 
-/// The places of an order up to the last mark that still stands, as a prefix, and the other places.
-/// The marks after it are gone, and it is too where it was left at the end of an order.
+/// The places of an order before its last mark for which they may still begin an order of the book,
+/// as a prefix, and the other places of the order. The marks after that mark are removed, and the
+/// mark itself too where the number of places before it isn't a multiple of `INTERVAL`. Where no
+/// mark is such, the prefix without places and the whole order are answered, and all marks are
+/// removed.
 pub fn resume<S: SeqObject>(
     alloc: Global,
     object: &S,
@@ -113,7 +121,7 @@ pub fn resume<S: SeqObject>(
             Ok((Prefix::new(alloc, object, book)?, order))
         }
         Some(index) => {
-            // That a book is valid and small is known by this.
+            // This call is for its contract, by which the book is valid and small.
             let _callers = book.callers();
             let found = prefix_at(alloc, order, &marks[index])?;
             let kept = kept_of(index, marks[index].len);

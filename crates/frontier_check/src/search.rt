@@ -22,7 +22,8 @@ use next_calls::{all_next, cut_of, first_view, least_open};
 use std::alloc::Global;
 use std::mem;
 
-/// A search for a legal order of a book of a sequential object, after the places of a prefix.
+/// A search for a legal order of a book of a sequential object, which begins with the places of a
+/// prefix.
 pub struct Search<'a, S> {
     pub alloc: Global,
     pub object: &'a S,
@@ -52,7 +53,7 @@ impl<S> Drop for Search<'_, S> {
 }
 
 impl<S: SeqObject> Search<'_, S> {
-    /// Finds the places that make a legal order after those of the prefix, if there are any.
+    /// Finds places that make a legal order after those of the prefix, if there are any.
     pub fn run(&self) -> Result<Option<Vec<Place>>, NoMemory>
         requires pruning_rules { ArePruningRules (S.init self.now.object.now)
             (S.next self.now.object.now) self.now.book.now self.now.known.now }
@@ -74,8 +75,9 @@ impl<S: SeqObject> Search<'_, S> {
         }
     }
 
-    /// The places that make a legal order after those of the prefix, if they are found within this
-    /// many steps. `None` says nothing: there may be some, and no clause says that it looks so far.
+    /// Places that make a legal order after those of the prefix, if some are found within this many
+    /// steps. `None` says nothing of the book: there may be such places, and no clause says how far
+    /// the search looks.
     pub fn run_few(&self, steps: u64) -> Result<Option<Vec<Place>>, NoMemory>
         requires pruning_rules { ArePruningRules (S.init self.now.object.now)
             (S.next self.now.object.now) self.now.book.now self.now.known.now }
@@ -95,7 +97,8 @@ impl<S: SeqObject> Search<'_, S> {
         }
     }
 
-    // The walk that stands where the prefix ends; there is none where all answered calls stand.
+    // The walk without levels, at the cut and the list of the prefix. `None` comes where that cut
+    // holds all answered calls.
     fn begin(&self, spare: &mut State) -> Result<Option<Walk>, NoMemory>
         requires pruning_rules { ArePruningRules (S.init self.now.object.now)
             (S.next self.now.object.now) self.now.book.now self.now.known.now }
@@ -129,7 +132,8 @@ impl<S: SeqObject> Search<'_, S> {
         }))
     }
 
-    // Goes on with a walk until it has found a legal order, or all is tried.
+    // Makes steps of a walk until a legal order is found or nothing is left to try. `None` comes
+    // where no places continue an order from the end of the prefix.
     fn go_on(&self, walk: &mut Walk, spare: &mut State) -> Result<Option<Vec<Place>>, NoMemory>
         requires pruning_rules { ArePruningRules (S.init self.now.object.now)
             (S.next self.now.object.now) self.now.book.now self.now.known.now }
@@ -154,7 +158,8 @@ impl<S: SeqObject> Search<'_, S> {
         }
     }
 
-    // Goes on with a walk for this many steps. `None` says nothing.
+    // Makes at most this many steps of a walk, until a legal order is found or nothing is left to
+    // try. `None` may come in a book that has a legal order.
     fn go_few(
         &self,
         walk: &mut Walk,
@@ -183,7 +188,8 @@ impl<S: SeqObject> Search<'_, S> {
         Ok(None)
     }
 
-    // Tries the best choice that is left, or leaves a dead end.
+    // Makes one step of a walk: it tries the last choice, which is the best one; where no choice is
+    // left, it remembers the cut and the list as a dead end and goes back by one level.
     fn advance(&self, walk: &mut Walk, spare: &mut State) -> Result<StepOutcome, NoMemory>
         requires pruning_rules { ArePruningRules (S.init self.now.object.now)
             (S.next self.now.object.now) self.now.book.now self.now.known.now }
@@ -207,7 +213,8 @@ impl<S: SeqObject> Search<'_, S> {
         }
     }
 
-    // Puts a place next, unless that leads to a remembered dead end.
+    // Puts a place next, unless that leads to a remembered dead end: then the walk stays where it
+    // is.
     fn enter(
         &self,
         walk: &mut Walk,
@@ -257,7 +264,8 @@ impl<S: SeqObject> Search<'_, S> {
         }
     }
 
-    // Makes the step of a place that may stand next. The list before it is kept in the spare state.
+    // Applies the operation of a place that may come next to the list of a walk, and raises the
+    // count of its caller. The spare state keeps the list before.
     fn step(&self, walk: &mut Walk, spare: &mut State, place: Place)
         requires walk { IsWalk self.now.book.now self.now.prefix.now (S.init self.now.object.now)
             (S.next self.now.object.now) walk.old (place ∷ places_of walk.old.choices.items) }
@@ -281,7 +289,8 @@ impl<S: SeqObject> Search<'_, S> {
         set_count(&mut walk.counts, place.caller, place.number + 1);
     }
 
-    // Leaves a dead end: goes back by one level.
+    // Goes back by one level from a dead end: the walk has the cut, the list and the choices of its
+    // last level again. `NoneLeft` comes where the walk has no level.
     fn retreat(&self, walk: &mut Walk) -> StepOutcome
         requires walk { IsWalk self.now.book.now self.now.prefix.now (S.init self.now.object.now)
             (S.next self.now.object.now) walk.old [] }
@@ -302,11 +311,14 @@ impl<S: SeqObject> Search<'_, S> {
         StepOutcome::GoesOn
     }
 
-    // What is to be tried after the calls of a cut, at a list of the object: of the callers that
-    // are to be tried each place that may stand next and isn't known to be infeasible, unless
-    // another one serves for it, the best one last; or one alone that may stand at once. The
-    // caller's first call outside the cut has the least view of all such calls, so that a call may
-    // come next exactly where this view holds it.
+    // What is to be tried after a cut and at a list of the object, the best choice last. Where a
+    // place may be taken at once it is the only choice. Else there is a choice for the next call of
+    // each caller that is to be tried, if its place may come next, the call isn't known to be
+    // infeasible, and no other choice serves for it; in a book with one open an unanswered call
+    // that leaves the list as it is gets no choice.
+    //
+    // The next call of the caller `first` is answered and has the least view of all such calls, so
+    // that a next call may come next exactly where this view holds it.
     fn choices(
         &self,
         counts: &[u16],
@@ -348,8 +360,8 @@ impl<S: SeqObject> Search<'_, S> {
         Ok(choices)
     }
 
-    // The callers that are to be tried after the calls of a cut: all whose next calls may come
-    // next, or as many of them as the object says suffice.
+    // Marks on the callers that are to be tried after a cut and at a list: all whose next calls may
+    // come next, or fewer that suffice, where the object narrows them.
     fn to_try(&self, cut: &Cut, view: &Cut, here: &State, first: u32) -> Marks
         requires sight { IfSome self.now.sight.now (λ sight. HasOneOpen self.now.book.now
             × S.sees self.now.object.now self.now.book.now sight) }
@@ -372,8 +384,8 @@ impl<S: SeqObject> Search<'_, S> {
         }
     }
 
-    // The place of an answered call that may stand at once after the calls of a cut, if there is
-    // one.
+    // The place of an answered call that may be taken at once after a cut and at a list, if one is
+    // found.
     fn at_once(
         &self,
         counts: &[u16],
@@ -404,9 +416,9 @@ impl<S: SeqObject> Search<'_, S> {
         None
     }
 
-    // The place of a caller's next call, which may come next, where it is answered, leaves every
-    // list with its recorded reply, and the object gives this reply. Only an object that says so is
-    // asked for a step.
+    // The place of a caller's next call, which may come next, if the call is answered and read-only
+    // with its recorded reply, and the object gives this reply at the list. The object makes a step
+    // only where it says that the call is read-only.
     fn read_only(
         &self,
         counts: &[u16],
@@ -444,8 +456,9 @@ impl<S: SeqObject> Search<'_, S> {
         })
     }
 
-    // The least rank of the words of a list, where a call of the book has a limit. No clause says
-    // that one is found: that costs time alone.
+    // The least rank of the words of a list. `None` comes where no word has a rank, and where the
+    // search isn't limited, as no call of the book has a limit. No clause says that a rank is
+    // found: where none is, that costs time alone.
     fn earliest(&self, here: &State) -> Option<u64>
         ensures { IfSome result (IsRankIn self.now.known.now.ranks here.now.words) }
     {
@@ -464,8 +477,8 @@ impl<S: SeqObject> Search<'_, S> {
         least
     }
 
-    // Whether a caller's next call after a cut, at a list with a word of this rank, is known to be
-    // infeasible there.
+    // Whether the pruning rules say that a caller's next call is infeasible after a cut and at a
+    // list that has a word of at most this rank.
     fn is_infeasible(&self, cut: &Cut, here: &State, earliest: Option<u64>, caller: u32) -> bool
         requires caller { caller < length cut.now }
         requires earliest { IfSome earliest (IsRankIn self.now.known.now.ranks here.now.words) }
@@ -488,9 +501,10 @@ impl<S: SeqObject> Search<'_, S> {
         }
     }
 
-    // Adds the place of a caller's next call, which may come next, if the object gives the recorded
-    // reply. In a book with one open an unanswered read-only call isn't added, nor one that a twin
-    // serves for.
+    // Adds a choice for a caller's next call, which may come next, if the call is unanswered or the
+    // object gives the recorded reply. In a book with one open an unanswered call that leaves the
+    // list as it is isn't added, and of two choices with one operation only the one is kept that
+    // serves for the other.
     fn consider(
         &self,
         counts: &[u16],
@@ -537,7 +551,7 @@ impl<S: SeqObject> Search<'_, S> {
     }
 }
 
-// The counts of a cut, as a walk keeps them.
+// The counts of a cut, in the numbers that a walk keeps.
 fn counts_of(alloc: Global, cut: &Cut) -> Result<Vec<u16>, NoMemory>
     requires { (i : ℕ) → slice_index cut.now i ≤ MAX_CALLS }
     ensures { IfOk result (λ counts. counts.items ≡ cut.now) }
@@ -549,7 +563,7 @@ fn counts_of(alloc: Global, cut: &Cut) -> Result<Vec<u16>, NoMemory>
     Ok(counts)
 }
 
-// Whether a reply is the recorded one, where the call is answered.
+// Whether a call is unanswered, or this reply is its recorded one.
 fn is_recorded(book: &Book, call: Call, reply: u64) -> bool
     requires { IsCall book.now call }
     ensures { IsTrue result ↔ ((r : Record) → record_of book.now call ≡ Some r → r.reply ≡ reply) }

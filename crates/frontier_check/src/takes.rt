@@ -6,7 +6,8 @@ use crate::walk::CAPACITY;
 use book_base::{Book, Call, Cut, NoMemory, OpWord, SeqObject, State};
 use std::alloc::Global;
 
-// An answered call that may take out a word, and how many calls its view counts.
+// A take: an answered call that may take a word out, its recorded reply, and how many calls its
+// view counts.
 #[derive(Clone, Copy, Drop)]
 struct Take {
     call: Call,
@@ -14,12 +15,12 @@ struct Take {
     count: u64,
 }
 
-/// The answered calls outside a cut that may take out a word, the one with the least view first,
-/// and how many of the first ones a cut holds that was raised since; the operation of them all, and
-/// two operations that put in words; and whether no guess is made by them: they have several
-/// operations, or don't take out first what was put in first.
+/// The takes after a cut, the one whose view counts the fewest calls first, and how many of the
+/// first ones a later cut holds; the operation of all takes, and two different operations of other
+/// calls, which may put words in; and in `differ` whether no guess goes by the takes, as they have
+/// several operations, or don't take out first what was put in first.
 ///
-/// No clause says what they are: they cost or save time alone.
+/// No clause says what these are: they cost or save time alone.
 #[derive(Drop)]
 pub struct Takes {
     takes: Vec<Take>,
@@ -31,7 +32,7 @@ pub struct Takes {
 }
 
 impl Takes {
-    /// Those of a book.
+    /// The takes among the answered calls of a book that a cut lacks.
     pub fn of<S: SeqObject>(
         alloc: Global,
         object: &S,
@@ -59,8 +60,8 @@ impl Takes {
         Ok(takes)
     }
 
-    // Lists the answered calls of a caller from this one on that may take out a word, as long as all
-    // have one operation, and operations of the others.
+    // Lists the takes of a caller, from the call with this number on, until one has another
+    // operation than those before it. Of the caller's other answered calls it keeps operations.
     fn list_caller<S: SeqObject>(
         &mut self,
         object: &S,
@@ -92,7 +93,8 @@ impl Takes {
         Ok(())
     }
 
-    // Keeps an operation that puts in a word, where it is the first one or the last other one.
+    // Keeps an operation that may put a word in: the first one as `put`, and of those that differ
+    // from it the last one as `other`.
     fn list_put(&mut self, op: OpWord) {
         if self.put.unwrap_or(op) == op {
             self.put = Some(op);
@@ -101,7 +103,9 @@ impl Takes {
         }
     }
 
-    // Whether of two words the one is taken out first that is put in first, whichever that is.
+    // Whether the takes take out first what was put in first, when two words are put in by the two
+    // kept operations, in either order; it is so too where no take or fewer than two operations are
+    // kept.
     fn is_queue<S: SeqObject>(&self, object: &S, spare: &mut State) -> bool
         requires { spare.old.room ≡ CAPACITY }
         ensures { spare.new.room ≡ CAPACITY }
@@ -113,7 +117,7 @@ impl Takes {
             && is_first_out(object, spare, other, put, take)
     }
 
-    /// Passes over the first calls that a cut holds.
+    /// Passes over the first takes that a cut holds, up to the first take that it lacks.
     pub fn pass(&mut self, cut: &Cut) {
         let mut passed = self.passed;
         for at in passed..self.takes.len() {
@@ -125,9 +129,9 @@ impl Takes {
         self.passed = passed;
     }
 
-    /// How many calls the view of that call counts which takes out the word that a call puts in: the
-    /// first one by this number, of those outside a cut. It is more than any view counts, where
-    /// there is none.
+    /// How many calls are counted by the view of the take that takes out the word which a call puts
+    /// in. Of the takes that a cut lacks it is the first one with the reply that shows this word;
+    /// where there is none, or no guess goes by the takes, the answer is `u64::MAX`.
     pub fn count_for<S: SeqObject>(
         &self,
         object: &S,
@@ -164,12 +168,13 @@ impl Takes {
     }
 }
 
-// Whether a call is one of a cut's.
+// Whether a cut holds a call; it holds none of a caller for which it has no count.
 fn is_in(cut: &Cut, call: Call) -> bool {
     call.caller < cut.n() && cut.holds(call.caller, call.number)
 }
 
-/// The object's reply to an operation at the list of a state, where the list has room for a word.
+/// The object's reply to an operation at the list of a state, which has the list after the
+/// operation then. `None` comes where the list fills the capacity, and the state stays as it is.
 pub fn reply_at<S: SeqObject>(object: &S, state: &mut State, op: OpWord) -> Option<u64>
     ensures { state.new.room ≡ state.old.room }
 {
@@ -179,7 +184,7 @@ pub fn reply_at<S: SeqObject>(object: &S, state: &mut State, op: OpWord) -> Opti
     Some(object.step(state, op))
 }
 
-// Whether an operation doesn't make the list longer that the object begins with.
+// Whether an operation doesn't make the object's first list longer.
 fn may_take<S: SeqObject>(object: &S, spare: &mut State, op: OpWord) -> bool
     requires { spare.old.room ≡ CAPACITY }
     ensures { spare.new.room ≡ CAPACITY }
@@ -189,7 +194,8 @@ fn may_take<S: SeqObject>(object: &S, spare: &mut State, op: OpWord) -> bool
     reply_at(object, spare, op).is_some() && spare.len() <= before
 }
 
-// The reply of an operation that takes out the word which another one puts in alone.
+// The reply of `take` at the list that `put` makes of the object's first list; `None` unless that
+// list has one word and `take` makes it empty.
 fn reply_of_take<S: SeqObject>(
     object: &S,
     spare: &mut State,
@@ -208,8 +214,8 @@ fn reply_of_take<S: SeqObject>(
     if spare.is_empty() { Some(reply) } else { None }
 }
 
-// Whether an operation takes out the word that one operation puts in and not that of another one,
-// which puts it in later.
+// Whether `take` has the same reply at the list after `first` and then `second` as at the list
+// after `first` alone, where it takes out the only word.
 fn is_first_out<S: SeqObject>(
     object: &S,
     spare: &mut State,

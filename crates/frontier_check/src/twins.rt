@@ -10,9 +10,10 @@ ghost use Rattle.frontier_check.specs.declared.choice.Choice.{Choice};
 use crate::choice::Choice;
 use book_base::{Book, Call, NoMemory, Place};
 
-/// Adds a choice to others, the best one last. In a book with one open it may take the place of
-/// another one with its operation, or leave it there: one of the two is kept, with the lesser turn
-/// of both. No clause says that such a one is found: where it isn't, the search only tries more.
+/// Adds a choice to others, which are in the order of their turns, the least turn last. In a book
+/// with one open, where another choice has the same operation, one of the two is kept, whose call
+/// serves for that of the other, with the lesser turn of both. No clause says that this other
+/// choice is found: where it isn't, the search only tries more.
 pub fn choose(
     book: &Book,
     one_open: bool,
@@ -35,7 +36,8 @@ pub fn choose(
     add(choices, kept_of(book, twin, new))
 }
 
-// The index of a choice with a new one's operation, if there is one and the book has one open.
+// The index of the first choice with the operation of a new one, if the book is known to have one
+// open and there is such a choice.
 fn twin_of(book: &Book, one_open: bool, choices: &[Choice], new: Choice) -> Option<usize>
     requires open { IsTrue one_open → HasOneOpen book.now }
     requires call { IsCall book.now (call_at new.place) }
@@ -58,8 +60,8 @@ fn twin_of(book: &Book, one_open: bool, choices: &[Choice], new: Choice) -> Opti
     None
 }
 
-// Of two choices with one operation the one whose call serves for the other's, with the lesser turn
-// of both.
+// Of two choices with one operation the one whose call serves for that of the other, with the
+// lesser turn of both.
 fn kept_of(book: &Book, twin: Choice, new: Choice) -> Choice
     requires valid { IsValid book.now }
     requires new { IsCall book.now (call_at new.place) }
@@ -75,8 +77,8 @@ fn kept_of(book: &Book, twin: Choice, new: Choice) -> Choice
     Choice { turn, place }
 }
 
-// Whether the first of two calls of one operation serves for the second; otherwise the second one
-// serves for the first.
+// Whether the first of two calls of one operation serves for the second; if it doesn't, the second
+// one serves for the first.
 fn serves(book: &Book, a: Call, b: Call) -> bool
     requires valid { IsValid book.now }
     requires first { IsCall book.now a }
@@ -94,7 +96,7 @@ fn serves(book: &Book, a: Call, b: Call) -> bool
     book.record(a).view.within(&book.record(b).view)
 }
 
-// The call that stands at a place.
+// The call at a place.
 fn call_of(place: Place) -> Call
     ensures { result ≡ call_at place }
 {
@@ -104,7 +106,7 @@ fn call_of(place: Place) -> Call
     }
 }
 
-// Adds a choice among others where its turn says.
+// Inserts a choice among others before the first one with a lesser turn.
 fn add(choices: &mut Vec<Choice>, new: Choice) -> Result<(), NoMemory>
     ensures added { OnOk result (IsAdded choices.old.items new choices.new.items) }
     ensures few { length choices.new.items ≤ length choices.old.items + 1 }
@@ -113,7 +115,8 @@ fn add(choices: &mut Vec<Choice>, new: Choice) -> Result<(), NoMemory>
     Ok(())
 }
 
-// Where a choice with this turn goes among others, the least turn last.
+// The index of the first choice with a lesser turn than this one, and the number of choices where
+// no choice has a lesser turn.
 fn slot_of(choices: &[Choice], turn: u64) -> usize
     ensures { result ≤ length choices.now }
 {

@@ -22,16 +22,17 @@ use std::alloc::Global;
 /// Whether a book has a legal order.
 #[derive(Debug, PartialEq, Eq, Drop)]
 pub enum Verdict {
-    /// A legal order.
+    /// The book has this legal order.
     Legal(Vec<Place>),
-    /// There is none.
+    /// The book has no legal order.
     Illegal,
 }
 
-/// Looks for a legal order of a book: `Legal` carries one, and `Illegal` comes where there is none.
+/// Looks for a legal order of a book: `Legal` carries one, and `Illegal` comes where the book has
+/// none.
 ///
-/// The search goes depth first through the pairs of a cut and a state, and remembers those that it
-/// has left (after Wing and Gong 1993, and Lowe 2017).
+/// Where the object doesn't decide the book, a search goes depth first through the pairs of a cut
+/// and a list, and remembers those that are dead ends (after Wing and Gong 1993, and Lowe 2017).
 pub fn check<S: SeqObject>(alloc: Global, object: &S, book: &Book) -> Result<Verdict, NoMemory>
     // A verdict `Legal` carries a legal order of the book, and with `Illegal` the book has none.
     ensures verdict { IfOk result
@@ -43,12 +44,12 @@ pub fn check<S: SeqObject>(alloc: Global, object: &S, book: &Book) -> Result<Ver
     }
 }
 
-/// Looks for a legal order as `check` does, and first after the guide's places.
+/// Looks for a legal order as `check` does, but first for one that begins with the guide's places.
 ///
 /// The guide keeps the order that is found, for the next book: a book with a few more calls than
-/// the last one mostly has an order that begins like the last one's. Those places are stepped
-/// through, and the search looks among the calls after them alone; only where that finds none soon
-/// it looks everywhere.
+/// the last one mostly has an order that begins like the last one's. Those places are put one by
+/// one, and a search looks only among the calls after them; where it finds no order soon, a search
+/// looks everywhere.
 pub fn check_from<S: SeqObject>(
     alloc: Global,
     object: &S,
@@ -75,30 +76,32 @@ pub fn check_from<S: SeqObject>(
     }
 }
 
-/// Looks for a legal order as `check` does, and first after the places that still stand of the last
-/// one.
+/// Looks for a legal order as `check` does, but first for one that begins with the places of the
+/// last order, as far as these still follow one another.
 ///
-/// What stands is of this object, and of this book or of one from which it has grown; there is none
-/// to begin with. `None` comes where the book has no legal order. The places up to a mark are kept
-/// where the records that are new leave them standing, and those after it are stepped through. So a
-/// call mostly costs what is new, and a copy of the object's list; no clause says how much.
+/// `standing` is the order that the last call kept, for this object and for this book or one from
+/// which it has grown; the first call has none to give. `None` comes where the book has no legal
+/// order. The places before a mark are kept where the new records let them, and those after it are
+/// put one by one. A call mostly costs what is new and a copy of the object's list; no clause says
+/// how much.
 pub fn check_after<S: SeqObject>(
     alloc: Global,
     object: &S,
     book: &Book,
     standing: Option<KeptOrder>,
 ) -> Result<Option<KeptOrder>, NoMemory>
-    // What stands, where anything does, is for this object of this book, or of one from which it
-    // has grown.
+    // The marks of an order that is given are marks of its places for this object, in this book or
+    // in ones from which it has grown.
     requires standing { IfSome standing
         (IsStandingFor (S.init object.now) (S.next object.now) book.now) }
-    // The order of what is found, where anything is, is a legal one of the book.
+    // An order that is found is a legal one of the book.
     ensures legal { IfOk result (λ found. IfSome found
         (λ s. IsLegalOrder (S.init object.now) (S.next object.now) book.now s.order.items)) }
-    // What is found, where anything is, stands for this object in the book.
+    // The marks of an order that is found are marks of its places for this object, in this book or
+    // in ones from which it has grown.
     ensures stands { IfOk result (λ found. IfSome found
         (IsStandingFor (S.init object.now) (S.next object.now) book.now)) }
-    // Where nothing is found, and no memory was wanted, the book has no legal order.
+    // Where memory sufficed and no order is found, the book has no legal order.
     ensures illegal { IfOk result (λ found. IfNone found
         (HasLegalOrder (S.init object.now) (S.next object.now) book.now → ⊥)) }
 {
@@ -114,7 +117,7 @@ pub fn check_after<S: SeqObject>(
     }
 }
 
-// Looks for a legal order first after the places that still stand.
+// Looks for a legal order, first after those places of a kept order that still follow one another.
 fn check_on<S: SeqObject>(
     alloc: Global,
     object: &S,
@@ -163,11 +166,11 @@ fn check_on<S: SeqObject>(
     }
 }
 
-// How often calls are put after a mark: each time after an earlier one.
+// How many times `check_before` puts calls after a mark: each time after an earlier mark.
 const TURNS_PUT: u32 = 3;
 
-// Looks for a legal order first after the last marks of an order, by the calls that the views say
-// come next, then after fewer of its marks, and then anywhere.
+// Looks for a legal order, first after the last marks of an order with calls put there as they are
+// guessed, then after fewer of its marks, and then anywhere.
 fn check_before<S: SeqObject>(
     alloc: Global,
     object: &S,
@@ -203,9 +206,10 @@ fn check_before<S: SeqObject>(
     check_at_marks(alloc, object, book, order, marks)
 }
 
-// An order that begins as this one does up to the last of its marks that still stands, and goes on
-// with the calls that the views say come next, and whether it is a legal one: it is, if what is
-// left then is found soon.
+// An order that begins as this one does up to the last of its marks for which the places before it
+// may still begin an order of the book, and continues with calls as they are guessed; and whether
+// it is a legal order, which it is where the places that remain are found soon. The marks become
+// those of the new order.
 fn order_put<S: SeqObject>(
     alloc: Global,
     object: &S,
@@ -233,12 +237,12 @@ fn order_put<S: SeqObject>(
     order_on(alloc, object, book, &[], prefix, marks, FIRST_STEPS)
 }
 
-// How often a search begins at an earlier mark: each time it leaves out twice as many marks as
-// before.
+// How many times `check_at_marks` begins after marks of an order. The first time it drops no mark,
+// and each other time twice as many as the time before, and one more.
 const TURNS_BACK: u32 = 6;
 
-// Looks for a legal order first after the marks of an order, the last of them first, and then
-// anywhere.
+// Looks for a legal order, first after the last mark of an order and then after ever earlier ones,
+// and then anywhere.
 fn check_at_marks<S: SeqObject>(
     alloc: Global,
     object: &S,
@@ -274,9 +278,10 @@ fn check_at_marks<S: SeqObject>(
     check_anew(alloc, object, book, &order)
 }
 
-// An order that begins as this one does up to the last of its marks that still stands, and whether
-// it is a legal one: it is, if the object decides what is left after the mark, or if some order is
-// found soon. The marks after that one are gone.
+// An order that begins as this one does up to the last of its marks for which the places before it
+// may still begin an order of the book; and whether it is a legal order, which it is where the
+// places that remain are found soon: by the object, where it decides on an order of them, and else
+// by a search. The marks become those of the new order.
 fn order_after_mark<S: SeqObject>(
     alloc: Global,
     object: &S,
@@ -298,8 +303,9 @@ fn order_after_mark<S: SeqObject>(
     }
 }
 
-// An order that begins with the places of a prefix and with those of these that follow them, and
-// whether it is a legal one: it is, if what is left then is found soon. Else it has no marks.
+// An order that begins with the places of a prefix and then with as many of these places as follow
+// them; and whether it is a legal order, which it is where the places that remain are found soon.
+// Where it isn't a legal order, no mark is left.
 fn order_by<S: SeqObject>(
     alloc: Global,
     object: &S,
@@ -331,14 +337,15 @@ fn order_by<S: SeqObject>(
     if is_legal {
         return Ok((order, true));
     }
-    // Some of them may be marks of the places that are given up.
+    // Some marks may be at places that are given up.
     marks.clear();
     Ok((order, false))
 }
 
-// An order that begins with the places of a prefix, and whether it is a legal one: it is, if one is
-// found in this many more steps than calls are left, and else it goes on with the later places,
-// which are tried first. The marks of the prefix are marks of it.
+// An order that begins with the places of a prefix, and whether it is a legal order. It is one
+// where the places that remain are found in this many more steps than calls remain, with the later
+// places tried first; where they aren't, the order continues with the later places. The marks of
+// the prefix are marks of this order.
 fn order_on<S: SeqObject>(
     alloc: Global,
     object: &S,
@@ -374,7 +381,8 @@ fn order_on<S: SeqObject>(
     }
 }
 
-// Looks for a legal order anywhere, and tries the guide's places first. It has no marks yet.
+// Looks for a legal order anywhere, with the guide's places tried first. An order that is found has
+// no marks.
 fn check_anew<S: SeqObject>(
     alloc: Global,
     object: &S,
@@ -397,8 +405,8 @@ fn check_anew<S: SeqObject>(
     }
 }
 
-// The places that make a legal order after those of a prefix, if some are found in this many more
-// steps than calls are left. The later places are tried first.
+// Places that make a legal order after those of a prefix, if some are found in this many more steps
+// than calls remain, with the later places tried first. `None` says nothing of the book.
 fn rest_after<S: SeqObject>(
     alloc: Global,
     object: &S,
@@ -421,19 +429,19 @@ fn rest_after<S: SeqObject>(
     places_after(alloc, object, book, &known, later, prefix, more)
 }
 
-// How often a search begins after fewer of a guide's places: each time it leaves out twice as many
-// as before, so that it has left out nearly all after as many times as this.
+// How many times `order_near` begins after places of a guide. After each time it leaves out more of
+// them: first as many as there are callers, and then each time twice as many as the time before.
 const ATTEMPTS: u32 = 9;
 
-// How many steps a search after places has beside one for each call that is left.
+// How many steps a search after given places may make beyond one for each call that remains.
 const STEPS: u64 = 1000;
 
-// The same where it begins after all places of the last order: mostly it needs few, and else begins
-// at a mark.
+// How many steps a search after guessed calls may make beyond one for each call that remains:
+// mostly it needs few, and where these don't suffice, a search begins at a mark.
 const FIRST_STEPS: u64 = 100;
 
-// A legal order that begins as a guide does, if one is found soon: first after all the places of
-// the guide that still follow one another, and then after ever fewer of them.
+// A legal order that begins with places of a guide, if one is found soon: first after all of them
+// that still follow one another, and then after ever fewer.
 fn order_near<S: SeqObject>(
     alloc: Global,
     object: &S,
@@ -487,7 +495,7 @@ fn order_after<S: SeqObject>(
     Ok(Some(places))
 }
 
-// The places of a guide from this number on.
+// The places of a guide without the first ones, this many; no places where it has no more.
 fn later_of(guide: &[Place], taken: usize) -> &[Place] {
     if taken < guide.len() {
         &guide[taken..]
@@ -496,8 +504,9 @@ fn later_of(guide: &[Place], taken: usize) -> &[Place] {
     }
 }
 
-// The places that make a legal order after those of a prefix, if they are found in this many more
-// steps than calls are left.
+// Places that make a legal order after those of a prefix, if some are found in this many more steps
+// than calls remain, with the later places tried first and these pruning rules. `None` says nothing
+// of the book.
 fn places_after<S: SeqObject>(
     alloc: Global,
     object: &S,
@@ -529,7 +538,8 @@ fn places_after<S: SeqObject>(
     search.run_few(calls_after(book, &prefix.cut).saturating_add(more))
 }
 
-// A legal order, if there is one: where the object doesn't say, the search looks for it everywhere.
+// A legal order of a book, if it has one: where the object doesn't decide the book, a search looks
+// everywhere.
 fn order_anywhere<S: SeqObject>(
     alloc: Global,
     object: &S,
@@ -548,7 +558,7 @@ fn order_anywhere<S: SeqObject>(
     }
 }
 
-// A legal order, if there is one: the search looks for it everywhere, and tries the guide's places
+// A legal order of a book, if it has one: a search looks everywhere, with the guide's places tried
 // first.
 fn order_searched<S: SeqObject>(
     alloc: Global,
@@ -580,7 +590,8 @@ fn order_searched<S: SeqObject>(
     search.run()
 }
 
-// What the object looks at in narrowing what is tried, in a book with one open.
+// What the object looks at when it narrows which callers are tried, in a book with one open; `None`
+// in any other book, and where the object prepares nothing.
 fn sight_of<S: SeqObject>(
     alloc: Global,
     object: &S,
@@ -598,7 +609,7 @@ fn sight_of<S: SeqObject>(
     }
 }
 
-// Whether a call of a book has a limit. No clause says so: it costs or saves time alone.
+// Whether a call of a book has a limit above 0. No clause says so: it costs or saves time alone.
 fn has_limits(book: &Book, known: &PruningRules) -> bool {
     for caller in 0..book.callers() {
         for number in 0..book.calls(caller) {

@@ -7,11 +7,12 @@ use crate::memo::Memo;
 use book_base::{MAX_CALLERS, MAX_CALLS, NoMemory, Place, State};
 use std::alloc::Global;
 
-/// A capacity of as many words as a book has calls, and one more.
+/// The capacity of the states of a search, in words: the most calls that a book may have, and one
+/// more.
 pub const CAPACITY: u64 = MAX_CALLERS as u64 * MAX_CALLS + 1;
 
-/// A cut and a list on the way to where a search stands: the list's words, the place that was put
-/// next there, and what is still to be tried there besides it.
+/// A level of a walk: the place that was put there, the words of the object's list before it, and
+/// the choices besides it that are still to be tried there.
 #[derive(Drop)]
 pub struct WalkLevel {
     pub place: Place,
@@ -19,11 +20,12 @@ pub struct WalkLevel {
     pub choices: Vec<Choice>,
 }
 
-/// Where a search stands: the levels that lead there, the counts of its cut, its list, what is
-/// still to be tried there with the best choice last, and the dead ends that were left behind.
+/// A walk, which is where a search is: the levels that lead there from the prefix, the counts of
+/// the cut, the object's list, the choices that are still to be tried there with the best one last,
+/// and a memo of the dead ends that were found.
 ///
-/// Only the list here is a state of the object. It is stepped forward, and copied back from a
-/// level's words on a retreat.
+/// Only `here` is a state of the object. A step changes it, and a retreat loads it with the words
+/// of the last level.
 #[derive(Drop)]
 pub struct Walk {
     pub levels: Vec<WalkLevel>,
@@ -33,18 +35,18 @@ pub struct Walk {
     pub memo: Memo,
 }
 
-/// What came of one more step of a search.
+/// The outcome of one step of a search.
 #[derive(Drop)]
 pub enum StepOutcome {
-    /// The levels have the places of a legal order.
+    /// The places of the prefix and then those of the levels are a legal order.
     Found,
-    /// There is none.
+    /// No places continue an order from the end of the prefix.
     NoneLeft,
-    /// The search goes on.
+    /// The search isn't over, and takes another step.
     GoesOn,
 }
 
-/// The places of levels, in order.
+/// The places of some levels, in their order.
 pub fn places(alloc: Global, levels: &[WalkLevel]) -> Result<Vec<Place>, NoMemory>
     ensures { IfOk result (λ order. order.items ≡ order_of levels.now) }
 {
@@ -55,7 +57,7 @@ pub fn places(alloc: Global, levels: &[WalkLevel]) -> Result<Vec<Place>, NoMemor
     Ok(order)
 }
 
-/// Makes the list of a state these words. The capacity stays.
+/// Makes these words the list of a state, which keeps its capacity.
 pub fn load(state: &mut State, words: &[u64])
     // The state has capacity for these words.
     requires { length words.now ≤ state.old.room }
@@ -67,7 +69,7 @@ pub fn load(state: &mut State, words: &[u64])
     }
 }
 
-/// Makes a caller's count in a cut this number. All other counts stay.
+/// Makes this number the count of a caller among the counts of a cut. All other counts stay.
 pub fn set_count(counts: &mut Vec<u16>, caller: u32, number: u64)
     requires caller { caller < length counts.old.items }
     requires number { number ≤ MAX_CALLS }

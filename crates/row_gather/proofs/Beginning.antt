@@ -1,4 +1,4 @@
--- What a gathering begins with.
+-- The book with which a gathering begins.
 use Rattle.std.proofs.Common.{◌≡◌, ℕ, zero, suc, ◌+◌, ◌*◌, ◌<◌, ◌≤◌, List, Option, None, Some, Result, Ok, Err, length, map, replicate, sum, slice_get, slice_index, refl, sym, ap, ◌∙◌, subst, arith, inl, inr}
 use Rattle.std.specs.Prelude.{IfOk}
 use Rattle.std.proofs.lemmas.Bool.{cases_lt}
@@ -50,7 +50,7 @@ empty_is_gathered n l =
       views = λ call r e. absurd (unrecorded call r e);
     }
 
--- it has no record and no word
+-- Each cut holds all records of the book without a call, which has none.
 pub empty_is_within : (n : ℕ) (cut : List ℕ) → IsWithin (answered (empty_book n)) cut
 empty_is_within n cut i = omega (
   arith,
@@ -77,7 +77,8 @@ words_of_empty n =
 
 -- ---- a kept book
 
--- no record of a book is outside a cut where no count of its own is above the cut's
+-- A cut holds all records of a book of at most n callers where it counts, for each of n callers, at
+-- least as many records as the book has of it.
 pub within_from_counts : (book : List Page) (cut : List ℕ) (n : ℕ) → length book ≤ n
     → ((j : ℕ) → j < n → answers_of book j ≤ slice_index cut j) → IsWithin (answered book) cut
 within_from_counts book cut n all each i =
@@ -90,12 +91,14 @@ within_from_counts book cut n all each i =
       )
     ]
 
--- and where a count is above, one is outside
+-- A cut that counts fewer records of a caller than a book has of it doesn't hold all records of
+-- this book.
 pub outside_from_count : (book : List Page) (cut : List ℕ) (j : ℕ)
     → slice_index cut j < answers_of book j → IsWithin (answered book) cut → ⊥
 outside_from_count book cut j more within = omega (arith, answered_at book j, within j, more)
 
--- What a caller has gathered before has no record outside a cut that its own is within.
+-- A cut holds all records of a kept book that a caller has gathered, where the cut that is kept
+-- with the book is within it.
 kept_within : (l : Local) (kept : Gathered) (cut : List ℕ) → IsGatheredBy l (Some kept)
     → IsWithin kept.cut cut → IsWithin (answered kept.book) cut
 kept_within l kept cut was within =
@@ -104,7 +107,8 @@ kept_within l kept cut was within =
 
 -- ---- what a gathering begins with
 
--- the book without calls, where what is kept has not its place
+-- A gathering at a cut may begin with the book without a call where no book is kept whose callers
+-- are those of the cut and all of whose records the cut holds.
 pub begun_with_none : (gathered : Option Gathered) (cut : List ℕ) (n : ℕ)
     (r : Result (List Page) NoMemory) → n ≡ length cut
     → ((g : Gathered) → gathered ≡ Some g → HoldsAll cut g.book → ⊥)
@@ -122,7 +126,8 @@ begun_with_none gathered cut n (Ok book) wide never h =
       either = inr is;
     }
 
--- it was gathered, as what was kept was
+-- A caller that has gathered the kept book, where one is kept, has gathered the book with which its
+-- next gathering begins, at some cut.
 pub begun_is_gathered : (gathered : Option Gathered) (cut : List ℕ) (book : List Page) (l : Local)
     → IsBegunWith gathered cut book → IsGatheredBy l gathered
     → (early : List ℕ) × IsGathered (length cut) l early book
@@ -142,11 +147,14 @@ begun_is_gathered gathered cut book l begun was =
       )
     ]
 
+-- The book with which the gathering at a cut begins has of each caller at most as many records as
+-- the cut counts.
 pub begun_within : (gathered : Option Gathered) (cut : List ℕ) (book : List Page)
     → IsBegunWith gathered cut book → (j : ℕ) → answers_of book j ≤ slice_index cut j
 begun_within gathered cut book begun j = omega (arith, answered_at book j, begun.held.within j)
 
--- the ticks beyond its words are those for what is new
+-- Where the counter has risen by the number of words that the gathered book has and the book with
+-- which the gathering began lacks, it has risen as `TicksForNew` says.
 pub ticks_for_new : (n : ℕ) (gathered : Option Gathered) (cut : List ℕ) (start : List Page)
     (l : Local) (g : Gathered) (before after : ℕ) → IsBegunWith gathered cut start
     → IsGatheredBy l gathered

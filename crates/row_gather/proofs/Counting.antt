@@ -8,7 +8,8 @@ use Rattle.book_base.specs.BookAt.{greatest_count}
 use Rattle.book_laws.proofs.GreatestCounts.{greatest_count-append, greatest_count-at_least, greatest_count-reached}
 use Rattle.row_gather.specs.Words.{records_at, greatest_of, greatest_in}
 
--- one more record
+-- The greatest count for a caller in the views of the first k + 1 records is the greater one of
+-- that in the first k views and the count in view number k.
 pub greatest_of-more : (rs : List Record) (i k : ℕ) (r : Record) → k < length rs → r ≡ get_or rs k r
     → greatest_of (take (k + 1) rs) i ≡ max (greatest_of (take k rs) i) (slice_index r.view i)
 greatest_of-more rs i k r inside is =
@@ -20,12 +21,15 @@ greatest_of-more rs i k r inside is =
     ∙ greatest_count-append (map view (take k rs)) last i
     ∙ ap (max (greatest_of (take k rs) i)) one
 
--- one more caller
+-- The greatest count for a caller in the views of two lists of callers' records is the greater one
+-- of those in the first and in the second list.
 greatest_in-append : (xs ys : List (List Record)) (i : ℕ)
     → greatest_in (xs ++ ys) i ≡ max (greatest_in xs i) (greatest_in ys i)
 greatest_in-append [] ys i = omega arith
 greatest_in-append (x ∷ xs) ys i = omega (arith, greatest_in-append xs ys i)
 
+-- The greatest count for a caller in the views of the records of the first k + 1 callers is the
+-- greater one of that for the first k callers and that in the views of caller k's records.
 pub greatest_in-more : {V : Type 0} (items : V → List Record) (vs : List V) (i k : ℕ) (v : V)
     → k < length vs → v ≡ get_or vs k v
     → greatest_in (map items (take (k + 1) vs)) i
@@ -38,12 +42,12 @@ greatest_in-more items vs i k v inside is =
     ∙ greatest_in-append (map items (take k vs)) last i
     ∙ ap (max (greatest_in (map items (take k vs)) i)) one
 
--- the list of a caller among those of all
+-- Among the lists of records of these values, the list at place j is that of the value at place j.
 pub records_at-map : {V : Type 0} (items : V → List Record) (vs : List V) (j : ℕ) (v : V)
     → j < length vs → v ≡ get_or vs j v → records_at (map items vs) j ≡ items v
 records_at-map items vs j v inside is = get_or-map items vs j v [] inside ∙ ap items (sym is)
 
--- no view counts more
+-- The view of the record at place k of a list is at place k of the list of the records' views.
 map_stands : (rs : List Record) (k : ℕ) (r : Record) → slice_get rs k ≡ Some r
     → slice_get (map (λ (s : Record). s.view) rs) k ≡ Some r.view
 map_stands [] k r e = absurd (none-some r e)
@@ -56,6 +60,8 @@ map_stood [] k v e = absurd (none-some v e)
 map_stood (r ∷ rs) zero v e = (r, refl, cc)
 map_stood (r ∷ rs) (suc k) v e = map_stood rs k v e
 
+-- The count for a caller in the view of a record is at most the greatest one in the views of all
+-- these records.
 pub greatest_in-least : (lists : List (List Record)) (j k : ℕ) (r : Record) (i : ℕ)
     → slice_get (records_at lists j) k ≡ Some r → slice_index r.view i ≤ greatest_in lists i
 greatest_in-least [] j k r i e = absurd (none-some r e)
@@ -66,7 +72,8 @@ greatest_in-least (rs ∷ lists) zero k r i e =
     )
 greatest_in-least (rs ∷ lists) (suc j) k r i e = omega (arith, greatest_in-least lists j k r i e)
 
--- and some view counts as much
+-- Where the greatest count for a caller in the views of these records is above n, the view of one
+-- of them has a count for it above n.
 pub greatest_in-reached : (lists : List (List Record)) (n i : ℕ) → n < greatest_in lists i
     → (j k : ℕ) × (r : Record) × (slice_get (records_at lists j) k ≡ Some r)
     × (n < slice_index r.view i)

@@ -16,14 +16,16 @@ use Rattle.row_gather.specs.Words.{records_at}
 use Rattle.row_gather.specs.Filling.{with_records, filled, IsFilled}
 use Rattle.row_gather.proofs.After.{slice_get-append_right, slice_get-append_along}
 
--- A book has the calls of another, and a prefix of its records.
+-- The book `part` has the callers and the operations of the book `whole`, and each record that
+-- `part` has of a call is the one that `whole` has of it.
 pub record IsPrefixOf (part whole : List Page) : Type 0 where
   pub callers : length part ≡ length whole
   pub operations : (i : ℕ) → (page_of part i).operations ≡ (page_of whole i).operations
   pub records : (call : Call) (r : Record) → record_of part call ≡ Some r
       → record_of whole call ≡ Some r
 
--- It is valid where the other is.
+-- A book with the callers and the operations of a valid book, and of each caller a prefix of its
+-- records, is valid.
 pub prefix_is_valid : (part whole : List Page) → IsPrefixOf part whole → IsValid whole
     → IsValid part
 prefix_is_valid part whole prefix valid =
@@ -59,7 +61,7 @@ prefix_is_valid part whole prefix valid =
 abbrev page_with : List Page → ℕ → List Record → Page
 page_with book j rs = record (page_of book j) { records = (page_of book j).records ++ rs }
 
--- none
+-- A book with the first 0 of some further records of a caller is the book itself.
 pub with_records_none : (book : List Page) (j : ℕ) (rs : List Record)
     → book ≡ with_records book j (take 0 rs)
 with_records_none book j rs =
@@ -67,7 +69,8 @@ with_records_none book j rs =
     ∙ ap (λ (x : List Record). set book j (record (page_of book j) { records = x }))
     (sym (append-nil (page_of book j).records))
 
--- one answer more
+-- A book with the first k further records of caller j, and then with record k, is the book with the
+-- first k + 1 further records.
 pub with_records_more : (book : List Page) (j k : ℕ) (rs : List Record) (r : Record)
     → j < length book → k < length rs → r ≡ get_or rs k r
     → with_answer (with_records book j (take k rs)) j r ≡ with_records book j (take (k + 1) rs)
@@ -83,7 +86,8 @@ with_records_more book j k rs r low inside is =
     (record (page_of book j) { records = (had ++ take k rs) ++ r ∷ [] })
     ∙ ap (λ (x : List Record). set book j (record (page_of book j) { records = x })) more
 
--- the first ones are a prefix of all
+-- A book with the first k further records of a caller has a prefix of the records of the book with
+-- all of them.
 with_records_prefix : (book : List Page) (j k : ℕ) (rs : List Record) → j < length book
     → IsPrefixOf (with_records book j (take k rs)) (with_records book j rs)
 with_records_prefix book j k rs low =
@@ -116,7 +120,8 @@ with_records_prefix book j k rs low =
       ];
     }
 
--- so the next answer may be given where all of them are a valid book
+-- To a book with the first k further records of caller j, record k may be added as the next answer
+-- of j, where the book with all these records is valid.
 pub may_next : (book now : List Page) (j k : ℕ) (rs : List Record) (r : Record)
     → now ≡ with_records book j (take k rs) → j < length book → k < length rs → r ≡ get_or rs k r
     → IsValid (with_records book j rs) → MayAnswer now j r.view
@@ -129,7 +134,8 @@ may_next book now j k rs r at low inside is valid =
     subst (λ (b : List Page). MayAnswer b j r.view) (sym at) (MayAnswer-from_valid
     (with_records book j (take k rs)) j r (omega (arith, low, length-set book j few)) next)
 
--- and its view has one count per caller
+-- Where the book with all further records of caller j is valid, the view of record k has one count
+-- for each caller of the book with the first k records.
 pub wide_next : (book now : List Page) (j k : ℕ) (rs : List Record) (r : Record)
     → now ≡ with_records book j (take k rs) → j < length book → k < length rs → r ≡ get_or rs k r
     → IsValid (with_records book j rs) → length r.view ≡ length now
@@ -147,6 +153,8 @@ wide_next book now j k rs r at low inside is valid =
 
 -- ---- the further records of all callers
 
+-- The book `filled book lists` is `book` with these further records, where `lists` has one list for
+-- each caller.
 pub filled_is : (book : List Page) (lists : List (List Record)) → length lists ≡ length book
     → IsFilled book lists (filled book lists)
 filled_is book lists long =
@@ -176,12 +184,12 @@ filled_is book lists long =
       ];
     }
 
--- no records of a caller among those of the first ones
+-- The first j lists have no records of a caller whose number is j or greater.
 none_past : (lists : List (List Record)) (j i : ℕ) → j ≤ i → records_at (take j lists) i ≡ []
 none_past lists j i past =
     get_or_past (take j lists) i [] (omega (arith, past, length-take j lists))
 
--- further records none of which are there
+-- A list of records with no further ones is that list.
 with_none : (had rs : List Record) → rs ≡ [] → had ++ rs ≡ had
 with_none had rs none = ap (λ (x : List Record). had ++ x) none ∙ append-nil had
 
@@ -200,12 +208,13 @@ pub filled_all : (book now : List Page) (lists : List (List Record)) (n : ℕ) �
 filled_all book now lists n all h =
     subst (λ (ls : List (List Record)). IsFilled book ls now) (take_all n lists all) h
 
--- of the first callers' records
+-- The records of a caller below n in the first n lists are those in all lists.
 records_at-take : (lists : List (List Record)) (n i : ℕ) → i < n
     → records_at (take n lists) i ≡ records_at lists i
 records_at-take lists n i low = get_or-take n lists i [] low
 
--- what they have at a place
+-- A record that the first j lists have of a caller at a place is the one that all lists have of it
+-- at that place.
 records_of_first : (lists : List (List Record)) (j i k : ℕ) (r : Record)
     → slice_get (records_at (take j lists) i) k ≡ Some r → slice_get (records_at lists i) k ≡ Some r
 records_of_first lists j i k r e =
@@ -216,13 +225,15 @@ records_of_first lists j i k r e =
           (sym (ap (λ (rs : List Record). slice_get rs k) (none_past lists j i past)) ∙ e))
     ]
 
--- the caller j has no further records yet where the first j have theirs
+-- A book with the further records of the first j callers has, of caller j, the records of the
+-- original book.
 records_next : (book now : List Page) (lists : List (List Record)) (j : ℕ)
     → IsFilled book (take j lists) now → (page_of now j).records ≡ (page_of book j).records
 records_next book now lists j h = h.records j ∙ with_none (page_of book j).records
     (records_at (take j lists) j) (none_past lists j j (omega arith))
 
--- and with them the book is a prefix of the one with all
+-- A book with the further records of the first j callers, and then with those of caller j, is valid
+-- where the book with all further records is valid.
 pub valid_next : (book now : List Page) (lists : List (List Record)) (j : ℕ) (rs : List Record)
     → IsFilled book (take j lists) now → length lists ≡ length book → j < length book
     → records_at lists j ≡ rs → IsValid (filled book lists) → IsValid (with_records now j rs)
@@ -267,7 +278,8 @@ valid_next book now lists j rs h long low at valid =
     })
     valid
 
--- one caller more
+-- A book with the further records of the first j callers, and then with those of caller j, is the
+-- original book with the further records of the first j + 1 callers.
 pub filled_more : (book now new : List Page) (lists : List (List Record)) (j : ℕ) (rs : List Record)
     → IsFilled book (take j lists) now → length lists ≡ length book → j < length book
     → records_at lists j ≡ rs → new ≡ with_records now j rs → IsFilled book (take (j + 1) lists) new

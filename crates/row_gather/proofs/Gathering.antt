@@ -1,4 +1,4 @@
--- Peeked records and operations are a gathered book.
+-- A book that has grown by peeked records and operations is a gathered one.
 use Rattle.std.proofs.Common.{◌≡◌, ℕ, ◌+◌, ◌<◌, ◌≤◌, ◌⊎◌, max, List, [], ◌++◌, length, slice_get, slice_index, Some, refl, sym, ap, ◌∙◌, subst, arith, inl, inr, IsTrue}
 use Rattle.std.proofs.lemmas.Bool.{cases_lt}
 use Rattle.std.proofs.lemmas.List.{get_or_past, length-append}
@@ -26,7 +26,7 @@ use Rattle.row_gather.proofs.Peeking.{knows_viewed}
 use Rattle.row_gather.proofs.Counting.{greatest_in-least, greatest_in-reached}
 use Rattle.row_gather.proofs.After.{slice_get-append_left, slice_get-append_right, slice_get-append_cases}
 
--- a given cut has one count for each caller
+-- A cut that a scan of M gave has one count for each caller.
 pub given_wide : (s : Shape) (i : ℕ) (l : Local) (cut : List ℕ) → IsLocalOf s i l
     → IsGivenIn l.cuts M cut → length cut ≡ s.callers
 given_wide s i l cut (locals, t, low, is) given =
@@ -34,7 +34,8 @@ given_wide s i l cut (locals, t, low, is) given =
     (record { region = M; cut = cut; since = given.since }) t low
     (ap (λ (m : Local). slice_get m.cuts given.place) is ∙ given.is)).0
 
--- A record that a cut holds and a book lacks was peeked.
+-- The record `r` is that of call number `answers_of book j + k` of caller `j`, who is one of n
+-- callers; the cut holds this call, and a caller with this local has peeked the record.
 record IsListed (n : ℕ) (l : Local) (book : List Page) (cut : List ℕ) (j k : ℕ)
     (r : Record) : Type 0 where
   caller : j < n
@@ -60,7 +61,7 @@ module _ (n : ℕ) (l : Local) (kept : List Page) (cut : List ℕ) (lists : List
             absurd (none-some r (sym (ap (λ (rs : List Record). slice_get rs k) none) ∙ e))
       ]
 
-  -- a call that a view holds is known
+  -- A caller knows the row in N of each call that the view of a peeked record holds.
   pub known_held : (j : ℕ) → j < n → KnowsRows n l N j (greatest_in lists j)
   known_held j low k below =
       let found = greatest_in-reached lists k j below in
@@ -68,8 +69,9 @@ module _ (n : ℕ) (l : Local) (kept : List Page) (cut : List ℕ) (lists : List
       knows_viewed n l (record { caller = found.0; number = answers_of kept found.0 + found.1 }) j k
       (slice_index found.2.view j) low (it.peeked.view.1 j low) found.4
 
-  -- The kept book was gathered at a cut that is within the new one; then the calls that new views
-  -- hold were added, and then the records.
+  -- The book `kept` was gathered at some cut, and the new cut holds all its records; the calls that
+  -- the new views hold were added to it, which makes `book`; and then the new records, which makes
+  -- `whole`.
   module _ (early : List ℕ) (was : IsGathered n l early kept)
       (within : (j : ℕ) → answers_of kept j ≤ slice_index cut j) (book whole : List Page)
       (more : HasPeekedCalls l kept book)
@@ -80,7 +82,8 @@ module _ (n : ℕ) (l : Local) (kept : List Page) (cut : List ℕ) (lists : List
     records_are j =
         full.records j ∙ ap (λ (rs : List Record). rs ++ records_at lists j) (more.records j)
 
-    -- what stood stands still, and so do the new records; and no others
+    -- A record of the book `kept` is one of `whole`; a new record is one of `whole` (`stands_now`);
+    -- and `whole` has no other record (`stood`).
     stands_still : (call : Call) (r : Record) → record_of kept call ≡ Some r
         → record_of whole call ≡ Some r
     stands_still call r e =
@@ -110,7 +113,7 @@ module _ (n : ℕ) (l : Local) (kept : List Page) (cut : List ℕ) (lists : List
     long : length book ≡ n
     long = more.callers ∙ was.callers
 
-    -- a call is held by a view from before, or by a new one
+    -- Each call of the book `whole` is held by the view of a record that the cut holds.
     is_held : (call : Call) → IsCall whole call → IsHeldBySomeView whole cut call
     is_held call there =
         let in_book : call.number < calls_of book call.caller =
@@ -142,7 +145,7 @@ module _ (n : ℕ) (l : Local) (kept : List Page) (cut : List ℕ) (lists : List
               )
         ]
 
-    -- what a view from before holds was a call before
+    -- A call that the view of a record of the book `kept` holds is a call of `kept`.
     was_call : (call it : Call) (r : Record) → record_of kept it ≡ Some r
         → call.number < slice_index r.view call.caller → IsCall kept call
     was_call call it r e held =
@@ -171,7 +174,7 @@ module _ (n : ℕ) (l : Local) (kept : List Page) (cut : List ℕ) (lists : List
               omega (arith, held, least, counts call.caller low, same_calls call.caller)
         ]
 
-    -- each record was peeked, then or now
+    -- The caller has peeked each record of the book `whole`.
     is_peeked : (call : Call) (r : Record) → record_of whole call ≡ Some r
         → IsPeekedRecord n l call r
     is_peeked call r e =
@@ -184,6 +187,7 @@ module _ (n : ℕ) (l : Local) (kept : List Page) (cut : List ℕ) (lists : List
               (listed call.caller new.0 r new.2).peeked
         ]
 
+    -- The book `whole` is one at the cut each of whose words the caller has peeked.
     pub gathered : IsGathered n l cut whole
     gathered =
         record {
@@ -203,7 +207,8 @@ module _ (n : ℕ) (l : Local) (kept : List Page) (cut : List ℕ) (lists : List
           views = λ call r e. (is_peeked call r e).view;
         }
 
--- what is counted in views is at most the cap
+-- For each caller, the greatest count in the views of records that were peeked in a reachable world
+-- is at most the cap.
 pub held_few : (s : Shape) (i : ℕ) (l : Local) (cut : List ℕ) (kept : List Page)
     (lists : List (List Record)) → IsLocalOf s i l
     → ArePeekedTo s.callers l kept cut s.callers lists
@@ -219,20 +224,23 @@ held_few s i l cut kept lists (locals, t, low, is) h j inside =
       | inr fits ↦ fits
     ]
 
--- A gathered book is the book at the cut of all callers' calls, so it is valid.
+-- In each reachable world in which caller i has this local, a book that is gathered at a cut is the
+-- book at this cut of the book of all callers' calls.
 pub is_book_of_all : (s : Shape) (i : ℕ) (l : Local) (cut : List ℕ) (book : List Page)
     → i < s.callers → IsGathered s.callers l cut book → IsBookOfAll s i l cut book
 is_book_of_all s i l cut book low g locals t is =
     gathered_is_the_book_at s locals i cut book t low
     (subst (λ (m : Local). IsGathered s.callers m cut book) (sym is) g)
 
+-- A book that is gathered with a local of a reachable world is valid.
 pub gathered_is_valid : (s : Shape) (i : ℕ) (l : Local) (cut : List ℕ) (book : List Page)
     → IsLocalOf s i l → IsGathered s.callers l cut book → IsValid book
 gathered_is_valid s i l cut book (locals, t, low, is) g =
     subst IsValid (sym (is_book_of_all s i l cut book low g locals t is))
     (stays_valid (book_in locals) cut (books_are_valid s locals t))
 
--- the counts of calls are few
+-- The greatest counts in the views of records that were peeked in a reachable world are at most
+-- each number that the cap doesn't exceed.
 pub counts_few : (s : Shape) (i : ℕ) (l : Local) (cut : List ℕ) (kept : List Page)
     (lists : List (List Record)) (counts : List ℕ) (most : ℕ) → IsLocalOf s i l
     → ArePeekedTo s.callers l kept cut s.callers lists → length counts ≡ s.callers

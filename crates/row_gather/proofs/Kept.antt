@@ -6,12 +6,14 @@ use Rattle.world_books.proofs.Gathered.{gathered_stays}
 use Rattle.row_gather.specs.declared.gathered.Gathered.{Gathered}
 use Rattle.row_gather.specs.Gathered.{IsGatheredBy, GatheredByStays}
 
--- while its caller peeks more
+-- A kept book that is gathered with a local is gathered with each local that has all peeked words
+-- of that one.
 pub gathered_by_stays : GatheredByStays
 gathered_by_stays l m None all h = tt
 gathered_by_stays l m (Some g) all h = gathered_stays (length g.book) l m g.cut g.book all h
 
--- A book that was gathered just now can be kept with its cut.
+-- A book that a caller has gathered at a cut, and keeps with this cut, is a kept book that the
+-- caller has gathered.
 pub gathered_by_now : (n : ℕ) (l : Local) (cut : List ℕ) (g : Gathered) → g.cut ≡ cut
     → IsGathered n l cut g.book → IsGatheredBy l (Some g)
 gathered_by_now n l cut g is h =

@@ -1,4 +1,4 @@
--- What peeks leave of a caller, and what it knows after them.
+-- What peeks change in a caller's local, and which rows the caller knows after them.
 use Rattle.std.proofs.Common.{◌≡◌, ℕ, ◌+◌, ◌<◌, Bool, true, false, ◌&&◌, ◌||◌, ◌==◌, nat_lt, List, [], ◌∷◌, ◌++◌, Option, None, slice_index, refl, sym, ap, ◌∙◌, subst, arith, IsTrue, eq-eqb}
 use Rattle.std.specs.Prelude.{Contains}
 use Rattle.std.specs.List.{list_any}
@@ -23,7 +23,8 @@ use Rattle.row_table.specs.declared.rows.Rows.{Rows}
 use Rattle.row_table.specs.Callers.{IsStill, HasDone, local_with, stance_of}
 use Rattle.row_gather.specs.Peeks.{with_peeked, HasOnlyPeeked, IsReady, PeeksAlone}
 
--- without a scan under way a peek adds its word, and nothing else
+-- A peek of a local without a scan under way adds the word that it found to the peeked words, and
+-- changes nothing else.
 pub peeked_word : (n : ℕ) (l : Local) (r : Region) (j k place x : ℕ) → l.scan ≡ None
     → local_after n l (Peek r j k place x)
     ≡ with_peeked l (record { region = r; caller = j; row = k; place = place; word = x } ∷ [])
@@ -32,7 +33,8 @@ peeked_word n l r j k place x none =
     with_peek l (record { region = r; caller = j; row = k; place = place; word = x }) in
     ap (λ (scan : Option Scan). fed n saw scan r (is_peek_wanted n r j k place) x) none
 
--- more peeks after some
+-- Where a local became a second one by peeks alone, and that one a third by peeks alone, the first
+-- became the third by peeks alone.
 pub only_peeked_then : (l m o : Local) (a b c : ℕ) → HasOnlyPeeked l m a b → HasOnlyPeeked m o b c
     → HasOnlyPeeked l o a c
 only_peeked_then l m o a b c one two =
@@ -48,7 +50,7 @@ only_peeked_then l m o a b c one two =
       ticks = omega (arith, one.ticks, two.ticks, length-append two.more one.more);
     }
 
--- what was peeked stays
+-- Each word that a local has peeked is peeked after further peeks too.
 pub all_stay : (l m : Local) (a b : ℕ) → HasOnlyPeeked l m a b → HasPeekedAll l m
 all_stay l m a b h p there =
     subst (λ (x : Local). Contains x.peeked p) (sym h.local)
@@ -57,7 +59,7 @@ all_stay l m a b h p there =
 pub all_stay_none : (l : Local) → HasPeekedAll l l
 all_stay_none l p there = there
 
--- and so do the rows that were known
+-- A disjunction of three that holds still holds when its last part gets one more alternative.
 widened : (a b c d e : Bool) → (a || (b || (c && e))) ≡ true → (a || (b || (c && (d || e)))) ≡ true
 widened true b c d e h = refl
 widened false true c d e h = refl
@@ -79,13 +81,14 @@ knows_with n l more r j k h =
     (sym (list_any-append test more l.peeked))
     (widened looked given (is_same_region r N) (list_any test more) (list_any test l.peeked) h)
 
+-- A row that a caller knows by its local it knows after further peeks too.
 pub knows_still : (n : ℕ) (l m : Local) (a b : ℕ) (r : Region) (j k : ℕ) → HasOnlyPeeked l m a b
     → IsTrue (knows_row n l r j k) → IsTrue (knows_row n m r j k)
 knows_still n l m a b r j k h knows =
     subst (λ (x : Local). knows_row n x r j k ≡ true) (sym h.local)
     (knows_with n l h.more r j k knows)
 
--- A row below an entry of a cut that a scan of M gave is known.
+-- A disjunction of three holds where its second part does.
 second_true : (a b c : Bool) → b ≡ true → (a || (b || c)) ≡ true
 second_true true b c h = refl
 second_true false true c h = refl
@@ -96,6 +99,8 @@ third_true true b c h = refl
 third_true false true c h = refl
 third_true false false c h = h
 
+-- A caller that a scan of M gave a cut knows row k of caller j in M where k is below the cut's
+-- entry for j.
 pub knows_given : (n : ℕ) (l : Local) (cut : List ℕ) (j k : ℕ) → IsGivenIn l.cuts M cut
     → k < slice_index cut j → IsTrue (knows_row n l M j k)
 knows_given n l cut j k given low =
@@ -108,7 +113,8 @@ knows_given n l cut j k given low =
     second_true (list_any (λ (look : Looked). is_same_region look.region M
     && (look.caller == j && nat_lt k look.count)) l.looked) (list_any test l.cuts) _ found
 
--- A row below an entry of a view that was peeked is known.
+-- The test whether a peeked word is a view's entry for caller j above k passes for a word above k
+-- at the place of such an entry.
 viewed : (n j k place x : ℕ) → content n M place ≡ View_entry j → k < x
     → (is_view_entry (content n M place) j && nat_lt k x) ≡ true
 viewed n j k place x at low =
@@ -116,6 +122,8 @@ viewed n j k place x at low =
     ap (λ c. is_view_entry c j) at ∙ eq-eqb j j refl in
     ap (λ (b : Bool). b && nat_lt k x) here ∙ lt-ltb k x low
 
+-- A caller that has peeked the entry for caller j of a view knows row k of caller j in N where k is
+-- below this entry.
 pub knows_viewed : (n : ℕ) (l : Local) (call : Call) (j k x : ℕ) → j < n
     → HasPeeked l M call (1 + j) x → k < x → IsTrue (knows_row n l N j k)
 knows_viewed n l call j k x low (at, inside, is) below =
@@ -140,6 +148,8 @@ module _ {P : Type 0} (meaning : P → ℕ → ℕ → Meaning) (r : Rows P) whe
         peeks = record { more = []; local = refl; ticks = omega arith };
       }
 
+  -- Where a caller became a second one by peeks alone, and that one a third by peeks alone, the
+  -- first became the third by peeks alone.
   pub alone_then : (c d e : Caller P) (t u v : ℕ) → PeeksAlone meaning r c d t u
       → PeeksAlone meaning r d e u v → PeeksAlone meaning r c e t v
   alone_then c d e t u v one two =
@@ -150,6 +160,7 @@ module _ {P : Type 0} (meaning : P → ℕ → ℕ → Meaning) (r : Rows P) whe
             only_peeked_then (local_with c) (local_with d) (local_with e) t u v one.peeks two.peeks;
       }
 
+  -- A caller without a scan under way that has made one peek has made peeks alone, one of them.
   pub alone_one : (c d : Caller P) (t u : ℕ) (region : Region) (j k place x : ℕ)
       → IsReady meaning r c → IsStill meaning r c d → HasDone r c d (Peek region j k place x)
       → stance_of d ≡ stance_of c → u ≡ t + 1 → PeeksAlone meaning r c d t u
@@ -164,7 +175,7 @@ module _ {P : Type 0} (meaning : P → ℕ → ℕ → Meaning) (r : Rows P) whe
         };
       }
 
-  -- the word is peeked
+  -- A caller without a scan under way that makes a peek has then peeked the word which it found.
   pub has_peeked : (c d : Caller P) (region : Region) (call : Call) (place x : ℕ)
       → IsReady meaning r c → HasDone r c d (Peek region call.caller call.number place x)
       → HasPeeked (local_with d) region call place x
@@ -181,6 +192,8 @@ module _ {P : Type 0} (meaning : P → ℕ → ℕ → Meaning) (r : Rows P) whe
       subst (λ (l : Local). Contains l.peeked it) (sym (done ∙ peeked_word r.callers
       (local_with c) region call.caller call.number place x ready.unscanned)) here
 
+  -- A caller of these rows without a scan under way is still one of these rows without a scan under
+  -- way after peeks alone.
   pub ready_still : (c d : Caller P) (t u : ℕ) → PeeksAlone meaning r c d t u → IsReady meaning r c
       → IsReady meaning r d
   ready_still c d t u alone ready =

@@ -1,4 +1,4 @@
--- The words that were peeked, record by record and call by call.
+-- How peeked words make up records and calls, one after the other.
 use Rattle.std.proofs.Common.{◌≡◌, ◌≢◌, ℕ, ◌+◌, ◌<◌, ◌^◌, List, [], ◌∷◌, ◌++◌, length, set, get_or, slice_get, slice_index, sum, Some, refl, sym, ap, ◌∙◌, subst, arith, inl, inr}
 use Rattle.std.proofs.lemmas.Bool.{cases_lt, cases_eq}
 use Rattle.std.proofs.lemmas.List.{get_or-set_same, get_or-set_other, get_or_append_left, get_or_push, get_or_past, length-set, length_push, length-map, map-set}
@@ -28,6 +28,8 @@ pub record_stays : (n : ℕ) (l m : Local) → HasPeekedAll l m → (call : Call
 record_stays n l m all call r h =
     record { reply = all _ h.reply; view = (h.view.0, λ j low. all _ (h.view.1 j low)) }
 
+-- The operations of a book that are peeked in a local are peeked in each local that has all peeked
+-- words of that one.
 pub operations_stay : (l m : Local) → HasPeekedAll l m → (book : List Page)
     → ArePeekedOperations l book → ArePeekedOperations m book
 operations_stay l m all book h call op e = operation_stays l m all call op (h call op e)
@@ -40,6 +42,8 @@ records_stay n l m all j from count rs h = record {
       λ k r e. record_stays n l m all (record { caller = j; number = from + k }) r (h.each k r e);
 }
 
+-- The records that a cut holds and a book lacks, where they are peeked in a local, are peeked in
+-- each local that has all peeked words of that one.
 pub lists_stay : (n : ℕ) (l m : Local) → HasPeekedAll l m
     → (book : List Page) (cut : List ℕ) (callers : ℕ) (lists : List (List Record))
     → ArePeekedTo n l book cut callers lists
@@ -53,7 +57,8 @@ lists_stay n l m all book cut callers lists h =
 
 -- ---- one more entry of a view
 
--- The first entries of a view were peeked.
+-- The view has n entries, and a caller with this local has peeked the first of them, as many as
+-- `count` says, in the row of M that the call has.
 pub record AreEntries (n : ℕ) (l : Local) (call : Call) (count : ℕ) (view : List ℕ) : Type 0 where
   pub wide : length view ≡ n
   pub each : (j : ℕ) → j < count → HasPeeked l M call (1 + j) (slice_index view j)
@@ -62,6 +67,8 @@ pub entries_none : (n : ℕ) (l : Local) (call : Call) (view : List ℕ) → len
     → AreEntries n l call 0 view
 entries_none n l call view wide = record { wide = wide; each = λ j low. absurd (omega arith) }
 
+-- Where the first j entries of a view are peeked, and then entry j is peeked and set in the view,
+-- the first j + 1 entries are peeked.
 pub entries_more : (n : ℕ) (l m : Local) (call : Call) (j : ℕ) (view new : List ℕ) (x : ℕ)
     → HasPeekedAll l m → AreEntries n l call j view → j < n → HasPeeked m M call (1 + j) x
     → new ≡ set view j x → AreEntries n m call (j + 1) new
@@ -94,6 +101,9 @@ records_none n l j from rs is =
           λ k r e. absurd (omega (arith, slice_get_within rs k r e, ap (length {A = Record}) is));
     }
 
+-- Where the records of caller j with the numbers from `from` up to but not including `count` are
+-- peeked, and then the one with the number `count`, those up to but not including `count + 1` are
+-- peeked.
 pub records_more : (n : ℕ) (l m : Local) (j from count : ℕ) (rs new : List Record) (r : Record)
     → HasPeekedAll l m → ArePeekedRecords n l j from count rs
     → IsPeekedRecord n m (record { caller = j; number = count }) r
@@ -121,6 +131,8 @@ pub lists_none : (n : ℕ) (l : Local) (book : List Page) (cut : List ℕ) (list
 lists_none n l book cut lists is =
     record { wide = ap length is; each = λ j low. absurd (omega arith) }
 
+-- Where the records of the first j callers that the cut holds and the book lacks are peeked, and
+-- then those of caller j, these records of the first j + 1 callers are peeked.
 pub lists_more : (n : ℕ) (l m : Local) (book : List Page) (cut : List ℕ) (j from count : ℕ)
     (lists new : List (List Record)) (rs : List Record) → HasPeekedAll l m
     → ArePeekedTo n l book cut j lists → from ≡ answers_of book j → count ≡ slice_index cut j
@@ -154,7 +166,8 @@ lists_more n l m book cut j from count lists new rs all h first last here is =
       ];
     }
 
--- each view among them has n entries
+-- Each view of the records that a cut holds and a book lacks, where those of n callers are peeked,
+-- has n entries.
 pub lists_wide : (n : ℕ) (l : Local) (book : List Page) (cut : List ℕ) (lists : List (List Record))
     → ArePeekedTo n l book cut n lists → (j : ℕ) → AreWide n (records_at lists j)
 lists_wide n l book cut lists h j k r e =
@@ -169,7 +182,8 @@ lists_wide n l book cut lists h j k r e =
 
 -- ---- the operations
 
--- an operation is of the words that it was joined of
+-- Where two words below 2^64 are peeked in the row of a call, the operation that is joined from
+-- them is peeked.
 pub joined_peeked : (l : Local) (call : Call) (low high op : ℕ) → low < 2 ^ 64 → high < 2 ^ 64
     → op ≡ joined low high → HasPeeked l N call 0 low → HasPeeked l N call 1 high
     → IsPeekedOperation l call op
@@ -182,6 +196,7 @@ joined_peeked l call low high op small few is first second =
 
 -- ---- one more call
 
+-- With one more call of caller j, a book has one call more of j.
 pub calls_of-with_call_same : (book : List Page) (j op : ℕ) → j < length book
     → calls_of (with_call book j op) j ≡ calls_of book j + 1
 calls_of-with_call_same book j op low =
@@ -190,12 +205,14 @@ calls_of-with_call_same book j op low =
     ap (λ (q : Page). length q.operations) (page_of-set_same book j p low)
     ∙ length_push (page_of book j).operations op
 
+-- With one more call of caller j, a book has as many calls of each other caller as before.
 pub calls_of-with_call_other : (book : List Page) (j op i : ℕ) → i ≢ j
     → calls_of (with_call book j op) i ≡ calls_of book i
 calls_of-with_call_other book j op i other =
     ap (λ (q : Page). length q.operations) (page_of-set_other book j i
     (record (page_of book j) { operations = (page_of book j).operations ++ op ∷ [] }) other)
 
+-- With one more call of one of its callers, a book has one call more.
 pub sum_announced-with_call : (book : List Page) (j op : ℕ) → j < length book
     → sum (announced (with_call book j op)) ≡ sum (announced book) + 1
 sum_announced-with_call book j op low =
@@ -211,12 +228,13 @@ sum_announced-with_call book j op low =
     omega
     (arith, ap sum made, added, announced_at book j, length_push (page_of book j).operations op)
 
--- no further call
+-- `HasPeekedCalls` holds of a book and itself where its operations are peeked.
 pub peeked_calls_none : (l : Local) (book : List Page) → ArePeekedOperations l book
     → HasPeekedCalls l book book
 peeked_calls_none l book h = record { callers = refl; records = λ i. refl; operations = h }
 
--- one more, whose operation was peeked
+-- `HasPeekedCalls` holds of a first book and a second one also after the second got one more call
+-- whose operation is peeked.
 pub peeked_calls_more : (l m : Local) (j op : ℕ) (book other new : List Page) → HasPeekedAll l m
     → HasPeekedCalls l book other → j < length book
     → IsPeekedOperation m (record { caller = j; number = calls_of other j }) op
@@ -254,7 +272,8 @@ peeked_calls_more l m j op book other new all h low here is =
     } in
     subst (HasPeekedCalls m book) (sym is) made
 
--- some more, and then others
+-- Where `HasPeekedCalls` holds of a first book and a second one, and of the second and a third, it
+-- holds of the first and the third.
 pub peeked_calls_then : (l m : Local) (a b c : List Page) → HasPeekedCalls l a b
     → HasPeekedCalls m b c → HasPeekedCalls m a c
 peeked_calls_then l m a b c one two = record {

@@ -15,7 +15,10 @@ words_joined : (n a b c k s r t : ℕ) → b + (1 + n) * s ≡ a + (1 + n) * t �
     → c + (2 * k + (1 + n) * s) ≡ a + (2 * r + (1 + n) * t)
 words_joined n a b c k s r t first second = omega arith
 
--- w ticks for each that one more number of the second list has and that of the first one lacks
+-- Where the counter has risen by w for each 1 by which the sum of the first j numbers of `ys`
+-- exceeds that of `xs`, and then by w for each 1 by which number j of `ys` exceeds that of `xs`, it
+-- has risen by w for each 1 by which the sum of the first j + 1 numbers of `ys` exceeds that of
+-- `xs`.
 pub ticks_more : (w a b c : ℕ) (xs ys : List ℕ) (j x y : ℕ) → j < length xs → j < length ys
     → x ≡ slice_index xs j → y ≡ slice_index ys j
     → b + w * sum (take j xs) ≡ a + w * sum (take j ys) → c + w * x ≡ b + w * y
@@ -34,7 +37,8 @@ ticks_all w a b n xs ys low inside h =
     ap (λ (zs : List ℕ). b + w * sum zs) (sym (take_all n xs low))
     ∙ (h ∙ ap (λ (zs : List ℕ). a + w * sum zs) (take_all n ys inside))
 
--- the words that a whole book has and the one that it began with lacks, as they were read
+-- The counter has risen by the number of words that the whole book has and the book `start` lacks,
+-- where it has risen first for the records that were read, and then for the calls that were added.
 pub words_read : (start book whole : List Page) (cut : List ℕ) (n a b c : ℕ) → length start ≡ n
     → length book ≡ n → length whole ≡ n → length cut ≡ n
     → ((j : ℕ) → calls_of whole j ≡ calls_of book j)

@@ -1,4 +1,5 @@
--- What a gathered book is in the world.
+-- That a book is the one at a cut of all callers' calls, in each reachable world in which one
+-- caller has a given local.
 use Rattle.std.specs.Prelude.{◌≡◌, ℕ, List}
 use Rattle.book_base.specs.Book.{Page}
 use Rattle.book_base.specs.BookAt.{book_at}
@@ -9,14 +10,14 @@ use Rattle.row_table.specs.declared.caller.Caller.{Caller}
 use Rattle.row_table.specs.declared.rows.Rows.{Rows}
 use Rattle.row_table.specs.Callers.{shape_of, who_of, local_with}
 
--- Whatever reachable world has this local at caller i, the book is the book at the cut of all its
--- callers' calls.
+-- In each reachable world in which caller `i` has this local, the book is the book at the cut of
+-- the book of all callers' calls.
 abbrev pub IsBookOfAll : Shape → ℕ → Local → List ℕ → List Page → Type 0
 IsBookOfAll s i l cut book = (locals : List Local) → AreTogether s locals → local_at locals i ≡ l
     → book ≡ book_at cut (book_in locals)
 
--- Whatever reachable world has the local of this caller of these rows, the book is the one at the
--- cut of all callers' calls.
+-- In each reachable world of these rows in which this caller has its local, the book is the book at
+-- the cut of the book of all callers' calls.
 abbrev pub IsTheBookAt : {P : Type 0} → (P → ℕ → ℕ → Meaning) → Rows P → Caller P → List ℕ
     → List Page → Type 0
 IsTheBookAt meaning r c cut book =

@@ -1,4 +1,5 @@
--- A book that a caller has gathered and kept, and the one that it gathers from it.
+-- The book that a caller has gathered and kept with its cut, and what the caller's next gathering
+-- makes of it.
 use Rattle.std.specs.Prelude.{◌≡◌, ℕ, ◌+◌, ◌⊎◌, List, [], Option, None, Some, IfSome, length, replicate}
 use Rattle.book_base.specs.Cut.{IsWithin}
 use Rattle.book_base.specs.Book.{Page, answered}
@@ -8,39 +9,44 @@ use Rattle.world_books.specs.Gathering.{HasPeekedAll}
 use Rattle.row_gather.specs.declared.gathered.Gathered.{Gathered}
 use Rattle.row_gather.specs.Words.{words_of_book}
 
--- Each word of the book that is kept, where there is one, the caller with this local has peeked;
--- and the book is one at its cut.
+-- Where a book is kept, it is one at the cut that is kept with it, and a caller with this local has
+-- peeked each of its words.
 abbrev pub IsGatheredBy : Local → Option Gathered → Type 0
 IsGatheredBy l gathered = IfSome gathered (λ g. IsGathered (length g.book) l g.cut g.book)
 
--- What a caller has gathered stays gathered while the caller peeks more.
+-- A book that is kept, and that a caller with the local `l` has gathered, is gathered with each
+-- local `m` too that has all peeked words of `l`; so it stays gathered while its caller peeks more.
 abbrev pub GatheredByStays : Type 0
 GatheredByStays = (l m : Local) (gathered : Option Gathered) → HasPeekedAll l m
     → IsGatheredBy l gathered → IsGatheredBy m gathered
 
--- The book of this many callers without calls.
+-- The book of n callers without a call.
 abbrev pub empty_book : ℕ → List Page
 empty_book n = replicate n (record { operations = []; records = [] })
 
--- Each caller has gathered the book without calls, at the cut that holds nothing.
+-- A caller with any local has gathered the book of n callers without a call, at the cut that has
+-- the count 0 for each of them.
 abbrev pub EmptyIsGathered : Type 0
 EmptyIsGathered = (n : ℕ) (l : Local) → IsGathered n l (replicate n 0) (empty_book n)
 
--- A cut is of the callers of a book, and holds all its records.
+-- The cut has a count for each caller of the book and no others, and it holds all records of the
+-- book.
 pub record HoldsAll (cut : List ℕ) (book : List Page) : Type 0 where
   pub callers : length book ≡ length cut
   pub within : IsWithin (answered book) cut
 
--- What the gathering at a cut begins with: the book that is kept, where the cut is of its callers
--- and holds all its records; else the book without calls.
+-- The book with which the gathering at a cut begins: the kept book, where one is kept whose callers
+-- are those of the cut and all of whose records the cut holds; and else the book without a call, of
+-- as many callers as the cut has counts.
 pub record IsBegunWith (gathered : Option Gathered) (cut : List ℕ) (book : List Page) : Type 0 where
   pub held : HoldsAll cut book
   pub kept : (g : Gathered) → gathered ≡ Some g → HoldsAll cut g.book → book ≡ g.book
   pub either : ((g : Gathered) × (gathered ≡ Some g) × (book ≡ g.book))
       ⊎ (book ≡ empty_book (length cut))
 
--- The counter ticks once for each word that is new: each of the book, where nothing is kept; and
--- those that the kept book lacks, where it is of n callers and its cut is within the new one.
+-- Where no book was kept, the counter has risen from `before` to `after` by the number of words of
+-- the gathered book. Where the kept book is of n callers and its cut is within the new one, the
+-- counter has risen by the number of words that the gathered book has and the kept one lacks.
 abbrev pub TicksForNew : ℕ → Option Gathered → Gathered → ℕ → ℕ → Type 0
 TicksForNew n None g before after = after ≡ before + words_of_book g.book
 TicksForNew n (Some kept) g before after =

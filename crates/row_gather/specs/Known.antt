@@ -1,4 +1,4 @@
--- What a caller of some rows knows and has read of them.
+-- Which rows a caller of some rows knows, and which records it has peeked.
 use Rattle.std.specs.Prelude.{◌≡◌, ℕ, ◌<◌, IsTrue, Vec, List, map, slice_index}
 use Rattle.book_base.specs.declared.call.Call.{Call}
 use Rattle.book_base.specs.declared.call.Record.{Record}
@@ -11,38 +11,41 @@ use Rattle.row_table.specs.declared.rows.Rows.{Rows}
 use Rattle.row_table.specs.Callers.{local_with}
 use Rattle.row_gather.specs.Words.{KnowsRows, ArePeekedRecords, ArePeekedTo, greatest_in}
 
--- The lists of records, by caller.
+-- The lists of records that these vectors have, one for each caller.
 abbrev pub lists_in : {A : Type 0} → List (Vec Record A) → List (List Record)
 lists_in lists = map (λ records. records.items) lists
 
--- Each of these counts is the greatest one in the views of the records.
+-- For each of n callers, its count among `counts` is the greatest one for it in the views of all
+-- these records.
 abbrev pub AreGreatest : ℕ → List (List Record) → List ℕ → Type 0
 AreGreatest n lists counts = (i : ℕ) → i < n → slice_index counts i ≡ greatest_in lists i
 
 module _ {P : Type 0} where
-  -- The caller knows the row of a call in a region.
+  -- The caller knows the row that this call has in this region.
   abbrev pub KnowsCall : Rows P → Caller P → Region → Call → Type 0
   KnowsCall r c region call =
       IsTrue (knows_row r.callers (local_with c) region call.caller call.number)
 
-  -- The caller knows the first rows of caller j in a region, as many as this count.
+  -- The caller knows each row of caller `j` in this region whose number is below the count.
   abbrev pub KnowsFirst : Rows P → Caller P → Region → ℕ → ℕ → Type 0
   KnowsFirst r c region j count = KnowsRows r.callers (local_with c) region j count
 
-  -- The caller knows the rows of all records that a cut holds.
+  -- The caller knows the row in M of each record that the cut holds.
   abbrev pub KnowsRecords : Rows P → Caller P → List ℕ → Type 0
   KnowsRecords r c cut = (j : ℕ) → j < r.callers → KnowsFirst r c M j (slice_index cut j)
 
-  -- The caller knows the rows of all calls up to these counts.
+  -- The caller knows the row in N of each call whose number is below the count for its caller among
+  -- `counts`.
   abbrev pub KnowsCalls : Rows P → Caller P → List ℕ → Type 0
   KnowsCalls r c counts = (j : ℕ) → j < r.callers → KnowsFirst r c N j (slice_index counts j)
 
-  -- The caller has peeked these records, which are those of caller j from a number on, up to a
-  -- count.
+  -- These are the records of the calls of caller `j` with the numbers from `from` up to but not
+  -- including `count`, and this caller of the rows has peeked each of their words.
   abbrev pub HasRecords : Rows P → Caller P → ℕ → ℕ → ℕ → List Record → Type 0
   HasRecords r c j from count records =
       ArePeekedRecords r.callers (local_with c) j from count records
 
-  -- The caller has peeked these records, which are those that a cut holds and a book lacks.
+  -- These are, by caller, the records that the cut holds and the book lacks, and this caller of the
+  -- rows has peeked each of their words.
   abbrev pub HasAllRecords : Rows P → Caller P → List Page → List ℕ → List (List Record) → Type 0
   HasAllRecords r c book cut lists = ArePeekedTo r.callers (local_with c) book cut r.callers lists

@@ -1,4 +1,4 @@
--- The words of a book, as a caller has peeked them.
+-- The row words that a book has, and what it means that a caller has peeked them.
 use Rattle.std.specs.Prelude.{◌≡◌, ◌≢◌, ℕ, ◌+◌, ◌*◌, ◌<◌, IsTrue, max, sum, List, [], ◌∷◌, length, map, Some, slice_get, slice_index, slice_index_or}
 use Rattle.book_base.specs.declared.call.Call.{Call}
 use Rattle.book_base.specs.declared.call.Record.{Record}
@@ -11,90 +11,101 @@ use Rattle.world_core.specs.Local.{Local}
 use Rattle.world_core.specs.Event.{knows_row}
 use Rattle.world_core.specs.Calls.{HasPeeked}
 
--- How many row words a book has: two of each call, and of each record its reply and the entries of
--- its view.
+-- How many row words a book has: two for each call, and for each record one for its reply and one
+-- for each entry of its view, which has as many entries as the book has callers.
 abbrev pub words_of_book : List Page → ℕ
 words_of_book book = 2 * sum (announced book) + (1 + length book) * sum (answered book)
 
--- A book of two callers with one call each, of which the first is answered.
+-- A book of two callers with one call each: the call of caller 0 is answered, and that of caller 1
+-- isn't.
 abbrev pub one_answered : List Page
 one_answered =
     record { operations = 7 ∷ []; records = record { reply = 5; view = 1 ∷ 0 ∷ [] } ∷ [] }
     ∷ record { operations = 9 ∷ []; records = [] } ∷ []
 
--- A caller of n knows the first rows of caller j in a region, as many as the count says.
+-- With this local, a caller of n knows each row of caller `j` in the region whose number is below
+-- the count.
 abbrev pub KnowsRows : ℕ → Local → Region → ℕ → ℕ → Type 0
 KnowsRows n l region j count = (k : ℕ) → k < count → IsTrue (knows_row n l region j k)
 
--- The operation of a call: both its words were peeked.
+-- A caller with this local has peeked both words of the operation `op` in the row of N that the
+-- call has.
 abbrev pub IsPeekedOperation : Local → Call → ℕ → Type 0
 IsPeekedOperation l call op = HasPeeked l N call 0 (low_of op) × HasPeeked l N call 1 (high_of op)
 
--- The view of a call: it has n entries, each of which was peeked.
+-- The view has n entries, and a caller with this local has peeked each of them in the row of M that
+-- the call has.
 abbrev pub IsPeekedView : ℕ → Local → Call → List ℕ → Type 0
 IsPeekedView n l call view = (length view ≡ n)
     × ((j : ℕ) → j < n → HasPeeked l M call (1 + j) (slice_index view j))
 
--- The record of a call: its reply and its view were peeked.
+-- A caller with this local has peeked the reply and the n entries of the view of this record in the
+-- row of M that the call has.
 pub record IsPeekedRecord (n : ℕ) (l : Local) (call : Call) (r : Record) : Type 0 where
   pub reply : HasPeeked l M call 0 r.reply
   pub view : IsPeekedView n l call r.view
 
--- The records of caller j from a number on, up to a count.
+-- These are, in order, the records of the calls of caller `j` with the numbers from `from` up to
+-- but not including `count`, and a caller with this local has peeked each of them in the row of its
+-- call.
 pub record ArePeekedRecords (n : ℕ) (l : Local) (j from count : ℕ)
     (records : List Record) : Type 0 where
   pub long : from + length records ≡ count
   pub each : (k : ℕ) (r : Record) → slice_get records k ≡ Some r
       → IsPeekedRecord n l (record { caller = j; number = from + k }) r
 
--- The records of a caller among those of all callers.
+-- The list of caller `j` among the lists of records of all callers; it is empty where `lists` has
+-- no place for `j`.
 abbrev pub records_at : List (List Record) → ℕ → List Record
 records_at lists j = slice_index_or lists j []
 
--- The records of the first callers that a cut holds and a book lacks, by caller and number.
+-- These are, for each caller with a number below `callers`, the records that the cut holds and the
+-- book lacks, and a caller of n with this local has peeked each of them.
 pub record ArePeekedTo (n : ℕ) (l : Local) (book : List Page) (cut : List ℕ) (callers : ℕ)
     (lists : List (List Record)) : Type 0 where
   pub wide : length lists ≡ callers
   pub each : (j : ℕ) → j < callers
       → ArePeekedRecords n l j (answers_of book j) (slice_index cut j) (records_at lists j)
 
--- The greatest count for a caller in the views of some records; and in those of all callers'
--- records.
+-- The greatest count for caller `i` in the views of these records; 0 where there is no record.
 abbrev pub greatest_of : List Record → ℕ → ℕ
 greatest_of records i = greatest_count (map (λ (r : Record). r.view) records) i
 
--- The greatest count for a caller in the views of all callers' records.
+-- The greatest count for caller `i` in the views of the records of all callers; 0 where there is no
+-- record.
 abbrev pub greatest_in : List (List Record) → ℕ → ℕ
 greatest_in [] i = 0
 greatest_in (records ∷ lists) i = max (greatest_of records i) (greatest_in lists i)
 
--- each of these records has a view of n entries
+-- Each of these records has a view of n entries.
 abbrev pub AreWide : ℕ → List Record → Type 0
 AreWide n records = (k : ℕ) (r : Record) → slice_get records k ≡ Some r → length r.view ≡ n
 
--- All calls of a book have operations that were peeked.
+-- A caller with this local has peeked both words of the operation of each call of the book.
 abbrev pub ArePeekedOperations : Local → List Page → Type 0
 ArePeekedOperations l book = (call : Call) (op : ℕ) → operation_of book call ≡ Some op
     → IsPeekedOperation l call op
 
--- Another book has the records of this one, and all its calls have operations that were peeked.
+-- The book `other` has the callers and the records of `book`, and a caller with this local has
+-- peeked the operation of each call of `other`.
 pub record HasPeekedCalls (l : Local) (book other : List Page) : Type 0 where
   pub callers : length other ≡ length book
   pub records : (i : ℕ) → (page_of other i).records ≡ (page_of book i).records
   pub operations : ArePeekedOperations l other
 
--- Another book has the calls of caller j up to a count, or those that this one has if they are
--- more; and as many of others.
+-- The book `other` has `count` calls of caller `j`, or as many as `book` has of it where these are
+-- more; and of each other caller it has as many calls as `book`.
 pub record IsLengthenedTo (j count : ℕ) (book other : List Page) : Type 0 where
   pub mine : calls_of other j ≡ max (calls_of book j) count
   pub others : (i : ℕ) → i ≢ j → calls_of other i ≡ calls_of book i
 
--- The counter has ticked for each word of the records up to a count but the first ones: for the
--- reply and the n entries of the view.
+-- The counter has risen from `before` to `after` by 1 + n for each 1 by which `count` exceeds
+-- `from`: for the reply and the n entries of the view of one record.
 abbrev pub TicksForRecords : ℕ → ℕ → ℕ → ℕ → ℕ → Type 0
 TicksForRecords n from count before after = after + (1 + n) * from ≡ before + (1 + n) * count
 
--- The counter has ticked for both words of each operation that another book has and this one lacks.
+-- The counter has risen from `before` to `after` by 2 for each call by which the book `other` has
+-- more than `book`: for the two words of an operation.
 abbrev pub TicksForCalls : List Page → List Page → ℕ → ℕ → Type 0
 TicksForCalls book other before after =
     after + 2 * sum (announced book) ≡ before + 2 * sum (announced other)

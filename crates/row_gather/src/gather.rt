@@ -19,7 +19,8 @@ use std::alloc::Global;
 use std::sync::ledger::Ledger;
 use world_core::Program;
 
-// Whether the cut is of the callers of the book, and holds all its records.
+// Whether the cut has a count for each caller of the book and no others, and holds all records of
+// the book.
 fn holds_all(cut: &Cut, book: &Book) -> bool
     ensures { IsTrue result ↔ HoldsAll cut.now book.now }
 {
@@ -34,8 +35,8 @@ fn holds_all(cut: &Cut, book: &Book) -> bool
     true
 }
 
-// The kept book, where the cut is of its callers and holds all its records; else the book without
-// calls.
+// The book with which the gathering at a cut begins: the kept one, where it has the callers of the
+// cut and the cut holds all its records; and else the book without a call.
 fn begin(alloc: Global, gathered: Option<Gathered>, cut: &Cut) -> Result<Book, NoMemory>
     ensures { IfOk result (IsBegunWith gathered cut.now) }
 {
@@ -47,16 +48,19 @@ fn begin(alloc: Global, gathered: Option<Gathered>, cut: &Cut) -> Result<Book, N
     Book::new(alloc, cut.n())
 }
 
-/// The book at a cut, from what the caller has gathered before: only words that are new are peeked.
+/// Gathers the book at a cut from the book that the caller has gathered before, where there is one:
+/// only the words that the earlier book lacks are peeked.
 ///
-/// It is read from the rows of the table: the records that the cut holds, of all callers, and the
-/// calls that some of their views hold, answered or not (Castañeda and Rodríguez 2023). The kept
-/// book grows to it where the cut is of its callers and holds all its records, as the cut of a
-/// later scan of the same caller does; else the book is read from the beginning.
+/// The book at a cut has the records that the cut holds, of all callers, and the calls that some of
+/// their views hold, answered or not (Castañeda and Rodríguez 2023). It is read from the rows of
+/// the table. The kept book grows to it where the cut has a count for each of its callers and holds
+/// all its records, as the cut of a later scan of M by the same caller does; otherwise the book is
+/// read from the beginning.
 ///
-/// The cut is one that a scan of the region of answers gave this caller, and no scan of the caller
-/// is under way. Each word that the kept book lacks is one peek. After want of memory the caller
-/// may have peeked a part of them, and the kept book is gone.
+/// The cut is one that a scan of M gave this caller, and no scan of the caller is under way. Each
+/// word of the gathered book costs one peek, except for the words of the kept book where that one
+/// grows. Where memory is lacking, the caller may have peeked some of these words, and the kept
+/// book is gone.
 pub fn grow_at<P: Program, L: Ledger>(
     alloc: Global,
     rows: &Rows<P>,
@@ -67,30 +71,35 @@ pub fn grow_at<P: Program, L: Ledger>(
 ) -> Result<Gathered, NoMemory>
     // The caller is one of these rows.
     requires caller { IsCallerOf P.meaning rows.now caller.old }
-    // The cut is one of M that a scan gave the caller.
+    // A scan of M gave the caller this cut.
     requires given { IsGivenIn (local_with caller.old).cuts Region.M cut.now }
     // The caller has no scan under way.
     requires unscanned { (local_with caller.old).scan ≡ None }
-    // The caller has peeked each word of the book that it gathered before, where there is one.
+    // Where a book is handed in, it is one at the cut that it is kept with, and the caller has
+    // peeked each of its words.
     requires gathered { IsGatheredBy (local_with caller.old) gathered }
     // The caller is still one of these rows, with the same number.
     ensures caller { IsStill P.meaning rows.now caller.old caller.new }
-    // The caller's stance stays.
+    // The caller keeps its stance.
     ensures stance { stance_of caller.new ≡ stance_of caller.old }
-    // The caller has made peeks alone, and the counter of steps has risen by 1 for each of them.
+    // The caller has made peeks and no other event, and the counter of steps has risen by 1 for
+    // each of them.
     ensures peeks { OnlyPeeks caller.old caller.new steps.old steps.new }
-    // What was gathered is at this cut.
+    // The gathered book is answered with this cut.
     ensures cut { IfOk result (λ g. g.cut ≡ cut.now) }
-    // The caller has peeked each word of the book, which is one at this cut.
+    // The gathered book is one at this cut, of as many callers as the rows have, and the caller has
+    // peeked each of its words.
     ensures gathered { IfOk result (λ g.
         IsGathered rows.now.callers (local_with caller.new) cut.now g.book) }
-    // In whichever reachable world has this local at the caller, the book is the one at the cut of
-    // all callers' calls.
+    // In each reachable world in which the caller has its local, the gathered book is the book at
+    // this cut of the book of all callers' calls.
     ensures exact { IfOk result (λ g. IsTheBookAt P.meaning rows.now caller.new cut.now g.book) }
-    // The counter of steps has risen once for each row word of the book that what was gathered
-    // before lacks, where that is of as many callers and its cut is within this one.
+    // Where no book was handed in, the counter of steps has risen by the number of row words of the
+    // gathered book. Where the book that was handed in is of as many callers as the rows have, and
+    // its cut is within the new one, the counter has risen by the number of row words that the
+    // gathered book has and that one lacks.
     ensures ticks { IfOk result (λ g. TicksForNew rows.now.callers gathered g steps.old steps.new) }
-    // The counter of steps has risen by at most the number of row words that the book has.
+    // The counter of steps has risen by at most the number of row words of the gathered book.
     ensures most { IfOk result (λ g. steps.new ≤ steps.old + words_of_book g.book) }
 {
     let mut book = begin(alloc, gathered, cut)?;

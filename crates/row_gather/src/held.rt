@@ -6,7 +6,7 @@ ghost use Rattle.row_gather.specs.Known.{AreGreatest, lists_in};
 
 use book_base::{Cut, Record};
 
-// Raises each count of a cut to that of a view, where this is greater.
+// Raises each count of the cut to that of the view where the view's is greater.
 fn raise(held: &mut Cut, view: &Cut)
     requires wide { length view.now ≡ length held.old }
     ensures wide { length held.new ≡ length held.old }
@@ -18,8 +18,8 @@ fn raise(held: &mut Cut, view: &Cut)
     }
 }
 
-// Raises each count of a cut to the greatest one in the views of one caller's records, where this
-// is greater.
+// Raises each count of the cut to the greatest one for its caller in the views of these records,
+// where that is greater.
 fn raise_to_all(held: &mut Cut, records: &[Record])
     requires wide { AreWide (length held.old) records.now }
     ensures wide { length held.new ≡ length held.old }
@@ -31,7 +31,8 @@ fn raise_to_all(held: &mut Cut, records: &[Record])
     }
 }
 
-// For each of n callers how many of its calls the views hold: the greatest count of any.
+// For each of n callers how many of its calls the views of these records hold: the greatest count
+// for it in any of these views.
 pub fn held_calls(n: u32, lists: &[Vec<Record>]) -> Cut
     requires some { 1 ≤ n }
     requires few { n ≤ MAX_CALLERS }

@@ -1,4 +1,4 @@
-//! The operations of a book's calls, word by word.
+//! Adds calls to a book, whose operations are peeked word by word.
 ghost use Rattle.std.specs.Prelude.{ℕ, ◌≡◌, ◌+◌, ◌<◌, ◌≤◌, max, length, slice_index, OnOk};
 ghost use Rattle.book_base.specs.declared.TheConstants.{MAX_CALLS};
 ghost use Rattle.book_base.specs.Book.{calls_of, with_call};
@@ -14,7 +14,7 @@ use row_table::{Caller, Rows, Steps};
 use std::sync::ledger::Ledger;
 use world_core::{Program, Region};
 
-// The operation of a call: its low and its high word.
+// Peeks the operation of a call: its low word, and then its high word.
 fn peek_operation<P: Program, L: Ledger>(
     rows: &Rows<P>,
     caller: &mut Caller<P>,
@@ -33,7 +33,8 @@ fn peek_operation<P: Program, L: Ledger>(
     join(low, high)
 }
 
-// A call of a caller that has room for it is refused for want of memory alone.
+// Adds a call of caller `j`, who has fewer calls in the book than a caller may have; so only lack
+// of memory refuses it.
 fn add_call(book: &mut Book, j: u32, op: OpWord) -> Result<(), NoMemory>
     requires caller { j < length book.old }
     requires room { calls_of book.old j < MAX_CALLS }
@@ -46,7 +47,8 @@ fn add_call(book: &mut Book, j: u32, op: OpWord) -> Result<(), NoMemory>
     }
 }
 
-// Adds the calls of caller j that the book lacks, up to a count, with their operations.
+// Adds to the book the calls of caller `j` with numbers below `count` that it lacks, and peeks
+// their operations.
 fn add_calls_of<P: Program, L: Ledger>(
     rows: &Rows<P>,
     caller: &mut Caller<P>,
@@ -73,7 +75,8 @@ fn add_calls_of<P: Program, L: Ledger>(
     Ok(())
 }
 
-// Adds the calls of all callers that the book lacks, up to these counts, with their operations.
+// Adds to the book, of each caller, the calls with numbers below the count for this caller that it
+// lacks, and peeks their operations.
 pub fn add_calls<P: Program, L: Ledger>(
     rows: &Rows<P>,
     caller: &mut Caller<P>,

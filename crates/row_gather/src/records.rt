@@ -1,4 +1,4 @@
-//! The records that a cut holds, word by word.
+//! Peeks the records that a cut holds, word by word.
 ghost use Rattle.std.specs.Prelude.{◌≡◌, ◌+◌, ◌<◌, ◌≤◌, IfOk, length, sum};
 ghost use Rattle.book_base.specs.Cut.{IsWithin};
 ghost use Rattle.book_base.specs.Book.{answered};
@@ -14,7 +14,7 @@ use std::alloc::Global;
 use std::sync::ledger::Ledger;
 use world_core::{Program, Region};
 
-// The view of a call: each of its entries is one peek.
+// Peeks the view of a call, each of whose entries is one word.
 fn peek_view<P: Program, L: Ledger>(
     rows: &Rows<P>,
     caller: &mut Caller<P>,
@@ -36,7 +36,7 @@ fn peek_view<P: Program, L: Ledger>(
     view
 }
 
-// The record of a call: its reply and its view.
+// Peeks the record of a call: its reply, and then its view.
 fn peek_record<P: Program, L: Ledger>(
     rows: &Rows<P>,
     caller: &mut Caller<P>,
@@ -55,7 +55,8 @@ fn peek_record<P: Program, L: Ledger>(
     Record { reply, view }
 }
 
-// The records of caller j from a number on, up to a count.
+// Peeks the records of the calls of caller `j` with the numbers from `from` up to but not including
+// `count`.
 fn peek_records_of<P: Program, L: Ledger>(
     alloc: Global,
     rows: &Rows<P>,
@@ -82,7 +83,7 @@ fn peek_records_of<P: Program, L: Ledger>(
     Ok(records)
 }
 
-// The records that the cut holds and the book lacks, by caller.
+// Peeks the records that the cut holds and the book lacks, and answers them by caller.
 pub fn peek_records<P: Program, L: Ledger>(
     alloc: Global,
     rows: &Rows<P>,

@@ -1,4 +1,4 @@
--- What a bench keeps of its callers, place by place.
+-- What a bench keeps of its callers, by caller.
 use Rattle.std.proofs.Common.{◌≡◌, ℕ, ◌+◌, ◌<◌, List, [], ◌∷◌, ◌++◌, length, map, replicate, slice_get, slice_index_or, slice_set, Option, Some, None, zero, suc, refl, sym, ap, ◌∙◌, arith}
 use Rattle.world_core.specs.Local.{Local, fresh}
 use Rattle.row_table.specs.declared.notes.Notes.{Notes}
@@ -7,7 +7,7 @@ use Rattle.row_table.specs.Seats.{View, has}
 use Rattle.row_table.specs.Notes.{notes_of, notes_from}
 use Rattle.row_table.specs.Benches.{kept_notes, fresh_kept}
 
--- what is kept of the local of a caller, if it is there
+-- The notes of the local of a caller, where it is given.
 abbrev pub noted : ℕ → ℕ → Option Local → Option Notes
 noted n i None = None
 noted n i (Some l) = Some (notes_of n i l)
@@ -65,7 +65,7 @@ kept_set [] i x = refl
 kept_set (y ∷ xs) zero x = refl
 kept_set (y ∷ xs) (suc i) x = ap (λ (ns : List (Option Notes)). kept_notes y ∷ ns) (kept_set xs i x)
 
--- the start
+-- what is kept at the start
 notes_fresh : (n j m : ℕ)
     → notes_from n j (replicate m (Some fresh)) ≡ replicate m (Some (notes_of 0 0 fresh))
 notes_fresh n j zero = refl
@@ -78,10 +78,12 @@ kept_fresh zero = refl
 kept_fresh (suc m) =
     ap (λ (ns : List (Option Notes)). Some (notes_of 0 0 fresh) ∷ ns) (kept_fresh m)
 
+-- At the start the notes that a bench keeps are those of the locals in its view.
 pub tied_fresh : (n m : ℕ)
     → map kept_notes (replicate m (Some fresh_kept)) ≡ notes_from n 0 (replicate m (Some fresh))
 tied_fresh n m = kept_fresh m ∙ sym (notes_fresh n 0 m)
 
+-- A list of equal elements with one more of them is the one that is longer by one.
 pub replicate_push : {A : Type 0} (m : ℕ) (x : A) → replicate m x ++ x ∷ [] ≡ replicate (suc m) x
 replicate_push zero x = refl
 replicate_push (suc m) x = ap (λ (xs : List _). x ∷ xs) (replicate_push m x)
@@ -92,7 +94,7 @@ fresh_kept_at zero i low = absurd (omega arith)
 fresh_kept_at (suc m) zero low = refl
 fresh_kept_at (suc m) (suc i) low = fresh_kept_at m i (omega arith)
 
--- a place that keeps somebody has a local, and one that keeps nobody has none
+-- The view of a bench has a local of a caller, and the bench keeps the notes of this local.
 pub record IsKept (n i : ℕ) (v : View) (kept : Kept) : Type 0 where
   pub local : Local
   pub there : has v i ≡ Some local
@@ -103,6 +105,8 @@ some_noted : (n i : ℕ) (v : View) (kept : Kept) (o : Option Local) → has v i
 some_noted n i v kept None there e = absurd cc
 some_noted n i v kept (Some l) there e = record { local = l; there = there; notes = cc }
 
+-- Where a bench keeps a caller, its view has a local of this caller, and the notes are of this
+-- local.
 pub is_kept : (n : ℕ) (xs : List (Option Kept)) (v : View) (i : ℕ) (kept : Kept) → map kept_notes xs
     ≡ notes_from n 0 v → slice_index_or xs i None ≡ Some kept → IsKept n i v kept
 is_kept n xs v i kept tied e =
@@ -115,6 +119,7 @@ none_noted : (n i : ℕ) (o : Option Local) → None ≡ noted n i o → o ≡ N
 none_noted n i None e = refl
 none_noted n i (Some l) e = absurd cc
 
+-- Where a bench doesn't keep a caller, its view has no local of this caller.
 pub is_gone : (n : ℕ) (xs : List (Option Kept)) (v : View) (i : ℕ)
     → map kept_notes xs ≡ notes_from n 0 v → slice_index_or xs i None ≡ None → has v i ≡ None
 is_gone n xs v i tied e =
@@ -122,18 +127,21 @@ is_gone n xs v i tied e =
     ∙ ap (λ (ns : List (Option Notes)). slice_index_or ns i None) tied
     ∙ notes_at n 0 v i i (omega arith))
 
--- there is a place for each caller
+-- A bench has as many places for its callers as its view has.
 pub places_wide : (n : ℕ) (xs : List (Option Kept)) (v : View)
     → map kept_notes xs ≡ notes_from n 0 v → length xs ≡ length v
 places_wide n xs v tied =
     sym (length_kept xs) ∙ ap (λ (ns : List (Option Notes)). length ns) tied ∙ length_notes n 0 v
 
--- a place that is emptied, and one that is taken
+-- Where a caller is taken off a bench and out of its view, the notes that the bench keeps are still
+-- those of the locals in its view.
 pub tied_without : (n : ℕ) (xs : List (Option Kept)) (v : View) (i : ℕ) → map kept_notes xs
     ≡ notes_from n 0 v → map kept_notes (slice_set xs i None) ≡ notes_from n 0 (slice_set v i None)
 tied_without n xs v i tied = kept_set xs i None
     ∙ ap (λ (ns : List (Option Notes)). slice_set ns i None) tied ∙ notes_without n 0 v i
 
+-- Where a caller is put on a bench and into its view, the notes that the bench keeps are still
+-- those of the locals in its view.
 pub tied_with : (n : ℕ) (xs : List (Option Kept)) (v : View) (i : ℕ) (kept : Kept) (l : Local)
     → map kept_notes xs ≡ notes_from n 0 v → kept.notes ≡ notes_of n i l
     → map kept_notes (slice_set xs i (Some kept)) ≡ notes_from n 0 (slice_set v i (Some l))
@@ -141,7 +149,7 @@ tied_with n xs v i kept l tied notes =
     kept_set xs i (Some kept) ∙ (λ k. slice_set (tied k) i (Some (notes k)))
     ∙ notes_with n 0 v i i l (omega arith)
 
--- what stands at a place of a list
+-- An element that is found at an index of a list is the one there, whatever the default.
 pub index_get : {A : Type 0} (xs : List A) (i : ℕ) (x d : A) → slice_get xs i ≡ Some x
     → slice_index_or xs i d ≡ x
 index_get [] i x d e = absurd cc

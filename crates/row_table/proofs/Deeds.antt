@@ -1,4 +1,5 @@
--- A step of the table under the rule of its key, and what it leaves of the seat of a caller.
+-- A step of the table under the rule of its key, and what the caller that makes it then knows of
+-- its local.
 use Rattle.std.proofs.Common.{◌≡◌, ℕ, ◌<◌, [], Some, refl, sym, ap, ◌∙◌, subst}
 use Rattle.atomic_table.specs.Table.{Me, Allows}
 use Rattle.world_core.specs.Shape.{Meaning, Shape}
@@ -12,12 +13,12 @@ use Rattle.row_table.specs.Seats.{View, has, the, only, Ruled, Together, Tells, 
 use Rattle.row_table.specs.Callers.{key_of}
 use Rattle.row_table.proofs.Keeping.{does, stores, learns, moved_here, only_here}
 
--- what the table was told is what its rows keep
+-- The key that a table was told is the one of its rows.
 pub key_told : {P : Type 0} (r : Rows P) → r.table.shared.key ≡ key_of r
 key_told r = λ i.
     record { program = r.told i; callers = r.sized.2 i; cap = r.sized.3 i; objects = r.sized.4 i }
 
--- a view that has one local alone has it
+-- A view that has one caller's local alone has a local of this caller.
 pub alone_here : (me : Me (Unit {0}) View) (who : ℕ) → me ≡ (only who (the (has me.0 who)), [])
     → has me.0 who ≡ Some (the (has me.0 who))
 alone_here me who alone =
@@ -27,6 +28,8 @@ module _ {P : Type 0} (meaning : P → ℕ → ℕ → Meaning) (k told : Key P)
     (shape : z ≡ shape_for meaning k) (slots id : ℕ) (me : Me (Unit {0}) View) where
   module _ (w who : ℕ) (e event : ℕ → Event) (mine : w ≡ who) (deed : e ≡ event) (word : ℕ)
       (l : Local) (here : has me.0 who ≡ Some l) where
+    -- The rule of the table allows a change of a word that is an event of a caller, and its seat
+    -- then knows the view after this event.
     pub does_as : (f : ℕ → ℕ) → Makes (shape_for meaning k) k.objects who l word f event
         → Allows (Ruled (shape_for meaning told) told.objects) slots id me word f
         (λ found after. Tells z w e me found after)
@@ -36,6 +39,8 @@ module _ {P : Type 0} (meaning : P → ℕ → ℕ → Meaning) (k told : Key P)
         (λ i. (sym same i, (sym shape i, (sym mine i, sym deed i))))
         (does (shape_for meaning k) k.objects slots id me who word l f event here m)
 
+    -- The rule of the table allows a store that is an event of a caller, and its seat then knows
+    -- the view after this event for some word that was found.
     pub stores_as : (new : ℕ) → Makes (shape_for meaning k) k.objects who l word (λ _. new) event
         → Allows (Ruled (shape_for meaning told) told.objects) slots id me word (λ _. new)
         (λ _ after. TellsOfSome z w e me after)
@@ -46,6 +51,8 @@ module _ {P : Type 0} (meaning : P → ℕ → ℕ → Meaning) (k told : Key P)
         (λ i. (sym same i, (sym shape i, (sym mine i, sym deed i))))
         (stores (shape_for meaning k) k.objects slots id me who word new l event here m)
 
+  -- The rule of the table allows a load that is no event, after which the locals of its seat are
+  -- known to be those of one reachable world.
   pub learns_as : (word : ℕ) → Allows (Ruled (shape_for meaning told) told.objects) slots id me word
       (λ x. x) (λ _ after. Shows z me after)
   learns_as word =
@@ -53,17 +60,20 @@ module _ {P : Type 0} (meaning : P → ℕ → ℕ → Meaning) (k told : Key P)
       word (λ x. x) (λ _ after. Shows d.1 me after))
       (λ i. (sym same i, sym shape i)) (learns (shape_for meaning k) k.objects slots id me word)
 
--- a local of a view is one of a reachable world
+-- Where the locals of a view are those of one reachable world, the local that it has of a caller is
+-- that caller's in a reachable world.
 pub local_together : (s : Shape) (v : View) (who : ℕ) (l : Local) → Together s v → who < s.callers
     → has v who ≡ Some l → IsLocalOf s who l
 local_together s v who l t low here =
     (t.world.locals, (t.world, t.reach, refl), low, t.locals_are who l here)
 
--- what a step tells of the local of the seat that made it
+-- What a caller knows of its local after a step of its own: it is the one after the event, and the
+-- one of this caller in a reachable world.
 pub record Told (s : Shape) (who : ℕ) (me after : Me (Unit {0}) View) (event : Event) : Type 0 where
   pub local : the (has after.0 who) ≡ local_after s.callers (the (has me.0 who)) event
   pub reached : IsLocalOf s who (the (has after.0 who))
 
+-- A caller whose seat has its local alone knows this after a step of its own.
 pub told_as : (s z : Shape) (who w : ℕ) (event e : ℕ → Event) (me after : Me (Unit {0}) View)
     (x : ℕ) → z ≡ s → w ≡ who → e ≡ event → me ≡ (only who (the (has me.0 who)), [])
     → who < s.callers → Tells z w e me x after → Told s who me after (event x)

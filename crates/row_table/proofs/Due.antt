@@ -9,7 +9,7 @@ use Rattle.world_core.specs.Local.{Local, Staged, own_count}
 use Rattle.world_core.specs.Event.{Stage, is_staging, is_due, is_entry_to_embed, is_enabled}
 use Rattle.row_table.specs.Staging.{with_staged}
 
--- what belongs at a place doesn't hang on what was staged
+-- which word belongs at a place of a row doesn't depend on what was staged of it
 due_same : (l : Local) (staged : List Staged) (c : Content) (x : ℕ)
     → is_due (with_staged l staged) c x ≡ is_due l c x
 due_same l staged Low x = refl
@@ -23,7 +23,7 @@ count_same : (l : Local) (staged : List Staged) (region : Region)
 count_same l staged N = refl
 count_same l staged M = refl
 
--- so neither does which word may be staged
+-- Whether a word may be staged at a place doesn't depend on what was staged.
 pub stage_same : (s : Shape) (me : ℕ) (l : Local) (staged : List Staged) (region : Region)
     (place x : ℕ)
     → is_enabled s me (with_staged l staged) (Stage region place x)
@@ -32,7 +32,8 @@ stage_same s me l staged region place x = λ i.
     is_staging l.phase region && (nat_lt (count_same l staged region i) s.cap && (nat_lt place
     (places s.callers region) && due_same l staged (content s.callers region place) x i))
 
--- a word that belongs may be staged
+-- A word may be staged at a place of a row where the phase stages its region, the row exists, and
+-- the word belongs at this place, which the row has.
 pub may_stage_word : (s : Shape) (me : ℕ) (l : Local) (region : Region) (place x : ℕ)
     → is_staging l.phase region ≡ true → own_count l region < s.cap
     → place < places s.callers region → is_due l (content s.callers region place) x ≡ true
@@ -47,7 +48,7 @@ may_stage_word s me l region place x phase row fits due =
     (and_from (nat_lt place (places s.callers region)) (is_due l (content s.callers region place) x)
     (lt-ltb place (places s.callers region) fits) due))
 
--- the entries of the cut that a row embeds, and those of a view, at their places
+-- The entry of a caller in the view of a record belongs at its place of the record's row.
 pub due_in_view : (n : ℕ) (l : Local) (view : List ℕ) (j : ℕ) → j < n
     → slice_index_or l.views l.published [] ≡ view
     → is_due l (content n M (1 + j)) (slice_index view j) ≡ true
@@ -59,6 +60,7 @@ due_in_view n l view j low e =
     ∙ eq-eqb (slice_index view j) (slice_index (slice_index_or l.views l.published []) j)
     (ap (λ (v : List ℕ). slice_index v j) (sym e))
 
+-- The entry of a caller in the cut that a row of M is to embed belongs at its place of the row.
 pub due_in_M : (n : ℕ) (l : Local) (cut : List ℕ) (j : ℕ) → l.to_embed ≡ Some cut
     → is_due l (content n M (1 + n + j)) (slice_index cut j) ≡ true
 due_in_M n l cut j e =

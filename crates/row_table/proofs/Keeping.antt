@@ -1,4 +1,4 @@
--- Each step of the table keeps its rule: one lemma for every kind of step.
+-- Each step of the table keeps its rule: one lemma for each kind of step.
 use Rattle.std.proofs.Common.{◌≡◌, ◌≢◌, ℕ, ◌<◌, List, [], ◌∷◌, length, slice_index, slice_set, Some, None, zero, suc, refl, sym, ap, ◌∙◌, subst, arith, IsTrue, inl, inr, length-set}
 use Rattle.std.proofs.lemmas.List.{get_or-set_other, get_or-set_same}
 use Rattle.std.proofs.lemmas.Bool.{and_parts, ltb-true, cases_eq, and_from}
@@ -14,22 +14,24 @@ use Rattle.world_core.specs.World.{World, Step, local_of, after}
 use Rattle.world_laws.proofs.Running.{steps_reach, own_local, other_local}
 use Rattle.row_table.specs.Seats.{View, has, the, only, Ruled, Together, moved, Tells, TellsOfSome, Shows, Makes}
 
+-- An index at which a list has an element is less than its length.
 pub at_lt : {A : Type 0} (xs : List A) (i : ℕ) (x : A) → get_elem? xs i ≡ some x → i < length xs
 at_lt [] i x e = absurd (some-ne-none x (sym e))
 at_lt (y ∷ xs) zero x e = omega arith
 at_lt (y ∷ xs) (suc i) x e = let deeper = at_lt xs i x e in omega arith
 
--- a view has no local after its end
+-- A view that has the local of a caller is longer than the number of that caller.
 pub inside : (v : View) (i : ℕ) (l : Local) → has v i ≡ Some l → i < length v
 inside [] i l e = absurd (none-some l e)
 inside (x ∷ v) zero l e = omega arith
 inside (x ∷ v) (suc i) l e = let deeper = inside v i l e in omega arith
 
--- what a view of one local has
+-- The view that has one caller's local alone has this local of this caller.
 pub only_here : (who : ℕ) (l : Local) → has (only who l) who ≡ Some l
 only_here zero l = refl
 only_here (suc who) l = only_here who l
 
+-- The view after an event of a caller has the local after this event of that caller.
 pub moved_here : (n : ℕ) (v : View) (who : ℕ) (l : Local) (event : Event) → has v who ≡ Some l
     → has (moved n v who event) who ≡ Some (local_after n l event)
 moved_here n v who l event e =
@@ -41,7 +43,7 @@ moved_else : (n : ℕ) (v : View) (who i : ℕ) (event : Event) → i ≢ who
 moved_else n v who i event ne =
     get_or-set_other v who i (Some (local_after n (the (has v who)) event)) None ne
 
--- an event of a caller whose local is with the seat id
+-- a caller whose local is in the view of seat `id`
 record IsWithSeat (s : Shape) (n : ℕ) (t : State (Unit {0}) View) (r : Ruled s n t)
     (id : ℕ) (v : View)
     (who : ℕ) (l : Local) : Type 0 where
@@ -133,7 +135,8 @@ module _ (s : Shape) (n : ℕ) (t : State (Unit {0}) View) (r : Ruled s n t) (id
   wide : length next.locals ≡ s.callers
   wide = length-set r.world.locals who (local_after s.callers (local_of r.world who) event) ∙ r.wide
 
--- A change of a word that is an event of a caller keeps the rule.
+-- The rule allows a change of a word that is an event of a caller, and its seat then knows the view
+-- after this event.
 pub does : (s : Shape) (n slots id : ℕ) (me : Me (Unit {0}) View) (who word : ℕ) (l : Local)
     (f : ℕ → ℕ) (event : ℕ → Event) → has me.0 who ≡ Some l → Makes s n who l word f event
     → Allows (Ruled s n) slots id me word f (λ found after. Tells s who event me found after)
@@ -178,7 +181,8 @@ does s n slots id me who word l f event here m t r long at low =
       record { done = refl; together = together },
     )
 
--- The same for a store, which isn't told the word that it found.
+-- The rule allows a store that is an event of a caller, and its seat then knows the view after this
+-- event for some word that was found.
 pub stores : (s : Shape) (n slots id : ℕ) (me : Me (Unit {0}) View) (who word new : ℕ) (l : Local)
     (event : ℕ → Event) → has me.0 who ≡ Some l → Makes s n who l word (λ _. new) event
     → Allows (Ruled s n) slots id me word (λ _. new) (λ _ after. TellsOfSome s who event me after)
@@ -191,12 +195,14 @@ stores s n slots id me who word new l event here m t r long at low =
       record { found = slice_index t.words word; word = low; tells = one.4 },
     )
 
+-- A list in which an element is set to itself is as it was.
 pub set_read : (ws : List ℕ) (i : ℕ) → slice_set ws i (slice_index ws i) ≡ ws
 set_read [] i = refl
 set_read (w ∷ ws) zero = refl
 set_read (w ∷ ws) (suc i) = ap (λ (vs : List ℕ). w ∷ vs) (set_read ws i)
 
--- A seat learns that its locals are those of one reachable world.
+-- The rule allows a load that is no event, after which the locals of its seat are known to be those
+-- of one reachable world.
 pub learns : (s : Shape) (n slots id : ℕ) (me : Me (Unit {0}) View) (word : ℕ)
     → Allows (Ruled s n) slots id me word (λ x. x) (λ _ after. Shows s me after)
 learns s n slots id me word t r long at low =

@@ -1,5 +1,4 @@
--- Which changes of words are events, and what a caller's own local says of the words that its steps
--- name.
+-- Which changes of words are events of a caller, by what its own local says of the words.
 use Rattle.std.proofs.Common.{◌≡◌, ℕ, ◌+◌, ◌<◌, ◌≤◌, ◌^◌, ◌&&◌, nat_lt, true, slice_index, slice_set, refl, sym, ap, subst, IsTrue, eq-eqb}
 use Rattle.std.proofs.lemmas.Bool.{and_from, lt-ltb}
 use Rattle.world_core.specs.declared.region.Region.{Region}
@@ -21,12 +20,15 @@ use Rattle.row_table.proofs.Keeping.{set_read}
 lt-test : (a b : ℕ) → a < b → nat_lt a b ≡ true
 lt-test a b low = lt-ltb a b low
 
--- what the local of a caller says of its counts and of the rows that it knows
+-- The local of a caller in a reachable world counts no more rows of its own in a region than the
+-- cap.
 pub few_calls : (s : Shape) (i : ℕ) (l : Local) (r : Region) → IsLocalOf s i l
     → own_count l r ≤ s.cap
 few_calls s i l r (locals, t, low, is) =
     subst (λ (m : Local). own_count m r ≤ s.cap) is ((locals_have_phases s locals t).2 i r low)
 
+-- A row that the local of a caller in a reachable world knows is one of the table: its number is
+-- less than the cap.
 pub known_low : (s : Shape) (i : ℕ) (l : Local) (r : Region) (j k : ℕ) → IsLocalOf s i l
     → IsTrue (knows_row s.callers l r j k) → k < s.cap
 known_low s i l r j k (locals, t, low, is) knows =
@@ -38,6 +40,8 @@ module _ (s : Shape) (objects who : ℕ) (l : Local) (low : who < s.callers) whe
   allowed e may =
       and_from (nat_lt who s.callers) (is_enabled s who l e) (lt-test who s.callers low) may
 
+  -- A load of the count of caller `j` in a region is a look at it, where the look may begin what it
+  -- is to begin.
   pub makes_look : (r : Region) (j : ℕ) (o : Opening) (word : ℕ) → j < s.callers
       → IsTrue (may_begin s who l r j (opening_in o)) → word ≡ count_index s.callers r j
       → Makes s objects who l word (λ x. x) (event_of (Look r j o))
@@ -51,6 +55,7 @@ module _ (s : Shape) (objects who : ℕ) (l : Local) (low : who < s.callers) whe
         writes = λ words. sym (set_read words word);
       }
 
+  -- A load of the word at a place of a row that the caller knows is a peek.
   pub makes_peek : (r : Region) (j k place word : ℕ) → j < s.callers → place < places s.callers r
       → IsTrue (knows_row s.callers l r j k) → word ≡ place_index s.callers s.cap r j k place
       → Makes s objects who l word (λ x. x) (event_of (Peek r j k place))
@@ -68,6 +73,7 @@ module _ (s : Shape) (objects who : ℕ) (l : Local) (low : who < s.callers) whe
         writes = λ words. sym (set_read words word);
       }
 
+  -- A store of a word that may be staged at a place of the caller's row under way stages it.
   pub makes_stage : (r : Region) (place x word : ℕ)
       → IsTrue (is_enabled s who l (event.Stage r place x))
       → word ≡ place_index s.callers s.cap r who (own_count l r) place
@@ -79,6 +85,8 @@ module _ (s : Shape) (objects who : ℕ) (l : Local) (low : who < s.callers) whe
         writes = λ words. ap (λ (i : ℕ). slice_set words i x) (sym is);
       }
 
+  -- A store that raises the caller's own count in N by 1 is an announcement, where all places of
+  -- its row there are staged.
   pub makes_announce : (word new : ℕ) → IsTrue (event.is_row_staged s.callers l N)
       → word ≡ count_index s.callers N who → new ≡ l.announced + 1
       → Makes s objects who l word (λ _. new) (event_of Announce)
@@ -89,6 +97,8 @@ module _ (s : Shape) (objects who : ℕ) (l : Local) (low : who < s.callers) whe
         writes = λ words. λ i. slice_set words (sym is i) (sym up i);
       }
 
+  -- A store that raises the caller's own count in M by 1 is a publication, where all places of its
+  -- row there are staged.
   pub makes_publish : (word new : ℕ) → IsTrue (event.is_row_staged s.callers l M)
       → word ≡ count_index s.callers M who → new ≡ l.published + 1
       → Makes s objects who l word (λ _. new) (event_of Publish)
@@ -99,7 +109,8 @@ module _ (s : Shape) (objects who : ℕ) (l : Local) (low : who < s.callers) whe
         writes = λ words. λ i. slice_set words (sym is i) (sym up i);
       }
 
-  -- a step on an object word that leaves g of what it finds
+  -- A change of an object word is an object step of a caller that has announced its call, where the
+  -- program allows the step for each word that may be found.
   pub makes_object : (place word : ℕ) (g : ℕ → ℕ) → l.phase ≡ Asking → place < objects
       → ((x : ℕ) → x < 2 ^ 64 → g x < 2 ^ 64)
       → ((x : ℕ) → x < 2 ^ 64
@@ -124,7 +135,8 @@ module _ (s : Shape) (objects who : ℕ) (l : Local) (low : who < s.callers) whe
         writes = λ words. ap (λ (i : ℕ). slice_set words i (g (slice_index words word))) (sym is);
       }
 
--- the row that a caller stages, and that its place is one of the table
+-- Where a word may be staged at a place of a caller's row under way, the row and the place are ones
+-- of the table.
 pub staged_row : (s : Shape) (who : ℕ) (l : Local) (r : Region) (place x : ℕ)
     → IsTrue (is_enabled s who l (event.Stage r place x)) → (own_count l r < s.cap)
     × (place < places s.callers r)

@@ -1,5 +1,5 @@
--- A local leaves for a seat of its own and comes back, and the rule stands; how it stands at the
--- start, and what it leaves at the end.
+-- The rule holds after a local goes to a seat of its own and after it goes back, and it holds at
+-- the start; and what is known by it at the end.
 use Rattle.std.proofs.Common.{◌≡◌, ◌≢◌, ◌⊎◌, ℕ, ◌<◌, ◌==◌, if◌then◌else◌, List, [], ◌∷◌, ◌++◌, length, map, slice_index_or, slice_set, Some, None, zero, suc, replicate, refl, sym, ap, ◌∙◌, subst, arith, inl, inr, length-set, eq-eqb, ne_eqb}
 use Rattle.std.proofs.lemmas.List.{get_or-set_other, get_or-set_same, length-replicate}
 use Rattle.std.proofs.lemmas.Bool.{cases_eq}
@@ -41,7 +41,7 @@ at_snoc (z ∷ xs) x y (suc j) e = elim (at_snoc xs x y j e) [
   | inr h ↦ inr (ap suc h.0, h.1)
 ]
 
--- the seat of caller `who`, and the others' as they were
+-- the seat of caller `who`, and those of the others as they were
 moved_to : (ℕ → ℕ) → ℕ → ℕ → ℕ → ℕ
 moved_to owner who seat i = if i == who then seat else owner i
 
@@ -152,7 +152,7 @@ module _ (s : Shape) (n : ℕ) (t : State (Unit {0}) View) (r : Ruled s n t) (id
     | inr ne ↦ kept_else i ne low
   ]
 
--- one local leaves
+-- The rule holds after the local of a caller goes from a seat to a new one.
 pub leaves : (s : Shape) (n id : ℕ) (v : View) (who : ℕ) (l : Local) → has v who ≡ Some l
     → Splits (Ruled s n) id v (slice_set v who None) (only who l)
 leaves s n id v who l here t r at =
@@ -171,7 +171,8 @@ joined_none : (v : View) → joined v [] ≡ v
 joined_none [] = refl
 joined_none (x ∷ v) = refl
 
--- a view with one local more, which it lacked
+-- A view that lacks the local of a caller, joined with the one that has this local alone, is the
+-- view with this local set.
 pub joined_set : (v : View) (who : ℕ) (l : Local) → has v who ≡ None → who < length v
     → joined v (only who l) ≡ slice_set v who (Some l)
 joined_set [] who l gone low = absurd (omega arith)
@@ -182,10 +183,12 @@ joined_set (None ∷ v) (suc who) l gone low =
 joined_set (Some m ∷ v) (suc who) l gone low =
     ap (λ (u : View). Some m ∷ u) (joined_set v who l gone (omega arith))
 
+-- A view in which the local of a caller is set has this local of that caller.
 pub set_here_view : (v : View) (who : ℕ) (l : Local) → who < length v
     → has (slice_set v who (Some l)) who ≡ Some l
 set_here_view v who l low = get_or-set_same v who (Some l) None low
 
+-- A view in which the local of a caller is set has the local of each other caller as before.
 pub set_else_view : (v : View) (who i : ℕ) (l : Local) → i ≢ who
     → has (slice_set v who (Some l)) i ≡ has v i
 set_else_view v who i l ne = get_or-set_other v who i (Some l) None ne
@@ -283,7 +286,7 @@ module _ (s : Shape) (n : ℕ) (t : State (Unit {0}) View) (r : Ruled s n t) (id
     | inr ne ↦ stays_else i ne below
   ]
 
--- one local comes back
+-- the rule holds after the local of a caller goes back to a seat, whose view then has it set
 returns_set : (s : Shape) (n id other : ℕ) (v : View) (who : ℕ) (l : Local) → who < length v
     → Joins (Ruled s n) id v other (only who l) (slice_set v who (Some l)) []
 returns_set s n id other v who l low t r at apart there' =
@@ -300,6 +303,8 @@ returns_set s n id other v who l low t r at apart there' =
       kept = stays s n t r id other v who l at apart there low;
     }
 
+-- The rule holds after the local of a caller goes back to a seat, whose view then is joined with
+-- the one that has this local alone.
 pub comes_back : (s : Shape) (n id other : ℕ) (v w : View) (who : ℕ) (l : Local) → w ≡ only who l
     → has v who ≡ None → who < length v → Joins (Ruled s n) id v other w (joined v w) []
 comes_back s n id other v w who l is gone low =
@@ -307,7 +312,7 @@ comes_back s n id other v w who l is gone low =
     (λ i. (sym is i, sym (ap (joined v) is ∙ joined_set v who l gone low) i))
     (returns_set s n id other v who l low)
 
--- the start
+-- the start: one seat has all locals
 one_view : (v u : View) (seat : ℕ) → get_elem? (v ∷ []) seat ≡ some u → (seat ≡ 0) × (v ≡ u)
 one_view v u zero e = (refl, some-injective v u e)
 one_view v u (suc seat) e = absurd (some-ne-none u (sym e))
@@ -322,6 +327,7 @@ fresh_is zero i l e = absurd (none-some l e)
 fresh_is (suc n) zero l e = same_Some fresh l e
 fresh_is (suc n) (suc i) l e = fresh_is n i l e
 
+-- The rule holds at the start: all words are 0, and one seat has the locals of all callers.
 pub opens : (s : Shape) (n : ℕ) (words : List ℕ) → n ≡ s.program.objects
     → words ≡ replicate (words_of s) 0 → Ruled s n (opening words [] (whole s.callers))
 opens s n words counted is =
@@ -345,6 +351,7 @@ opens s n words counted is =
       );
     }
 
+-- The locals of all callers at the start are those of one reachable world.
 pub together_at_start : (s : Shape) → Together s (whole s.callers)
 together_at_start s =
     record {
@@ -354,7 +361,7 @@ together_at_start s =
       locals_are = λ i l e. get_or-replicate_default s.callers i fresh ∙ fresh_is s.callers i l e;
     }
 
--- a part of what is together
+-- Locals of one reachable world are so without the local of one caller.
 pub together_but : (s : Shape) (v : View) (who : ℕ) → Together s v
     → Together s (slice_set v who None)
 together_but s v who h =
@@ -369,7 +376,7 @@ together_but s v who h =
       ];
     }
 
--- lists that have the same local at each place are one
+-- lists of locals that are equally long, with equal locals at each index, are equal
 same_locals : (ls ms : List Local) → length ls ≡ length ms
     → ((i : ℕ) → i < length ls → slice_index_or ls i fresh ≡ slice_index_or ms i fresh) → ls ≡ ms
 same_locals [] [] long same = refl
@@ -387,7 +394,7 @@ the_at [] i = refl
 the_at (x ∷ v) zero = refl
 the_at (x ∷ v) (suc i) = the_at v i
 
--- the locals of a view that has all of them
+-- Where a view has the local of each caller in a world, these are all locals of the world.
 pub all_locals : (v : View) (w : World) → length v ≡ length w.locals
     → ((i : ℕ) → i < length v → (l : Local) × (has v i ≡ Some l))
     → ((i : ℕ) (l : Local) → has v i ≡ Some l → local_of w i ≡ l)
@@ -396,6 +403,8 @@ all_locals v w long all are =
     same_locals w.locals (map the v) (sym long ∙ sym (length_the v)) (λ i low.
     let h = all i (omega (arith, long)) in are i h.0 h.1 ∙ sym (ap the h.1) ∙ sym (the_at v i))
 
+-- Where a view has a local of each caller, and these are of one reachable world, they are all its
+-- locals.
 pub whole_is_together : (s : Shape) (v : View) → length v ≡ s.callers
     → ((i : ℕ) → i < s.callers → (l : Local) × (has v i ≡ Some l)) → Together s v
     → AreTogether s (map the v)
@@ -405,7 +414,7 @@ whole_is_together s v long all t = (
   all_locals v t.world (long ∙ sym t.wide) (λ i low. all i (omega (arith, long))) t.locals_are,
 )
 
--- the end: the words and the locals of a whole bench are a reachable world
+-- At the end the words and the locals of a view that has all callers are a reachable world.
 pub closes : (s : Shape) (n id : ℕ) (v : View) (words : List ℕ) (slots : List (Unit {0}))
     → length v ≡ s.callers → ((i : ℕ) → i < s.callers → (l : Local) × (has v i ≡ Some l))
     → Final (Seen (Ruled s n) id v) words slots → IsWorldOf s words (map the v)
@@ -420,7 +429,7 @@ closes s n id v words slots long all f =
           (λ i l e. (r.held i id v l f.1.1 e).1);
     }
 
--- the words of a reachable world are as many as its shape says
+-- The words of a reachable world are as many as its shape says.
 pub world_long : (s : Shape) (words : List ℕ) (locals : List Local) → IsWorldOf s words locals
     → length words ≡ words_of s
 world_long s words locals w =

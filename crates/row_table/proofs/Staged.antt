@@ -1,4 +1,4 @@
--- What stands at the places of a row after its words were staged.
+-- What is staged at the places of a row after its words were staged.
 use Rattle.std.proofs.Common.{◌≡◌, ℕ, zero, suc, ◌+◌, ◌<◌, ◌≤◌, true, ◌==◌, List, [], ◌∷◌, ◌++◌, length, take, get_or, refl, sym, ap, ◌∙◌, arith, inl, inr, eq-eqb}
 use Rattle.std.proofs.lemmas.List.{take_more, length-take-le}
 use Rattle.std.proofs.lemmas.Bool.{or_left, or_right, and_from, cond-false, cases_eq, ne_eqb}
@@ -6,14 +6,15 @@ use Rattle.world_core.specs.Local.{Staged}
 use Rattle.world_core.specs.Event.{is_staged, are_staged, staged_at}
 use Rattle.row_table.specs.Staging.{staged_from}
 
--- what is staged stays staged
+-- A place that is staged is still so after more words were staged.
 pub kept : (p : ℕ) (words : List ℕ) (staged : List Staged) (q : ℕ) → is_staged staged q ≡ true
     → is_staged (staged_from p words staged) q ≡ true
 kept p [] staged q h = h
 kept p (x ∷ words) staged q h = kept (p + 1) words (record { place = p; word = x } ∷ staged) q
     (or_right (p == q) (is_staged staged q) h)
 
--- each of the places from p on is staged, as many as there are words
+-- Each of the places from `p` on is staged after the words were, for as many places as there are
+-- words.
 pub covered : (p : ℕ) (words : List ℕ) (staged : List Staged) (q : ℕ) → p ≤ q → q < p + length words
     → is_staged (staged_from p words staged) q ≡ true
 covered p [] staged q low high = absurd (omega (arith, low, high))
@@ -25,7 +26,7 @@ covered p (x ∷ words) staged q low high =
           (omega (arith, low, ne)) (omega (arith, high))
     ]
 
--- below them stands what stood there
+-- At a place before `p` the words that are staged from `p` on change nothing.
 pub below : (p : ℕ) (words : List ℕ) (staged : List Staged) (q : ℕ) → q < p
     → staged_at (staged_from p words staged) q ≡ staged_at staged q
 below p [] staged q low = refl
@@ -33,7 +34,7 @@ below p (x ∷ words) staged q low =
     below (p + 1) words (record { place = p; word = x } ∷ staged) q (omega (arith, low))
     ∙ cond-false (p == q) x (staged_at staged q) (ne_eqb p q (λ e. absurd (omega (arith, e, low))))
 
--- one word more
+-- The words with one more at their end stage this one last, at the place after theirs.
 pub one_more : (p : ℕ) (words : List ℕ) (staged : List Staged) (x : ℕ)
     → staged_from p (words ++ x ∷ []) staged
     ≡ record { place = p + length words; word = x } ∷ staged_from p words staged
@@ -45,14 +46,14 @@ one_more p (y ∷ words) staged x =
     ∷ staged_from (p + 1) words (record { place = p; word = y } ∷ staged))
     (let e : p + 1 + length words ≡ p + length (y ∷ words) = omega arith in e)
 
--- all places below m are staged where each is
+-- All places before `m` are staged where each of them is.
 pub all_staged : (staged : List Staged) (m : ℕ) → ((q : ℕ) → q < m → is_staged staged q ≡ true)
     → are_staged staged m ≡ true
 all_staged staged zero h = refl
 all_staged staged (suc m) h = and_from (is_staged staged m) (are_staged staged m)
     (h m (omega arith)) (all_staged staged m (λ q low. h q (omega (arith, low))))
 
--- the next of some words, by its number
+-- The first words, with the next one, stage this one last, at the place of its number after `p`.
 pub next_word : (p : ℕ) (words : List ℕ) (staged : List Staged) (k : ℕ) → k < length words
     → staged_from p (take (k + 1) words) staged
     ≡ record { place = p + k; word = get_or words k 0 } ∷ staged_from p (take k words) staged

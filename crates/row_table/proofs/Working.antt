@@ -1,4 +1,5 @@
--- Looks and peeks leave what a caller has made.
+-- The work of a caller's calls: peeks, and looks that don't begin the view's scan, don't change it.
+-- And no event of a caller takes a peek out of its local.
 use Rattle.std.proofs.Common.{◌≡◌, ℕ, Bool, true, false, ◌&&◌, if◌then◌else◌, List, [], ◌∷◌, ◌++◌, Option, Some, None, suc, refl, sym, ◌∙◌, subst, arith}
 use Rattle.std.specs.Prelude.{Contains}
 use Rattle.world_core.specs.declared.region.Region.{Region}
@@ -40,17 +41,19 @@ looked_work n l region j x =
     let saw : Local = with_look l (record { region = region; caller = j; count = x }) in
     fed_work n saw l.scan region (is_look_wanted j) x
 
+-- A look that doesn't begin the view's scan doesn't change the work of its caller.
 pub looks_leave_work : LooksLeaveWork
 looks_leave_work n l region j x =
     (looked_work n l region j x, looked_work n (opened l region Begins_scan) region j x)
 
+-- A peek doesn't change the work of its caller.
 pub peeks_leave_work : PeeksLeaveWork
 peeks_leave_work n l region j row place x =
     let saw : Local =
     with_peek l (record { region = region; caller = j; row = row; place = place; word = x }) in
     fed_work n saw l.scan region (is_peek_wanted n region j row place) x
 
--- what was peeked stays
+-- a local has the peeks that it had after each part of an event that isn't a peek itself
 served_peeked : (l : Local) (p : Purpose) (cut : List ℕ) → (served l p cut).peeked ≡ l.peeked
 served_peeked l For_row cut = refl
 served_peeked l For_view cut = refl
@@ -81,6 +84,7 @@ opened_peeked l region Begins_none = refl
 opened_peeked l region Begins_scan = refl
 opened_peeked l region (Begins_view reply) = refl
 
+-- Each peek in a caller's local is still in it after any event of this caller.
 pub peeked_words_stay : PeekedWordsStay
 peeked_words_stay n l (event.Stage region place x) p h = h
 peeked_words_stay n l event.Announce p h = h

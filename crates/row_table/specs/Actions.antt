@@ -8,13 +8,14 @@ use Rattle.row_table.specs.declared.action.Opening.TheVariants.{Nothing, Scan, V
 use Rattle.row_table.specs.declared.action.Action.{Action}
 use Rattle.row_table.specs.declared.action.Action.TheVariants.{Stage, Announce, Publish, Look, Peek, Load, Store, Add, Exchange}
 
--- What a look begins.
+-- What a look begins, as an event has it: nothing, a scan, or the view's scan with a reply.
 abbrev pub opening_in : Opening → event.Opening
 opening_in Nothing = event.Begins_none
 opening_in Scan = event.Begins_scan
 opening_in (View reply) = event.Begins_view reply
 
--- A step on the object word at a place, by the word found and the word that is left there.
+-- The event of a step on the object word at a place that found the word `old` there and made it the
+-- word `new`.
 abbrev pub object_step : ℕ → ℕ → ℕ → Event
 object_step place old new = event.Object (record { place = place; old = old; new = new })
 

@@ -6,15 +6,16 @@ use Rattle.row_table.specs.declared.stance.Stance.{Stance}
 use Rattle.row_table.specs.declared.bench.Kept.{Kept}
 use Rattle.row_table.specs.Notes.{notes_of}
 
--- What is kept of the local of a caller.
+-- The notes that a bench keeps of a caller, where it keeps the caller.
 abbrev pub kept_notes : Option Kept → Option Notes
 kept_notes None = None
 kept_notes (Some kept) = Some kept.notes
 
--- How a caller stands at the start: it makes calls, and means to begin no scan.
+-- The stance of a caller at the start: it makes calls, means to begin no scan, and keeps no reply.
 abbrev pub fresh_stance : Stance
 fresh_stance = record { live = true; begins = None; reply = None }
 
--- What is kept of a caller at the start.
+-- What a bench keeps of a caller at the start: the notes of the local at the start, and the stance
+-- of the start.
 abbrev pub fresh_kept : Kept
 fresh_kept = record { notes = notes_of 0 0 fresh; stance = fresh_stance }

@@ -1,4 +1,5 @@
--- Whose a caller and a bench are, the locals that are with them, and how their callers stand.
+-- Which rows a caller and a bench are of, the locals that they have, and the stances of their
+-- callers.
 use Rattle.std.specs.Prelude.{◌≡◌, ℕ, ◌<◌, List, Option, Some, None, map, length, slice_index_or, IsTrue}
 use Rattle.world_core.specs.declared.region.Region.{Region}
 use Rattle.world_core.specs.Shape.{Meaning, Shape}
@@ -18,17 +19,18 @@ use Rattle.row_table.specs.declared.bench.Kept.{Kept}
 use Rattle.row_table.specs.declared.bench.Bench.{Bench}
 use Rattle.row_table.specs.declared.rows.Rows.{Rows}
 
--- The local that is with the seat of a caller.
+-- The local that a caller's seat has of its caller.
 abbrev pub seated : CallerSeat → Local
 seated seat = the (has seat.seat.me.0 seat.who)
 
--- How a caller stands that is on a bench.
+-- The stance that a bench keeps of a caller, where it keeps the caller.
 abbrev pub kept_stance : Option Kept → Option Stance
 kept_stance None = None
 kept_stance (Some kept) = Some kept.stance
 
 module _ {P : Type 0} where
-  -- What the table of some rows was told.
+  -- The key of some rows, which their table was told: their program, their callers, their cap and
+  -- their object words.
   abbrev pub key_of : Rows P → Key P
   key_of r = record { program = r.program; callers = r.callers; cap = r.cap; objects = r.objects }
 
@@ -40,7 +42,7 @@ module _ {P : Type 0} where
   abbrev pub who_of : Caller P → ℕ
   who_of c = c.seat.who
 
-  -- The local that is with a caller.
+  -- The local that a caller has.
   abbrev pub local_with : Caller P → Local
   local_with c = seated c.seat
 
@@ -61,26 +63,29 @@ module _ {P : Type 0} where
   abbrev pub stance_on : Bench P → ℕ → Option Stance
   stance_on b i = kept_stance (slice_index_or b.places.items i None)
 
-  -- The locals that a bench has, by caller, where it has all of them.
+  -- The local that a bench has of each caller, by caller; of a caller of whom it has none, the
+  -- local at the start.
   abbrev pub locals_on : Bench P → List Local
   locals_on b = map the b.seat.me.0
 
-  -- The seat is one of these rows' table, of one of its callers, and has the local of that caller
-  -- in a reachable world.
+  -- A caller's seat is one of these rows' table, its caller is one of theirs, and the local that it
+  -- has is the one of that caller in a reachable world.
   pub record IsSeatOf (meaning : P → ℕ → ℕ → Meaning) (r : Rows P)
       (seat : CallerSeat) : Type 0 where
     pub table : seat.seat.table_id ≡ r.table.shared.table_id
     pub who : seat.who < r.callers
     pub local : IsLocalOf (shape_of meaning r) seat.who (seated seat)
 
-  -- The caller is one of these rows.
+  -- A caller is one of these rows: its seat is one of theirs, and it has their program, their
+  -- number of callers and their cap.
   pub record IsCallerOf (meaning : P → ℕ → ℕ → Meaning) (r : Rows P) (c : Caller P) : Type 0 where
     pub seat : IsSeatOf meaning r c.seat
     pub program : c.program ≡ r.program
     pub callers : c.callers ≡ r.callers
     pub cap : c.cap ≡ r.cap
 
-  -- The bench is one of these rows, and its locals are those of one reachable world.
+  -- A bench is one of these rows: it is of their table, has their number of callers and their cap,
+  -- and the locals that it has are those of one reachable world.
   pub record IsBenchOf (meaning : P → ℕ → ℕ → Meaning) (r : Rows P) (b : Bench P) : Type 0 where
     pub table : b.seat.table_id ≡ r.table.shared.table_id
     pub callers : b.callers ≡ r.callers
@@ -88,11 +93,11 @@ module _ {P : Type 0} where
     pub wide : length b.seat.me.0 ≡ r.callers
     pub together : Together (shape_of meaning r) b.seat.me.0
 
-  -- The bench holds this caller.
+  -- A bench holds a caller where it has a local of this caller.
   abbrev pub Holds : Bench P → ℕ → Type 0
   Holds b i = (l : Local) × (on_bench b i ≡ Some l)
 
-  -- The bench holds each of its callers.
+  -- A bench holds each of its callers.
   abbrev pub HoldsAll : Bench P → Type 0
   HoldsAll b = (i : ℕ) → i < b.callers → Holds b i
 
@@ -102,7 +107,8 @@ module _ {P : Type 0} where
     pub idle : IsIdle (local_with c)
     pub stance : stance_of c ≡ fresh_stance
 
-  -- The bench holds this caller, free for its next call.
+  -- A bench holds a caller free for its next call: the local that it has of the caller is idle, and
+  -- the stance that it keeps is the one of the start.
   pub record HoldsFree (b : Bench P) (i : ℕ) : Type 0 where
     pub local : Local
     pub here : on_bench b i ≡ Some local
@@ -114,20 +120,21 @@ module _ {P : Type 0} where
   MayGet meaning c reply =
       IsTrue ((meaning c.program c.callers c.cap).may_reply (who_of c) (local_with c) reply)
 
-  -- Whatever rows the one caller is of, the other is too.
+  -- Whatever rows caller `c` is one of, caller `d` is one of these rows too.
   abbrev pub StaysWith : Caller P → Caller P → Type 0
   StaysWith c d = (meaning : P → ℕ → ℕ → Meaning) (r : Rows P) → IsCallerOf meaning r c
       → IsCallerOf meaning r d
 
-  -- The caller d is the caller c after a step: one of these rows, with the same number.
+  -- Caller `d` is one of these rows, and has the number of caller `c`.
   abbrev pub IsStill : (P → ℕ → ℕ → Meaning) → Rows P → Caller P → Caller P → Type 0
   IsStill meaning r c d = IsCallerOf meaning r d × (who_of d ≡ who_of c)
 
-  -- The local of caller d is that of c after this event.
+  -- The local of caller `d` is that of caller `c` after this event.
   abbrev pub HasDone : Rows P → Caller P → Caller P → event.Event → Type 0
   HasDone r c d e = local_with d ≡ event.local_after r.callers (local_with c) e
 
-  -- The next look of the caller, at this count, may begin what the caller means it to.
+  -- The next look of the caller, at the count of caller `j` in a region, may begin what the caller
+  -- means it to begin.
   abbrev pub MayBegin : (P → ℕ → ℕ → Meaning) → Rows P → Caller P → Region → ℕ → Type 0
   MayBegin meaning r c region j =
       IsTrue

@@ -12,7 +12,8 @@ module _ {P : Type 0} where
     pub asking : (local_with c).phase ≡ Asking
     pub unreplied : (stance_of c).reply ≡ None
 
-  -- The program allows the caller the step that leaves g of the word found, whichever word that is.
+  -- The program allows the caller a step on the object word at a place that makes `g x` of the word
+  -- `x` found there, for each word `x`.
   abbrev pub MayStep : (P → ℕ → ℕ → Meaning) → Rows P → Caller P → ℕ → (ℕ → ℕ) → Type 0
   MayStep meaning r c place g =
       (x : ℕ) → x < 2 ^ 64 → IsTrue ((shape_of meaning r).program.may_step (who_of c) (local_with c)

@@ -1,5 +1,5 @@
 -- The rule of the table: each caller has exactly one local in all views together, and words and
--- locals are a reachable world. And what a step does to the view of the seat that makes it.
+-- locals are a reachable world; and what a step does to the view of the seat that makes it.
 use Rattle.std.specs.Prelude.{◌≡◌, ℕ, ◌<◌, ◌^◌, IsTrue, List, [], ◌∷◌, ◌++◌, Option, Some, None, replicate, length, slice_index, slice_index_or, slice_set}
 use mathlib.Core.Option.{some}
 use lib.ListN.{get_elem?}
@@ -9,21 +9,20 @@ use Rattle.world_core.specs.Local.{Local, fresh}
 use Rattle.world_core.specs.Event.{Event, is_allowed, is_loaded, words_after, local_after}
 use Rattle.world_core.specs.World.{World, local_of, IsReachable}
 
--- What a seat knows: the locals that are with it, by caller.
+-- The view of a seat: for each caller, the local that the seat has, where it has one.
 abbrev pub View : Type 0
 View = List (Option Local)
 
--- The local of a caller that is with a seat, if it is.
+-- The local that a view has of a caller, where it has one.
 abbrev pub has : View → ℕ → Option Local
 has v i = slice_index_or v i None
 
--- The local that there is, and the local at the start where there is none.
+-- A local, or the local at the start where none is given.
 abbrev pub the : Option Local → Local
 the None = fresh
 the (Some l) = l
 
--- The view of a seat that has all of n callers at the start, and that of a seat that has one
--- caller.
+-- The view of a seat that has the locals of all `n` callers, as they are at the start.
 abbrev pub whole : ℕ → View
 whole n = replicate n (Some fresh)
 
@@ -31,8 +30,9 @@ whole n = replicate n (Some fresh)
 abbrev pub only : ℕ → Local → View
 only i l = replicate i None ++ Some l ∷ []
 
--- The rule: the table was told how many object words its program has; words and locals are a
--- reachable world; and each local is with exactly one seat.
+-- The rule: the table was told how many object words its program has; its words and the locals of
+-- its callers are a reachable world; and the local of each caller is in the view of exactly one
+-- seat.
 pub record Ruled (s : Shape) (objects : ℕ) (t : State (Unit {0}) View) : Type 0 where
   pub counted : objects ≡ s.program.objects
   pub world : World
@@ -56,28 +56,30 @@ pub record Together (s : Shape) (v : View) : Type 0 where
 abbrev pub moved : ℕ → View → ℕ → Event → View
 moved n v who event = slice_set v who (Some (local_after n (the (has v who)) event))
 
--- What a step tells: the view is the one after the event of the word found, and its locals are
--- those of one reachable world.
+-- What a seat knows after a step that found a word: its view is the one after the event for this
+-- word, and the locals in it are those of one reachable world.
 pub record Tells (s : Shape) (who : ℕ) (event : ℕ → Event) (me : Me (Unit {0}) View) (found : ℕ)
     (after : Me (Unit {0}) View) : Type 0 where
   pub done : after ≡ (moved s.callers me.0 who (event found), me.1)
   pub together : Together s after.0
 
--- What a store tells, which doesn't say what it found: for some word found, what a step that found
--- it tells.
+-- What a seat knows after a store, which doesn't answer the word that it found: for some word, what
+-- it would know after a step that found this word.
 pub record TellsOfSome (s : Shape) (who : ℕ) (event : ℕ → Event)
     (me after : Me (Unit {0}) View) : Type 0 where
   pub found : ℕ
   pub word : found < 2 ^ 64
   pub tells : Tells s who event me found after
 
--- A step that changes no local tells that those of the seat are of one reachable world.
+-- What a seat knows after a step that is no event: its view is the one before, and the locals in it
+-- are those of one reachable world.
 pub record Shows (s : Shape) (me after : Me (Unit {0}) View) : Type 0 where
   pub same : after ≡ me
   pub together : Together s me.0
 
--- The change f of a word is this event of a caller with this local: it is allowed, it loads this
--- word, and it makes this change and no other.
+-- The change `f` of a word is this event of a caller with this local, for whichever word is found:
+-- the event is allowed, it loads the word that is found, and it makes this change of the words and
+-- no other.
 pub record Makes (s : Shape) (objects : ℕ) (who : ℕ) (local : Local) (word : ℕ) (f : ℕ → ℕ)
     (event : ℕ → Event) : Type 0 where
   pub allowed : objects ≡ s.program.objects → (x : ℕ) → x < 2 ^ 64
@@ -86,7 +88,8 @@ pub record Makes (s : Shape) (objects : ℕ) (who : ℕ) (local : Local) (word :
   pub writes : (words : List ℕ) → words_after s who local words (event (slice_index words word))
       ≡ slice_set words word (f (slice_index words word))
 
--- The locals of two views.
+-- The view that has the locals of two views, and those of the first where both have a local of a
+-- caller.
 abbrev pub joined : View → View → View
 joined [] w = []
 joined (x ∷ v) [] = x ∷ v

@@ -3,7 +3,7 @@ use Rattle.std.specs.Prelude.{ℕ}
 use Rattle.world_core.specs.Shape.{Meaning, Shape}
 use Rattle.row_table.specs.declared.plays.Key.{Key}
 
--- The callers, the cap and the meaning of the program, as the key has them.
+-- The shape that has the callers and the cap of a key, and the meaning of its program.
 abbrev pub shape_for : {P : Type 0} → (P → ℕ → ℕ → Meaning) → Key P → Shape
 shape_for meaning key = record {
   callers = key.callers;

@@ -1,9 +1,10 @@
--- A row that is staged word by word and then counted, and what that leaves of its caller's local.
+-- A row that is staged word by word and then counted, and the local of its caller after that.
 use Rattle.std.specs.Prelude.{◌≡◌, ℕ, ◌+◌, ◌<◌, List, [], ◌∷◌, ◌++◌, length, Some, slice_index, slice_index_or}
 use Rattle.world_core.specs.Local.{Announcing, Publishing, Staged, Local}
 use Rattle.world_core.specs.Event.{Announce, local_after}
 
--- What is staged after these words were staged, one a place, from a place on.
+-- What is staged of a row once these words are staged as well, one a place, from a place on: the
+-- word staged last comes first.
 abbrev pub staged_from : ℕ → List ℕ → List Staged → List Staged
 staged_from place [] staged = staged
 staged_from place (x ∷ words) staged =
@@ -13,8 +14,7 @@ staged_from place (x ∷ words) staged =
 abbrev pub with_staged : Local → List Staged → Local
 with_staged l staged = record l { staged = staged }
 
--- The local after a call with this operation was announced: its row is counted, and embeds the cut
--- that it was to embed.
+-- The local after the announcement of a call, with this operation as the last one of the caller.
 abbrev pub local_announced : ℕ → ℕ → Local → Local
 local_announced n op l = record (local_after n l Announce) { operations = l.operations ++ op ∷ [] }
 

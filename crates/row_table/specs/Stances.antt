@@ -6,27 +6,31 @@ use Rattle.row_table.specs.declared.action.Opening.{Opening}
 use Rattle.row_table.specs.declared.action.Opening.TheVariants.{Nothing, Scan, View}
 use Rattle.row_table.specs.declared.stance.Stance.{Stance}
 
--- A scan of N begins as the view's where a reply is kept; each other one is a plain scan.
+-- What a look begins, by the region of the scan that it is to begin and the reply that is kept:
+-- nothing where it is to begin no scan, the view's scan where it is to begin one of N and a reply
+-- is kept, and else a scan which isn't the view's.
 abbrev pub opening_with : Option Region → Option ℕ → Opening
 opening_with None reply = Nothing
 opening_with (Some N) None = Scan
 opening_with (Some N) (Some reply) = View reply
 opening_with (Some M) reply = Scan
 
--- What the next look begins.
+-- What the next look of a caller with this stance begins.
 abbrev pub opening_by : Stance → Opening
 opening_by s = opening_with s.begins s.reply
 
--- The reply that is left after a look which begins this: the view's scan carries it.
+-- The reply that is kept after a look which begins this: none after one that begins the view's
+-- scan, which carries the reply, and else the one kept before.
 abbrev pub reply_after : Opening → Option ℕ → Option ℕ
 reply_after (View x) reply = None
 reply_after _ reply = reply
 
--- After a look nothing is to begin any more, and a reply that it carried is handed over.
+-- The stance after a look: the caller means to begin no scan any more, and keeps no reply that the
+-- look carried.
 abbrev pub looked : Stance → Stance
 looked s = record s { begins = None; reply = reply_after (opening_by s) s.reply }
 
--- The next look is in this region, if it is to begin a scan.
+-- The scan that the next look is to begin is of this region, if it is to begin one.
 abbrev pub FitsRegion : Option Region → Region → Type 0
 FitsRegion None region = Unit {0}
 FitsRegion (Some r) region = r ≡ region

@@ -9,15 +9,15 @@ use atomic_table::Seat;
 use std::marker::PhantomData;
 use world_core::Outside;
 
-/// What is kept of a caller that is on the bench.
+/// What a bench keeps of a caller that is on it: its notes and its stance.
 #[derive(Debug, Drop)]
 pub struct Kept {
     pub notes: Notes,
     pub stance: Stance,
 }
 
-/// The parked callers of a table, each with its local. Those of one that is let go make no more
-/// steps.
+/// The parked callers of a table, each with its local. The callers of a bench that is dropped make
+/// no more steps.
 #[derive(Drop)]
 pub struct Bench<P = Outside> {
     pub(crate) callers: u32,
@@ -32,7 +32,7 @@ pub struct Bench<P = Outside> {
 impl<P> Bench<P> {
     ghost use Rattle.row_table.specs.Callers.{Holds};
 
-    /// Whether the bench holds this caller.
+    /// Whether the bench holds the caller with this number.
     pub fn holds(&self, caller: u32) -> bool
         ensures { IsTrue result ↔ Holds self.now caller }
     {

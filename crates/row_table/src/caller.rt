@@ -13,7 +13,7 @@ use atomic_table::Seat;
 use book_base::Cut;
 use world_core::{Outside, Program, Region, Want};
 
-/// The seat of one caller, whose local alone is with it.
+/// The seat of one caller, which has the local of this caller and no other.
 #[derive(Drop)]
 pub struct CallerSeat {
     pub who: u32,
@@ -24,7 +24,7 @@ pub struct CallerSeat {
 /// One caller of a table: its seat, with its local, and what it keeps of that local while it runs.
 ///
 /// It makes steps with the calls of [`Rows`](crate::Rows), each of which is one event of its local.
-/// One that is let go makes no more steps, and never comes back to its bench.
+/// A caller that is dropped makes no more steps, and never comes back to its bench.
 #[derive(Drop)]
 pub struct Caller<P = Outside> {
     pub(crate) program: P,
@@ -76,12 +76,13 @@ impl<P> Caller<P> {
         self.notes.phase == Phase::Announcing && self.notes.unstaged
     }
 
-    /// What the caller's scan under way wants next, if one is under way. No step is made.
+    /// What is due next in the caller's scan under way, if one is under way. No step is made.
     pub fn wants(&self) -> Option<Want>
-        // The answer is what the scan under way wants next, and None where no scan is under way.
+        // The answer is what is due next in the scan under way, and None where no scan is under
+        // way.
         ensures wants { result ≡ wanted_next self.now.callers (local_with self.now).scan }
-        // What is wanted names a caller of the table, and a finished cut has one count for each
-        // caller.
+        // A look or a peek that is due is at a caller of the table, and so is the entry of such a
+        // peek; the cut of a scan that has ended has one count for each caller.
         ensures fits { IfSome result (λ want. FitsCallers self.now.callers want) }
     {
         match &self.notes.scan {
@@ -90,8 +91,8 @@ impl<P> Caller<P> {
         }
     }
 
-    /// The cut that the caller's last scan to end gave it, if one has ended and none is under way.
-    /// No step is made.
+    /// The cut that the caller was given last, if a scan gave it one and no scan is under way. No
+    /// step is made.
     pub fn given(&self) -> Option<Cut>
         ensures { result ≡ given_now (local_with self.now) }
     {
@@ -101,9 +102,9 @@ impl<P> Caller<P> {
         }
     }
 
-    /// The caller, with its local as it is, which makes no more calls.
+    /// Halts the caller: it has its local as it is, and makes no more calls.
     pub fn halt(mut self) -> Caller<P>
-        // The caller no longer makes calls, and means what it meant before besides.
+        // The caller no longer makes calls, and its stance is as it was besides.
         ensures stance { stance_of result ≡ record (stance_of self) { live = false } }
         // The caller keeps its number and its local.
         ensures local { (who_of result ≡ who_of self) × (local_with result ≡ local_with self) }
@@ -114,8 +115,8 @@ impl<P> Caller<P> {
         self
     }
 
-    /// The next look begins a scan of this region: it has to be at the count of caller 0 there. No
-    /// step is made.
+    /// Makes the next look begin a scan of this region: that look has to be at the count of caller
+    /// 0 there. No step is made.
     pub fn begin_scan(&mut self, region: Region)
         // No view's scan is under way.
         requires { event.is_view_under_way (local_with self.old).scan ≡ false }

@@ -1,11 +1,11 @@
-//! Where the words of the table lie.
+//! Where the words of the table lie, by their indices.
 ghost use Rattle.std.specs.Prelude.{◌≡◌, ◌+◌, ◌*◌, ◌<◌, ◌≤◌};
 ghost use Rattle.book_base.specs.declared.TheConstants.{MAX_CALLERS, MAX_CALLS};
 ghost use Rattle.world_core.specs.Layout as words;
 
 use world_core::Region;
 
-/// The place for the entry of a caller of the cut that a row embeds in a region.
+/// The place, in a row of a region, of a caller's entry in the cut that the row embeds.
 pub fn embedded_place(n: u32, region: Region, caller: u32) -> u64
     ensures { result ≡ words.embedded_place n region caller }
 {
@@ -15,7 +15,7 @@ pub fn embedded_place(n: u32, region: Region, caller: u32) -> u64
     }
 }
 
-/// The word that counts the rows of a caller in a region.
+/// The index of the word that counts the rows of a caller in a region.
 pub fn count_index(n: u32, region: Region, caller: u32) -> usize
     ensures { result ≡ words.count_index n region caller }
 {
@@ -33,7 +33,7 @@ fn row_width(n: u32) -> usize
     3 + 3 * n as usize
 }
 
-/// How many words the counts and the rows have.
+/// How many words the counts and the rows have together.
 pub fn row_words(n: u32, cap: u64) -> usize
     requires few { n ≤ MAX_CALLERS }
     requires short { cap ≤ MAX_CALLS }
@@ -43,7 +43,7 @@ pub fn row_words(n: u32, cap: u64) -> usize
     2 * n as usize + n as usize * cap as usize * row_width(n)
 }
 
-/// The word at a place of a region in row `row` of a caller.
+/// The index of the word at a place of row `row` of a caller in a region.
 pub fn place_index(n: u32, cap: u64, region: Region, caller: u32, row: u64, place: u32) -> usize
     requires few { n ≤ MAX_CALLERS }
     requires short { cap ≤ MAX_CALLS }

@@ -45,7 +45,8 @@ impl ScanUnderWay {
         }
     }
 
-    // The scan is of this region, and wants the look at the count of caller j.
+    // Whether the scan is of this region, and the look at the count of caller `j` is due next in
+    // it.
     fn wants_look(&self, region: Region, j: u32) -> bool
         ensures open { IsTrue result → scan.has_ended self.now.core.course ≡ false }
         ensures wanted { (n me : ℕ) (s : local.Scan) → self.now ≡ under_way n me s
@@ -61,7 +62,8 @@ impl ScanUnderWay {
         }
     }
 
-    // The scan is of this region, and wants the peek at this place of row `row` of caller j.
+    // Whether the scan is of this region, and the peek at this place of row `row` of caller `j` is
+    // due next in it.
     fn wants_peek(&self, callers: u32, region: Region, j: u32, row: u64, place: u32) -> bool
         ensures open { IsTrue result → scan.has_ended self.now.core.course ≡ false }
         ensures wanted { (me : ℕ) (s : local.Scan) → self.now ≡ under_way callers me s
@@ -79,7 +81,8 @@ impl ScanUnderWay {
         }
     }
 
-    // The scan takes the word that it wants. The cut with which it has ended, if it has now.
+    // Adds the word that is due next to those that the scan took. The answer is the cut with which
+    // the scan has ended, if it has ended now.
     fn take(&mut self, word: u64) -> Option<Cut>
         requires { scan.has_ended self.old.core.course ≡ false }
         ensures taken { (n me : ℕ) (s : local.Scan) → self.old ≡ under_way n me s
@@ -94,7 +97,7 @@ impl ScanUnderWay {
         }
     }
 
-    // The phase after this scan ended.
+    // The phase of a caller after this scan ended, by its phase before.
     fn phase_after(&self, phase: Phase) -> Phase
         ensures { result ≡ phase_after phase self.now.core.region self.now.is_view }
     {
@@ -110,7 +113,7 @@ impl Notes {
     ghost use Rattle.row_table.specs.Notes.{under_way, notes_of, takes, IsOpen};
     ghost use Rattle.row_table.specs.Actions.{opening_in};
 
-    // Of the local at the start.
+    // The notes of the local at the start.
     pub fn fresh() -> Notes
         ensures { (n me : ℕ) → result ≡ notes_of n me local.fresh }
     {
@@ -124,7 +127,7 @@ impl Notes {
         }
     }
 
-    /// The own count in a region.
+    /// The caller's own count in a region.
     pub fn count(&self, region: Region) -> u64
         ensures { (n me : ℕ) (l : local.Local) → self.now ≡ notes_of n me l
             → result ≡ local.own_count l region }
@@ -135,7 +138,7 @@ impl Notes {
         }
     }
 
-    // The notes as a look begins a scan.
+    // Makes the notes those after a look began what it begins: nothing, a scan, or the view's scan.
     fn open(&mut self, n: u32, me: u32, region: Region, opening: Opening)
         requires caller { me < n }
         requires few { n ≤ MAX_CALLERS }
@@ -152,7 +155,8 @@ impl Notes {
         }
     }
 
-    // The scan under way is of this region, and wants the look at the count of caller j.
+    // Whether a scan of this region is under way, and the look at the count of caller `j` is due
+    // next in it.
     fn wants_look(&self, region: Region, j: u32) -> bool
         ensures open { IsTrue result → IsOpen self.now.scan }
         ensures wanted { (n me : ℕ) (l : local.Local) → self.now ≡ notes_of n me l
@@ -164,8 +168,8 @@ impl Notes {
         }
     }
 
-    // The scan under way is of this region, and wants the peek at this place of row `row` of caller
-    // j.
+    // Whether a scan of this region is under way, and the peek at this place of row `row` of caller
+    // `j` is due next in it.
     fn wants_peek(&self, n: u32, region: Region, j: u32, row: u64, place: u32) -> bool
         ensures open { IsTrue result → IsOpen self.now.scan }
         ensures wanted { (me : ℕ) (l : local.Local) → self.now ≡ notes_of n me l
@@ -177,8 +181,9 @@ impl Notes {
         }
     }
 
-    // The scan under way takes the word that it wants, and where it has ended its cut serves its
-    // purpose.
+    // Adds the word that is due next to those that the scan under way took. Where the scan has
+    // ended now, it is no longer under way, the phase is the one after it, and its cut is the one
+    // given last.
     fn take(&mut self, word: u64)
         requires { IsOpen self.old.scan }
         ensures { (n me : ℕ) (l : local.Local) (s : local.Scan) → l.scan ≡ Some s
@@ -196,7 +201,7 @@ impl Notes {
         }
     }
 
-    /// The notes after a look, which may begin a scan.
+    /// Makes the notes those after a look, which may begin a scan.
     pub fn look(&mut self, n: u32, me: u32, region: Region, j: u32, opening: Opening, word: u64)
         requires caller { me < n }
         requires few { n ≤ MAX_CALLERS }
@@ -209,7 +214,7 @@ impl Notes {
         }
     }
 
-    /// The notes after a peek.
+    /// Makes the notes those after a peek.
     pub fn peek(&mut self, n: u32, region: Region, j: u32, row: u64, place: u32, word: u64)
         ensures { (me : ℕ) (l : local.Local) → self.old ≡ notes_of n me l → self.new
             ≡ notes_of n me (event.local_after n l (event.Peek region j row place word)) }
@@ -219,7 +224,7 @@ impl Notes {
         }
     }
 
-    /// The notes after a word was staged.
+    /// Makes the notes those after a word was staged.
     pub fn stage(&mut self)
         ensures { (n me : ℕ) (l : local.Local) (region : Region) (place word : ℕ)
             → self.old ≡ notes_of n me l
@@ -228,7 +233,7 @@ impl Notes {
         self.unstaged = false;
     }
 
-    /// The notes after the announcement.
+    /// Makes the notes those after an announcement.
     pub fn announce(&mut self)
         requires { self.old.announced < 2 ^ 64 - 1 }
         ensures { (n me : ℕ) (l : local.Local) → self.old ≡ notes_of n me l
@@ -240,7 +245,7 @@ impl Notes {
         self.scan = None;
     }
 
-    /// The notes after the publication.
+    /// Makes the notes those after a publication.
     pub fn publish(&mut self)
         requires { self.old.published < 2 ^ 64 - 1 }
         ensures { (n me : ℕ) (l : local.Local) → self.old ≡ notes_of n me l

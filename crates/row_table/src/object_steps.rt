@@ -16,7 +16,7 @@ impl<P: InWorld> Rows<P> {
     ghost use Rattle.row_table.specs.Callers.{who_of, local_with, stance_of, IsCallerOf, IsStill, HasDone};
     ghost use Rattle.row_table.specs.ObjectSteps.{IsAsking, MayStep};
 
-    /// Loads an object word, which is one object step that leaves the word as it is.
+    /// Loads an object word, which is one object step that doesn't change the word.
     ///
     /// Like the three calls below it, it is for a caller that has announced its call and keeps no
     /// reply yet, and the program allows the step for every word that may be found.
@@ -26,7 +26,7 @@ impl<P: InWorld> Rows<P> {
         requires caller { IsCallerOf P.meaning self.now caller.old × IsAsking caller.old }
         // The table has an object word at this place.
         requires place { place < self.now.objects }
-        // The program allows the caller a step that leaves whichever word it finds there.
+        // The program allows the caller a step that doesn't change the word there, whichever it is.
         requires program { MayStep P.meaning self.now caller.old place (λ x. x) }
         // The caller is still one of these rows, with the same number.
         ensures caller { IsStill P.meaning self.now caller.old caller.new }
@@ -101,8 +101,8 @@ impl<P: InWorld> Rows<P> {
         requires caller { IsCallerOf P.meaning self.now caller.old × IsAsking caller.old }
         // The table has an object word at this place.
         requires place { place < self.now.objects }
-        // The program allows the caller a step that puts `new` over `old`, and leaves each other
-        // word.
+        // The program allows the caller a step that puts `new` over `old`, and doesn't change any
+        // other word.
         requires program { MayStep P.meaning self.now caller.old place
             (λ x. either (x == old) new x) }
         // The caller is still one of these rows, with the same number.

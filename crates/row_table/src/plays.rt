@@ -1,4 +1,5 @@
-//! The rule of the table, and what its steps tell. These types are for the proofs alone.
+//! The rule of the table, and what a seat knows after its steps. These types are for the proofs
+//! alone.
 ghost use Rattle.std.specs.Prelude.{ℕ, [], None, slice_set};
 ghost use Rattle.world_core.specs.Shape.{Shape};
 ghost use Rattle.world_core.specs.Event.{Event, Announce};
@@ -9,7 +10,8 @@ use atomic_table::{Join, Play, Split, TableRule};
 use std::marker::{Brand, Model, PhantomData};
 use world_core::Program;
 
-/// What a seat knows: the locals that are with it. No value of it is made.
+/// The kind of what a seat knows: a view, with the locals that the seat has. No value of this type
+/// is made.
 pub struct Holding;
 
 impl Model for Holding {
@@ -42,8 +44,8 @@ impl<P: Program> TableRule<(), Holding, Key<P>> for Worlds<P> {
     ghost first = { λ key. whole key.callers };
 }
 
-/// In which world a step is made, whose event it is, and which, by the word found. A call at
-/// `Brand` picks it.
+/// A step as an event: the shape of the world that it is made in, the caller that makes it, and its
+/// event for each word that it may find. A call at `Brand` picks these.
 pub trait StepEvent {
     ghost shape: { Shape };
 
@@ -60,7 +62,7 @@ impl StepEvent for Brand {
     ghost event = { λ _. Announce };
 }
 
-/// A step that is an event: the view is the one after it.
+/// A step that is an event: the view of its seat is then the one after this event.
 pub struct Does<J> {
     deed: PhantomData<J>,
 }
@@ -69,7 +71,7 @@ impl<J: StepEvent> Play<(), Holding> for Does<J> {
     ghost then = { λ st me found after. Tells J.shape J.who J.event me found after };
 }
 
-/// A store that is one deed of its caller: what it found isn't said.
+/// A store that is an event: the word that it found isn't answered.
 pub struct Writes<J> {
     deed: PhantomData<J>,
 }
@@ -78,7 +80,8 @@ impl<J: StepEvent> Play<(), Holding> for Writes<J> {
     ghost then = { λ st me _ after. TellsOfSome J.shape J.who J.event me after };
 }
 
-/// A load that is no event, and tells that the locals of the seat are those of one reachable world.
+/// A load that is no event, after which the locals of the seat are known to be those of one
+/// reachable world.
 pub struct Learns<J> {
     deed: PhantomData<J>,
 }
@@ -87,7 +90,7 @@ impl<J: StepEvent> Play<(), Holding> for Learns<J> {
     ghost then = { λ st me _ after. Shows J.shape me after };
 }
 
-/// One caller leaves for a seat of its own.
+/// The local of one caller goes from a seat to a new one, which has no other local.
 pub struct Leaves<J> {
     deed: PhantomData<J>,
 }
@@ -98,7 +101,7 @@ impl<J: StepEvent> Split<Holding> for Leaves<J> {
     ghost right = { λ v. only J.who (the (has v J.who)) };
 }
 
-/// The callers of another seat come back, and its view is spent.
+/// The locals of another seat go back to a seat; then the view of the other one is empty.
 pub struct Returns;
 
 impl Join<Holding> for Returns {

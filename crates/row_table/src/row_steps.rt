@@ -17,8 +17,9 @@ use world_core::{Program, Region};
 impl<P: Program> Rows<P> {
     ghost use Rattle.row_table.specs.Callers.{shape_of, who_of, local_with, stance_of, opening_of, IsCallerOf, IsStill, HasDone, MayBegin, MayStage};
 
-    /// Loads the count of caller `j` in a region, which is one look. Where the caller has begun a
-    /// scan or kept a reply for one, the scan begins with it.
+    /// Loads the count of caller `j` in a region, which is one look. Where the caller means to
+    /// begin a scan, the look begins it; it is the view's scan where the region is N and the caller
+    /// keeps a reply.
     pub fn look<L: Ledger>(
         &self,
         caller: &mut Caller<P>,

@@ -42,7 +42,7 @@ pub struct Rows<P: Program = Outside> {
     ghost told: { table.shared.key.program ≡ program } by { Coded-set P.code table.shared.key.program program },
 }
 
-// The words of a closed table.
+// The first words of a closed table, as many as `count` says, in order.
 fn copied(alloc: Global, closed: &Closed<(), Global>, count: usize) -> Result<Vec<u64>, AllocError>
     requires { (slots_len closed.now.words ≡ count) × IsFull closed.now.words }
     ensures { IfOk result (λ v. v.items ≡ slots_items closed.now.words) }
@@ -54,7 +54,7 @@ fn copied(alloc: Global, closed: &Closed<(), Global>, count: usize) -> Result<Ve
     Ok(words)
 }
 
-// What the bench keeps of all callers at the start.
+// What a bench keeps of `n` callers at the start.
 fn all_kept(alloc: Global, n: u32) -> Result<Vec<Option<Kept>>, AllocError>
     ensures { IfOk result (λ v. v.items ≡ replicate n (Some fresh_kept)) }
 {
@@ -76,7 +76,7 @@ impl<P: Program> Rows<P> {
     ghost use Rattle.world_core.specs.Shape.{words_of};
     ghost use Rattle.world_core.specs.Calls.{AreTogether};
 
-    // A load that is this action of the caller of a seat.
+    // A load that is this action of the seat's caller.
     pub(crate) fn load_as<J: StepEvent>(
         &self,
         seat: &mut CallerSeat,
@@ -96,7 +96,7 @@ impl<P: Program> Rows<P> {
         self.table.shared.load::<Does<J>>(&mut seat.seat, word)
     }
 
-    // A store that is this action of the caller of a seat.
+    // A store that is this action of the seat's caller.
     pub(crate) fn store_as<J: StepEvent>(
         &self,
         seat: &mut CallerSeat,
@@ -119,7 +119,7 @@ impl<P: Program> Rows<P> {
             .store::<Writes<J>>(&mut seat.seat, word, new)
     }
 
-    // An addition that is this action of the caller of a seat.
+    // An addition that is this action of the seat's caller.
     pub(crate) fn add_as<J: StepEvent>(
         &self,
         seat: &mut CallerSeat,
@@ -142,7 +142,7 @@ impl<P: Program> Rows<P> {
             .fetch_add::<Does<J>>(&mut seat.seat, word, add)
     }
 
-    // A compare-exchange that is this action of the caller of a seat.
+    // A compare-exchange that is this action of the seat's caller.
     pub(crate) fn exchange_as<J: StepEvent>(
         &self,
         seat: &mut CallerSeat,
@@ -166,7 +166,8 @@ impl<P: Program> Rows<P> {
             .compare_exchange::<Does<J>>(&mut seat.seat, word, old, new)
     }
 
-    // The locals on the bench are those of one reachable world.
+    // Loads word 0, after which the locals on the bench are known to be those of one reachable
+    // world.
     fn learn_as<J: StepEvent>(&self, bench: &mut Bench<P>)
         requires shape { J.shape ≡ shape_of P.meaning self.now }
         requires bench { bench.old.seat.table_id ≡ self.now.table.shared.table_id }
@@ -179,7 +180,7 @@ impl<P: Program> Rows<P> {
         self.table.shared.load::<Learns<J>>(&mut bench.seat, 0);
     }
 
-    // The seat of a caller that leaves the bench.
+    // Takes the local of a caller from a bench's seat to a seat of its own, which is the answer.
     fn leave_as<J: StepEvent>(&self, seat: &mut Seat<(), Holding>, who: u32) -> CallerSeat
         requires who { J.who ≡ who }
         requires seat { seat.old.table_id ≡ self.now.table.shared.table_id }
@@ -254,7 +255,7 @@ impl<P: Program> Rows<P> {
         self.callers
     }
 
-    /// The place for the entry of a caller of the cut that a row embeds in a region.
+    /// The place, in a row of a region, of a caller's entry in the cut that the row embeds.
     pub fn embedded_place(&self, region: Region, caller: u32) -> u32
         // The caller is one of the table's.
         requires { caller < self.now.callers }
@@ -273,8 +274,8 @@ impl<P: Program> Rows<P> {
         self.program
     }
 
-    /// A caller leaves the bench with its local, and as live as it was there: where the bench holds
-    /// it free, it is free. One load of word 0, which is no event.
+    /// Takes a caller off the bench, with its local and its stance: where the bench holds it free,
+    /// it is free. One load of word 0 is made, which is no event.
     pub fn part(&self, bench: &mut Bench<P>, caller: u32) -> Caller<P>
         // The bench is one of these rows, and its locals are those of one reachable world.
         requires bench { IsBenchOf P.meaning self.now bench.old }
@@ -311,9 +312,9 @@ impl<P: Program> Rows<P> {
         }
     }
 
-    /// A caller comes back to the bench with its local, and as live as it is. Two loads of word 0,
-    /// which are no events: the second tells that the locals on the bench are those of one
-    /// reachable world.
+    /// Puts a caller back on the bench, with its local and its stance. Two loads of word 0 are
+    /// made, which are no events: after the second the locals on the bench are known to be those of
+    /// one reachable world.
     pub fn back(&self, bench: &mut Bench<P>, caller: Caller<P>)
         // The bench is one of these rows, and its locals are those of one reachable world.
         requires bench { IsBenchOf P.meaning self.now bench.old }
@@ -355,8 +356,8 @@ impl<P: Program> Rows<P> {
         ensures { AreTogether (shape_of P.meaning self.now) (locals_on bench.now) }
     {}
 
-    /// The words of the table, which with the locals of the bench are a reachable world. The bench
-    /// holds all callers. For want of memory the table is given up.
+    /// Closes the table, whose words are the answer: with the locals of the bench, which holds all
+    /// callers, they are a reachable world. Where memory lacks, the table is given up.
     pub fn close(self, alloc: Global, bench: Bench<P>) -> Result<World<P>, NoMemory>
         // The bench is one of these rows, and its locals are those of one reachable world.
         requires bench { IsBenchOf P.meaning self bench }

@@ -7,7 +7,7 @@ use crate::caller::Caller;
 use crate::rows::Rows;
 use world_core::{Program, Region};
 
-// Stages these words, one a place, from a place of a region on.
+// Stages these words in the caller's row under way in a region, one a place, from a place on.
 pub fn stage_from<P: Program>(
     rows: &Rows<P>,
     caller: &mut Caller<P>,

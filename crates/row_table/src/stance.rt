@@ -15,7 +15,7 @@ pub struct Stance {
 impl Stance {
     ghost use Rattle.row_table.specs.Stances.{opening_by, looked};
 
-    // Of a caller at the start.
+    // The stance of a caller at the start.
     pub fn fresh() -> Stance
         ensures { result ≡ record { live = true; begins = None; reply = None } }
     {
@@ -26,7 +26,7 @@ impl Stance {
         }
     }
 
-    // What the next look begins.
+    // What the next look of a caller with this stance begins.
     pub fn opening(&self) -> Opening
         ensures { result ≡ opening_by self.now }
     {
@@ -37,7 +37,8 @@ impl Stance {
         }
     }
 
-    // After a look the scan has begun, and the reply that it carried is handed over.
+    // Makes the stance the one after a look: the caller means to begin no scan any more, and keeps
+    // no reply that the look carried.
     pub fn look(&mut self)
         ensures { self.new ≡ looked self.old }
     {

@@ -135,7 +135,8 @@ impl SeqObject for IntSet {
         Ok(Some(empty_sight(alloc)))
     }
 
-    /// Narrows the marked callers to those whose next calls have the forced call's key.
+    /// Narrows the marked callers to those whose next calls have the forced call's key. Where the
+    /// forced call has no key, all marks stay.
     fn narrow(
         &self,
         sight: &Sight,

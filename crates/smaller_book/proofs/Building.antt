@@ -20,7 +20,7 @@ use Rattle.smaller_book.specs.Numbers.{numbers_in}
 use Rattle.smaller_book.proofs.Counts.{count_below-within, count_below-past, count_below-monotone}
 use Rattle.smaller_book.proofs.Following.{record_was}
 
--- the operations of a book with one more answer are the book's
+-- A book with one more answer has the operations that it had before.
 operations-with_answer : (book : List Page) (i : ℕ) (r : Record) (j : ℕ) → i < length book
     → (page_of (with_answer book i r) j).operations ≡ (page_of book j).operations
 operations-with_answer book i r j inside =
@@ -32,7 +32,7 @@ operations-with_answer book i r j inside =
       | inr other ↦ ap (λ (q : Page). q.operations) (page_of-set_other book i j p other)
     ]
 
--- one caller has one more answer, and the others as many as before
+-- A caller whose call is answered has one answer more than before.
 pub answers_of-with_answer : (book : List Page) (i : ℕ) (r : Record) → i < length book
     → answers_of (with_answer book i r) i ≡ answers_of book i + 1
 answers_of-with_answer book i r inside =
@@ -40,13 +40,15 @@ answers_of-with_answer book i r inside =
     ap (λ (q : Page). length q.records) (page_of-set_same book i p inside)
     ∙ length_push (page_of book i).records r
 
+-- A caller other than the one whose call is answered has as many answers as before.
 pub answers_of-with_answer_other : (book : List Page) (i : ℕ) (r : Record) (j : ℕ) → j ≢ i
     → answers_of (with_answer book i r) j ≡ answers_of book j
 answers_of-with_answer_other book i r j other =
     let p : Page = record (page_of book i) { records = (page_of book i).records ++ r ∷ [] } in
     ap (λ (q : Page). length q.records) (page_of-set_other book i j p other)
 
--- the record of the book whose call is the part's first unanswered one of a caller
+-- Where the part's first unanswered call of a caller was the book's call with this number, a record
+-- of that call in the book is the record of the call that the part's call was.
 pub due : (book : List Page) (names : List (List ℕ)) (part : List Page) (i number : ℕ)
     (whole : Record) → get_or (numbers_of names i) (answers_of part i) 0 ≡ number
     → record_of book (record { caller = i; number = number }) ≡ Some whole
@@ -54,7 +56,8 @@ pub due : (book : List Page) (names : List (List ℕ)) (part : List Page) (i num
 due book names part i number whole here known =
     ap (λ (n : ℕ). record_of book (record { caller = i; number = n })) here ∙ known
 
--- The answer that is due makes a part of a part.
+-- A part stays a part of the book where its first unanswered call of a caller gets the book's
+-- record, with its view renumbered.
 pub part-with_answer : (book : List Page) (names : List (List ℕ)) (part : List Page) (i : ℕ)
     (whole answer : Record) → IsPart book names part → i < length part
     → answers_of part i < calls_of part i
@@ -101,7 +104,8 @@ part-with_answer book names part i whole answer is inside room known kept = reco
       ];
 }
 
--- And the part takes it.
+-- A part may take, as the answer to its first unanswered call of a caller, the book's record of the
+-- call that this call was, with its view renumbered.
 pub may_answer : (book : List Page) (names : List (List ℕ)) (part : List Page) (i : ℕ)
     (whole answer : Record) → IsValid book → IsPart book names part
     → answers_of part i < length (numbers_of names i)
@@ -139,7 +143,7 @@ may_answer book names part i whole answer valid is room known kept = record {
       ];
 }
 
--- A book with the calls of a part and no answers is a part.
+-- A book with the callers, the calls and the operations of a part and no answers is a part.
 pub part_without_answers : (book : List Page) (names : List (List ℕ)) (part : List Page)
     → length part ≡ length book → ((i : ℕ) → calls_of part i ≡ length (numbers_of names i))
     → ((i : ℕ) → AreRising (numbers_of names i)) → ((i : ℕ) → answers_of part i ≡ 0)
@@ -155,7 +159,7 @@ part_without_answers book names part callers calls rising none operations = reco
       absurd (omega (arith, none call.caller, slice_get_within _ call.number small there));
 }
 
--- the operation that is put in, and the others
+-- A list in which an item is put at a place has this item there.
 slice_get-set_same : {X : Type 0} (xs : List X) (i : ℕ) (x : X) → i < length xs
     → slice_get (set xs i x) i ≡ Some x
 slice_get-set_same [] i x inside = absurd (omega arith)
@@ -198,7 +202,9 @@ operation_of-with_operation_other book call other op apart =
     ap (λ (q : Page). slice_get q.operations other.number)
     (page_of-set_other book call.caller other.caller p apart)
 
--- The operations of this many first calls of a caller are put in.
+-- In the new book the first n calls of a caller have the operations of the book's calls with these
+-- numbers. The callers, the counts of calls, the records, and the operations of all other callers
+-- are those of the old book.
 pub record PutsTo (book : List Page) (numbers : List ℕ) (caller : ℕ) (n : ℕ)
     (old new : List Page) : Type 0 where
   pub callers : length new ≡ length old
@@ -218,6 +224,8 @@ puts_none book numbers caller old = record {
   others = λ call apart. refl;
 }
 
+-- Where the first n calls of a caller have their operations and call n is given its own, the first
+-- n + 1 have theirs.
 pub puts_more : (book : List Page) (numbers : List ℕ) (caller n op : ℕ) (old new : List Page)
     → PutsTo book numbers caller n old new → caller < length new → n < calls_of new caller
     → operation_of book (record { caller = caller; number = get_or numbers n 0 }) ≡ Some op
@@ -244,21 +252,21 @@ puts_more book numbers caller n op old new is here inside known =
           ∙ is.others other apart;
     }
 
--- a list in memory is the one that is named
+-- The numbers of a caller in a list of vectors are the items of the caller's vector.
 pub numbers_in-at : {A : Type 0} (rows : List (Vec ℕ A)) (i : ℕ) (r : Vec ℕ A) → i < length rows
     → r ≡ get_or rows i r → numbers_of (numbers_in rows) i ≡ r.items
 numbers_in-at {A} rows i r inside is =
     let items : Vec ℕ A → List ℕ = λ row. row.items in
     get_or-map items rows i r [] inside ∙ ap items (sym is)
 
--- of rising numbers each is at least its place
+-- In a rising list each number is at least its place.
 place-within : (xs : List ℕ) (k : ℕ) → AreRising xs → k < length xs → k ≤ get_or xs k 0
 place-within xs zero rising inside = omega arith
 place-within xs (suc k) rising inside =
     let before : k ≤ get_or xs k 0 = place-within xs k rising (omega arith) in
     omega (arith, rising k (suc k) (omega arith) inside)
 
--- so that there are at most as many as their bound
+-- A rising list of numbers below n has at most n numbers.
 pub length-rising : (xs : List ℕ) (n : ℕ) → AreRising xs
     → ((k : ℕ) → k < length xs → get_or xs k 0 < n) → length xs ≤ n
 length-rising [] n rising below = omega arith
@@ -266,7 +274,8 @@ length-rising (x ∷ xs) n rising below =
     omega
     (arith, place-within (x ∷ xs) (length xs) rising (omega arith), below (length xs) (omega arith))
 
--- a book that has calls alone
+-- The book in which each caller made this many calls, none answered, has these callers, these
+-- counts of calls, and no answers.
 pub blank : (part : List Page) (calls : List ℕ) → part ≡ unanswered_book calls
     → (length part ≡ length calls) × ((i : ℕ) → calls_of part i ≡ get_or calls i 0)
     × ((i : ℕ) → answers_of part i ≡ 0)
@@ -278,19 +287,20 @@ blank part calls e = (
       ∙ ap (λ (p : Page). length p.records) (page_of-unanswered_book calls i),
 )
 
--- what follows of an Ok follows of a result that is one
+-- Where a claim holds if a result is `Ok`, what follows from the claim holds if it is.
 pub OnOk_then : {T E P Q : Type 0} (r : Result T E) → OnOk r P → (P → Q) → OnOk r Q
 OnOk_then (Ok x) h f = f h
 OnOk_then (Err e) h f = h
 
--- one number more
+-- A range with one number more is the range with that number at its end.
 pub range_with_len-more : (a n j : ℕ) → a + n ≡ j
     → range_with_len a (n + 1) ≡ range_with_len a n ++ j ∷ []
 range_with_len-more a n j e =
     sym (map-id (range_with_len a (n + 1))) ∙ (map-range_with_len_more (λ (x : ℕ). x) a n j e
     ∙ ap (λ (xs : List ℕ). xs ++ j ∷ []) (map-id (range_with_len a n)))
 
--- one list in memory more
+-- Where vectors hold the lists of the callers below i, these vectors and one that holds the list of
+-- caller i hold the lists of the callers below i + 1.
 pub numbers_in-more : {A : Type 0} (f : ℕ → List ℕ) (rows new : List (Vec ℕ A)) (row : Vec ℕ A)
     (i : ℕ) → numbers_in rows ≡ map f (range_with_len 0 i) → new ≡ rows ++ row ∷ []
     → row.items ≡ f i → numbers_in new ≡ map f (range_with_len 0 (i + 1))

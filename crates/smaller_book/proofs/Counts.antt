@@ -12,7 +12,8 @@ count_below-cons : (x : ℕ) (xs : List ℕ) (bound : ℕ) → x < bound
 count_below-cons x xs bound less =
     cond-true (ltb x bound) (1 + count_below xs bound) 0 (lt-ltb x bound less)
 
--- a number below the bound is counted
+-- In a rising list, each place whose number is below a bound is below the count of the numbers
+-- below this bound.
 pub counted_from_below : (xs : List ℕ) (bound k : ℕ) → AreRising xs → k < length xs
     → get_or xs k 0 < bound → k < count_below xs bound
 counted_from_below [] bound k rising inside less = absurd (omega arith)
@@ -24,17 +25,17 @@ counted_from_below (x ∷ xs) bound (suc k) rising inside less =
     counted_from_below xs bound k (rising-tail x xs rising) (omega arith) less in
     omega (arith, count_below-cons x xs bound (omega arith))
 
--- a counted number is below the bound
+-- Each place below the count of the numbers below a bound has a number below this bound.
 pub below_from_counted : (xs : List ℕ) (bound k : ℕ) → k < count_below xs bound
     → get_or xs k 0 < bound
 below_from_counted xs bound k less = ltb-true (get_or xs k 0) bound
     (prefix_len_passes (λ (number : ℕ). ltb number bound) xs k 0 less)
 
--- no more are counted than there are
+-- At most as many numbers are counted below a bound as the list has.
 pub count_below-within : (xs : List ℕ) (bound : ℕ) → count_below xs bound ≤ length xs
 count_below-within xs bound = prefix_len-le-length (λ (number : ℕ). ltb number bound) xs
 
--- more numbers are below a greater bound
+-- In a rising list at least as many numbers are below a greater or equal bound.
 pub count_below-monotone : (xs : List ℕ) (a b : ℕ) → AreRising xs → a ≤ b
     → count_below xs a ≤ count_below xs b
 count_below-monotone xs a b rising few =
@@ -49,7 +50,7 @@ count_below-monotone xs a b rising few =
       | inr most ↦ most
     ]
 
--- as many numbers are below one of them as stand before it
+-- In a rising list exactly k numbers are below the number at place k.
 pub count_below-at : (xs : List ℕ) (k : ℕ) → AreRising xs → k < length xs
     → count_below xs (get_or xs k 0) ≡ k
 count_below-at xs k rising inside =
@@ -68,7 +69,7 @@ count_below-at xs k rising inside =
               (rising j (suc j) (omega arith) inside),
         )
 
--- and one more is below the number after it
+-- In a rising list exactly k + 1 numbers are at most the number at place k.
 pub count_below-past : (xs : List ℕ) (k : ℕ) → AreRising xs → k < length xs
     → count_below xs (get_or xs k 0 + 1) ≡ k + 1
 count_below-past xs k rising inside =
@@ -83,7 +84,7 @@ count_below-past xs k rising inside =
       | inr few ↦ omega arith
     ]
 
--- a number that isn't there isn't counted
+-- Where n isn't in a list, as many numbers are counted below n + 1 as below n.
 pub count_below-without : (xs : List ℕ) (n : ℕ) → ((k : ℕ) → k < length xs → get_or xs k 0 ≡ n → ⊥)
     → count_below xs (n + 1) ≡ count_below xs n
 count_below-without [] n none = refl
@@ -106,7 +107,7 @@ count_below-without (x ∷ xs) n none =
           ∙ sym (cond-false (ltb x n) (1 + count_below xs n) 0 (le-ltb x n most))
     ]
 
--- a number is there, or it isn't
+-- A number is at some place of a list, or at no place of it.
 pub find_number : (xs : List ℕ) (n : ℕ) → ((k : ℕ) × (k < length xs) × (get_or xs k 0 ≡ n))
     ⊎ ((k : ℕ) → k < length xs → get_or xs k 0 ≡ n → ⊥)
 find_number [] n = inr (λ k inside e. absurd (omega arith))

@@ -1,4 +1,4 @@
--- Evidence of evidence.
+-- Evidence of evidence is evidence.
 use Rattle.std.proofs.Common.{◌≡◌, ℕ, Bool, true, false, not, ◌||◌, List, [], ◌∷◌, Option, Some, None, refl, sym, subst}
 use Rattle.std.proofs.lemmas.Bool.{true≢false}
 use Rattle.book_base.specs.Book.{Page}
@@ -10,10 +10,11 @@ use Rattle.smaller_book.specs.Part.{CarriesOver}
 use Rattle.smaller_book.specs.Keys.{key_of_item, is_among, items_without, IsWellFormed, IsEvidence, EvidenceTells}
 use Rattle.smaller_book.proofs.Filtering.{filter-all, filter-filter, rises-filter, keys_once-filter}
 
--- no keys, and the keys of two
+-- the set of no keys
 abbrev pub no_keys : ℕ → Bool
 no_keys key = false
 
+-- the keys that are in the first set or in the second one
 abbrev pub either_keys : (ℕ → Bool) → (ℕ → Bool) → ℕ → Bool
 either_keys first second key = first key || second key
 
@@ -21,7 +22,7 @@ none_among : (o : Option ℕ) → not (is_among no_keys o) ≡ true
 none_among None = refl
 none_among (Some key) = refl
 
--- all items stay where no keys go
+-- A list without the items of no keys is the list.
 pub items_without-none : (kind : Kind) (list : List ℕ) → items_without kind no_keys list ≡ list
 items_without-none kind list =
     filter-all (λ (item : ℕ). not (is_among no_keys (key_of_item kind item))) list
@@ -45,7 +46,8 @@ among_off : (first second : ℕ → Bool) (o : Option ℕ) → not (is_among fir
 among_off first second None off = off
 among_off first second (Some key) off = or_off (first key) (second key) off
 
--- items without some keys and then without others
+-- A list without the items of some keys, and then without those of others, is the list without the
+-- items of all of them.
 pub items_without-twice : (kind : Kind) (first second : ℕ → Bool) (list : List ℕ)
     → items_without kind second (items_without kind first list)
     ≡ items_without kind (either_keys first second) list
@@ -56,7 +58,7 @@ items_without-twice kind first second list =
     (λ (item : ℕ) on. among_on first second (key_of_item kind item) on)
     (λ (item : ℕ) off. among_off first second (key_of_item kind item) off)
 
--- the items that stay are a well-formed list
+-- A well-formed list without the items of some keys is well-formed.
 pub well_formed-without : (kind : Kind) (keys : ℕ → Bool) (list : List ℕ) → IsWellFormed kind list
     → IsWellFormed kind (items_without kind keys list)
 well_formed-without kinds.Pqueue keys list formed =
@@ -70,7 +72,8 @@ well_formed-without kinds.Register keys list formed = tt
 well_formed-without kinds.Counter keys list formed = tt
 well_formed-without kinds.CasRegister keys list formed = tt
 
--- What carries over from each list is evidence without any keys.
+-- A part that has a legal order from each list from which the book has one is evidence of the book,
+-- by the set of no keys.
 pub evidence_from_all : (kind : Kind) (book part : List Page)
     → CarriesOver (kind_next kind) book part → IsEvidence kind book part
 evidence_from_all kind book part carries = (
@@ -80,7 +83,7 @@ evidence_from_all kind book part carries = (
       (sym (items_without-none kind list)) (carries list legal),
 )
 
--- Evidence of evidence is evidence.
+-- A part that is evidence of a part, which is evidence of the book, is evidence of the book.
 pub evidence_twice : (kind : Kind) (book mid part : List Page) → IsEvidence kind book mid
     → IsEvidence kind mid part → IsEvidence kind book part
 evidence_twice kind book mid part (first, outer) (second, inner) = (
@@ -92,7 +95,8 @@ evidence_twice kind book mid part (first, outer) (second, inner) = (
       (outer list formed legal)),
 )
 
--- no object begins with an item that has a key
+-- A legal order of a book gives one of each part that is evidence of it, since no object begins
+-- with an item that has a key.
 pub evidence_tells : EvidenceTells
 evidence_tells kinds.Queue book part (keys, carries) order = carries [] tt order
 evidence_tells kinds.Stack book part (keys, carries) order = carries [] tt order

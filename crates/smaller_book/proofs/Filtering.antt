@@ -12,23 +12,25 @@ use Rattle.smaller_book.specs.Keys.{Rises}
 
 -- ---- what a filter keeps
 
--- an item stays, or goes
+-- A filter keeps a first item that passes.
 pub filter-kept : {X : Type 0} (p : X → Bool) (x : X) (xs : List X) → p x ≡ true
     → filter p (x ∷ xs) ≡ x ∷ filter p xs
 filter-kept p x xs kept = cond-true (p x) (x ∷ filter p xs) (filter p xs) kept
 
+-- A filter drops a first item that doesn't pass.
 pub filter-gone : {X : Type 0} (p : X → Bool) (x : X) (xs : List X) → p x ≡ false
     → filter p (x ∷ xs) ≡ filter p xs
 filter-gone p x xs gone = cond-false (p x) (x ∷ filter p xs) (filter p xs) gone
 
--- all items stay
+-- A filter that every item passes keeps the whole list.
 pub filter-all : {X : Type 0} (p : X → Bool) (xs : List X) → ((x : X) → p x ≡ true)
     → filter p xs ≡ xs
 filter-all p [] all = refl
 filter-all {X} p (x ∷ xs) all =
     filter-kept p x xs (all x) ∙ ap (λ (ys : List X). x ∷ ys) (filter-all p xs all)
 
--- a filter after another one
+-- A filter after another one is a third filter, where the third agrees with the second on each item
+-- that passes the first, and no other item passes it.
 pub filter-filter : {X : Type 0} (p q r : X → Bool) (xs : List X)
     → ((x : X) → p x ≡ true → r x ≡ q x) → ((x : X) → p x ≡ false → r x ≡ false)
     → filter q (filter p xs) ≡ filter r xs
@@ -43,7 +45,7 @@ filter-filter {X} p q r (x ∷ xs) on off = elim (cases_Bool (p x)) [
       ∙ sym (filter-gone r x xs (off x gone))
 ]
 
--- what stays passes
+-- Each item that a filter keeps passes.
 pub filter-passes : {X : Type 0} (p : X → Bool) (xs : List X) (k : ℕ) (d : X)
     → k < length (filter p xs) → p (get_or (filter p xs) k d) ≡ true
 filter-passes p [] k d inside = absurd (omega arith)
@@ -64,7 +66,7 @@ filter-passes {X} p (x ∷ xs) k d inside = elim (cases_Bool (p x)) [
     first y ys kept rest zero less = kept
     first y ys kept rest (suc j) less = rest j (omega arith)
 
--- and what passes stays
+-- Each item of a list that passes is among those that the filter keeps.
 pub filter-finds : {X : Type 0} (p : X → Bool) (xs : List X) (j : ℕ) (d : X) → j < length xs
     → p (get_or xs j d) ≡ true
     → (k : ℕ) × (k < length (filter p xs)) × (get_or (filter p xs) k d ≡ get_or xs j d)
@@ -83,7 +85,7 @@ filter-finds {X} p (x ∷ xs) (suc j) d inside passes =
       | inr gone ↦ subst P (sym (filter-gone p x xs gone)) found
     ]
 
--- no more items stay than there are, and fewer where one goes
+-- A filter keeps at most as many items as there are.
 pub filter-few : {X : Type 0} (p : X → Bool) (xs : List X) → length (filter p xs) ≤ length xs
 filter-few p [] = omega arith
 filter-few p (x ∷ xs) = elim (cases_Bool (p x)) [
@@ -91,6 +93,7 @@ filter-few p (x ∷ xs) = elim (cases_Bool (p x)) [
   | inr gone ↦ omega (arith, ap length (filter-gone p x xs gone), filter-few p xs)
 ]
 
+-- A filter keeps fewer items than there are, where some item doesn't pass.
 pub filter-fewer : {X : Type 0} (p : X → Bool) (xs : List X) (j : ℕ) (d : X) → j < length xs
     → p (get_or xs j d) ≡ false → length (filter p xs) < length xs
 filter-fewer p [] j d inside gone = absurd (omega arith)
@@ -103,7 +106,7 @@ filter-fewer p (x ∷ xs) (suc j) d inside gone = elim (cases_Bool (p x)) [
       omega (arith, ap length (filter-gone p x xs other), filter-fewer p xs j d (omega arith) gone)
 ]
 
--- numbers of a range rise, and so do those that stay
+-- The numbers below n that a filter keeps rise.
 pub rising-filter_range : (p : ℕ → Bool) (n : ℕ) → AreRising (filter p (range_with_len 0 n))
 rising-filter_range p n j k less inside =
     AllPairs-filter (λ (x y : ℕ). x < y) p (range_with_len 0 n)
@@ -117,6 +120,7 @@ rising-filter_range p n j k less inside =
 
 -- ---- lists that rise
 
+-- Where a number is at most each item of a list, it is at most each item that a filter keeps.
 pub above-filter : (p : ℕ → Bool) (x : ℕ) (xs : List ℕ) → AllByRecursion (λ y. x ≤ y) xs
     → AllByRecursion (λ y. x ≤ y) (filter p xs)
 above-filter p x [] above = tt
@@ -127,6 +131,7 @@ above-filter p x (y ∷ ys) above = elim (cases_Bool (p y)) [
       (above-filter p x ys above.1)
 ]
 
+-- What a filter keeps of a rising list rises.
 pub rises-filter : (p : ℕ → Bool) (xs : List ℕ) → Rises xs → Rises (filter p xs)
 rises-filter p [] rises = tt
 rises-filter p (x ∷ xs) rises = elim (cases_Bool (p x)) [
@@ -147,6 +152,7 @@ lacks_key-filter p key (x ∷ xs) lacks = elim (cases_Bool (p x)) [
       subst (LacksKey key) (sym (filter-gone p x xs gone)) (lacks_key-filter p key xs lacks.1)
 ]
 
+-- What a filter keeps of a list without two items of one key has no two items of one key.
 pub keys_once-filter : (p : ℕ → Bool) (xs : List ℕ) → HasKeysOnce xs → HasKeysOnce (filter p xs)
 keys_once-filter p [] once = tt
 keys_once-filter p (x ∷ xs) once = elim (cases_Bool (p x)) [
@@ -157,6 +163,7 @@ keys_once-filter p (x ∷ xs) once = elim (cases_Bool (p x)) [
 
 -- ---- how often a value stays
 
+-- A value that passes is in what a filter keeps as often as in the list.
 pub times-filter : (p : ℕ → Bool) (v : ℕ) (xs : List ℕ) → p v ≡ true
     → times v (filter p xs) ≡ times v xs
 times-filter p v [] stays = refl

@@ -1,4 +1,4 @@
--- What is left of a legal order of a book in a part of it, where a relation of the object's lists
+-- From a legal order of a book to one of a part of it, by a relation of the object's lists that
 -- says what each call does to both.
 use Rattle.std.proofs.Common.{◌≡◌, ℕ, ◌+◌, ◌<◌, ◌≤◌, ◌⊎◌, ◌∙◌, List, [], ◌∷◌, length, get_or, replicate, unwrap_or, Option, Some, None, refl, sym, ap, subst, inl, inr, arith, ltb}
 use Rattle.std.specs.Option.{IsSomeAnd}
@@ -18,18 +18,19 @@ use Rattle.book_laws.proofs.LegalOrder.{raised_same, raised_other, same_call, an
 use Rattle.smaller_book.specs.Part.{numbers_of, AreRising, count_below, original, IsNamed, IsRenumbered, IsPart}
 use Rattle.smaller_book.proofs.Counts.{counted_from_below, count_below-at, count_below-past, count_below-without, count_below-monotone, find_number}
 
--- what a test of an option's value says of it
+-- An option that satisfies a claim about its value has a value, and this value satisfies the claim.
 pub some_that : {X : Type 0} (o : Option X) (P : X → Type 0) → IsSomeAnd o P → (x : X)
     × (o ≡ Some x) × P x
 some_that None P h = absurd h
 some_that (Some x) P h = (x, refl, h)
 
--- what is answered in a part is a call of it
+-- An answered call of a part is a call of it.
 pub call_from_answer : (book : List Page) (names : List (List ℕ)) (part : List Page)
     → IsPart book names part → (call : Call) → IsAnswered part call → IsCall part call
 call_from_answer book names part is call answered = omega (arith, answered, is.answers call.caller)
 
--- the record of the book that a record of the part was
+-- Where a call of a part has a record, the call that it was has a record in the book, and the
+-- part's record is this one with its view renumbered.
 pub record_was : (book : List Page) (names : List (List ℕ)) (part : List Page)
     → IsPart book names part → (call : Call) (r : Record) → record_of part call ≡ Some r
     → (whole : Record) × (record_of book (original names call) ≡ Some whole)
@@ -38,22 +39,24 @@ record_was book names part is call r known =
     some_that (record_of book (original names call))
     (λ (whole : Record). IsRenumbered names whole r) (is.records call r known)
 
--- The part lacks the first unanswered call of a caller in its order, which stands in the book's: of
--- its caller nothing stands any more.
+-- A caller is passed: each view of the book holds at most one unanswered call of each caller, the
+-- book's cut holds an unanswered call of this caller, and the part's cut counts at least those of
+-- its calls in the part that the book has answered.
 record IsPassed (book : List Page) (names : List (List ℕ)) (cut small : List ℕ)
     (i : ℕ) : Type 0 where
   open_calls : HasOneOpen book
   past : answers_of book i < get_or cut i 0
   counts : count_below (numbers_of names i) (answers_of book i) ≤ get_or small i 0
 
--- A cut of the part has the calls that the part has of the book's cut, but for the callers that are
--- passed.
+-- A cut of the part follows a cut of the book: for each caller, it counts exactly those calls of
+-- the book's cut that the part has, or the caller is passed.
 record Follows (book : List Page) (names : List (List ℕ)) (cut small : List ℕ) : Type 0 where
   wide : length small ≡ length cut
   counts : (i : ℕ) → (get_or small i 0 ≡ count_below (numbers_of names i) (get_or cut i 0))
       ⊎ IsPassed book names cut small i
 
--- the part's cut holds an answered call of the part where the book's holds what it was
+-- Where the book's cut holds the call that an answered call of the part was, the part's cut holds
+-- this call.
 held_in_part : (book : List Page) (names : List (List ℕ)) (part : List Page) (cut small : List ℕ)
     → IsPart book names part → Follows book names cut small
     → (call : Call) → IsAnswered part call → Holds cut (original names call) → Holds small call
@@ -78,7 +81,8 @@ held_in_part book names part cut small is follows call answered held =
           omega (arith, counted, passed.counts)
     ]
 
--- all answered calls of the part are in the part's cut
+-- Where the book's cut holds all answered calls of the book, the part's cut holds all answered
+-- calls of the part.
 answered_in_part : (book : List Page) (names : List (List ℕ)) (part : List Page)
     (cut small : List ℕ) → IsPart book names part → Follows book names cut small
     → HoldsAnswered book cut → HoldsAnswered part small
@@ -88,7 +92,7 @@ answered_in_part book names part cut small is follows holds call answered =
     held_in_part book names part cut small is follows call answered
     (holds (original names call) (slice_get_within _ (original names call).number whole.0 whole.1))
 
--- A place of the book whose call is number k of its caller in the part.
+-- The call of a place in an order of the book is in the part, as call k of its caller.
 record Stays (names : List (List ℕ)) (place : Place) (k : ℕ) : Type 0 where
   inside : k < length (numbers_of names place.caller)
   same : get_or (numbers_of names place.caller) k 0 ≡ place.number
@@ -110,11 +114,13 @@ same_operation book names part is place k stays =
     ap (λ o. unwrap_or o 0) (is.operations (call_at (renumbered place k)) inside
     ∙ ap (operation_of book) (was_there names place k stays))
 
--- the part's cut has as many calls of a caller as it has of those in the book's cut
+-- The part's cut is exact for a caller: it counts those calls of the caller in the book's cut that
+-- the part has, and no others.
 abbrev IsExact : List (List ℕ) → List ℕ → List ℕ → ℕ → Type 0
 IsExact names cut small i = get_or small i 0 ≡ count_below (numbers_of names i) (get_or cut i 0)
 
--- the part's count of the caller is the number of the call there
+-- Where a place's call is the next one of its caller after the book's cut and is call k of the
+-- caller in the part, a part's cut that is exact for this caller counts k calls of it.
 count_is : (names : List (List ℕ)) (cut small : List ℕ) (place : Place) (k : ℕ)
     → AreRising (numbers_of names place.caller) → IsExact names cut small place.caller
     → Stays names place k
@@ -124,7 +130,8 @@ count_is names cut small place k rising exact stays next =
     exact ∙ (ap (count_below xs) (sym next)
     ∙ (ap (count_below xs) (sym stays.same) ∙ count_below-at xs k rising stays.inside))
 
--- what precedes the call in the part precedes it in the book
+-- Where a record of the part doesn't hold call k of a caller in its view, the call that its call
+-- was precedes, in the book, the call that call k was.
 precedes_in_book : (book : List Page) (names : List (List ℕ)) (part : List Page)
     → IsPart book names part → (place : Place) (k : ℕ) → Stays names place k
     → (a : Call) → IsSomeAnd (record_of part a) (λ r. get_or r.view place.caller 0 ≤ k)
@@ -146,7 +153,9 @@ precedes_in_book book names part is place k stays a answered =
     inl (subst (λ o. IsSomeAnd o (λ (r : Record). get_or r.view place.caller 0 ≤ place.number))
     (sym whole.1) below)
 
--- a place that stays may stand next in the part, at a list with the same reply
+-- A place that may stand next in the book and whose call is in the part may stand next in the part,
+-- after a cut that follows the book's and is exact for its caller, and at a list at which the
+-- object gives the same reply.
 stands_in_part : (book : List Page) (names : List (List ℕ)) (part : List Page)
     (next : List ℕ → ℕ → List ℕ × ℕ) (cut small whole few : List ℕ) (place : Place) (k : ℕ)
     → IsPart book names part → Follows book names cut small → IsExact names cut small place.caller
@@ -179,8 +188,8 @@ stands_in_part book names part next cut small list few place k is follows exact 
           ∙ (alike ∙ may.reply);
     }
 
--- What a caller's counts say stays where another caller's call comes into the book's cut, and maybe
--- into the part's.
+-- What holds of a caller's counts in the two cuts still holds where both cuts get other counts of
+-- other callers alone.
 other_follows : (book : List Page) (names : List (List ℕ)) (cut small more few : List ℕ) (i : ℕ)
     → get_or more i 0 ≡ get_or cut i 0 → get_or few i 0 ≡ get_or small i 0
     → (get_or small i 0 ≡ count_below (numbers_of names i) (get_or cut i 0))
@@ -195,7 +204,8 @@ other_follows book names cut small more few i same_cut same_small (inr passed) =
   counts = omega (arith, passed.counts, same_small);
 })
 
--- the part's cut follows by one more call
+-- Where the part has the next call of a caller after the book's cut, and its own cut follows and is
+-- exact for this caller, its cut with this call follows the book's cut with the call.
 follows_on : (book : List Page) (names : List (List ℕ)) (cut small : List ℕ) (place : Place) (k : ℕ)
     → AreRising (numbers_of names place.caller) → Follows book names cut small
     → IsExact names cut small place.caller → Stays names place k
@@ -227,7 +237,9 @@ follows_on book names cut small place k rising follows exact stays next inside =
       ];
     }
 
--- it stays where what holds of the caller's count holds of it with one call more in the book's cut
+-- The part's cut follows the book's cut with one more call of a caller, where it followed the cut
+-- before, and counts exactly those of the caller's calls in the new cut that the part has, or the
+-- caller is passed.
 follows_with : (book : List Page) (names : List (List ℕ)) (cut small : List ℕ) (i : ℕ)
     → Follows book names cut small
     → (get_or small i 0 ≡ count_below (numbers_of names i) (get_or (raised cut i) i 0))
@@ -246,7 +258,8 @@ follows_with book names cut small i follows own =
       ];
     }
 
--- so it does where the part lacks the call
+-- Where the part lacks the next call of a caller after the book's cut, and its own cut follows and
+-- is exact for this caller, its cut follows the book's cut with this call too.
 follows_without : (book : List Page) (names : List (List ℕ)) (cut small : List ℕ) (place : Place)
     → Follows book names cut small → IsExact names cut small place.caller
     → ((k : ℕ) → k < length (numbers_of names place.caller)
@@ -261,7 +274,9 @@ follows_without book names cut small place follows exact lacks next inside =
     ∙ (count_below-without xs place.number lacks ∙ ap (count_below xs) next) in
     follows_with book names cut small i follows (inl (exact ∙ sym more))
 
--- and where an unanswered call is passed
+-- Where the next call of a caller after the book's cut is unanswered, each view of the book holds
+-- at most one unanswered call of each caller, and the part's cut follows and is exact for this
+-- caller, it follows the book's cut with this call too: the caller is then passed.
 follows_past : (book : List Page) (names : List (List ℕ)) (cut small : List ℕ) (place : Place)
     → AreRising (numbers_of names place.caller) → Follows book names cut small
     → IsExact names cut small place.caller → HasOneOpen book → (IsAnswered book (call_at place) → ⊥)
@@ -282,8 +297,8 @@ follows_past book names cut small place rising follows exact open_calls unanswer
           (arith, exact, count_below-monotone xs (answers_of book i) (get_or cut i 0) rising late);
     }))
 
--- Where a call of a passed caller stands next, all answered calls stand before it, since no view
--- holds it.
+-- Where a call of a passed caller may stand next in the book, the part's cut holds all answered
+-- calls of the part, since no view of the book holds that call.
 all_held : (book : List Page) (names : List (List ℕ)) (part : List Page)
     (next : List ℕ → ℕ → List ℕ × ℕ) (cut small list : List ℕ) (place : Place)
     → IsPart book names part → Follows book names cut small
@@ -304,32 +319,34 @@ all_held book names part next cut small list place is follows passed may call an
     (inl (subst (λ o. IsSomeAnd o (λ (r : Record). get_or r.view place.caller 0 ≤ place.number))
     (sym whole.1) before)))
 
--- the operation word of a call
+-- The operation word of a call, or 0 where the book has no such call.
 abbrev pub word_at : List Page → Call → ℕ
 word_at book call = unwrap_or (operation_of book call) 0
 
--- the recorded reply is the one that the object gives at a list
+-- The recorded reply to a call, where it has one, is the one that the object gives to its operation
+-- at a list.
 abbrev pub AgreesAt : List Page → (List ℕ → ℕ → List ℕ × ℕ) → List ℕ → Call → Type 0
 AgreesAt book next whole call = (r : Record) → record_of book call ≡ Some r
     → r.reply ≡ (next whole (word_at book call)).1
 
--- A relation of the lists with all calls and with the part's: each call keeps it.
+-- A relation of two lists of the object, one with all calls of the book and one with the calls of
+-- the part, which each call of the book keeps.
 pub record IsFollowed (R : List ℕ → List ℕ → Type 0) (next : List ℕ → ℕ → List ℕ × ℕ)
     (book : List Page) (names : List (List ℕ)) : Type 0 where
-  -- a call that the part lacks, where it changes the first list alone
+  -- a call that the part lacks keeps it, changing the first list alone
   pub lacks : (whole few : List ℕ) (call : Call) → R whole few → IsCall book call
       → ¬ IsNamed names call → AgreesAt book next whole call
       → R (next whole (word_at book call)).0 few
-  -- a call that the part has, which is made on both lists with the same reply; or it is an
-  -- unanswered one, and changes the first list alone
+  -- a call that the part has keeps it, made on both lists with the same reply; or the call is
+  -- unanswered and the book has one open, and the call keeps it, changing the first list alone
   pub has : (whole few : List ℕ) (call : Call) → R whole few → IsCall book call → IsNamed names call
       → AgreesAt book next whole call
       → (((next few (word_at book call)).1 ≡ (next whole (word_at book call)).1)
       × R (next whole (word_at book call)).0 (next few (word_at book call)).0)
       ⊎ (HasOneOpen book × (IsAnswered book call → ⊥) × R (next whole (word_at book call)).0 few)
 
--- What may stand one after another in the book does so in the part, without the calls that the part
--- lacks.
+-- Where places continue an order of the book from a cut and a list, some places continue one of the
+-- part from a cut that follows and a related list.
 continues_in_part : (R : List ℕ → List ℕ → Type 0) (book : List Page) (names : List (List ℕ))
     (part : List Page) (next : List ℕ → ℕ → List ℕ × ℕ) (cut small whole few : List ℕ)
     (order : List Place)
@@ -389,7 +406,7 @@ no_call_below : (xs : List ℕ) → count_below xs 0 ≡ 0
 no_call_below [] = refl
 no_call_below (x ∷ xs) = cond-false (ltb x 0) (1 + count_below xs 0) 0 (le-ltb x 0 (omega arith))
 
--- Where the book has a legal order, the part has one from a related list on.
+-- Where the book has a legal order from a list, the part has one from each related list.
 pub has_one_in_part : (R : List ℕ → List ℕ → Type 0) (next : List ℕ → ℕ → List ℕ × ℕ)
     (book : List Page) (names : List (List ℕ)) (part : List Page) (whole few : List ℕ)
     → IsPart book names part → IsFollowed R next book names → R whole few

@@ -6,13 +6,14 @@ use Rattle.seq_objects.specs.Words as words
 use Rattle.seq_objects.specs.Words.{OperationEntry, entries, entry_of, is_known_word, is_operation_of, code_of, has_arguments, argument_of}
 use Rattle.smaller_book.specs.Keys.{value_shown, value_moved, key_by_kind}
 
--- the code of an operation
+-- An operation word of an entry has the code of this entry.
 has_code : (word : ℕ) (entry : OperationEntry) → is_operation_of word entry ≡ true
     → code_of word ≡ entry.code
 has_code word entry is = eqb-true (code_of word) entry.code
     (and_parts (code_of word == entry.code) (has_arguments entry.arity word) is).0
 
--- a word of two entries is of the first one where it has its code
+-- Where a word is of one of two entries with the codes 1 and 2, its code is 1 exactly where it is
+-- of the first one.
 of_two : (word : ℕ) (put taking : OperationEntry) → put.code ≡ 1 → taking.code ≡ 2
     → is_some (find (is_operation_of word) (put ∷ taking ∷ [])) ≡ true
     → (code_of word == 1) ≡ is_operation_of word put
@@ -32,7 +33,8 @@ of_two word put taking one two known = elim (cases_Bool (is_operation_of word pu
   ]
 ]
 
--- what is read by the code is what the entry says
+-- Where a word has the code 1 exactly if it is an operation of an entry of puts, the value that it
+-- moves by the code is the one that it moves by the entry.
 moved_by_code : (word : ℕ) (reply : Option ℕ) (put : OperationEntry)
     → (code_of word == 1) ≡ is_operation_of word put
     → (if code_of word == 1 then Some (argument_of word) else value_shown reply)
@@ -40,6 +42,7 @@ moved_by_code : (word : ℕ) (reply : Option ℕ) (put : OperationEntry)
 moved_by_code word reply put same =
     ap (λ (b : Bool). if b then Some (argument_of word) else value_shown reply) same
 
+-- The key of a word that a queue knows, with its reply, can be read by the word's code.
 pub queue_by_code : (word : ℕ) (reply : Option ℕ) → is_known_word kinds.Queue word ≡ true
     → (if code_of word == 1 then Some (argument_of word) else value_shown reply)
     ≡ key_by_kind kinds.Queue word reply
@@ -47,6 +50,7 @@ unfolding is_known_word entry_of entries
 queue_by_code word reply known =
     moved_by_code word reply words.enq (of_two word words.enq words.deq refl refl known)
 
+-- The key of a word that a stack knows, with its reply, can be read by the word's code.
 pub stack_by_code : (word : ℕ) (reply : Option ℕ) → is_known_word kinds.Stack word ≡ true
     → (if code_of word == 1 then Some (argument_of word) else value_shown reply)
     ≡ key_by_kind kinds.Stack word reply
@@ -54,6 +58,7 @@ unfolding is_known_word entry_of entries
 stack_by_code word reply known =
     moved_by_code word reply words.push (of_two word words.push words.pop refl refl known)
 
+-- The key of a word that a priority queue knows, with its reply, can be read by the word's code.
 pub pqueue_by_code : (word : ℕ) (reply : Option ℕ) → is_known_word kinds.Pqueue word ≡ true
     → (if code_of word == 1 then Some (argument_of word) else value_shown reply)
     ≡ key_by_kind kinds.Pqueue word reply

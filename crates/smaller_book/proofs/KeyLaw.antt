@@ -1,4 +1,4 @@
--- All calls of some keys may be left out together.
+-- All calls that are about some keys may be left out together.
 use Rattle.std.proofs.Common.{◌≡◌, ℕ, ◌∙◌, Bool, true, List, Option, Some, None, option_map, sym, ap, inl, inr}
 use Rattle.std.proofs.lemmas.Bool.{cases_Bool, cond-true, cond-false, true≢false}
 use Rattle.list_laws.proofs.Options.{cases_Option}
@@ -17,7 +17,7 @@ use Rattle.smaller_book.proofs.Following.{word_at, AgreesAt, IsFollowed, has_one
 use Rattle.smaller_book.proofs.KeySteps.{Restricts, keeps_keys}
 use Rattle.smaller_book.proofs.KeyRows.{named_stays, unnamed_goes}
 
--- A key that an operation is about without a reply is its key with each reply.
+-- An operation that is about one of some keys without a reply is about one of them with each reply.
 moved_with : (keys : ℕ → Bool) (put : OperationEntry) (word reply : ℕ)
     → is_among keys (value_moved put word None) ≡ true
     → is_among keys (value_moved put word (Some reply)) ≡ true
@@ -61,7 +61,8 @@ key_with kind keys word reply among = elim (cases_Bool (is_known_word kind word)
       (cond-false (is_known_word kind word) (key_by_kind kind word None) None unknown)))
 ]
 
--- the key of an answered call is that of its step, where the step has the recorded reply
+-- The key of an answered call is the key of its operation with the reply that the object gives at a
+-- list, where this is the recorded reply.
 answered_key : (kind : Kind) (book : List Page) (whole : List ℕ) (call : Call) (r : Record)
     → AgreesAt book (kind_next kind) whole call → record_of book call ≡ Some r
     → key_of_call kind book call
@@ -71,7 +72,8 @@ answered_key kind book whole call r agrees known =
     ap (λ (o : Option Record). key_of_step kind word (option_map (λ s. s.reply) o)) known
     ∙ ap (λ (reply : ℕ). key_of_step kind word (Some reply)) (agrees r known)
 
--- A call whose key goes is one whose step's key goes.
+-- Where a call is about one of some keys, its operation is about one of them with the reply that
+-- the object gives at a list, if this is the recorded reply of the call, where it has one.
 goes_at : (kind : Kind) (keys : ℕ → Bool) (book : List Page) (whole : List ℕ) (call : Call)
     → AgreesAt book (kind_next kind) whole call
     → is_among keys (key_of_call kind book call) ≡ true → is_among keys
@@ -89,7 +91,8 @@ goes_at kind keys book whole call agrees goes =
           sym (ap (is_among keys) (answered_key kind book whole call some.0 agrees some.1)) ∙ goes
     ]
 
--- so that each call keeps the relation of the lists
+-- Where the book has one open, each call keeps the relation of a list with all items and one
+-- without those of some keys.
 followed : (kind : Kind) (keys : ℕ → Bool) (book : List Page) → HasOneOpen book
     → IsFollowed (Restricts kind keys) (kind_next kind) book (all_without kind keys book)
 followed kind keys book one_open = record {
@@ -114,6 +117,8 @@ followed kind keys book one_open = record {
       ];
 }
 
+-- Where each view holds at most one unanswered call of each caller, a legal order of a book gives
+-- one of the part without all calls that are about some keys.
 pub has_one_without_keys : HasOneWithoutKeys
 has_one_without_keys kind keys book part one_open is list formed legal =
     has_one_in_part (Restricts kind keys) (kind_next kind) book (all_without kind keys book) part

@@ -14,18 +14,20 @@ use Rattle.smaller_book.proofs.Building.{range_with_len-more}
 use Rattle.smaller_book.proofs.Filtering.{filter-fewer}
 use Rattle.smaller_book.proofs.Removing.{size-less_at}
 
--- a key is among those from it to it
+-- A key is among the keys from itself to itself.
 pub own_key : (key : ℕ) → keys_from_to key key key ≡ true
 own_key key = and_from (nat_le key key) (nat_le key key) (le-leb key key (omega arith))
     (le-leb key key (omega arith))
 
--- one number more of a range
+-- Of the numbers below n + 1 a filter keeps those that it keeps of the numbers below n, and n where
+-- n passes.
 pub filter_range-more : (p : ℕ → Bool) (n : ℕ) → filter p (range_with_len 0 (n + 1))
     ≡ filter p (range_with_len 0 n) ++ (if p n then n ∷ [] else [])
 filter_range-more p n = ap (filter p) (range_with_len-more 0 n n (zero-add n))
     ∙ filter-append p (range_with_len 0 n) (n ∷ [])
 
--- Where a call goes, there are fewer calls.
+-- Where some call of the book is about one of some keys, the part without the calls that are about
+-- them has fewer calls than the book.
 pub size-less_without : (kind : Kind) (keys : ℕ → Bool) (book : List Page) (call : Call)
     (part : List Page) → IsCall book call → is_among keys (key_of_call kind book call) ≡ true
     → IsPart book (all_without kind keys book) part → size_of part < size_of book

@@ -14,7 +14,7 @@ use Rattle.smaller_book.specs.Numbers.{AreNumbersOf}
 use Rattle.smaller_book.specs.Keys.{key_of_call, is_among, row_without, all_without}
 use Rattle.smaller_book.proofs.Filtering.{filter-passes, filter-finds, rising-filter_range}
 
--- a caller's call stays
+-- Whether the call of a caller with this number is about none of these keys.
 abbrev stays_in : Kind → (ℕ → Bool) → List Page → ℕ → ℕ → Bool
 stays_in kind keys book i number =
     not (is_among keys (key_of_call kind book (record { caller = i; number = number })))
@@ -32,7 +32,8 @@ module _ (kind : Kind) (keys : ℕ → Bool) (book : List Page) where
       get_or_past (map remaining (range_with_len 0 (length book)))
       i [] (omega (arith, past, length-map-range_with_len remaining 0 (length book)))
 
-  -- what holds of the rows and of no numbers holds of each caller's numbers
+  -- A property of a caller and its numbers holds of each caller where it holds of the numbers of
+  -- its calls that are about none of these keys, and of no numbers.
   cases_rows : (P : ℕ → List ℕ → Type 0) → ((i : ℕ) → P i (row_without kind keys book i))
       → ((i : ℕ) → P i []) → (i : ℕ) → P i (numbers_of (all_without kind keys book) i)
   cases_rows P here past i = elim (cases_lt i (length book)) [
@@ -54,6 +55,8 @@ module _ (kind : Kind) (keys : ℕ → Bool) (book : List Page) where
       ))
       k 0 room
 
+  -- The numbers of all calls that are about none of these keys are rising numbers of calls of the
+  -- book, a list for each caller.
   pub all_without_are_numbers : AreNumbersOf book (all_without kind keys book)
   all_without_are_numbers = record {
     wide =
@@ -66,7 +69,7 @@ module _ (kind : Kind) (keys : ℕ → Bool) (book : List Page) where
         (λ i k room. inside-row i k room) (λ i k room. absurd (omega arith));
   }
 
-  -- a call that is named stays
+  -- A call that is named is about none of these keys.
   pub named_stays : (call : Call) → IsCall book call → IsNamed (all_without kind keys book) call
       → is_among keys (key_of_call kind book call) ≡ false
   named_stays call inside named =
@@ -85,7 +88,7 @@ module _ (kind : Kind) (keys : ℕ → Bool) (book : List Page) where
       not_true true e = absurd (true≢false (sym e))
       not_true false e = refl
 
-  -- and one that isn't goes
+  -- A call that isn't named is about one of these keys.
   pub unnamed_goes : (call : Call) → IsCall book call → ¬ IsNamed (all_without kind keys book) call
       → is_among keys (key_of_call kind book call) ≡ true
   unnamed_goes call inside unnamed =

@@ -1,5 +1,5 @@
--- What a step does to a list with all items and to one with those of the keys that stay, by the
--- kind of the object.
+-- What a step does to a list with all items and to one without the items of some keys, by the kind
+-- of the object.
 use Rattle.std.proofs.Common.{◌≡◌, ◌≢◌, ℕ, suc, ◌+◌, ◌^◌, ◌<◌, ◌≤◌, ◌⊎◌, ◌∙◌, Bool, true, false, not, ◌==◌, nat_lt, List, [], ◌∷◌, ◌++◌, length, filter, find, take, get_or, position, remove, Option, Some, None, is_some, if◌then◌else◌, refl, sym, ap, subst, inl, inr, arith}
 use Rattle.std.specs.List.{AllByRecursion, position_or_len}
 use Rattle.std.proofs.lemmas.Bool.{cases_Bool, cases_eq, cases_lt, cond-true, cond-false, true≢false, and_parts, eq-eqb, ne_eqb, ltb-true, ltb-false, lt-ltb, le-ltb}
@@ -29,15 +29,16 @@ use Rattle.object_laws.proofs.Standing.{times-insert, times-remove, times-placed
 use Rattle.smaller_book.specs.Keys.{value_shown, key_by_kind, key_of_step, key_of_item, is_among, items_without, Rises, IsWellFormed}
 use Rattle.smaller_book.proofs.Filtering.{filter-kept, filter-gone, filter-all, above-filter, keys_once-filter, times-filter}
 
--- A step on a list with all items, and on one with those of the keys that stay.
+-- A relation of a list with all items and one without the items of some keys, which each step of
+-- the object keeps.
 pub record KeepsKeys (kind : Kind) (keys : ℕ → Bool) (R : List ℕ → List ℕ → Type 0) : Type 0 where
-  -- the lists are so related at first
+  -- a well-formed list is related to the list without the items of these keys
   pub begins : (list : List ℕ) → IsWellFormed kind list → R list (items_without kind keys list)
-  -- a step of a key that goes changes the first list alone
+  -- a step that is about one of these keys keeps the relation, made on the first list alone
   pub gone : (whole few : List ℕ) (word : ℕ) → R whole few
       → is_among keys (key_of_step kind word (Some (kind_next kind whole word).1)) ≡ true
       → R (kind_next kind whole word).0 few
-  -- and another step is made on both lists with the same reply
+  -- each other step keeps the relation, made on both lists, and has the same reply on both
   pub kept : (whole few : List ℕ) (word : ℕ) → R whole few
       → is_among keys (key_of_step kind word (Some (kind_next kind whole word).1)) ≡ false
       → ((kind_next kind few word).1 ≡ (kind_next kind whole word).1)
@@ -56,7 +57,7 @@ known_later p x xs found = elim (cases_Bool (p x)) [
   | inr fails ↦ ap is_some (cond-false (p x) (Some x) (find p xs) fails) ∙ found
 ]
 
--- the key of a known word is the kind's
+-- The key of a word that the kind knows is the one that the kind's rule says.
 known_key : (kind : Kind) (word : ℕ) (reply : Option ℕ) → is_known_word kind word ≡ true
     → key_of_step kind word reply ≡ key_by_kind kind word reply
 known_key kind word reply known =
@@ -64,12 +65,13 @@ known_key kind word reply known =
 
 -- ---- containers
 
--- the value of an argument is the argument
+-- The argument of a word is its own value.
 argument_value : (word : ℕ) → value_of (argument_of word) ≡ argument_of word
 argument_value word = omega arith
 
--- How a container of values makes its steps: an operation puts an item into the list, and another
--- one takes one.
+-- A kind is a container of values: a put brings its argument into the list and is about it, a take
+-- takes an item out of the list and is about the value that its reply shows, and any other word
+-- changes nothing.
 record IsContainer (kind : Kind) (put taking : OperationEntry) (put_into : List ℕ → ℕ → List ℕ)
     (taken : List ℕ → List ℕ × ℕ) : Type 0 where
   puts : (list : List ℕ) (word : ℕ) → is_operation_of word put ≡ true
@@ -83,7 +85,9 @@ record IsContainer (kind : Kind) (put taking : OperationEntry) (put_into : List 
   others : (list : List ℕ) (word : ℕ) → is_operation_of word put ≡ false
       → is_operation_of word taking ≡ false → kind_next kind list word ≡ (list, reply_bad)
 
--- What a take does to all items and to those that pass: none is there, or it takes one.
+-- A take either finds no item, and then all items pass; or it shows an item. If this item passes,
+-- the take from the items that pass has the same effect on them; if it doesn't, the take keeps them
+-- all.
 abbrev TakesOne : (ℕ → Bool) → (List ℕ → List ℕ × ℕ) → List ℕ → Type 0
 TakesOne p taken list =
     ((taken list ≡ (list, reply_none)) × (filter p list ≡ list))
@@ -91,7 +95,7 @@ TakesOne p taken list =
     × (p x ≡ true → taken (filter p list) ≡ (filter p (taken list).0, reply_value x))
     × (p x ≡ false → filter p list ≡ filter p (taken list).0))
 
--- How the items that pass come in and leave: as if no others were there.
+-- What puts and takes do to the items that pass doesn't depend on the items that don't.
 record IsSplitBy (p : ℕ → Bool) (formed : List ℕ → Type 0) (put_into : List ℕ → ℕ → List ℕ)
     (taken : List ℕ → List ℕ × ℕ) : Type 0 where
   put_kept : (list : List ℕ) (v : ℕ) → formed list → p v ≡ true
@@ -101,11 +105,12 @@ record IsSplitBy (p : ℕ → Bool) (formed : List ℕ → Type 0) (put_into : L
   take_one : (list : List ℕ) → TakesOne p taken list
   take_formed : (list : List ℕ) → formed list → formed (taken list).0
 
--- the items of a container that stay
+-- Whether the value of an item is none of these keys.
 abbrev pub stays : (ℕ → Bool) → ℕ → Bool
 stays keys item = not (keys (value_of item))
 
--- the list with the items that stay
+-- The first list is well-formed, and the second one has those of its items whose values are none of
+-- these keys.
 abbrev pub IsRest : (ℕ → Bool) → (List ℕ → Type 0) → List ℕ → List ℕ → Type 0
 IsRest keys formed whole few = formed whole × (few ≡ filter (stays keys) whole)
 
@@ -216,7 +221,8 @@ module _ (kind : Kind) (keys : ℕ → Bool) (formed : List ℕ → Type 0) (put
         ]
       ]
 
--- a take of the first item
+-- A take of the first item finds none and all items pass, or shows an item and treats those that
+-- pass as if no others were there.
 first_one : (p : ℕ → Bool) (list : List ℕ) → TakesOne p first_taken list
 first_one p [] = inl (refl, refl)
 first_one p (x ∷ rest) = inr
@@ -294,7 +300,8 @@ stack_is_container = record {
       ∙ cond-false (is_operation_of word words.pop) _ _ not_pop);
 }
 
--- the last of pushed items is taken
+-- A take of the last item, from a list with an item pushed at its end, shows this item, and the
+-- list is then as before the push.
 last_pushed : (prefix : List ℕ) (y : ℕ) → last_taken (prefix ++ y ∷ []) ≡ (prefix, reply_value y)
 last_pushed [] y = refl
 last_pushed (x ∷ prefix) y =
@@ -354,7 +361,7 @@ pqueue_is_container = record {
   others = λ list word not_insert not_min. after_other list word not_insert not_min;
 }
 
--- a value below all items is placed first
+-- A value that is less than the least item of a rising list is placed before all items.
 placed_first : (v x : ℕ) (ys : List ℕ) → v < x → AllByRecursion (λ y. x ≤ y) ys
     → placed v ys ≡ v ∷ ys
 placed_first v x [] less above = refl
@@ -445,11 +452,11 @@ pqueue_is_split p = record {
 
 -- ---- sets
 
--- each value that stays is in both lists as often
+-- Each value that is none of these keys is in both lists equally often.
 abbrev pub HasSameValues : (ℕ → Bool) → List ℕ → List ℕ → Type 0
 HasSameValues keys whole few = (v : ℕ) → keys v ≡ false → times v few ≡ times v whole
 
--- so that it is in both or in neither
+-- A value that is in two lists equally often is found in both or in neither.
 same_there : (v : ℕ) (xs ys : List ℕ) → times v xs ≡ times v ys
     → is_some (place_of xs v) ≡ is_some (place_of ys v)
 same_there v xs ys same = elim (is_there v xs) [
@@ -463,7 +470,8 @@ same_there v xs ys same = elim (is_there v xs) [
   ]
 ]
 
--- an add of the value makes as many of them
+-- An add of a value keeps the number of items with this value where there are some, and makes it 1
+-- where there are none.
 times-added : (v : ℕ) (xs : List ℕ) → ((1 ≤ times v xs) × (times v (added xs v).0 ≡ times v xs))
     ⊎ ((times v xs ≡ 0) × (times v (added xs v).0 ≡ 1))
 times-added v xs = elim (is_there v xs) [
@@ -502,7 +510,7 @@ same_added v xs ys same = elim (times-added v xs) [
   ]
 ]
 
--- and a remove of it as few
+-- A remove of a value takes one item with this value out, where there is one.
 times-removed : (v : ℕ) (xs : List ℕ)
     → times v (removed xs v).0 + one_if (is_some (place_of xs v)) ≡ times v xs
 times-removed v xs = elim (cases_Option (place_of xs v)) [
@@ -531,7 +539,7 @@ same_removed v xs ys same =
     omega (arith, times-removed v xs, times-removed v ys, ap one_if (same_there v xs ys same), same)
 
 module _ (keys : ℕ → Bool) where
-  -- a value that stays isn't one that goes
+  -- A value that is one of these keys differs from each value that is none of them.
   apart_from : (v w : ℕ) → keys v ≡ true → keys w ≡ false → v ≢ w
   apart_from v w goes stay e = true≢false (sym goes ∙ (ap keys e ∙ stay))
 
@@ -560,7 +568,8 @@ module _ (keys : ℕ → Bool) where
     ],
   )
 
--- the key of a known word of a set or a map is its argument
+-- Where a known word has its argument as its key, the argument is one of some keys exactly where
+-- the key of the word is.
 argument_goes : (kind : Kind) (keys : ℕ → Bool) (word reply : ℕ) (b : Bool)
     → is_known_word kind word ≡ true → key_by_kind kind word (Some reply) ≡ Some (argument_of word)
     → is_among keys (key_of_step kind word (Some reply)) ≡ b → keys (argument_of word) ≡ b
@@ -651,13 +660,14 @@ set_kept keys whole few word same among =
 
 -- ---- maps
 
--- each key that stays has the same value in both lists, and no list has two items of one key
+-- No list has two items of one key, and a get of a key that is none of these keys replies the same
+-- on both lists.
 pub record HasSameKeys (keys : ℕ → Bool) (whole few : List ℕ) : Type 0 where
   pub all_once : HasKeysOnce whole
   pub few_once : HasKeysOnce few
   pub same : (key : ℕ) → keys key ≡ false → got few key ≡ got whole key
 
--- where the first item that passes stands, or that none passes
+-- A search that ends before the end of a list has found the first item that passes.
 first_at : (p : ℕ → Bool) (xs : List ℕ) (n : ℕ) → position_or_len p xs ≡ n → n < length xs
     → position p xs ≡ Some n
 first_at p xs n e inside =
@@ -670,7 +680,8 @@ first_nowhere p xs n e past =
     ap (λ (k : ℕ). if nat_lt k (length xs) then Some k else None) e
     ∙ cond-false (nat_lt n (length xs)) (Some n) None (le-ltb n (length xs) past)
 
--- what a longer list gives for a key: its first item's value, or what the rest gives
+-- A get of a key from a longer list replies with the value of the first item, if this item has the
+-- key, and else as from the rest.
 got-cons : (key x : ℕ) (xs : List ℕ)
     → got (x ∷ xs) key ≡ (if key_of x == key then reply_value x else got xs key)
 got-cons key x xs =
@@ -713,7 +724,7 @@ got-filter p key (x ∷ xs) stay = elim (cases_Bool (p x)) [
       ∙ cond-false (key_of x == key) (reply_value x) (got xs key) (ne_eqb (key_of x) key other)))
 ]
 
--- the step of each operation of a map
+-- A put's step on a map puts its extra as the value for its argument as the key.
 map_put : (list : List ℕ) (word : ℕ) → is_operation_of word words.put ≡ true
     → map_after list (map_operation word) ≡ put_in list (argument_of word) (extra_of word)
 map_put list word is = ap (map_after list) (cond-true (is_operation_of word words.put) _ _ is)
@@ -747,12 +758,12 @@ map_other list word not_put not_get not_del =
     ∙ cond-false (is_operation_of word words.get) _ _ not_get
     ∙ cond-false (is_operation_of word words.del) _ _ not_del)
 
--- the value that a put puts is small
+-- The value that a map's put puts in is below 2 ^ 32.
 put_is_small : (word : ℕ) → is_operation_of word words.put ≡ true → extra_of word < 2 ^ 32
 put_is_small word is = ltb-true (extra_of word) (2 ^ 32)
     (and_parts (code_of word == words.put.code) (has_arguments words.put.arity word) is).1
 
--- A step leaves what each other key has.
+-- A step of a map doesn't change the reply to a get of any key but the step's own.
 leaves_others : (list : List ℕ) (word other : ℕ) → other ≢ argument_of word
     → got (map_after list (map_operation word)).0 other ≡ got list other
 leaves_others list word other apart_of = elim (cases_Bool (is_operation_of word words.put)) [
@@ -777,7 +788,7 @@ put_reply : (list : List ℕ) (item : ℕ) (place : Option ℕ)
 put_reply list item None = refl
 put_reply list item (Some place) = refl
 
--- the replies of two steps are the same, and so is what a key has after them
+-- Two steps have the same reply, and after them a get of this key has the same reply.
 abbrev AreAlike : ℕ → List ℕ × ℕ → List ℕ × ℕ → Type 0
 AreAlike key one other = (one.1 ≡ other.1) × (got one.0 key ≡ got other.0 key)
 
@@ -788,7 +799,8 @@ alike_by key a b c d e f alike = (
       ∙ (alike.1 ∙ sym (ap (λ (step : List ℕ × ℕ). got step.0 key) f)),
 )
 
--- The reply to a step, and what its key has then, depend on what the key has before.
+-- Where a get of a step's key replies the same on two lists, each without two items of one key, the
+-- step has the same reply on both, and so has a get of the key after it.
 replies_alike : (xs ys : List ℕ) (word : ℕ) → HasKeysOnce xs → HasKeysOnce ys
     → got xs (argument_of word) ≡ got ys (argument_of word)
     → AreAlike (argument_of word) (map_after xs (map_operation word))
@@ -880,7 +892,7 @@ map_kept keys whole few word related among = elim (cases_Bool (is_known_word kin
 
 -- ---- the other kinds
 
--- a step whose kind has no keys is about none
+-- An operation of a kind without keys is about no key, and so about none of these.
 no_key : (known : Bool) (keys : ℕ → Bool) → is_among keys (if known then None else None) ≡ false
 no_key true keys = refl
 no_key false keys = refl
@@ -899,7 +911,8 @@ keyless_kept kind whole few word same = (
 
 -- ---- all kinds
 
--- The second list has what the first one has of the keys that stay.
+-- By the kind of the object: the second list has what the first one has, but for the items of these
+-- keys.
 abbrev pub Restricts : Kind → (ℕ → Bool) → List ℕ → List ℕ → Type 0
 Restricts kinds.Queue keys whole few = IsRest keys any_list whole few
 Restricts kinds.Stack keys whole few = IsRest keys any_list whole few
@@ -910,6 +923,8 @@ Restricts kinds.Register keys whole few = whole ≡ few
 Restricts kinds.Counter keys whole few = whole ≡ few
 Restricts kinds.CasRegister keys whole few = whole ≡ few
 
+-- For each kind, each step keeps the relation of a list with all items and one without the items of
+-- these keys.
 pub keeps_keys : (kind : Kind) (keys : ℕ → Bool) → KeepsKeys kind keys (Restricts kind keys)
 keeps_keys kinds.Queue keys = record {
   begins = λ list formed. (tt, refl);

@@ -1,4 +1,4 @@
--- The book at the least cuts at which it has no legal order.
+-- Least cuts at which a book has no legal order, and the book at them.
 use Rattle.std.proofs.Common.{◌≡◌, ◌≢◌, ℕ, zero, suc, ◌+◌, ◌-◌, ◌<◌, ◌≤◌, ◌⊎◌, ◌∙◌, List, [], length, map, get_or, set, Some, refl, sym, ap, subst, inl, inr, zero-add, arith}
 use Rattle.std.specs.List.{range_with_len}
 use Rattle.std.specs.Option.{IsSomeAnd}
@@ -23,7 +23,7 @@ use Rattle.smaller_book.specs.declared.TheConstants.{FEW_CALLS}
 use Rattle.smaller_book.specs.Earliest.{all_numbers, IsTried, IsEarliest, IsIllegalCut, one_less, IsLeastAt, IsLegalBelow, IsLeastOpenCut, IsLeastCut}
 use Rattle.smaller_book.proofs.Counts.{counted_from_below, count_below-at, count_below-within}
 
--- Numbers from 0 on rise, and as many of them are below a bound as the bound says.
+-- The numbers below n, from 0 up, rise.
 pub range-rising : (n : ℕ) → AreRising (range_with_len 0 n)
 range-rising n j k less inside =
     let room : k < n = omega (arith, inside, length-range_with_len 0 n) in
@@ -57,7 +57,8 @@ count_below-range n bound few =
           e,
         )
 
--- all numbers of a caller
+-- In the numbers of all calls of a book, those of a caller are the numbers below its count of
+-- calls.
 pub numbers_of-all : (book : List Page) (i : ℕ)
     → numbers_of (all_numbers book) i ≡ range_with_len 0 (calls_of book i)
 numbers_of-all book i =
@@ -70,7 +71,7 @@ numbers_of-all book i =
           ∙ sym (ap (λ (p : Page). range_with_len 0 (length p.operations)) (page_past book i past))
     ]
 
--- A caller's call of the book with all its numbers is the call.
+-- Where all calls of a book are named, the call of the book that a call was is this call.
 pub original-all : (book : List Page) (call : Call) → IsCall book call
     → original (all_numbers book) call ≡ call
 original-all book call inside =
@@ -81,7 +82,8 @@ original-all book call inside =
     ∙ zero-add call.number) in
     same_call (original (all_numbers book) call) call refl at
 
--- The book at a cut is a part of the book, with the same numbers.
+-- The book at a cut is a part of the book in which each call has the number that it has in the
+-- book.
 pub part_from_book_at : (book : List Page) (cut : List ℕ) (part : List Page) → IsValid book
     → IsBookAt book cut part → IsPart book (all_numbers part) part
 part_from_book_at book cut part valid at =
@@ -114,7 +116,7 @@ part_from_book_at book cut part valid at =
           (sym same) kept;
     }
 
--- a book without a legal order has none at the cut of all its records
+-- A valid book without a legal order has none at the cut of all its records.
 pub illegal_at_all : (init : List ℕ) (next : List ℕ → ℕ → List ℕ × ℕ) (book : List Page)
     → IsValid book → ¬ HasLegalOrder init next book → IsIllegalCut init next book (answered book)
 illegal_at_all init next book valid none = record {
@@ -123,7 +125,7 @@ illegal_at_all init next book valid none = record {
   illegal = λ h. none ((has_one_where_the_book_has init next book valid).0 h);
 }
 
--- a smaller count of one caller makes a smaller cut
+-- A cut with a smaller or equal count of one caller is within the cut.
 pub set-within : (cut : List ℕ) (i count : ℕ) → count ≤ get_or cut i 0
     → IsWithin (set cut i count) cut
 set-within cut i count few j =
@@ -139,6 +141,8 @@ set-within cut i count few j =
       | inr other ↦ omega (arith, get_or-set_other cut i j count 0 other)
     ]
 
+-- A cut at which the book has no legal order, changed to a smaller or equal count of one caller,
+-- has a count for each caller and is within the book's records.
 pub set-within_answered : (init : List ℕ) (next : List ℕ → ℕ → List ℕ × ℕ) (book : List Page)
     (cut : List ℕ) (i count : ℕ) → IsIllegalCut init next book cut → count ≤ get_or cut i 0
     → (length (set cut i count) ≡ length book) × IsWithin (set cut i count) (answered book)
@@ -147,7 +151,8 @@ set-within_answered init next book cut i count is few = (
   λ (j : ℕ). omega (arith, set-within cut i count few j, is.within j),
 )
 
--- where the book is illegal with this count of a caller
+-- A cut at which the book has no legal order stays such a cut with a smaller or equal count of one
+-- caller, where the book has no legal order at the changed cut.
 pub illegal_with : (init : List ℕ) (next : List ℕ → ℕ → List ℕ × ℕ) (book : List Page)
     (cut : List ℕ) (i count : ℕ) → IsIllegalCut init next book cut → count ≤ get_or cut i 0
     → ¬ HasLegalOrder init next (book_at (set cut i count) book)
@@ -156,7 +161,8 @@ illegal_with init next book cut i count is few none =
     let both = set-within_answered init next book cut i count is few in
     record { wide = both.0; within = both.1; illegal = none }
 
--- a count is least where the next smaller one gives a legal order
+-- A cut with a new count of a caller is least for this caller where the count is 0 or the book has
+-- a legal order at the cut with that count less by 1.
 pub least_from_search : (init : List ℕ) (next : List ℕ → ℕ → List ℕ × ℕ) (book : List Page)
     (cut : List ℕ) (i count : ℕ) → i < length cut
     → (count ≡ 0) ⊎ HasLegalOrder init next (book_at (set cut i (count - 1)) book)
@@ -171,7 +177,7 @@ least_from_search init next book cut i count inside h =
           inr (subst (λ (c : List ℕ). HasLegalOrder init next (book_at c book)) (sym same) legal)
     ]
 
--- what is least of a caller is so at a smaller cut with the same count of the caller
+-- A cut that is least for a caller stays so where the count of another caller gets smaller.
 pub least_stays : (init : List ℕ) (next : List ℕ → ℕ → List ℕ × ℕ) (book : List Page) (cut : List ℕ)
     (i j count : ℕ) → IsValid book → j ≢ i → count ≤ get_or cut i 0
     → IsLeastAt init next book cut j → IsLeastAt init next book (set cut i count) j
@@ -213,7 +219,8 @@ least_stays init next book cut i j count valid other few h =
           )
         ]
 
--- a cut that has less of a caller is within the cut with one less of it
+-- A cut that is within another one and counts less of a caller is within the other cut with one
+-- count less of this caller.
 within_one_less : (cut other : List ℕ) (i : ℕ) → IsWithin other cut
     → get_or other i 0 < get_or cut i 0 → IsWithin other (one_less cut i)
 within_one_less cut other i within less k =
@@ -227,7 +234,7 @@ within_one_less cut other i within less k =
           omega (arith, get_or-set_other cut i k (get_or cut i 0 - 1) 0 other_one, within k)
     ]
 
--- A cut is least where no record of any caller can go from it.
+-- A cut at which the book has no legal order, and which is least for each caller, is a least cut.
 pub least_from_all : (init : List ℕ) (next : List ℕ → ℕ → List ℕ × ℕ) (book : List Page)
     (cut : List ℕ) → IsValid book → IsIllegalCut init next book cut
     → ((i : ℕ) → IsLeastAt init next book cut i) → IsLeastCut init next book cut
@@ -241,8 +248,8 @@ least_from_all init next book cut valid here least = record {
   ];
 }
 
--- A cut at which the book is large and has one open is least where none is less at which it has one
--- open.
+-- A least cut among those with one open is a least cut, where at it the book has one open and more
+-- than `FEW_CALLS` calls.
 pub least_from_open : (init : List ℕ) (next : List ℕ → ℕ → List ℕ × ℕ) (book : List Page)
     (cut : List ℕ) → IsValid book → FEW_CALLS < size_of (book_at cut book)
     → HasOneOpen (book_at cut book) → IsLeastOpenCut init next book cut
@@ -259,15 +266,17 @@ least_from_open init next book cut valid large one is = record {
   ];
 }
 
--- What is legal below a count of a caller at a cut, is so at a lesser cut and below a lesser count.
+-- Where a book is legal below a count of a caller within a cut, it is legal below each smaller or
+-- equal count within each cut that is within this one.
 pub legal_below_stays : (init : List ℕ) (next : List ℕ → ℕ → List ℕ × ℕ) (book : List Page)
     (cut few : List ℕ) (i high low : ℕ) → IsWithin few cut → low ≤ high
     → IsLegalBelow init next book cut i high → IsLegalBelow init next book few i low
 legal_below_stays init next book cut few i high low within le legal other inside less one =
     legal other (λ j. omega (arith, inside j, within j)) (omega (arith, less, le)) one
 
--- Where the book is legal at a cut that holds each cut up to a count of a caller at which it has
--- one open, it is legal below the next count.
+-- Where a book has a legal order at a cut within which lies each cut, of those within a given one,
+-- that has at most some count of a caller and at which the book has one open, it is legal below the
+-- next count within the given cut.
 pub legal_below_from_greatest : (init : List ℕ) (next : List ℕ → ℕ → List ℕ × ℕ) (book : List Page)
     (cut tried : List ℕ) (i count : ℕ) → IsValid book → HasLegalOrder init next (book_at tried book)
     → ((other : List ℕ) → IsWithin other cut → get_or other i 0 ≤ count
@@ -278,7 +287,7 @@ legal_below_from_greatest init next book cut tried i count valid legal greatest 
     smaller_has_one init next book other tried valid
     (greatest other within (omega (arith, less)) one) legal
 
--- The book at a cut at which it has no legal order has none.
+-- Where a book has no legal order at a cut, each book that is the book at this cut has none.
 pub illegal_from_cut : (init : List ℕ) (next : List ℕ → ℕ → List ℕ × ℕ) (book : List Page)
     (cut : List ℕ) (part : List Page) → IsValid book → IsIllegalCut init next book cut
     → IsBookAt book cut part → ¬ HasLegalOrder init next part
@@ -286,8 +295,8 @@ illegal_from_cut init next book cut part valid is at h =
     is.illegal (subst (λ (b : List Page). HasLegalOrder init next b)
     (is_the_only_one book cut part valid at) h)
 
--- The book at a least cut has a legal order at each earlier cut, and has only calls that some view
--- holds.
+-- The book at a least cut has a legal order at each earlier cut at which it is tried, and has only
+-- calls that some view holds.
 pub earliest_from_least : (init : List ℕ) (next : List ℕ → ℕ → List ℕ × ℕ) (book : List Page)
     (cut : List ℕ) (part : List Page) → IsValid book → IsLeastCut init next book cut
     → IsBookAt book cut part → IsEarliest init next part
@@ -313,13 +322,14 @@ earliest_from_least init next book cut part valid is at =
           (found.0, found.1, there, found.4);
     }
 
+-- The book at a least cut has no legal order.
 pub illegal_from_least : (init : List ℕ) (next : List ℕ → ℕ → List ℕ × ℕ) (book : List Page)
     (cut : List ℕ) (part : List Page) → IsValid book → IsLeastCut init next book cut
     → IsBookAt book cut part → ¬ HasLegalOrder init next part
 illegal_from_least init next book cut part valid is at =
     illegal_from_cut init next book cut part valid is.here at
 
--- A legal order of the book gives one of the book at the cut.
+-- From whichever list, a legal order of the book gives one of the book at a cut within its records.
 pub carried_to_cut : (next : List ℕ → ℕ → List ℕ × ℕ) (book : List Page) (cut : List ℕ)
     (part : List Page) → IsValid book → IsWithin cut (answered book) → IsBookAt book cut part
     → CarriesOver next book part

@@ -13,7 +13,8 @@ use Rattle.book_laws.proofs.BookAt.{records-book_at}
 use Rattle.book_laws.proofs.BookAtLaws.{is_the_book_at}
 use Rattle.smaller_book.specs.Minimal.{IsMoment, MinimalAtMoments, FewCallsAtCuts, SeveralOpenAtCuts}
 
--- The book at a cut within its records has just the cut's records of each caller.
+-- Where a cut lies within a book's records, the book at the cut has of each caller as many records
+-- as the cut counts.
 answers-cut : (book : List Page) (cut : List ℕ) (i : ℕ) → IsWithin cut (answered book)
     → answers_of (book_at cut book) i ≡ get_or cut i 0
 answers-cut book cut i within =
@@ -21,8 +22,8 @@ answers-cut book cut i within =
     ∙ length-take-le (get_or cut i 0) (page_of book i).records
     (omega (arith, within i, answered_at book i))
 
--- At a moment of a book with one open, each view that the moment's cut holds has at most one call
--- more of each caller than the cut has records.
+-- In a valid book with one open, the view of a record that a moment holds counts for each caller at
+-- most one call more than the moment has records.
 moment_view : (book : List Page) (cut : List ℕ) (call : Call) (r : Record) (i : ℕ) → IsValid book
     → HasOneOpen book → IsMoment book cut → Holds cut call → record_of book call ≡ Some r
     → get_or r.view i 0 ≤ get_or cut i 0 + 1
@@ -41,7 +42,7 @@ moment_view book cut call r i valid one moment held known =
       | inr few ↦ omega (arith, few)
     ]
 
--- At a moment of a book with one open, the book has one open.
+-- At each moment within its records, a valid book with one open has one open.
 pub moment_open : (book : List Page) (cut : List ℕ) → IsValid book → HasOneOpen book
     → IsMoment book cut → IsWithin cut (answered book) → HasOneOpen (book_at cut book)
 moment_open book cut valid one moment within call r i there =
@@ -53,15 +54,21 @@ moment_open book cut valid one moment within call r i there =
       answers-cut book cut i within,
     )
 
+-- A minimal valid book with one open has a legal order at each moment that lacks one of its
+-- records.
 pub minimal_at_moments : MinimalAtMoments
 minimal_at_moments kind book cut valid one minimal moment i within less =
     minimal.earliest.earlier cut i within less
     (inr (inr (moment_open book cut valid one moment within)))
 
+-- A minimal book of at most `FEW_CALLS` calls has a legal order at each cut within its records that
+-- lacks one of them.
 pub few_calls_at_cuts : FewCallsAtCuts
 few_calls_at_cuts kind book cut few minimal i within less =
     minimal.earliest.earlier cut i within less (inl few)
 
+-- A minimal book that hasn't one open has a legal order at each cut within its records that lacks
+-- one of them.
 pub several_open_at_cuts : SeveralOpenAtCuts
 several_open_at_cuts kind book cut several minimal i within less =
     minimal.earliest.earlier cut i within less (inr (inl several))

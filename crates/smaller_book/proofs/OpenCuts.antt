@@ -1,4 +1,4 @@
--- Cuts at which a book has one open.
+-- Cuts at which each view of the book holds at most one unanswered call of each caller.
 use Rattle.std.proofs.Common.{◌≡◌, ℕ, ◌+◌, ◌<◌, ◌≤◌, ◌∙◌, List, length, get_or, set, Some, sym, ap, subst, inl, inr, arith}
 use Rattle.std.proofs.lemmas.Bool.{cases_lt, cases_eq}
 use Rattle.std.proofs.lemmas.List.{length-take, get_or-set_same, get_or-set_other}
@@ -31,7 +31,8 @@ open_view book cut call r i valid one held known =
     = record_of-part book cut (book_at cut book) at call held ∙ known in
     omega (arith, one call r i there, answers-few book cut i)
 
--- A record whose view has more than that is in no lesser cut at which the book has one open.
+-- Where the view of a record counts for some caller more than one call beyond a cut's records of
+-- it, no cut within this one at which the book has one open holds the record.
 pub open_lacks : (book : List Page) (cut other : List ℕ) (call : Call) (r : Record) (i : ℕ)
     → IsValid book → record_of book call ≡ Some r → get_or cut i 0 + 1 < get_or r.view i 0
     → IsWithin other cut → HasOneOpen (book_at other book)
@@ -47,8 +48,8 @@ open_lacks book cut other call r i valid known more within one =
       | inr past ↦ omega (arith, past)
     ]
 
--- a cut that is within another one, and has no more than this count of a caller, is within the
--- other one with this count
+-- A cut that is within another one, and has at most this count of a caller, is within the other one
+-- changed to this count of the caller.
 pub within-set : (other cut : List ℕ) (i count : ℕ) → i < length cut → IsWithin other cut
     → get_or other i 0 ≤ count → IsWithin other (set cut i count)
 within-set other cut i count inside within few j =

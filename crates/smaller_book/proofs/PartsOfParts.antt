@@ -19,7 +19,8 @@ use Rattle.smaller_book.proofs.Following.{call_from_answer, record_was}
 use Rattle.smaller_book.proofs.Evidence.{evidence_twice}
 use Rattle.smaller_book.proofs.Removing.{original_is_call}
 
--- the numbers of a caller
+-- The numbers of a caller in a part of a part are those of its first numbers at the places that its
+-- second numbers say.
 numbers_of-composed : (first second : List (List ℕ)) (i : ℕ)
     → numbers_of (composed first second) i ≡ picked (numbers_of first i) (numbers_of second i)
 numbers_of-composed first second i =
@@ -47,7 +48,7 @@ same_from_below m n up down =
       ]
     ]
 
--- rising numbers at rising places rise
+-- The numbers at rising places of a rising list rise.
 picked-rising : (numbers places : List ℕ) → AreRising numbers → AreRising places
     → ((k : ℕ) → k < length places → get_or places k 0 < length numbers)
     → AreRising (picked numbers places)
@@ -59,7 +60,8 @@ picked-rising numbers places first second inside j k less room =
     omega
     (arith, apart, get_or-picked numbers places j (omega arith), get_or-picked numbers places k few)
 
--- and as many of them are below a bound as places are below the count of numbers below it
+-- Of the numbers at rising places of a rising list, as many are below a bound as places are below
+-- the count of all numbers that are below it.
 count_below-picked : (numbers places : List ℕ) (bound : ℕ) → AreRising numbers → AreRising places
     → ((k : ℕ) → k < length places → get_or places k 0 < length numbers)
     → count_below (picked numbers places) bound ≡ count_below places (count_below numbers bound)
@@ -88,7 +90,7 @@ count_below-picked numbers places bound first second inside =
     (picked-rising numbers places first second inside) (omega (arith, few, long))
     (omega (arith, below, get_or-picked numbers places k few)))
 
--- the places are places of the first numbers
+-- Each of the second numbers of a caller is a place in the caller's first numbers.
 pub places_inside : (book mid part : List Page) (first second : List (List ℕ))
     → IsPart book first mid → IsPart mid second part
     → (i k : ℕ) → k < length (numbers_of second i)
@@ -99,7 +101,8 @@ places_inside book mid part first second outer inner i k room =
     (omega (arith, room, inner.calls i)) in
     omega (arith, inside, outer.calls i)
 
--- the call of the book that a call of the part of the part is
+-- The call of the book that a call of a part of a part was is the original, by the first numbers,
+-- of its original by the second ones.
 original-composed : (book mid part : List Page) (first second : List (List ℕ))
     → IsPart book first mid → IsPart mid second part → (call : Call) → IsCall part call
     → original (composed first second) call ≡ original first (original second call)
@@ -110,14 +113,15 @@ original-composed book mid part first second outer inner call inside =
     (ap (λ (xs : List ℕ). get_or xs call.number 0) (numbers_of-composed first second i)
     ∙ get_or-picked (numbers_of first i) (numbers_of second i) call.number few)
 
--- there is a list of them for each caller
+-- The numbers of a part of a part are a list for each caller of the book.
 wide-composed : (book mid : List Page) (first second : List (List ℕ)) → IsPart book first mid
     → length second ≡ length mid → length (composed first second) ≡ length book
 wide-composed book mid first second outer wide =
     let kept_by : ℕ → List ℕ = λ i. picked (numbers_of first i) (numbers_of second i) in
     length-map-range_with_len kept_by 0 (length second) ∙ (wide ∙ outer.callers)
 
--- A part of a part is a part, by the first numbers at the second ones.
+-- A part of a part of a book is a part of the book, by the first numbers at the places that the
+-- second ones say.
 pub part_of_part : (book mid part : List Page) (first second : List (List ℕ))
     → IsPart book first mid → IsPart mid second part → IsPart book (composed first second) part
 part_of_part book mid part first second outer inner = record {
@@ -158,7 +162,7 @@ part_of_part book mid part first second outer inner = record {
       (sym found) kept;
 }
 
--- What is shrunk twice is shrunk.
+-- Where a part is evidence of a book, a shrunk book of the part is a shrunk book of the book.
 pub shrunk_twice : (kind : Kind) (book mid part : List Page) (first second : List (List ℕ))
     → IsPart book first mid → IsEvidence kind book mid
     → IsShrunk kind mid second part → IsShrunk kind book (composed first second) part
@@ -170,7 +174,7 @@ shrunk_twice kind book mid part first second outer evidence inner = record {
   earliest = inner.earliest;
 }
 
--- And a smaller book of a smaller book is smaller.
+-- A smaller book of a smaller book of a book is a smaller book of this book.
 pub smaller_twice : (kind : Kind) (book mid part : List Page) (first second : List (List ℕ))
     → IsSmaller kind book first mid → IsSmaller kind mid second part
     → IsSmaller kind book (composed first second) part

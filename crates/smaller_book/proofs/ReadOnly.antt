@@ -1,4 +1,4 @@
--- What is left of a legal order of a book, where the calls that a part lacks leave every list.
+-- From a legal order of a book to one of a part that lacks only read-only calls.
 use Rattle.std.proofs.Common.{◌≡◌, ℕ, ◌∙◌, List, unwrap_or, refl, sym, ap, inl}
 use Rattle.book_base.specs.declared.call.Call.{Call}
 use Rattle.book_base.specs.declared.call.Record.{Record}
@@ -7,7 +7,7 @@ use Rattle.book_base.specs.PruningRules.{Leaves}
 use Rattle.smaller_book.specs.ReadOnly.{IsReadOnly, LacksReadOnlyAlone, HasOneWithoutReadOnly}
 use Rattle.smaller_book.proofs.Following.{some_that, word_at, AgreesAt, IsFollowed, has_one_in_part}
 
--- a read-only call leaves the one that it is made on
+-- A read-only call doesn't change a list at which the object gives its recorded reply.
 list_stays : (next : List ℕ → ℕ → List ℕ × ℕ) (book : List Page) (list : List ℕ) (call : Call)
     → AgreesAt book next list call
     → IsReadOnly next book call → (next list (word_at book call)).0 ≡ list
@@ -16,7 +16,8 @@ list_stays next book list call agrees leaves =
     (λ (r : Record). Leaves next (unwrap_or (operation_of book call) 0) r.reply) leaves in
     known.2 list (sym (agrees known.0 known.1))
 
--- so that the lists stay the same
+-- Where a part lacks only read-only calls, each call keeps the list with all calls equal to the one
+-- with the part's calls.
 followed : (next : List ℕ → ℕ → List ℕ × ℕ) (book : List Page) (names : List (List ℕ))
     → LacksReadOnlyAlone next book names → IsFollowed (λ whole few. whole ≡ few) next book names
 followed next book names lacks = record {
@@ -28,6 +29,7 @@ followed next book names lacks = record {
   );
 }
 
+-- Where a part lacks only read-only calls, a legal order of the book gives one of the part.
 pub has_one_without_read_only : HasOneWithoutReadOnly
 has_one_without_read_only next book names part is lacks init legal =
     has_one_in_part (λ whole few. whole ≡ few) next book names part init init is

@@ -22,7 +22,7 @@ use Rattle.smaller_book.specs.Minimal.{numbers_except, row_but, all_but}
 use Rattle.smaller_book.proofs.LeastCuts.{range-rising}
 use Rattle.smaller_book.proofs.Building.{length-rising}
 
--- The numbers below a count but one: those before it, and then those after it.
+-- Of n numbers from 0 up, without one of them, n - 1 are left.
 length-numbers_except : (n k : ℕ) → k < n → length (numbers_except n k) + 1 ≡ n
 length-numbers_except n k inside =
     omega (
@@ -70,7 +70,7 @@ inside-numbers_except n k j inside room =
       | inr after ↦ omega (arith, but_after n k j inside after few)
     ]
 
--- each other number is there
+-- Each number below n but the one that is left out is among those that are kept.
 has-numbers_except : (n k other : ℕ) → k < n → other < n → other ≢ k → (j : ℕ)
     × (j < length (numbers_except n k)) × (get_or (numbers_except n k) j 0 ≡ other)
 has-numbers_except n k other inside here apart =
@@ -89,7 +89,8 @@ has-numbers_except n k other inside here apart =
           )
     ]
 
--- The numbers of one caller in a book without a call.
+-- In a book without a call, the numbers of the call's own caller are those of its calls but this
+-- one.
 numbers_of-own : (book : List Page) (call : Call) → IsCall book call → numbers_of
     (all_but book call) call.caller ≡ numbers_except (calls_of book call.caller) call.number
 numbers_of-own book call inside =
@@ -115,7 +116,9 @@ numbers_of-past book call i past =
     get_or_past (map kept_by (range_with_len 0 (length book)))
     i [] (omega (arith, length-map-range_with_len kept_by 0 (length book), past))
 
--- what holds of the three kinds of lists holds of the caller's
+-- A property of a number and its list in the numbers of all calls but one holds of each number
+-- where it holds of the call's own caller, of each other caller, and, with no numbers, of each
+-- number that is no caller of the book.
 cases_all_but : (book : List Page) (call : Call) → IsCall book call → (P : ℕ → List ℕ → Type 0)
     → P call.caller (numbers_except (calls_of book call.caller) call.number)
     → ((i : ℕ) → i ≢ call.caller → i < length book → P i (range_with_len 0 (calls_of book i)))
@@ -131,6 +134,8 @@ cases_all_but book call inside P own others past i =
       ]
     ]
 
+-- The numbers of all calls of a book but one are rising numbers of its calls, a list for each
+-- caller.
 pub all_but_are_numbers : (book : List Page) (call : Call) → IsCall book call
     → AreNumbersOf book (all_but book call)
 all_but_are_numbers book call inside = record {
@@ -154,7 +159,7 @@ all_but_are_numbers book call inside = record {
       (λ i past k room. absurd (omega arith));
 }
 
--- Only this call is left out.
+-- A book without one read-only call lacks read-only calls alone.
 pub lacks_one_alone : (next : List ℕ → ℕ → List ℕ × ℕ) (book : List Page) (call : Call)
     → IsCall book call → IsReadOnly next book call
     → LacksReadOnlyAlone next book (all_but book call)
@@ -184,7 +189,7 @@ lacks_one_alone next book call inside leaves other there lacking =
           (caller_from_call book other.caller other.number there))) found))
     ]
 
--- A call of a part is a call of the book.
+-- The call of the book that a call of a part was is a call of the book.
 pub original_is_call : (book : List Page) (names : List (List ℕ)) (part : List Page)
     → IsPart book names part → (call : Call) → IsCall part call → IsCall book (original names call)
 original_is_call book names part is call inside =
@@ -194,7 +199,7 @@ original_is_call book names part is call inside =
     slice_get_within (page_of book call.caller).operations (original names call).number op
     (sym (is.operations call inside) ∙ known)
 
--- so that a part has no more calls of a caller than the book
+-- A part has at most as many calls of each caller as the book.
 pub calls-within : (book : List Page) (names : List (List ℕ)) (part : List Page)
     → IsPart book names part → (i : ℕ) → calls_of part i ≤ calls_of book i
 calls-within book names part is i =
@@ -204,7 +209,7 @@ calls-within book names part is i =
     (omega (arith, room, is.calls i))) in
     omega (arith, few, is.calls i)
 
--- and no more calls at all
+-- A part has at most as many calls as the book.
 pub size-within : (book : List Page) (names : List (List ℕ)) (part : List Page)
     → IsPart book names part → size_of part ≤ size_of book
 size-within book names part is =
@@ -229,7 +234,7 @@ sum-less (x ∷ xs) (y ∷ ys) (suc i) long within less =
     let rest : sum xs < sum ys = sum-less xs ys i (omega arith) (λ j. within (suc j)) less in
     omega (arith, sum_by-cons (λ (n : ℕ). n) x xs, sum_by-cons (λ (n : ℕ). n) y ys, rest, within 0)
 
--- fewer, where it has fewer of one caller
+-- A part that has fewer calls of some caller than the book has fewer calls in all.
 pub size-less_at : (book : List Page) (names : List (List ℕ)) (part : List Page) (i : ℕ)
     → IsPart book names part → calls_of part i < calls_of book i → size_of part < size_of book
 size-less_at book names part i is less =
@@ -240,7 +245,7 @@ size-less_at book names part i is less =
     omega (arith, announced_at part j, announced_at book j, calls-within book names part is j))
     (omega (arith, less, announced_at part i, announced_at book i))
 
--- A book without a call has fewer calls.
+-- The part of a book without one of its calls has fewer calls than the book.
 pub size-less : (book : List Page) (call : Call) (part : List Page) → IsCall book call
     → IsPart book (all_but book call) part → size_of part < size_of book
 size-less book call part inside is =
@@ -250,7 +255,7 @@ size-less book call part inside is =
     ∙ length-numbers_except (calls_of book i) call.number inside in
     size-less_at book (all_but book call) part i is (omega (arith, own, is.calls i))
 
--- A read-only call is an answered call of the book.
+-- A read-only call is answered.
 pub read_only_is_answered : (next : List ℕ → ℕ → List ℕ × ℕ) (book : List Page) (call : Call)
     → IsReadOnly next book call → IsAnswered book call
 read_only_is_answered next book call leaves =
@@ -258,6 +263,7 @@ read_only_is_answered next book call leaves =
     (λ (r : Record). Leaves next (unwrap_or (operation_of book call) 0) r.reply) leaves in
     slice_get_within (page_of book call.caller).records call.number known.0 known.1
 
+-- In a valid book a read-only call is a call of the book.
 pub read_only_is_call : (next : List ℕ → ℕ → List ℕ × ℕ) (book : List Page) (call : Call)
     → IsValid book → IsReadOnly next book call → IsCall book call
 read_only_is_call next book call valid leaves =

@@ -1,4 +1,4 @@
--- Numbers of calls, of which those that are left out leave every list.
+-- Numbers of calls, without read-only ones.
 use Rattle.std.proofs.Common.{◌≡◌, ℕ, ◌+◌, ◌<◌, ◌≤◌, ◌∙◌, Bool, true, false, not, IsTrue, List, [], ◌∷◌, ◌++◌, append-nil, length, get_or, if◌then◌else◌, refl, sym, ap, subst, inl, inr, arith}
 use Rattle.std.specs.Prelude.{Vec}
 use Rattle.std.proofs.lemmas.Bool.{cases_lt, cases_eq}
@@ -9,6 +9,7 @@ use Rattle.smaller_book.specs.Part.{numbers_of, AreRising}
 use Rattle.smaller_book.specs.Numbers.{numbers_in, AreNumbersOf}
 use Rattle.smaller_book.specs.ReadOnly.{IsReadOnly, LacksReadOnlyAlone, LacksReadOnlyOf}
 
+-- The empty list of numbers lacks only read-only calls below 0, since no call is below 0.
 pub lacks_none : (next : List ℕ → ℕ → List ℕ × ℕ) (book : List Page) (i : ℕ)
     → LacksReadOnlyOf next book i 0 []
 lacks_none next book i = record {
@@ -17,7 +18,7 @@ lacks_none next book i = record {
   lacks = λ number less. absurd (omega arith);
 }
 
--- a number more
+-- Where numbers lack only read-only calls below n, they do so below n + 1 with n at their end.
 pub lacks_kept : (next : List ℕ → ℕ → List ℕ × ℕ) (book : List Page) (i n : ℕ) (numbers : List ℕ)
     → LacksReadOnlyOf next book i n numbers
     → LacksReadOnlyOf next book i (n + 1) (numbers ++ n ∷ [])
@@ -64,7 +65,8 @@ lacks_kept next book i n numbers so_far =
       ];
     }
 
--- a further read-only call
+-- Where numbers lack only read-only calls below n, and call n is read-only, they lack only
+-- read-only calls below n + 1.
 pub lacks_left : (next : List ℕ → ℕ → List ℕ × ℕ) (book : List Page) (i n : ℕ) (numbers : List ℕ)
     → LacksReadOnlyOf next book i n numbers
     → IsReadOnly next book (record { caller = i; number = n })
@@ -79,7 +81,8 @@ lacks_left next book i n numbers so_far leaves = record {
   ];
 }
 
--- so that one is there or is left out, as a test says
+-- Where numbers lack only read-only calls below n, and n is added unless a test is true that is
+-- true only if call n is read-only, they lack only read-only calls below n + 1.
 pub lacks_by : (next : List ℕ → ℕ → List ℕ × ℕ) (book : List Page) (i n : ℕ) (numbers more : List ℕ)
     (out : Bool) → LacksReadOnlyOf next book i n numbers
     → more ≡ numbers ++ (if not out then n ∷ [] else [])
@@ -91,7 +94,8 @@ lacks_by next book i n numbers more true so_far same leaves =
 lacks_by next book i n numbers more false so_far same leaves =
     subst (LacksReadOnlyOf next book i (n + 1)) (sym same) (lacks_kept next book i n numbers so_far)
 
--- The rows of all callers are numbers of the book, which lack only such calls.
+-- Rows of numbers, one for each caller, that lack only read-only calls are rising numbers of calls
+-- of the book.
 pub rows_are_numbers : (next : List ℕ → ℕ → List ℕ × ℕ) (book : List Page) (names : List (List ℕ))
     → length names ≡ length book
     → ((i : ℕ) → i < length book
@@ -113,6 +117,8 @@ rows_are_numbers next book names wide rows =
       ];
     }
 
+-- Where each caller's row of numbers lacks only read-only calls of the caller, all rows together
+-- lack only read-only calls of the book.
 pub rows_lack_read_only : (next : List ℕ → ℕ → List ℕ × ℕ) (book : List Page)
     (names : List (List ℕ))
     → ((i : ℕ) → i < length book
@@ -125,7 +131,7 @@ rows_lack_read_only next book names rows call inside unnamed =
       | inr leaves ↦ leaves
     ]
 
--- The rows of the first callers, and of one caller more.
+-- There are n rows of numbers, and each lacks only read-only calls of its caller.
 abbrev pub RowsLack : (List ℕ → ℕ → List ℕ × ℕ) → List Page → ℕ → List (List ℕ) → Type 0
 RowsLack next book n names =
     (length names ≡ n)
@@ -152,6 +158,8 @@ rows_push next book n names row (long, rows) last = (
   ],
 )
 
+-- Where n rows of numbers lack only read-only calls and one more row lacks only such calls of the
+-- next caller, the n + 1 rows do.
 pub rows_more : {A : Type 0} (next : List ℕ → ℕ → List ℕ × ℕ) (book : List Page) (n : ℕ)
     (rows new : List (Vec ℕ A)) (row : Vec ℕ A) → RowsLack next book n (numbers_in rows)
     → new ≡ rows ++ row ∷ [] → LacksReadOnlyOf next book n (calls_of book n) row.items

@@ -1,5 +1,5 @@
--- The rule of earlier cuts: an error is final, so that the book at an earlier cut that has no legal
--- order is evidence.
+-- The rule of earlier cuts: a book is shown to have no legal order by the book at an earlier cut
+-- that has none, since an error is final.
 use Rattle.std.specs.Prelude.{◌≡◌, ℕ, ◌-◌, ◌<◌, ◌≤◌, ◌⊎◌, List, length, map, slice_index, slice_set}
 use Rattle.std.specs.List.{range_with_len}
 use Rattle.book_base.specs.declared.call.Call.{Call}
@@ -12,58 +12,63 @@ use Rattle.book_laws.specs.BooksAtCuts.{IsHeldByAView}
 use Rattle.smaller_book.specs.declared.TheConstants.{FEW_CALLS}
 use Rattle.smaller_book.specs.Part.{size_of}
 
--- the numbers of all calls of a book
+-- For each caller of a book the numbers of all its calls, from 0 up.
 abbrev pub all_numbers : List Page → List (List ℕ)
 all_numbers book = map (λ i. range_with_len 0 (calls_of book i)) (range_with_len 0 (length book))
 
--- A book is tried at a cut: it has few calls, or a view of it holds several unanswered calls of a
--- caller, or no view of the book at the cut does.
+-- A book is tried at a cut where it has at most `FEW_CALLS` calls, where some view of it holds
+-- several unanswered calls of one caller, or where each view of the book at the cut holds at most
+-- one unanswered call of each caller.
 abbrev pub IsTried : List Page → List ℕ → Type 0
 IsTried book cut = (size_of book ≤ FEW_CALLS) ⊎ (¬ HasOneOpen book) ⊎ HasOneOpen (book_at cut book)
 
--- No book at an earlier cut at which it is tried is evidence.
+-- A book is earliest where it has a legal order at each earlier cut at which it is tried, and each
+-- of its calls is in some view.
 pub record IsEarliest (init : List ℕ) (next : List ℕ → ℕ → List ℕ × ℕ)
     (book : List Page) : Type 0 where
-  -- the book at each cut that lacks a record has a legal order, if it is tried there
+  -- the book has a legal order at each cut within its records that lacks a record of some caller
+  -- and at which the book is tried
   pub earlier : (cut : List ℕ) (i : ℕ) → IsWithin cut (answered book)
       → slice_index cut i < answers_of book i → IsTried book cut
       → HasLegalOrder init next (book_at cut book)
-  -- and each call is in some view
+  -- each call of the book is in some view of it
   pub held : (call : Call) → IsCall book call → IsHeldByAView book call
 
--- a cut of records of the book at which the book has no legal order
+-- A cut within the records of a book, with one count for each caller, at which the book has no
+-- legal order.
 pub record IsIllegalCut (init : List ℕ) (next : List ℕ → ℕ → List ℕ × ℕ) (book : List Page)
     (cut : List ℕ) : Type 0 where
   pub wide : length cut ≡ length book
   pub within : IsWithin cut (answered book)
   pub illegal : ¬ HasLegalOrder init next (book_at cut book)
 
--- the cut with one count less for a caller
+-- The cut whose count for this caller is less by one, or 0 where it was 0.
 abbrev pub one_less : List ℕ → ℕ → List ℕ
 one_less cut i = slice_set cut i (slice_index cut i - 1)
 
--- A cut has no record of this caller, or the book has a legal order at the cut with one record less
--- of it.
+-- A cut is least for a caller where it has no record of this caller, or the book has a legal order
+-- at the cut with one record less of this caller.
 abbrev pub IsLeastAt : List ℕ → (List ℕ → ℕ → List ℕ × ℕ) → List Page → List ℕ → ℕ → Type 0
 IsLeastAt init next book cut i = (slice_index cut i ≡ 0)
     ⊎ HasLegalOrder init next (book_at (one_less cut i) book)
 
--- The book has a legal order at each cut within this one that has less than this count of a caller,
--- if the book at that cut has one open.
+-- A book is legal below a count of a caller, within a cut: it has a legal order at each cut that
+-- lies within this one, has fewer records of the caller than this count, and at which each view of
+-- the book holds at most one unanswered call of each caller.
 abbrev pub IsLegalBelow : List ℕ → (List ℕ → ℕ → List ℕ × ℕ) → List Page → List ℕ → ℕ → ℕ → Type 0
 IsLegalBelow init next book cut i count = (other : List ℕ) → IsWithin other cut
     → slice_index other i < count → HasOneOpen (book_at other book)
     → HasLegalOrder init next (book_at other book)
 
--- a cut at which the book has no legal order, and has one at each lesser cut at which it has one
--- open
+-- A cut at which the book has no legal order, while it has one at each lesser cut at which each
+-- view of the book there holds at most one unanswered call of each caller.
 pub record IsLeastOpenCut (init : List ℕ) (next : List ℕ → ℕ → List ℕ × ℕ) (book : List Page)
     (cut : List ℕ) : Type 0 where
   pub here : IsIllegalCut init next book cut
   pub least : (i : ℕ) → IsLegalBelow init next book cut i (slice_index cut i)
 
--- a cut at which the book has no legal order, where the book at the cut has one at each lesser cut
--- at which it is tried
+-- A least cut: the book has no legal order at it, while it has one at each lesser cut at which the
+-- book at the least cut is tried.
 pub record IsLeastCut (init : List ℕ) (next : List ℕ → ℕ → List ℕ × ℕ) (book : List Page)
     (cut : List ℕ) : Type 0 where
   pub here : IsIllegalCut init next book cut

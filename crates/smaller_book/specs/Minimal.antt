@@ -1,4 +1,4 @@
--- A book that no rule makes smaller.
+-- Minimal books: whatever a rule takes out of one, the rest has a legal order.
 use Rattle.std.specs.Prelude.{◌≡◌, ℕ, ◌+◌, ◌-◌, ◌<◌, ◌≤◌, ◌++◌, cond, nat_eq, List, length, map, slice_index, Some}
 use Rattle.std.specs.List.{range_with_len}
 use Rattle.book_base.specs.declared.call.Call.{Call}
@@ -16,46 +16,49 @@ use Rattle.smaller_book.specs.ReadOnly.{IsReadOnly}
 use Rattle.smaller_book.specs.Earliest.{IsEarliest}
 use Rattle.smaller_book.specs.Keys.{key_of_call, keys_from_to, all_without, IsEvidence}
 
--- the numbers below a count, but this one
+-- The numbers below a count, without this number.
 abbrev pub numbers_except : ℕ → ℕ → List ℕ
 numbers_except count number =
     range_with_len 0 number ++ range_with_len (number + 1) (count - (number + 1))
 
--- the numbers of a caller's calls but this call
+-- The numbers of a caller's calls in a book, without that of this call where it is the caller's.
 abbrev pub row_but : List Page → Call → ℕ → List ℕ
 row_but book call i = cond (nat_eq i call.caller) (numbers_except (calls_of book i) call.number)
     (range_with_len 0 (calls_of book i))
 
--- the numbers of all calls of a book but this call
+-- For each caller of a book the numbers of its calls, without that of this call.
 abbrev pub all_but : List Page → Call → List (List ℕ)
 all_but book call = map (row_but book call) (range_with_len 0 (length book))
 
--- The part of the book that has these calls alone has a legal order.
+-- A part of the book that has exactly the calls with these numbers, answered where the book has
+-- them answered, has a legal order.
 abbrev pub HasOneWith : Kind → List Page → List (List ℕ) → Type 0
 HasOneWith kind book names =
     (part : List Page) × IsPart book names part × KeepsAnswers book names part
     × HasLegalOrder (kind_init kind) (kind_next kind) part
 
--- The part of the book without this call has a legal order.
+-- A call is needed: the part of the book without this call has a legal order.
 abbrev pub IsNeeded : Kind → List Page → Call → Type 0
 IsNeeded kind book call = HasOneWith kind book (all_but book call)
 
--- The part of the book without the calls of this key has a legal order.
+-- A key is needed: the part of the book without all calls that are about this key has a legal
+-- order.
 abbrev pub IsKeyNeeded : Kind → List Page → ℕ → Type 0
 IsKeyNeeded kind book key = HasOneWith kind book (all_without kind (keys_from_to key key) book)
 
--- No rule makes the book smaller and leaves it without a legal order.
+-- A book is minimal: no rule makes it smaller and keeps it without a legal order.
 pub record IsMinimal (kind : Kind) (book : List Page) : Type 0 where
-  -- the book at each earlier cut at which it is tried has a legal order
+  -- the book has a legal order at each earlier cut at which it is tried, and each of its calls is
+  -- in some view
   pub earliest : IsEarliest (kind_init kind) (kind_next kind) book
-  -- and so does the book without a read-only call
+  -- without any single read-only call the book has a legal order
   pub read_only : (call : Call) → IsReadOnly (kind_next kind) book call → IsNeeded kind book call
-  -- and, where each view holds at most one unanswered call of each caller, the book without all
-  -- calls of one key
+  -- where each view holds at most one unanswered call of each caller, the book has a legal order
+  -- without all calls of any one key that a call of it is about
   pub keys : HasOneOpen book → (call : Call) (key : ℕ) → IsCall book call
       → key_of_call kind book call ≡ Some key → IsKeyNeeded kind book key
 
--- A part of a book that has no legal order, and lacks a call.
+-- A smaller book: a part of a book that is evidence of it, has no legal order, and has fewer calls.
 pub record IsSmaller (kind : Kind) (book : List Page) (names : List (List ℕ))
     (part : List Page) : Type 0 where
   pub is_part : IsPart book names part
@@ -64,17 +67,18 @@ pub record IsSmaller (kind : Kind) (book : List Page) (names : List (List ℕ))
   pub illegal : ¬ HasLegalOrder (kind_init kind) (kind_next kind) part
   pub fewer : size_of part < size_of book
 
--- the numbers at these places
+-- The numbers at these places of a list of numbers, in the order of the places.
 abbrev pub picked : List ℕ → List ℕ → List ℕ
 picked numbers places = map (λ place. slice_index numbers place) places
 
--- the numbers in a book of the calls of a part of a part
+-- For each caller the numbers that the calls of a part of a part have in the book: of the first
+-- part's numbers those at the places that the second part's numbers say.
 abbrev pub composed : List (List ℕ) → List (List ℕ) → List (List ℕ)
 composed first second =
     map (λ i. picked (numbers_of first i) (numbers_of second i)) (range_with_len 0 (length second))
 
--- A part of a book that has no legal order, while it has one at each earlier cut at which it is
--- tried.
+-- A shrunk book: a part of a book that is evidence of it and has no legal order, but has one at
+-- each earlier cut at which it is tried, and each of whose calls is in some view.
 pub record IsShrunk (kind : Kind) (book : List Page) (names : List (List ℕ))
     (part : List Page) : Type 0 where
   pub is_part : IsPart book names part
@@ -83,31 +87,34 @@ pub record IsShrunk (kind : Kind) (book : List Page) (names : List (List ℕ))
   pub illegal : ¬ HasLegalOrder (kind_init kind) (kind_next kind) part
   pub earliest : IsEarliest (kind_init kind) (kind_next kind) part
 
--- A cut of records is that of a moment of a run: where it holds a record, it holds each record
--- whose view lies within that record's view.
+-- A cut is a moment of a book: with each record that it holds, it holds all records of the book
+-- whose views lie within that record's view.
 abbrev pub IsMoment : List Page → List ℕ → Type 0
 IsMoment book cut = (later earlier : Call) (r s : Record) → Holds cut later
     → record_of book later ≡ Some r → record_of book earlier ≡ Some s → IsWithin s.view r.view
     → Holds cut earlier
 
--- The book has a legal order at a cut that lacks one of its records.
+-- Where a cut lies within the records of a book and lacks one of them, the book has a legal order
+-- at the cut.
 abbrev pub IsLegalAt : Kind → List Page → List ℕ → Type 0
 IsLegalAt kind book cut = (i : ℕ) → IsWithin cut (answered book)
     → slice_index cut i < answers_of book i
     → HasLegalOrder (kind_init kind) (kind_next kind) (book_at cut book)
 
--- A minimal book with one open has a legal order at each earlier moment.
+-- A minimal valid book, each of whose views holds at most one unanswered call of each caller, has a
+-- legal order at each moment that lacks one of its records.
 abbrev pub MinimalAtMoments : Type 0
 MinimalAtMoments = (kind : Kind) (book : List Page) (cut : List ℕ) → IsValid book → HasOneOpen book
     → IsMinimal kind book → IsMoment book cut → IsLegalAt kind book cut
 
--- A minimal book with few calls has a legal order at each earlier cut.
+-- A minimal book of at most `FEW_CALLS` calls has a legal order at each cut within its records that
+-- lacks one of them.
 abbrev pub FewCallsAtCuts : Type 0
 FewCallsAtCuts = (kind : Kind) (book : List Page) (cut : List ℕ) → size_of book ≤ FEW_CALLS
     → IsMinimal kind book → IsLegalAt kind book cut
 
--- A minimal book with a view that holds several unanswered calls of a caller has a legal order at
--- each earlier cut.
+-- A minimal book with a view that holds several unanswered calls of one caller has a legal order at
+-- each cut within its records that lacks one of them.
 abbrev pub SeveralOpenAtCuts : Type 0
 SeveralOpenAtCuts = (kind : Kind) (book : List Page) (cut : List ℕ) → ¬ HasOneOpen book
     → IsMinimal kind book → IsLegalAt kind book cut

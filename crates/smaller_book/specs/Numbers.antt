@@ -1,13 +1,13 @@
--- Which calls a part is to have.
+-- Numbers that say which calls of a book a part is to have.
 use Rattle.std.specs.Prelude.{◌≡◌, ℕ, ◌<◌, List, Vec, length, map, slice_index}
 use Rattle.book_base.specs.Book.{Page, calls_of}
 use Rattle.smaller_book.specs.Part.{numbers_of, AreRising}
 
--- the lists that these lists in memory hold
+-- The lists of numbers that some vectors hold, one after another.
 abbrev pub numbers_in : {A : Type 0} → List (Vec ℕ A) → List (List ℕ)
 numbers_in rows = map (λ row. row.items) rows
 
--- These are rising numbers of calls of the book, a list for each caller.
+-- These are rising numbers of calls of the book, one list for each caller.
 pub record AreNumbersOf (book : List Page) (names : List (List ℕ)) : Type 0 where
   pub wide : length names ≡ length book
   pub rising : (i : ℕ) → AreRising (numbers_of names i)

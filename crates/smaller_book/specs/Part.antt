@@ -1,4 +1,5 @@
--- A part of a book: some of its calls, with their numbers and their views made anew.
+-- A part of a book: some of its calls in their order, numbered anew for each caller, with views
+-- that count only these calls.
 use Rattle.std.specs.Prelude.{◌≡◌, ℕ, ◌<◌, ◌≤◌, ltb, List, [], length, sum, Some, IsSomeAnd, slice_index, slice_index_or}
 use Rattle.std.specs.List.{prefix_len}
 use Rattle.book_base.specs.declared.call.Call.{Call}
@@ -10,32 +11,34 @@ use Rattle.book_base.specs.Order.{HasLegalOrder}
 abbrev pub size_of : List Page → ℕ
 size_of book = sum (announced book)
 
--- the numbers of a caller's calls that a part has
+-- The numbers of those calls of a caller that a part has, by the caller's list of numbers; none
+-- where there is no such list.
 abbrev pub numbers_of : List (List ℕ) → ℕ → List ℕ
 numbers_of names i = slice_index_or names i []
 
--- each number is above those before it
+-- Each number of the list is greater than all those before it.
 abbrev pub AreRising : List ℕ → Type 0
 AreRising numbers = (j k : ℕ) → j < k → k < length numbers
     → slice_index numbers j < slice_index numbers k
 
--- how many of these rising numbers are below a bound
+-- How many numbers stand in a list before the first one that isn't below a bound; in a rising list
+-- these are all that are below it.
 abbrev pub count_below : List ℕ → ℕ → ℕ
 count_below numbers bound = prefix_len (λ number. ltb number bound) numbers
 
--- the call that a call of the part is in the book
+-- The call of the book that a call of the part was before it was numbered anew.
 abbrev pub original : List (List ℕ) → Call → Call
 original names call =
     record { caller = call.caller; number = slice_index (numbers_of names call.caller) call.number }
 
--- the part has this call of the book
+-- A call of the book is named: its number is in the list of its caller, and so the part has it.
 abbrev pub IsNamed : List (List ℕ) → Call → Type 0
 IsNamed names call =
     (k : ℕ) × (k < length (numbers_of names call.caller))
     × (slice_index (numbers_of names call.caller) k ≡ call.number)
 
--- A record of the part has the reply of the book's record, and counts those calls of its view that
--- the part has.
+-- A record of the part is the book's record with a new view: the reply is the same, and the view
+-- counts of each caller those calls of the book's view that the part has.
 pub record IsRenumbered (names : List (List ℕ)) (whole small : Record) : Type 0 where
   pub reply : small.reply ≡ whole.reply
   pub view : (i : ℕ)
@@ -43,28 +46,28 @@ pub record IsRenumbered (names : List (List ℕ)) (whole small : Record) : Type 
 
 -- A part of a book has the calls of the book that these numbers name, in their order.
 pub record IsPart (book : List Page) (names : List (List ℕ)) (part : List Page) : Type 0 where
-  -- it has the same callers
+  -- the part has as many callers as the book
   pub callers : length part ≡ length book
-  -- each caller has as many calls as are named
+  -- each caller has as many calls in the part as its list has numbers
   pub calls : (i : ℕ) → calls_of part i ≡ length (numbers_of names i)
-  -- they stand in their order
+  -- each caller's list of numbers rises, and so its calls keep their order
   pub rising : (i : ℕ) → AreRising (numbers_of names i)
-  -- each has its operation
+  -- each call of the part has the operation of the call of the book that it was
   pub operations : (call : Call) → IsCall part call
       → operation_of part call ≡ operation_of book (original names call)
-  -- what is answered is a call
+  -- each caller has at most as many records in the part as calls
   pub answers : (i : ℕ) → answers_of part i ≤ calls_of part i
-  -- what is answered in the part is answered in the book, with the same reply and a view of the
-  -- same calls
+  -- each call that is answered in the part was an answered call of the book, and its record is the
+  -- book's record with a new view
   pub records : (call : Call) (small : Record) → record_of part call ≡ Some small
       → IsSomeAnd (record_of book (original names call)) (λ whole. IsRenumbered names whole small)
 
--- what is answered in the book is answered in the part
+-- Each call of the part that is answered in the book is answered in the part.
 abbrev pub KeepsAnswers : List Page → List (List ℕ) → List Page → Type 0
 KeepsAnswers book names part = (call : Call) → IsCall part call
     → IsAnswered book (original names call) → IsAnswered part call
 
--- Whichever list the object begins with: where the book has a legal order, the part has one. So
+-- From whichever list the object begins: where the book has a legal order, the part has one; and
 -- where the part has none, the book has none.
 abbrev pub CarriesOver : (List ℕ → ℕ → List ℕ × ℕ) → List Page → List Page → Type 0
 CarriesOver next book part = (init : List ℕ) → HasLegalOrder init next book

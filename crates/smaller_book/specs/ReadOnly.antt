@@ -1,22 +1,23 @@
--- The rule of read-only calls: they may be left out.
+-- The rule of read-only calls: they may be left out of a book.
 use Rattle.std.specs.Prelude.{◌≡◌, ℕ, ◌<◌, ◌⊎◌, List, length, slice_index, unwrap_or, IsSomeAnd}
 use Rattle.book_base.specs.declared.call.Call.{Call}
 use Rattle.book_base.specs.Book.{Page, IsCall, operation_of, record_of}
 use Rattle.book_base.specs.PruningRules.{Leaves}
 use Rattle.smaller_book.specs.Part.{AreRising, IsNamed, IsPart, CarriesOver}
 
--- The call is answered, and its operation leaves every list of the object with this reply.
+-- A call is read-only: it is answered, and its operation doesn't change any list of the object at
+-- which it has the recorded reply.
 abbrev pub IsReadOnly : (List ℕ → ℕ → List ℕ × ℕ) → List Page → Call → Type 0
 IsReadOnly next book call = IsSomeAnd (record_of book call)
     (λ r. Leaves next (unwrap_or (operation_of book call) 0) r.reply)
 
--- Each call of the book that isn't named leaves every list.
+-- Each call of the book that isn't named by these numbers is read-only.
 abbrev pub LacksReadOnlyAlone : (List ℕ → ℕ → List ℕ × ℕ) → List Page → List (List ℕ) → Type 0
 LacksReadOnlyAlone next book names = (call : Call) → IsCall book call → ¬ IsNamed names call
     → IsReadOnly next book call
 
--- These are rising numbers of a caller's first calls, and each of those calls that isn't among them
--- leaves every list.
+-- These are rising numbers below a bound, and each call of the caller whose number is below the
+-- bound and isn't among them is read-only.
 pub record LacksReadOnlyOf (next : List ℕ → ℕ → List ℕ × ℕ) (book : List Page) (i below : ℕ)
     (numbers : List ℕ) : Type 0 where
   pub rising : AreRising numbers
@@ -25,7 +26,8 @@ pub record LacksReadOnlyOf (next : List ℕ → ℕ → List ℕ × ℕ) (book :
       → ((k : ℕ) × (k < length numbers) × (slice_index numbers k ≡ number))
       ⊎ IsReadOnly next book (record { caller = i; number = number })
 
--- A part that lacks only read-only calls has a legal order where the book has one.
+-- Where a part lacks only read-only calls of the book, a legal order of the book gives one of the
+-- part, from whichever list.
 abbrev pub HasOneWithoutReadOnly : Type 0
 HasOneWithoutReadOnly =
     (next : List ℕ → ℕ → List ℕ × ℕ) (book : List Page) (names : List (List ℕ)) (part : List Page)

@@ -30,8 +30,8 @@ pub fn views_count_what_is_kept()
     ensures all { count_below (0 ∷ 2 ∷ 5 ∷ []) 6 ≡ 3 }
 {}
 
-/// The numbers that stay without one call, and the numbers in a book of a part of a part: of calls
-/// 0, 2 and 3 the first and the third are calls 0 and 3.
+/// The numbers that are kept where one call is left out, and the numbers that the calls of a part
+/// of a part have in the book: of calls 0, 2 and 3 the first and the third are calls 0 and 3.
 pub fn numbers_that_stay()
     // Of three calls without the first one the numbers 1 and 2 stay.
     ensures first { numbers_except 3 0 ≡ 1 ∷ 2 ∷ [] }
@@ -45,34 +45,35 @@ pub fn numbers_that_stay()
     // Without its only call caller 1 has none, and caller 0 keeps all three.
     ensures only_call { all_but overtaken (record { caller = 1; number = 0 })
         ≡ (0 ∷ 1 ∷ 2 ∷ []) ∷ [] ∷ [] }
-    // Of the part with calls 0, 2 and 3 the part with calls 0 and 2 is that of calls 0 and 3 of the
+    // The part that has calls 0 and 2 of the part with calls 0, 2 and 3 has calls 0 and 3 of the
     // book.
     ensures through { composed ((0 ∷ 2 ∷ 3 ∷ []) ∷ []) ((0 ∷ 2 ∷ []) ∷ []) ≡ (0 ∷ 3 ∷ []) ∷ [] }
 {}
 
-/// An operation that only replies may be left out. One that takes may not, whatever it replies,
-/// where a list may have that first: a reply of 0 says "none" or "the item 0".
+/// An answered call that changes no list is read-only, and an unanswered call isn't. A take isn't
+/// read-only, whether it replies 6 or 0: a reply of 0 says "none" or "the item 0", and a list may
+/// begin with either item.
 pub fn calls_that_leave()
-    // A call of an object that keeps nothing leaves every list.
+    // An answered call of an object that keeps nothing is read-only.
     ensures replies { IsReadOnly tenfold_next mistaken (record { caller = 1; number = 0 }) }
-    // An unanswered call isn't known to leave every list.
+    // An unanswered call isn't read-only.
     ensures unanswered { ¬ IsReadOnly line_next overtaken (record { caller = 0; number = 2 }) }
-    // A take that shows 6 changes a list that begins with 6.
+    // A take with the reply 6 isn't read-only: it changes a list that begins with 6.
     ensures takes { ¬ Leaves line_next 0 6 }
-    // A take that replies 0 changes a list that begins with 0.
+    // A take with the reply 0 isn't read-only: it changes a list that begins with 0.
     ensures takes_none { ¬ Leaves line_next 0 0 }
 {}
 
-/// A read of a register may be left out with whatever reply, and a write may not.
+/// A read of a register is read-only with the reply 9, and a write of 9 isn't.
 pub fn reads_leave()
-    // A read of a register leaves every list, with whatever reply.
+    // A read of a register doesn't change any list at which it replies 9.
     ensures reads { Leaves (kind_next kinds.Register) (operation words.read 0) (reply_value 9) }
-    // A write of a register changes a list with another value.
+    // A write of 9 to a register changes some list.
     ensures writes { ¬ Leaves (kind_next kinds.Register) (operation words.write 9) reply_done }
 {}
 
-/// The keys that operations are about: a put and a take that shows the value are about it, and a
-/// take that finds nothing or has no reply is about none.
+/// The keys that operations are about: a put, and a take that shows a value, are about the value; a
+/// take that finds nothing or has no reply is about no key.
 pub fn keys_of_operations()
     // The key of a put of 5 is 5.
     ensures puts { key_of_step kinds.Queue (operation words.enq 5) None ≡ Some 5 }
@@ -85,7 +86,7 @@ pub fn keys_of_operations()
     ensures unanswered { key_of_step kinds.Queue (operation words.deq 0) None ≡ None }
     // The key of a look for 3 in a set is 3.
     ensures of_a_set { key_of_step kinds.IntSet (operation words.has 3) (Some reply_yes) ≡ Some 3 }
-    // The key of a get of key 3 of a map is 3, whatever value it replies.
+    // The key of a get of key 3 of a map is 3, also where it replies the value 5.
     ensures of_a_map { key_of_step kinds.Map (operation words.get 3)
         (Some (reply_value 5)) ≡ Some 3 }
     // A write of a register has no key.
@@ -96,8 +97,9 @@ pub fn keys_of_operations()
         (Some (reply_value 5)) ≡ None }
 {}
 
-/// All calls of a key go together: both puts of a value that is put twice and the take that shows
-/// it, and of a set the answered calls and the unanswered one. A take without an answer stays.
+/// All calls that are about a key are left out together: both puts of a value that is put twice and
+/// the take that shows it, and of a set the answered calls and the unanswered one. An unanswered
+/// take stays.
 pub fn calls_without_a_key()
     // Without the key 5 the put of 6 stays, and of caller 1 the take that found nothing and the
     // unanswered one.
@@ -131,8 +133,8 @@ pub fn items_without_a_key()
     ensures no_keys { items_without kinds.Register (keys_from_to 0 9) (5 ∷ []) ≡ 5 ∷ [] }
 {}
 
-/// A book with a view that holds two unanswered calls of a caller hasn't one open, and one whose
-/// views hold one has.
+/// A book has one open where each of its views holds at most one unanswered call of each caller. A
+/// book with a view that holds two of one caller hasn't one open.
 pub fn open_calls()
     // A book with a view that holds two unanswered calls of one caller hasn't one open.
     ensures two { ¬ HasOneOpen two_open }
@@ -140,12 +142,13 @@ pub fn open_calls()
     ensures one { HasOneOpen one_open }
 {}
 
-/// At a cut without the last put of a caller, another caller's take sees one unanswered put, and at
-/// a cut without both puts it sees two. As the book has few calls, it is tried at both cuts.
+/// At a cut without the last put of a caller, the view of another caller's take holds one
+/// unanswered put, and at a cut without both puts it holds two. As the book has few calls, it is
+/// tried at both cuts.
 pub fn cuts_with_one_open()
     // At the cut without the last put the book has one open.
     ensures one { HasOneOpen (book_at (1 ∷ 1 ∷ []) two_puts) }
-    // At the cut without both puts it hasn't.
+    // At the cut without both puts the book hasn't one open.
     ensures two { ¬ HasOneOpen (book_at (0 ∷ 1 ∷ []) two_puts) }
     // A book of few calls is tried at the cut without both puts too.
     ensures few { IsTried two_puts (0 ∷ 1 ∷ []) }

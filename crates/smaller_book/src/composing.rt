@@ -33,7 +33,7 @@ pub fn smaller_still(
     })
 }
 
-/// The numbers of all calls of a book.
+/// For each caller of a book the numbers of all its calls.
 pub fn numbers_of_all(alloc: Global, book: &Book) -> Result<Vec<Vec<u64>>, NoMemory>
     ensures { IfOk result (λ rows. numbers_in rows.items ≡ all_numbers book.now) }
 {
@@ -44,8 +44,8 @@ pub fn numbers_of_all(alloc: Global, book: &Book) -> Result<Vec<Vec<u64>>, NoMem
     Ok(rows)
 }
 
-/// The numbers in a book of the calls of a part of a part: the first numbers at the places that the
-/// second ones say.
+/// For each caller the numbers that the calls of a part of a part have in the book: of the caller's
+/// first numbers those at the places that its second numbers say.
 pub fn numbers_through(
     alloc: Global,
     first: &[Vec<u64>],
@@ -65,7 +65,7 @@ pub fn numbers_through(
     Ok(rows)
 }
 
-// The numbers at these places.
+// The numbers at these places of a list of numbers.
 fn numbers_at(alloc: Global, numbers: &[u64], places: &[u64]) -> Result<Vec<u64>, NoMemory>
     requires { (k : ℕ) → k < length places.now → slice_index places.now k < length numbers.now }
     ensures { IfOk result (λ found. found.items ≡ picked numbers.now places.now) }

@@ -18,19 +18,20 @@ use book_base::{Book, Call, Cut, NoMemory};
 use seq_objects::Kind;
 use std::alloc::Global;
 
-/// The book at a cut at which it has no legal order, where it has one at each earlier cut at which
-/// it is tried. Its calls are those that its views hold.
+/// The book at a cut at which it has no legal order; the result has a legal order at each earlier
+/// cut at which it is tried. Its calls are those that its views hold.
 ///
-/// An error is final (Castañeda and Rodríguez 2023), so that the cuts are found by halving: first
-/// those of the records whose views hold few calls, and then the least count of each caller. Before
-/// that, records go while the book breaks a rule, which is cheap to see: a search for an order has
-/// more to try with each record that is gone, until few are left. So where many calls are left,
-/// only such records go after which the book has one open still.
+/// An error is final (Castañeda and Rodríguez 2023), so that cuts are found by halving. First comes
+/// the least number of calls such that the book has no legal order at the cut of the records whose
+/// views hold at most this many calls. From this cut records are taken, first while the book breaks
+/// a rule, which is cheap to test, and then while it has no legal order. A search for an order has
+/// more to try with each record that is gone, until few calls are left: where many are left, only
+/// such records are taken without which the book still has one open.
 pub fn earliest(alloc: Global, kind: Kind, book: &Book) -> Result<Book, NoMemory>
     // The book has no legal order.
     requires { ¬ HasLegalOrder (kind_init kind) (kind_next kind) book.now }
-    // The answer is the part of the book that has the first calls of each caller, as many as it has
-    // calls.
+    // The answer is the part of the book that has of each caller its first calls, as many as the
+    // part has calls of this caller.
     ensures part { IfOk result (λ part. IsPart book.now (all_numbers part) part) }
     // Where the book has a legal order, the part has one, whichever list the object begins with.
     ensures evidence { IfOk result (CarriesOver (kind_next kind) book.now) }
@@ -49,8 +50,9 @@ pub fn earliest(alloc: Global, kind: Kind, book: &Book) -> Result<Book, NoMemory
     Ok(part)
 }
 
-// A least cut: records go one by one where few calls are left, or where a view holds several
-// unanswered calls of a caller, and else as long as the book has one open.
+// A least cut, found by taking records from this one: any records, where at the cut the book has
+// few calls or a view that holds several unanswered calls of one caller; else first only such
+// records that the book keeps one open.
 fn least_cut(alloc: Global, kind: Kind, book: &Book, cut: Cut) -> Result<Cut, NoMemory>
     requires { IsIllegalCut (kind_init kind) (kind_next kind) book.now cut }
     ensures { IfOk result (IsLeastCut (kind_init kind) (kind_next kind) book.now) }
@@ -67,8 +69,9 @@ fn least_cut(alloc: Global, kind: Kind, book: &Book, cut: Cut) -> Result<Cut, No
     }
 }
 
-/// The book without the calls that only later views hold than those of an earlier cut at which it
-/// has no legal order.
+/// The book at the cut of its records whose views hold few calls, the fewest with which it has no
+/// legal order there: it lacks the calls that only later views hold. No book is answered where it
+/// has no fewer calls at this cut.
 pub fn without_later(alloc: Global, kind: Kind, book: &Book) -> Result<Option<Smaller>, NoMemory>
     requires { ¬ HasLegalOrder (kind_init kind) (kind_next kind) book.now }
     ensures { IfOk result (λ found. IfSome found (λ smaller.
@@ -79,8 +82,9 @@ pub fn without_later(alloc: Global, kind: Kind, book: &Book) -> Result<Option<Sm
     smaller_at(alloc, kind, book, &cut)
 }
 
-/// The book without calls that only views of some records hold, where the book has no legal order
-/// without these records and has one open still. None is looked for in a book of few calls.
+/// The book at a cut at which it has no legal order, while it has one at each lesser cut at which
+/// it has one open. No book is answered where it has no fewer calls at that cut, or has at most
+/// `FEW_CALLS` calls from the start.
 pub fn without_open(alloc: Global, kind: Kind, book: &Book) -> Result<Option<Smaller>, NoMemory>
     requires { ¬ HasLegalOrder (kind_init kind) (kind_next kind) book.now }
     ensures { IfOk result (λ found. IfSome found (λ smaller.
@@ -94,7 +98,7 @@ pub fn without_open(alloc: Global, kind: Kind, book: &Book) -> Result<Option<Sma
     smaller_at(alloc, kind, book, &cut)
 }
 
-// The book at a cut at which it has no legal order, where it has fewer calls there.
+// The book at a cut at which it has no legal order, where it has fewer calls there than in all.
 fn smaller_at(
     alloc: Global,
     kind: Kind,
@@ -128,8 +132,9 @@ fn all_records(book: &Book) -> Cut
     cut
 }
 
-// A cut at which the book has no legal order, of the records whose views hold at most this many
-// calls: the least such number. Where no record goes with a lower number, nothing is asked.
+// A cut at which the book has no legal order: it holds each caller's first records whose views hold
+// at most some number of calls, for the least number that halving finds. A number with which the
+// cut found so far would lose no record needs no search.
 fn first_illegal(alloc: Global, kind: Kind, book: &Book) -> Result<Cut, NoMemory>
     requires { ¬ HasLegalOrder (kind_init kind) (kind_next kind) book.now }
     ensures { IfOk result (IsIllegalCut (kind_init kind) (kind_next kind) book.now) }
@@ -165,7 +170,7 @@ fn records_up_to(book: &Book, most: u64) -> Cut
     cut
 }
 
-// How many first records of a caller have views that hold at most this many calls.
+// How many records a caller has before the first one whose view holds more than this many calls.
 fn count_up_to(book: &Book, caller: u32, most: u64) -> u64
     requires { caller < length book.now }
     ensures { result ≤ answers_of book.now caller }
@@ -188,8 +193,8 @@ fn held_by(view: &Cut) -> u64 {
     held
 }
 
-// Takes as many records of each caller from a cut as can be while the book breaks a rule, one
-// caller after another. Where it breaks none at the cut, the cut stays.
+// Takes records from a cut, of one caller after another, while the book is found to break a rule at
+// the cut. Where it isn't found to break one at the given cut, this cut is the answer.
 fn least_broken(alloc: Global, kind: Kind, book: &Book, cut: Cut) -> Result<Cut, NoMemory>
     requires { IsIllegalCut (kind_init kind) (kind_next kind) book.now cut }
     ensures { IfOk result (IsIllegalCut (kind_init kind) (kind_next kind) book.now) }
@@ -205,9 +210,9 @@ fn least_broken(alloc: Global, kind: Kind, book: &Book, cut: Cut) -> Result<Cut,
     Ok(least)
 }
 
-// A count of a caller at which the book breaks a rule, with the other counts of a cut, or that of
-// the cut. None is tried first, since most callers have nothing to do with a rule, and then halves
-// are.
+// A count of a caller with which, and with the other counts of a cut, the book is found to break a
+// rule; or the count that the cut has. The count 0 is tried first, since most callers have nothing
+// to do with a rule, and then the range is halved.
 fn broken_count(
     alloc: Global,
     kind: Kind,
@@ -236,8 +241,8 @@ fn broken_count(
     Ok(high)
 }
 
-// Whether the book is found to break a rule with this count of a caller and the other counts of a
-// cut.
+// Whether the book is found to break a rule at the cut that has this count of a caller and the
+// other counts of a cut.
 fn is_broken_with(
     alloc: Global,
     kind: Kind,
@@ -258,7 +263,8 @@ fn is_broken_with(
     Ok(found)
 }
 
-// Takes as many records of each caller from a cut as can be, one caller after another.
+// Takes from a cut, of one caller after another, as many records as can go while the book has no
+// legal order at the cut.
 fn least_of_all(alloc: Global, kind: Kind, book: &Book, cut: Cut) -> Result<Cut, NoMemory>
     requires { IsIllegalCut (kind_init kind) (kind_next kind) book.now cut }
     ensures { IfOk result (IsLeastCut (kind_init kind) (kind_next kind) book.now) }
@@ -271,9 +277,9 @@ fn least_of_all(alloc: Global, kind: Kind, book: &Book, cut: Cut) -> Result<Cut,
     Ok(least)
 }
 
-// The least count of a caller at which the book has no legal order, with the other counts of a cut.
-// Few steps are tried first, since most counts are little above the least ones; after a legal order
-// halves are.
+// The least count of a caller with which, and with the other counts of a cut, the book has no legal
+// order. Steps down by 1, 2, 4 and so on are tried first, since most counts are little above the
+// least ones; after a legal order the range is halved.
 fn least_count(
     alloc: Global,
     kind: Kind,
@@ -307,7 +313,7 @@ fn least_count(
     Ok(high)
 }
 
-// The cut with this count for a caller.
+// The cut with its count of a caller replaced by this one.
 fn with_count(cut: &Cut, caller: u32, count: u64) -> Cut
     requires { caller < length cut.now }
     ensures { result ≡ slice_set cut.now caller count }

@@ -38,10 +38,12 @@ pub fn is_illegal(alloc: Global, kind: Kind, book: &Book) -> Result<bool, NoMemo
 /// search finds little there that it may leave out.
 const MOST_PAIRED: u64 = 512;
 
-/// While records go from a cut, a book may have more calls: no order is looked for.
+/// The greatest number of calls with which pairs of calls are looked at for a broken rule while
+/// records are taken from a cut. It is greater than `MOST_PAIRED`, as no order is looked for then.
 const MOST_PAIRED_AT_A_CUT: u64 = 2048;
 
-// Whether a book of at most this many calls is found to break a rule of its kind.
+// Whether a book is found to break a rule of its kind. A book of more than this many calls isn't
+// looked at.
 fn breaks_rule(kind: Kind, book: &Book, most: u64) -> bool
     ensures { IsTrue result → ¬ HasLegalOrder (kind_init kind) (kind_next kind) book.now }
 {
@@ -51,7 +53,7 @@ fn breaks_rule(kind: Kind, book: &Book, most: u64) -> bool
     broken_rule(kind, book).is_some()
 }
 
-/// Whether a book is found to break a rule of its kind at a cut. No order is looked for.
+/// Whether the book at a cut is found to break a rule of its kind. No order is looked for.
 pub fn breaks_rule_at(alloc: Global, kind: Kind, book: &Book, cut: &Cut) -> Result<bool, NoMemory>
     requires wide { length cut.now ≡ length book.now }
     requires within { IsWithin cut.now (answered book.now) }
@@ -63,8 +65,8 @@ pub fn breaks_rule_at(alloc: Global, kind: Kind, book: &Book, cut: &Cut) -> Resu
     Ok(breaks_rule(kind, &part, MOST_PAIRED_AT_A_CUT))
 }
 
-/// Whether a book has more than a few calls at a cut, and each of its views there holds at most one
-/// unanswered call of each caller.
+/// Whether the book at a cut has more than `FEW_CALLS` calls, and each of its views holds at most
+/// one unanswered call of each caller.
 pub fn is_large_and_open_at(alloc: Global, book: &Book, cut: &Cut) -> Result<bool, NoMemory>
     requires wide { length cut.now ≡ length book.now }
     requires within { IsWithin cut.now (answered book.now) }
@@ -91,7 +93,7 @@ pub fn calls_of_all(book: &Book) -> u64
     calls
 }
 
-/// Whether a book has no legal order at a cut.
+/// Whether the book at a cut has no legal order.
 pub fn is_illegal_at(alloc: Global, kind: Kind, book: &Book, cut: &Cut) -> Result<bool, NoMemory>
     requires wide { length cut.now ≡ length book.now }
     requires within { IsWithin cut.now (answered book.now) }

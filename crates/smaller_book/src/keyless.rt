@@ -18,8 +18,9 @@ use book_base::{Book, Call, NoMemory};
 use seq_objects::Kind;
 use std::alloc::Global;
 
-/// The book without as many keys as can be left out one half after another: all keys, their halves,
-/// their quarters, down to single ones.
+/// The book without the calls of as many keys as can be left out, one chunk of neighbouring keys
+/// tried after another: all keys, their halves, their quarters, down to single ones. No book is
+/// answered where no chunk can be left out.
 pub fn without_halves(alloc: Global, kind: Kind, book: &Book) -> Result<Option<Smaller>, NoMemory>
     ensures { IfOk result (λ found. IfSome found (λ smaller.
         IsSmaller kind book.now (numbers_in smaller.numbers.items) smaller.book)) }
@@ -34,7 +35,8 @@ pub fn without_halves(alloc: Global, kind: Kind, book: &Book) -> Result<Option<S
     Ok(found)
 }
 
-// The book without further keys: this many neighbouring keys are left out at a time.
+// The smaller book found before, or else the book, without the calls of those further keys that can
+// be left out: chunks of this many neighbouring keys are tried one after another.
 fn without_chunks(
     alloc: Global,
     kind: Kind,
@@ -58,8 +60,8 @@ fn without_chunks(
     Ok(fewest)
 }
 
-// The book without the keys from a first one to a last one too, where it has no legal order without
-// them.
+// The smaller book found before, or else the book, without the calls of the keys from a first one
+// to a last one, where it has no legal order without them; else what was found before.
 fn without_chunk(
     alloc: Global,
     kind: Kind,
@@ -82,8 +84,9 @@ fn without_chunk(
     }
 }
 
-// The book without the keys from a first one to a last one, where it has fewer calls and no legal
-// order without them.
+// The book without the calls of the keys from a first one to a last one, where it has fewer calls
+// and no legal order without them, and each of its views holds at most one unanswered call of each
+// caller.
 fn without_some(
     alloc: Global,
     kind: Kind,
@@ -108,8 +111,9 @@ fn without_some(
     }
 }
 
-/// The book without the first key that isn't needed for the book to have no legal order. None is
-/// looked for where a view holds two unanswered calls of a caller.
+/// The book without the calls of the first key without which it has no legal order; none, where it
+/// has a legal order without each single key. None is looked for where a view holds two unanswered
+/// calls of a caller.
 pub fn without_one_key(alloc: Global, kind: Kind, book: &Book) -> Result<Option<Smaller>, NoMemory>
     ensures smaller { IfOk result (λ found. IfSome found (λ smaller.
         IsSmaller kind book.now (numbers_in smaller.numbers.items) smaller.book)) }
@@ -131,8 +135,9 @@ pub fn without_one_key(alloc: Global, kind: Kind, book: &Book) -> Result<Option<
     Ok(None)
 }
 
-// The book without a key that calls of this caller are about, and that isn't among those which are
-// needed. Where there is none, the keys of its calls are among them too.
+// The book without the calls of a key that some call of this caller is about, where it has no legal
+// order without them. Keys that are known to be needed aren't tried again. Where no book is found,
+// all keys of the caller's calls are known to be needed.
 fn without_key_of_caller(
     alloc: Global,
     kind: Kind,
@@ -162,8 +167,8 @@ fn without_key_of_caller(
     Ok(None)
 }
 
-// The book without the key of this call, where it has no legal order without it. A key that is
-// among those which are needed isn't tried again.
+// The book without the calls of this call's key, where it has no legal order without them. A key
+// that is known to be needed isn't tried again.
 fn without_key_of(
     alloc: Global,
     kind: Kind,
@@ -187,8 +192,8 @@ fn without_key_of(
     }
 }
 
-// The book without this key of this call, where the key isn't among those which are needed, and the
-// book has no legal order without it.
+// The book without the calls of this key, where the key isn't known to be needed and the book has
+// no legal order without them. Where the book has one, the key is known to be needed from then on.
 fn without_new_key(
     alloc: Global,
     kind: Kind,
@@ -219,7 +224,8 @@ fn without_new_key(
     }
 }
 
-// The book without this key of this call, where it has no legal order without it.
+// The book without the calls of this key, which this call is about, where it has no legal order
+// without them.
 fn without_key(
     alloc: Global,
     kind: Kind,

@@ -11,14 +11,14 @@ use std::alloc::Global;
 /// How many values there are: a value is below this number.
 const VALUES: u64 = 1 << 32;
 
-/// What a reply word has above a value.
+/// What a reply word that shows a value has above its low 32 bits.
 const VALUE_TAG: u64 = 2;
 
 /// The code of the operation that puts a value in.
 const PUT: u64 = 1;
 
-/// The key that a call is about, where it has one: a value of a queue, a stack or a priority queue,
-/// which the call puts in or shows, or a key of a set or a map.
+/// The key that a call is about, where it is about one: of a queue, a stack or a priority queue the
+/// value that the call puts in or shows, of a set or a map the argument.
 pub fn key_of(kind: Kind, book: &Book, call: Call) -> Option<u64>
     requires { IsCall book.now call }
     ensures { result ≡ key_of_call kind book.now call }
@@ -43,7 +43,7 @@ fn reply_of(book: &Book, call: Call) -> Option<u64>
     }
 }
 
-/// The keys that calls of a book are about, in their order.
+/// The keys that calls of a book are about, each once, from the least one up.
 pub fn keys_of(alloc: Global, kind: Kind, book: &Book) -> Result<Vec<u64>, NoMemory> {
     let mut keys = Vec::new(alloc);
     for caller in 0..book.callers() {
@@ -66,7 +66,8 @@ fn push_keys(kind: Kind, book: &Book, caller: u32, keys: &mut Vec<u64>) -> Resul
     Ok(())
 }
 
-// The key that an operation is about, with its reply where it has one.
+// The key that an operation is about, with its reply where it has one; an operation that the kind
+// doesn't know is about none.
 fn key_of_step(kind: Kind, op: OpWord, reply: Option<u64>) -> Option<u64>
     ensures { result ≡ key_of_step kind op reply }
 {
@@ -77,7 +78,7 @@ fn key_of_step(kind: Kind, op: OpWord, reply: Option<u64>) -> Option<u64>
     }
 }
 
-// The key that an operation is about, which the kind knows.
+// The key that an operation which the kind knows is about, with its reply where it has one.
 fn key_by_kind(kind: Kind, op: OpWord, reply: Option<u64>) -> Option<u64>
     requires { is_known_word kind op ≡ true }
     ensures { result ≡ key_by_kind kind op reply }
@@ -94,7 +95,8 @@ fn key_by_kind(kind: Kind, op: OpWord, reply: Option<u64>) -> Option<u64>
     }
 }
 
-// The value that an operation puts in, or that the reply to it shows.
+// The value that an operation of code 1 puts in, or that the reply to another operation shows,
+// where there is one.
 fn value_moved(op: OpWord, reply: Option<u64>) -> Option<u64>
     ensures { result ≡ (if code_of op == 1 then Some (argument_of op) else value_shown reply) }
 {
@@ -112,7 +114,7 @@ fn argument(op: OpWord) -> u64
     low(op) % VALUES
 }
 
-// The value that a reply shows.
+// The value that a reply shows, where there is a reply and it shows a value.
 fn value_shown(reply: Option<u64>) -> Option<u64>
     ensures { result ≡ value_shown reply }
 {

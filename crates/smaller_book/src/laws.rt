@@ -4,33 +4,35 @@ ghost use Rattle.smaller_book.specs.ReadOnly.{HasOneWithoutReadOnly};
 ghost use Rattle.smaller_book.specs.Keys.{HasOneWithoutKeys, EvidenceTells};
 ghost use Rattle.smaller_book.specs.Minimal.{MinimalAtMoments, FewCallsAtCuts, SeveralOpenAtCuts};
 
-/// Read-only calls with their reply may be left out: what is left of a legal order is one of
-/// what is left of the book.
+/// Read-only calls may be left out: where a book has a legal order, each part that lacks only
+/// read-only calls has one.
 pub fn read_only_calls_may_be_left_out()
     ensures { HasOneWithoutReadOnly }
 {}
 
 /// All calls of some keys may be left out, where each view holds at most one unanswered call of
-/// each caller: a legal order of the book gives one of what is left of the book.
+/// each caller: where the book has a legal order, the part without these calls has one.
 pub fn calls_of_keys_may_be_left_out()
     ensures { HasOneWithoutKeys }
 {}
 
-/// A legal order of a book gives one of each part that is evidence of it: so where the part has
+/// Where a book has a legal order, each part that is evidence of it has one; where such a part has
 /// none, the book has none.
 pub fn evidence_tells()
     ensures { EvidenceTells }
 {}
 
-/// A minimal book has a legal order at each earlier moment of its run. One with few calls, or one
-/// that no run has, since a view of it holds several unanswered calls of a caller, has a legal
-/// order at each cut that lacks a record.
+/// A minimal book has a legal order at each earlier moment of its run. A minimal book with few
+/// calls has a legal order at each cut that lacks a record; and so has a minimal book that no run
+/// has, since a view of it holds several unanswered calls of one caller.
 pub fn minimal_books_have_earlier_orders()
-    // In a valid book with one open, a moment's cut has with a record each record whose view lies
-    // within its view.
+    // A minimal valid book with one open has a legal order at each moment that lacks a record: a
+    // moment is a cut that holds with each record all records whose views lie within its view.
     ensures moments { MinimalAtMoments }
-    // A book has few calls if they are at most as many as `FEW_CALLS` says.
+    // A minimal book of at most `FEW_CALLS` calls has a legal order at each cut that lacks a
+    // record.
     ensures few { FewCallsAtCuts }
-    // A view holds two unanswered calls of a caller, or more.
+    // A minimal book with a view that holds several unanswered calls of one caller has a legal
+    // order at each cut that lacks a record.
     ensures several { SeveralOpenAtCuts }
 {}

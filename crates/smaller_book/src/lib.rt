@@ -1,4 +1,5 @@
-//! Of an illegal book an illegal book that is smaller, and the laws that say why it is evidence.
+//! From a book without a legal order a smaller book without one, and the laws that say why the
+//! smaller book is evidence.
 #![tactic(auto)]
 
 pub mod cases;
@@ -21,6 +22,6 @@ pub use numbered::part;
 pub use removal::Smaller;
 pub use shrinking::shrink;
 
-/// A book with at most this many calls is small: each earlier cut of it is tried, also one with a
-/// view that holds several unanswered calls of a caller.
+/// A book has few calls where it has at most this many. Then it is tried at each earlier cut, also
+/// at one at which a view holds several unanswered calls of one caller.
 pub const FEW_CALLS: u64 = 24;

@@ -1,4 +1,4 @@
-//! The part of a book that has these calls.
+//! The part of a book that has the calls with given numbers.
 ghost use Rattle.std.specs.Prelude.{◌≡◌, ◌≢◌, ℕ, ◌+◌, ◌<◌, ◌≤◌, length, slice_index, IfOk, OnOk};
 ghost use Rattle.book_base.specs.declared.call.Call.{Call};
 ghost use Rattle.book_base.specs.Book.{page_of, calls_of, answers_of, operation_of, with_answer};
@@ -9,14 +9,14 @@ ghost use Rattle.smaller_book.specs.Numbers.{numbers_in, AreNumbersOf};
 use book_base::{Book, Call, Cut, NoMemory};
 use std::alloc::Global;
 
-/// The part of a book that has the calls with these numbers, a rising list for each caller. What is
-/// answered in the book is answered in the part.
+/// The part of a book that has the calls with these numbers, a rising list for each caller. Calls
+/// that are answered in the book are answered in the part.
 pub fn part(alloc: Global, book: &Book, numbers: &[Vec<u64>]) -> Result<Book, NoMemory>
     // The numbers are rising numbers of calls of the book, a list for each caller.
     requires { AreNumbersOf book.now (numbers_in numbers.now) }
     // The answer is the part of the book that has the calls with these numbers.
     ensures part { IfOk result (IsPart book.now (numbers_in numbers.now)) }
-    // What is answered in the book is answered in the part.
+    // Each call of the part that is answered in the book is answered in the part.
     ensures answers { IfOk result (KeepsAnswers book.now (numbers_in numbers.now)) }
 {
     let callers = book.callers();
@@ -44,7 +44,8 @@ fn sizes(book: &Book, numbers: &[Vec<u64>]) -> Cut
     sizes
 }
 
-// Puts in the operations of a caller's calls.
+// Gives each call of a caller in the part the operation of the book's call that has its number in
+// the list.
 fn put_operations(book: &Book, numbers: &[u64], caller: u32, part: &mut Book)
     requires inside { (k : ℕ) → k < length numbers.now
         → slice_index numbers.now k < calls_of book.now caller }
@@ -73,7 +74,8 @@ fn put_operations(book: &Book, numbers: &[u64], caller: u32, part: &mut Book)
     }
 }
 
-// Puts in the answers of a caller's calls, of which none is there.
+// Puts into the part, which has no answer of a caller yet, all answers that the book has to the
+// caller's calls in the part.
 fn put_answers(
     book: &Book,
     numbers: &[Vec<u64>],
@@ -101,7 +103,8 @@ fn put_answers(
     Ok(())
 }
 
-// Puts in the answer of a caller's first unanswered call, which has this number in the book.
+// Puts into the part the answer to its first unanswered call of a caller, which is the call of the
+// book with this number.
 fn put_answer(
     book: &Book,
     numbers: &[Vec<u64>],
@@ -127,7 +130,7 @@ fn put_answer(
     part.put_answer(caller, record.reply, view)
 }
 
-// The view that counts of each caller the calls with these numbers alone.
+// The view that counts of each caller those calls of a view whose numbers are in the caller's list.
 fn renumbered(view: &Cut, numbers: &[Vec<u64>]) -> Cut
     requires { length numbers.now ≡ length view.now }
     ensures wide { length result ≡ length view.now }
@@ -141,7 +144,7 @@ fn renumbered(view: &Cut, numbers: &[Vec<u64>]) -> Cut
     counts
 }
 
-// How many of these rising numbers are below a bound.
+// How many numbers stand in a list before the first one that isn't below a bound.
 fn count(numbers: &[u64], bound: u64) -> u64
     ensures { result ≡ count_below numbers.now bound }
 {

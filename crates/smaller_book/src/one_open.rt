@@ -6,8 +6,8 @@ ghost use Rattle.book_base.specs.Pruning.{HasOneOpen};
 
 use book_base::{Book, Call, Cut};
 
-/// Whether each view of a book holds at most one unanswered call of each caller, as in each book
-/// that a run gathers.
+/// Whether each view of a book holds at most one unanswered call of each caller, as the views of
+/// each book do that a run gathers.
 pub fn has_one_open(book: &Book) -> bool
     ensures one { IsTrue result → HasOneOpen book.now }
     ensures more { result ≡ false → ¬ HasOneOpen book.now }
@@ -20,7 +20,7 @@ pub fn has_one_open(book: &Book) -> bool
     true
 }
 
-// Whether each view of a caller holds at most one unanswered call of each caller.
+// Whether each view that a caller recorded holds at most one unanswered call of each caller.
 fn caller_has_one_open(book: &Book, caller: u32) -> bool
     requires { caller < length book.now }
     ensures one { IsTrue result → (number : ℕ) (r : Record) (i : ℕ)

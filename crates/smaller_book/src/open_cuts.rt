@@ -14,8 +14,9 @@ use book_base::{Book, Call, Cut, NoMemory};
 use seq_objects::Kind;
 use std::alloc::Global;
 
-/// Takes as many records from a cut as can be while the book at the cut has one open, one caller
-/// after another.
+/// Takes records from a cut at which the book has no legal order, of one caller after another,
+/// until the book has a legal order at each lesser cut at which each view of the book there holds
+/// at most one unanswered call of each caller.
 pub fn least_open_cut(alloc: Global, kind: Kind, book: &Book, cut: Cut) -> Result<Cut, NoMemory>
     requires { IsIllegalCut (kind_init kind) (kind_next kind) book.now cut }
     ensures { IfOk result (IsLeastOpenCut (kind_init kind) (kind_next kind) book.now) }
@@ -27,9 +28,10 @@ pub fn least_open_cut(alloc: Global, kind: Kind, book: &Book, cut: Cut) -> Resul
     Ok(least)
 }
 
-// Takes as many records of a caller from a cut as can be, and with them the records of others whose
-// views would hold several unanswered calls of a caller. Few steps are tried first, since most
-// counts are little above the least ones; after a legal order halves are.
+// Takes from a cut as many records of a caller as can go while the book has no legal order, and
+// with them the records of all callers whose views would hold several unanswered calls of one
+// caller. Steps down by 1, 2, 4 and so on are tried first, since most counts are little above the
+// least ones; after a legal order the range is halved.
 fn least_open_of(
     alloc: Global,
     kind: Kind,
@@ -65,7 +67,8 @@ fn least_open_of(
 }
 
 // A cut within this one with at most this count of a caller, which holds each such cut at which the
-// book has one open: records go as long as a view holds several unanswered calls of a caller.
+// book has one open: records whose views hold several unanswered calls of one caller go, round
+// after round, until none goes.
 fn open_below(book: &Book, cut: &Cut, caller: u32, count: u64) -> Cut
     requires wide { length cut.now ≡ length book.now }
     requires within { IsWithin cut.now (answered book.now) }
@@ -89,8 +92,8 @@ fn open_below(book: &Book, cut: &Cut, caller: u32, count: u64) -> Cut
     kept
 }
 
-// The cut without the last records of each caller whose views hold several unanswered calls of a
-// caller.
+// The cut without the last records of each caller whose views hold several unanswered calls of one
+// caller: more than one beyond the cut's records of that caller.
 fn fewer_open(book: &Book, cut: &Cut) -> Cut
     requires wide { length cut.now ≡ length book.now }
     requires within { IsWithin cut.now (answered book.now) }
@@ -107,8 +110,8 @@ fn fewer_open(book: &Book, cut: &Cut) -> Cut
     fewer
 }
 
-// How many records of a caller a cut has without the last ones whose views hold several unanswered
-// calls of a caller.
+// How many records of a caller remain in a cut without the last ones whose views hold several
+// unanswered calls of one caller: more than one beyond the cut's records of that caller.
 fn open_count(book: &Book, cut: &Cut, caller: u32) -> u64
     requires wide { length cut.now ≡ length book.now }
     requires within { IsWithin cut.now (answered book.now) }
@@ -134,7 +137,8 @@ fn open_count(book: &Book, cut: &Cut, caller: u32) -> u64
     count
 }
 
-// Whether the view of a call holds of each caller at most one call more than the cut has records.
+// Whether the view of a call's record counts for each caller at most one call more than the cut has
+// records of it.
 fn holds_one_open(book: &Book, cut: &Cut, call: Call) -> bool
     requires wide { length cut.now ≡ length book.now }
     requires answered { IsAnswered book.now call }

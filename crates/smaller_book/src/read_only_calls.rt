@@ -1,4 +1,4 @@
-//! As many read-only calls as can be taken out of a book.
+//! Read-only calls, taken out of a book while it has no legal order: one, or as many as can be.
 ghost use Rattle.std.specs.Prelude.{ℕ, ◌<◌, length, IfOk, IfSome, IfNone, IsTrue};
 ghost use Rattle.book_base.specs.declared.call.Call.{Call};
 ghost use Rattle.book_base.specs.Book.{calls_of, IsCall};
@@ -15,7 +15,8 @@ use book_base::{Book, Call, MAX_CALLS, NoMemory};
 use seq_objects::Kind;
 use std::alloc::Global;
 
-/// The book without a read-only call that isn't needed for the book to have no legal order.
+/// The book without a read-only call, where it has no legal order without this call; none, where it
+/// has one without each single read-only call.
 pub fn without_read_only(
     alloc: Global,
     kind: Kind,
@@ -32,8 +33,9 @@ pub fn without_read_only(
     }
 }
 
-/// The book without single read-only calls. Each is tried once: what a book needs, each part of it
-/// that has no legal order needs too.
+/// The book without those single read-only calls that can be left out one after another. Each is
+/// tried once: a call without which the book has a legal order can't be left out of a part of it
+/// either.
 pub fn without_singles(alloc: Global, kind: Kind, book: &Book) -> Result<Option<Smaller>, NoMemory>
     ensures { IfOk result (λ found. IfSome found (λ smaller.
         IsSmaller kind book.now (numbers_in smaller.numbers.items) smaller.book)) }
@@ -45,8 +47,9 @@ pub fn without_singles(alloc: Global, kind: Kind, book: &Book) -> Result<Option<
     Ok(found)
 }
 
-// The book without more single calls, of this caller: the last one is tried first, so that the
-// numbers of those that are still to be tried stay.
+// The smaller book found before, or else the book, without further read-only calls of this caller
+// that can be left out. The last call is tried first, so that the numbers of those that are still
+// to be tried stay as they are.
 fn without_singles_of(
     alloc: Global,
     kind: Kind,
@@ -72,7 +75,8 @@ fn without_singles_of(
     Ok(fewest)
 }
 
-// The book without this call too, where it has no legal order without it.
+// The smaller book found before, or else the book, without this call, where the call is read-only
+// and it has no legal order without the call; else what was found before.
 fn without_single_too(
     alloc: Global,
     kind: Kind,
@@ -94,8 +98,8 @@ fn without_single_too(
     }
 }
 
-// The book without this call, where it is an answered one that leaves every list, and the book has
-// no legal order without it.
+// The book without this call, where the call is an answered read-only one and the book has no legal
+// order without it.
 fn without_single(
     alloc: Global,
     kind: Kind,
@@ -115,8 +119,8 @@ fn without_single(
     }
 }
 
-/// The book without read-only calls, all those of a slice of numbers together: of all numbers, of
-/// their halves, their quarters, down to single ones.
+/// The book without read-only calls: all those whose numbers are in one slice are tried together.
+/// Slices are all numbers, then their halves, their quarters, down to single numbers.
 pub fn without_slices(alloc: Global, kind: Kind, book: &Book) -> Result<Option<Smaller>, NoMemory>
     ensures { IfOk result (λ found. IfSome found (λ smaller.
         IsSmaller kind book.now (numbers_in smaller.numbers.items) smaller.book)) }
@@ -130,7 +134,8 @@ pub fn without_slices(alloc: Global, kind: Kind, book: &Book) -> Result<Option<S
     Ok(found)
 }
 
-// The book without more such calls, of slices of this size one after another.
+// The smaller book found before, or else the book, without further read-only calls that can be left
+// out: slices of this size are tried one after another.
 fn without_slices_of(
     alloc: Global,
     kind: Kind,
@@ -151,7 +156,8 @@ fn without_slices_of(
     Ok(fewest)
 }
 
-// The book without such calls of a slice too, where it has no legal order without them.
+// The smaller book found before, or else the book, without the read-only calls of this slice, where
+// it has fewer calls and no legal order without them; else what was found before.
 fn without_slice_too(
     alloc: Global,
     kind: Kind,
@@ -175,8 +181,8 @@ fn without_slice_too(
     }
 }
 
-// The book without the calls of a slice that leave every list, where it has fewer calls and no
-// legal order without them.
+// The book without the read-only calls of a slice, where it has fewer calls and no legal order
+// without them.
 fn without_slice(
     alloc: Global,
     kind: Kind,
@@ -207,7 +213,8 @@ fn without_slice(
     }
 }
 
-// Whether a book has calls of a slice that leave every list.
+// Whether a book has a read-only call in a slice: one whose number, divided by the size, is the
+// slice.
 fn has_slice(kind: Kind, book: &Book, size: u64, slice: u64) -> bool
     requires { 0 < size }
 {
@@ -219,7 +226,8 @@ fn has_slice(kind: Kind, book: &Book, size: u64, slice: u64) -> bool
     false
 }
 
-// Whether a caller has calls of a slice that leave every list.
+// Whether a caller has a read-only call in a slice: one whose number, divided by the size, is the
+// slice.
 fn caller_has_slice(kind: Kind, book: &Book, caller: u32, size: u64, slice: u64) -> bool
     requires caller { caller < length book.now }
     requires size { 0 < size }
@@ -232,7 +240,7 @@ fn caller_has_slice(kind: Kind, book: &Book, caller: u32, size: u64, slice: u64)
     false
 }
 
-// The numbers of all calls but those of a slice that leave every list.
+// For each caller the numbers of its calls without the read-only ones of a slice.
 fn numbers_without_slice(
     alloc: Global,
     kind: Kind,
@@ -252,7 +260,7 @@ fn numbers_without_slice(
     Ok(rows)
 }
 
-// The numbers of a caller's calls but those of a slice that leave every list.
+// The numbers of a caller's calls without the read-only ones of a slice.
 fn numbers_of_caller(
     alloc: Global,
     kind: Kind,
@@ -274,7 +282,7 @@ fn numbers_of_caller(
     Ok(numbers)
 }
 
-// Whether a call is one of a slice, is answered, and leaves every list.
+// Whether a call is in a slice, is answered, and is read-only.
 fn is_read_only_of(kind: Kind, book: &Book, call: Call, size: u64, slice: u64) -> bool
     requires call { IsCall book.now call }
     requires size { 0 < size }

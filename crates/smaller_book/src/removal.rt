@@ -14,15 +14,17 @@ use book_base::{Book, Call, NoMemory, SeqObject};
 use seq_objects::Kind;
 use std::alloc::Global;
 
-/// A smaller book, and the numbers that its calls had, by caller.
+/// A smaller book, with the numbers that its calls have in the book from which it was made: a list
+/// for each caller.
 #[derive(Debug, Drop)]
 pub struct Smaller {
     pub book: Book,
     pub numbers: Vec<Vec<u64>>,
 }
 
-/// The book without the first call, from this caller on, that leaves every list and isn't needed
-/// for the book to have no legal order.
+/// The book without the first read-only call, of this caller or a later one, without which it has
+/// no legal order, with the caller of this call; none, where it has one without each single one of
+/// them.
 pub fn without_one(
     alloc: Global,
     kind: Kind,
@@ -45,7 +47,7 @@ pub fn without_one(
     Ok(None)
 }
 
-// The book without a call of this caller.
+// The book without the first read-only call of this caller without which it has no legal order.
 fn without_one_of(
     alloc: Global,
     kind: Kind,
@@ -70,7 +72,7 @@ fn without_one_of(
     Ok(None)
 }
 
-/// The book without this call, where it has no legal order without it.
+/// The book without this read-only call, where it has no legal order without it.
 pub fn without(
     alloc: Global,
     kind: Kind,
@@ -96,7 +98,8 @@ pub fn without(
     }
 }
 
-/// Whether an answered call's operation leaves every list with its reply.
+/// Whether an answered call is read-only: its operation doesn't change any list at which it has the
+/// recorded reply.
 pub fn is_read_only(kind: Kind, book: &Book, call: Call) -> bool
     requires { IsAnswered book.now call }
     ensures { IsTrue result ↔ IsReadOnly (kind_next kind) book.now call }
@@ -107,7 +110,7 @@ pub fn is_read_only(kind: Kind, book: &Book, call: Call) -> bool
     kind.leaves(op, record.reply)
 }
 
-// The numbers of all calls of a book but this call.
+// For each caller the numbers of its calls in a book, without that of this call.
 fn all_numbers_but(alloc: Global, book: &Book, call: Call) -> Result<Vec<Vec<u64>>, NoMemory>
     requires { IsCall book.now call }
     ensures { IfOk result (λ rows. numbers_in rows.items ≡ all_but book.now call) }
@@ -119,7 +122,7 @@ fn all_numbers_but(alloc: Global, book: &Book, call: Call) -> Result<Vec<Vec<u64
     Ok(rows)
 }
 
-// The numbers of a caller's calls in a book without a call.
+// The numbers of a caller's calls in a book, without that of this call where it is the caller's.
 fn numbers_but(alloc: Global, book: &Book, call: Call, caller: u32) -> Result<Vec<u64>, NoMemory>
     requires call { IsCall book.now call }
     requires caller { caller < length book.now }
@@ -133,7 +136,7 @@ fn numbers_but(alloc: Global, book: &Book, call: Call, caller: u32) -> Result<Ve
     }
 }
 
-// The numbers below a count, but this one.
+// The numbers below a count, without this number.
 fn numbers_without(alloc: Global, count: u64, number: u64) -> Result<Vec<u64>, NoMemory>
     requires { number < count }
     ensures { IfOk result (λ numbers. numbers.items ≡ numbers_except count number) }
@@ -172,7 +175,7 @@ pub fn has_fewer(few: &Book, book: &Book) -> bool
     false
 }
 
-/// Appends a number that is kept.
+/// Appends a number where it is kept.
 pub fn push_if(numbers: &mut Vec<u64>, keeps: bool, number: u64) -> Result<(), NoMemory>
     ensures { OnOk result (numbers.new.items
         ≡ numbers.old.items ++ (if keeps then number ∷ [] else [])) }

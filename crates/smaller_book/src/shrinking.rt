@@ -1,4 +1,4 @@
-//! An illegal book that no rule makes smaller.
+//! From a book without a legal order a part without one, which no rule makes smaller.
 ghost use Rattle.std.specs.Prelude.{◌≡◌, ◌<◌, ℕ, Some, IfOk, IfSome, IfNone};
 ghost use Rattle.book_base.specs.declared.call.Call.{Call};
 ghost use Rattle.book_base.specs.Book.{IsCall};
@@ -22,25 +22,26 @@ use book_base::{Book, NoMemory};
 use seq_objects::Kind;
 use std::alloc::Global;
 
-/// Of a book without a legal order a smaller one, which no rule makes smaller still; none, where
-/// the book has a legal order.
+/// Of a book without a legal order a part without one, which no rule makes smaller; none, where the
+/// book has a legal order.
 ///
 /// The rules are three: the book at an earlier cut, the book without an answered read-only call of
 /// the object, and the book without all calls of one key, where each view holds at most one
-/// unanswered call of each caller. A key is a value of a queue, a stack or a priority queue, or a
-/// key of a set or a map. Where more than `FEW_CALLS` calls are left, and each view holds at most
-/// one unanswered call of each caller, only such earlier cuts are tried at which this is still so,
-/// as it is at each moment of a run. The numbers of the calls and their views are made anew, and
-/// the numbers that the calls had come with the book.
+/// unanswered call of each caller. A key is a value of a queue, a stack or a priority queue, or the
+/// argument of an operation of a set or a map. Where more than `FEW_CALLS` calls are left, and each
+/// view holds at most one unanswered call of each caller, only such earlier cuts are tried at which
+/// each view of the book still holds at most one, as at each moment of a run. The calls are
+/// numbered anew with new views, and the numbers that they had come with the book.
 pub fn shrink(alloc: Global, kind: Kind, book: &Book) -> Result<Option<Smaller>, NoMemory>
-    // No book is answered only where the book has a legal order.
+    // Where no book is answered, the book has a legal order.
     ensures none { IfOk result (λ found. IfNone found
         (HasLegalOrder (kind_init kind) (kind_next kind) book.now)) }
     // The smaller book is the part of the book that has the calls with the answered numbers.
     ensures part { IfOk result (λ found. IfSome found (λ smaller.
         IsPart book.now (numbers_in smaller.numbers.items) smaller.book)) }
-    // Where the book has a legal order, the smaller book has one without the calls of some keys: it
-    // is evidence of the book.
+    // The smaller book is evidence of the book: there are keys such that, where the book has a
+    // legal order from some well-formed list, the smaller book has one from this list without the
+    // items of these keys.
     ensures evidence { IfOk result (λ found. IfSome found (λ smaller.
         IsEvidence kind book.now smaller.book)) }
     // The smaller book has no legal order.
@@ -69,9 +70,9 @@ pub fn shrink(alloc: Global, kind: Kind, book: &Book) -> Result<Option<Smaller>,
     }
 }
 
-// The book without much that isn't needed, at the earliest cuts at which that has no legal order.
-// Many calls go before single records do: each record that goes leaves an unanswered call, and a
-// search has more to try.
+// The book, thinned and then at an earliest cut at which it has no legal order. Many calls are left
+// out before single records are: each record that goes leaves an unanswered call, and a search has
+// more to try.
 fn begun(alloc: Global, kind: Kind, book: &Book) -> Result<Smaller, NoMemory>
     requires { ¬ HasLegalOrder (kind_init kind) (kind_next kind) book.now }
     ensures { IfOk result (λ smaller. IsShrunk kind
@@ -83,7 +84,7 @@ fn begun(alloc: Global, kind: Kind, book: &Book) -> Result<Smaller, NoMemory>
     }
 }
 
-// The book at the earliest cuts at which it has no legal order.
+// The book at an earliest cut at which it has no legal order, with the numbers of its calls.
 fn at_earliest(alloc: Global, kind: Kind, book: &Book) -> Result<Smaller, NoMemory>
     requires { ¬ HasLegalOrder (kind_init kind) (kind_next kind) book.now }
     ensures { IfOk result (λ smaller. IsShrunk kind
@@ -97,7 +98,8 @@ fn at_earliest(alloc: Global, kind: Kind, book: &Book) -> Result<Smaller, NoMemo
     })
 }
 
-// The book without calls that aren't needed, at the earliest cuts at which that has no legal order.
+// The book without calls that aren't needed, thinned and then at an earliest cut at which it has no
+// legal order; none, where each read-only call and each key is needed.
 fn next_smaller(alloc: Global, kind: Kind, book: &Book) -> Result<Option<Smaller>, NoMemory>
     ensures smaller { IfOk result (λ found. IfSome found (λ smaller.
         IsShrunk kind book.now (numbers_in smaller.numbers.items) smaller.book)) }
@@ -115,7 +117,8 @@ fn next_smaller(alloc: Global, kind: Kind, book: &Book) -> Result<Option<Smaller
     }
 }
 
-// The book without calls that aren't needed: those of a key, or else one that leaves every list.
+// The book without the calls of a key that isn't needed, or else without a read-only call that
+// isn't needed; none, where each key and each read-only call is needed.
 fn without_calls(alloc: Global, kind: Kind, book: &Book) -> Result<Option<Smaller>, NoMemory>
     ensures smaller { IfOk result (λ found. IfSome found (λ smaller.
         IsSmaller kind book.now (numbers_in smaller.numbers.items) smaller.book)) }
@@ -131,8 +134,8 @@ fn without_calls(alloc: Global, kind: Kind, book: &Book) -> Result<Option<Smalle
     }
 }
 
-// A smaller book without much that isn't needed, at the earliest cuts at which that has no legal
-// order.
+// A smaller book, thinned and then at an earliest cut at which it has no legal order, with the
+// numbers that its calls have in the first book.
 fn settled(alloc: Global, kind: Kind, book: &Book, without: Smaller) -> Result<Smaller, NoMemory>
     requires { IsSmaller kind book.now (numbers_in without.numbers.items) without.book }
     ensures shrunk { IfOk result (λ smaller. IsShrunk kind
@@ -148,7 +151,8 @@ fn settled(alloc: Global, kind: Kind, book: &Book, without: Smaller) -> Result<S
     }
 }
 
-// A smaller book at the earliest cuts at which it has no legal order.
+// A smaller book at an earliest cut at which it has no legal order, with the numbers that its calls
+// have in the first book.
 fn at_earliest_after(
     alloc: Global,
     kind: Kind,

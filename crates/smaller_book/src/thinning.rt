@@ -1,4 +1,4 @@
-//! A book without much that it doesn't need to have no legal order.
+//! A book without many of the calls that it can lack and still have no legal order.
 ghost use Rattle.std.specs.Prelude.{IfOk, IfSome};
 ghost use Rattle.book_base.specs.Order.{HasLegalOrder};
 ghost use Rattle.seq_objects.specs.Objects.{kind_init, kind_next};
@@ -15,10 +15,11 @@ use seq_objects::Kind;
 use std::alloc::Global;
 
 /// The book up to the first views at which it has no legal order, without keys and read-only calls
-/// that can be left out: many at once, and then single ones (after Zeller and Hildebrandt 2002).
+/// that can be left out: many at once, and then single ones (after Zeller and Hildebrandt 2002). No
+/// book is answered where nothing can be left out.
 ///
-/// No answer goes whose caller has a later call in some view: while each view holds at most one
-/// unanswered call of each caller, a search is short.
+/// No answer goes while a later call of its caller is in some view: where each view holds at most
+/// one unanswered call of each caller, a search is short.
 pub fn thinned(alloc: Global, kind: Kind, book: &Book) -> Result<Option<Smaller>, NoMemory>
     requires { ¬ HasLegalOrder (kind_init kind) (kind_next kind) book.now }
     ensures { IfOk result (λ found. IfSome found (λ smaller.
@@ -32,7 +33,8 @@ pub fn thinned(alloc: Global, kind: Kind, book: &Book) -> Result<Option<Smaller>
     without_halves_too(alloc, kind, book, open)
 }
 
-// The book without the keys too that can be left out one half after another.
+// The smaller book found before, or else the book, without the calls of keys that can be left out,
+// chunk after chunk; where none can, what was found before.
 fn without_halves_too(
     alloc: Global,
     kind: Kind,
@@ -53,7 +55,8 @@ fn without_halves_too(
     }
 }
 
-// The book without the calls too that leave every list and can be left out by slices.
+// The smaller book found before, or else the book, without the read-only calls that can be left out
+// slice after slice; where none can, what was found before.
 fn without_slices_too(
     alloc: Global,
     kind: Kind,
@@ -74,7 +77,8 @@ fn without_slices_too(
     }
 }
 
-// The book without the single calls too that leave every list and can be left out.
+// The smaller book found before, or else the book, without the single read-only calls that can be
+// left out; where none can, what was found before.
 fn without_singles_too(
     alloc: Global,
     kind: Kind,
@@ -95,7 +99,8 @@ fn without_singles_too(
     }
 }
 
-// The book without records too that can go while it has one open.
+// The smaller book found before, or else the book, without the records that can go while it has one
+// open; where no call goes with them, what was found before.
 fn without_open_too(
     alloc: Global,
     kind: Kind,

@@ -1,4 +1,4 @@
--- Nodes of a table that lead to one another alone: what is found of the table in memory holds of
+-- Tables in memory whose nodes lead to one another alone: what is found of such a table holds of
 -- its levels.
 use Rattle.std.proofs.Common.{◌≡◌, ℕ, ◌+◌, ◌<◌, ◌≤◌, ◌∙◌, Bool, true, false, not, IsTrue, List, length, get_or, set, take, replicate, Some, option_map, refl, sym, ap, subst, slice_get, arith}
 use Rattle.std.proofs.lemmas.List.{take-replicate, get_or-take}
@@ -26,29 +26,32 @@ use Rattle.stack_levels.specs.LevelLaws.{StackHasNoOrder}
 use Rattle.stack_levels.specs.Tables.{layer_of, layers_of, cut_at, nodes_of, Begins}
 use Rattle.stack_levels.proofs.Refuting.{no_order_where_closed}
 
--- a level of a table is one of its layers
+-- The level at a place of a table in memory, without how it was found, is at that place among the
+-- levels of the table.
 pub layer_at : (levels : List Level) (l : ℕ) (level : Level) → slice_get levels l ≡ Some level
     → slice_get (layers_of levels) l ≡ Some (layer_of level)
 layer_at levels l level at = slice_get-map layer_of levels l ∙ ap (option_map layer_of) at
 
--- no counts are the cut without calls
+-- As many counts of 0 as a book has callers are the cut that holds no call.
 pub zero_counts : (book : List Page) → length book ≤ MAX_CALLERS
     → take (length book) (replicate MAX_CALLERS 0) ≡ no_calls book
 zero_counts book few = take-replicate (length book) MAX_CALLERS 0 few
 
--- one more call of a caller, in the counts and in the cut
+-- Where the counts have one more call of a caller, so has the cut of the first n counts, if the
+-- caller is below n.
 pub cut_raised : (n : ℕ) (counts : List ℕ) (i : ℕ) → i < n
     → take n (set counts i (get_or counts i 0 + 1)) ≡ raised (take n counts) i
 cut_raised n counts i below =
     take-set-lt n counts i (get_or counts i 0 + 1) below
     ∙ ap (λ (m : ℕ). set (take n counts) i (m + 1)) (sym (get_or-take n counts i 0 below))
 
--- what isn't so is untrue
+-- A boolean whose negation is true is false.
 pub not_true : (b : Bool) → IsTrue (not b) → b ≡ false
 not_true true told = sym told
 not_true false told = refl
 
--- what no call outside the cut without calls reads is never taken
+-- A value that no answered call takes, of those that the cut without calls doesn't hold, is never
+-- taken.
 pub never_taken : (reading : Reading) (book : List Page) (n v : ℕ)
     → (IsRead reading book (replicate n 0) v → ⊥) → IsNeverTaken reading book v
 never_taken reading book n v unread call takes =
@@ -56,14 +59,16 @@ never_taken reading book n v unread call takes =
     let zeros : (m i : ℕ) → get_or (none_of m) i 0 ≡ 0 = λ m i. get_or-replicate_default m i 0 in
     unread (call, (takes, omega (arith, zeros n call.caller)))
 
--- what holds of the level at each index holds of each level
+-- What holds of the level at each index of a list of levels holds of each level in the list.
 pub each_one : (P : ℕ → Type 0) (levels : List ℕ)
     → ((j : ℕ) → j < length levels → P (get_or levels j 0)) → (p : ℕ) → IsOneLevel levels p → P p
 each_one P levels each p one =
     subst P (get_or_from_slice_get levels one.0 p 0 one.1)
     (each one.0 (slice_get_within levels one.0 p one.1))
 
--- a node is closed where all its marked callers are followed
+-- A pair of a level and a cut is closed where the marked callers suffice at each list with the top
+-- of the level, for each object that gives its last value first, and the next call of each marked
+-- caller is followed.
 pub closed_at : (reading : Reading) (book : List Page) (levels : List Level) (nodes : Nodes) (l : ℕ)
     (level : Level) (cut mine : List ℕ) (marks : Marks)
     → length book ≤ length cut → slice_get levels l ≡ Some level → mine ≡ cut
@@ -86,7 +91,8 @@ closed_at reading book levels nodes l level cut mine marks wide at same suffice 
       (layer_of level) c (next_call c i)) same (followed i marked);
 }
 
--- A call leads where what it does leads after its counts.
+-- A call leads from a level where what its role does leads, with the cut that has one more call of
+-- its caller than the node.
 pub call_leads : (reading : Reading) (book : List Page) (layers : List Layer) (nodes : Nodes)
     (node : Node) (layer : Layer) (cut new : List ℕ) (call : Call)
     (op : ℕ) (role its : Role) → operation_of book call ≡ Some op → deed_of role ≡ reading.deed op
@@ -108,7 +114,9 @@ call_leads reading book layers nodes node layer cut new call op role its known d
           (sym (ap deed_of is) ∙ deed) leads),
     )
 
--- A table refutes a book whose nodes are closed, and that begins with the bottom.
+-- Where a table has the bottom after no call, its levels that are said to be kept are so, and each
+-- of its nodes is closed, no object that gives its last value first and begins with the empty list
+-- has a legal order of a valid book with one open.
 pub refuted : (reading : Reading) (book : List Page) (levels : List Level) (cuts : List (List ℕ))
     (nodes : List NodeKey)
     → IsValid book → HasOneOpen book

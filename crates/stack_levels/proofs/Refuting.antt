@@ -1,5 +1,5 @@
--- No order goes on from pairs of a level and a cut that lead to one another alone: there would be
--- ever fewer places.
+-- No places continue an order from the pairs of a closed table: fewer and fewer places would
+-- continue it.
 use Rattle.std.proofs.Common.{◌≡◌, ℕ, zero, suc, ◌+◌, ◌<◌, ◌≤◌, ◌∙◌, IsTrue, List, [], ◌∷◌, ◌++◌, length, get_or, Option, Some, None, unwrap_or, refl, sym, ap, subst, inl, inr, slice_get, arith}
 use Rattle.std.specs.List.{AllByRecursion}
 use Rattle.std.specs.Option.{IfSome}
@@ -28,20 +28,20 @@ use Rattle.stack_levels.specs.LevelLaws.{StackHasNoOrder, ClosedTablesHaveNoOrde
 
 -- ---- lists, with their tops first
 
--- the list with these words, the last one first
+-- The list that has these words, given from the last one to the first.
 abbrev upright : List ℕ → List ℕ
 upright [] = []
 upright (v ∷ below) = upright below ++ v ∷ []
 
--- A level ends a list: it is the bottom, or it has the last word, and one of its parents ends what
--- lies below.
+-- A level ends a list, given from the last word to the first: the list is empty and the level has
+-- no last word, or both have the same last word and some parent of the level ends the rest.
 abbrev Ends : List Layer → List ℕ → ℕ → Type 0
 Ends layers [] l = (layer : Layer) × (slice_get layers l ≡ Some layer) × (layer.top.last ≡ None)
 Ends layers (v ∷ below) l = (layer : Layer) × (slice_get layers l ≡ Some layer)
     × (layer.top.last ≡ Some v)
     × ((p : ℕ) × IsOneLevel layer.parents p × Ends layers below p)
 
--- the last word of a list that a level ends
+-- Where a level ends a list and has a last word, the list ends with this word.
 ends_last : (layers : List Layer) (tops : List ℕ) (l : ℕ) (layer : Layer)
     → slice_get layers l ≡ Some layer → Ends layers tops l
     → IfSome layer.top.last (EndsWith (upright tops))
@@ -55,7 +55,8 @@ ends_last layers (v ∷ below) l layer at ends =
     (sym ends.2 ∙ ap (λ (x : Layer). x.top.last) same)
     (upright below, refl)
 
--- no word of a list is taken where the level that ends it is kept
+-- Where a level that ends a list is said to be kept, no answered call that a cut lacks takes any
+-- word of the list, if each level that is said to be kept may be said to be so.
 all-kept : (reading : Reading) (book : List Page) (layers : List Layer)
     → ((l : ℕ) (layer : Layer) → slice_get layers l ≡ Some layer → IsTrue layer.top.kept
     → IsKeptLayer reading book layers layer)
@@ -75,7 +76,8 @@ all-kept reading book layers are cut (v ∷ below) l layer at ends kept =
     (all-kept reading book layers are cut below p under.0 under.1 ends.3.2 under.2)
     (λ (read : IsRead reading book cut v). never read.0 read.1.0)
 
--- What is known of a list that a level ends.
+-- A list that a level ends has the top of this level, where each item of it is below the bound and
+-- was put in by a call of the cut.
 has_top : (reading : Reading) (book : List Page) (layers : List Layer) (nodes : Nodes)
     → IsClosed reading book layers nodes
     → (cut tops : List ℕ) (bound l : ℕ) (layer : Layer) → slice_get layers l ≡ Some layer
@@ -90,7 +92,8 @@ has_top reading book layers nodes table cut tops bound l layer at ends items = r
 
 -- ---- one call
 
--- Where an order stands after one more call: at a list that a level of the table ends.
+-- Places continue an order from a cut and a list, where a level that is a pair with the cut ends
+-- the list, and each item of the list is below the bound and was put in by a call of the cut.
 record Onward (reading : Reading) (book : List Page) (next : List ℕ → ℕ → List ℕ × ℕ)
     (layers : List Layer) (nodes : Nodes)
     (bound : ℕ) (cut : List ℕ) (rest : List Place) : Type 0 where
@@ -101,7 +104,8 @@ record Onward (reading : Reading) (book : List Page) (next : List ℕ → ℕ �
   items : AllByRecursion (IsItem reading book cut bound) (upright tops)
   goes : Continues book next cut (upright tops) rest
 
--- the items, after one more call
+-- After one more call, each item of the list is below the bound and was put in by a call of the
+-- cut.
 items_after : (reading : Reading) (next : List ℕ → ℕ → List ℕ × ℕ) (bound : ℕ)
     → GivesLastFirst reading next bound → (book : List Page)
     (cut list : List ℕ) (place : Place) (op : ℕ) → length book ≤ length cut
@@ -127,7 +131,8 @@ items_after reading next bound is book cut list place op wide may known items =
       inside = omega (arith, may.next, raised_same cut place.caller inside);
     }) later
 
--- a call that takes, from a list that a level ends
+-- Where a take leads from a level that ends a list to the pairs, some level ends the list after the
+-- take, and is a pair with the cut after it.
 take-leads : (reading : Reading) (next : List ℕ → ℕ → List ℕ × ℕ) (bound : ℕ)
     → GivesLastFirst reading next bound → (layers : List Layer) (nodes : Nodes)
     (tops : List ℕ) (l op : ℕ) (layer : Layer) (after : List ℕ) → reading.deed op ≡ Takes
@@ -157,7 +162,8 @@ take-leads reading next bound is layers nodes (v ∷ below) l op layer after tak
       is.take (upright below) v op takes,
     )
 
--- A place whose call leads to the pairs, at a list that a level ends.
+-- Where the call of a first place leads from a level that ends the list to the pairs, the places
+-- after it continue the order from a list that some level ends, which is a pair with the new cut.
 leads_on : (reading : Reading) (next : List ℕ → ℕ → List ℕ × ℕ) (bound : ℕ)
     → GivesLastFirst reading next bound → (book : List Page) (layers : List Layer) (nodes : Nodes)
     (cut tops : List ℕ) (l : ℕ) (layer : Layer) (place : Place) (rest : List Place)
@@ -203,7 +209,8 @@ leads_on reading next bound is book layers nodes cut tops l layer place rest wid
       ]
     ]
 
--- what a take shows of a list that a level ends
+-- A take from a list that a level ends shows the last word of the level, or nothing where it has
+-- none.
 take_shows : (reading : Reading) (next : List ℕ → ℕ → List ℕ × ℕ) (bound : ℕ)
     → GivesLastFirst reading next bound → (book : List Page) (layers : List Layer)
     (cut tops : List ℕ) (l op : ℕ) (layer : Layer) → slice_get layers l ≡ Some layer
@@ -218,7 +225,8 @@ take_shows reading next bound is book layers cut (v ∷ below) l op layer at end
     (all-prefix (IsItem reading book cut bound) (upright below) v items).1.small takes
     ∙ (sym ends.2 ∙ ap (λ (x : Layer). x.top.last) same)
 
--- A take that shows another value may not stand next.
+-- An answered take that shows something other than the last word of a level can't come next in an
+-- order at a list that this level ends.
 not_shown : (reading : Reading) (next : List ℕ → ℕ → List ℕ × ℕ) (bound : ℕ)
     → GivesLastFirst reading next bound → (book : List Page) (layers : List Layer)
     (cut tops : List ℕ) (l : ℕ) (layer : Layer) (place : Place) → slice_get layers l ≡ Some layer
@@ -235,7 +243,7 @@ not_shown reading next bound is book layers cut tops l layer place at ends items
     another.2 (sym takes.5 ∙ (ap reading.shown (sym gives)
     ∙ take_shows reading next bound is book layers cut tops l op layer at ends items takes.4))
 
--- a take from nothing
+-- A take doesn't change a list that a level without a last word ends.
 nothing_taken : (next : List ℕ → ℕ → List ℕ × ℕ) (bound : ℕ) (reading : Reading)
     → GivesLastFirst reading next bound → (layers : List Layer)
     (tops : List ℕ) (l op : ℕ) (layer : Layer) → slice_get layers l ≡ Some layer
@@ -246,7 +254,8 @@ nothing_taken next bound reading is layers (v ∷ below) l op layer at ends take
     let same : ends.0 ≡ layer = same_Some ends.0 layer (sym ends.1 ∙ at) in
     absurd (none-some v (sym none ∙ (sym (ap (λ (x : Layer). x.top.last) same) ∙ ends.2)))
 
--- An unanswered read-only call may be left out.
+-- A first place whose call is unanswered and doesn't change the list may be left out: at most as
+-- many places as come after it continue the order.
 left_out : (reading : Reading) (next : List ℕ → ℕ → List ℕ × ℕ) (bound : ℕ)
     → GivesLastFirst reading next bound → (book : List Page) → HasOneOpen book
     → (layers : List Layer)
@@ -268,7 +277,7 @@ left_out reading next bound is book one layers cut tops l layer place rest wide 
     idle_may_be_left_out book next cut (upright tops) place rest wide one leaves.0
     (ap (λ (w : ℕ). (next (upright tops) w).0) word ∙ stays) goes
 
--- A call that serves for another one is its twin.
+-- A call that serves for another one at a level is a twin of it at each list that this level ends.
 is_twin : (reading : Reading) (next : List ℕ → ℕ → List ℕ × ℕ) (bound : ℕ)
     → GivesLastFirst reading next bound → (book : List Page) (layers : List Layer)
     (cut tops : List ℕ) (l : ℕ) (layer : Layer) (a b : Call) → slice_get layers l ≡ Some layer
@@ -302,7 +311,8 @@ is_twin reading next bound is book layers cut tops l layer a b at ends items fir
 
 -- ---- all calls
 
--- No places go on from the pairs of a closed table.
+-- No places continue an order from a list that a level ends, after a cut with which this level is a
+-- pair of a closed table.
 never_goes : (reading : Reading) (next : List ℕ → ℕ → List ℕ × ℕ) (bound : ℕ)
     → GivesLastFirst reading next bound → (book : List Page) → IsValid book → HasOneOpen book
     → (layers : List Layer) (nodes : Nodes) → IsClosed reading book layers nodes
@@ -365,7 +375,8 @@ never_goes reading next bound is book valid one layers nodes table (suc few) cut
       ]
     ]
 
--- A closed table of whatever pairs leaves no order.
+-- Where a table is closed, by whatever set of pairs, no object that gives its last value first and
+-- begins with the empty list has a legal order of a valid book with one open.
 pub no_order_where_closed : (reading : Reading) (book : List Page) (layers : List Layer)
     (nodes : Nodes) → IsValid book → HasOneOpen book
     → IsClosed reading book layers nodes → StackHasNoOrder reading book
@@ -385,6 +396,9 @@ no_order_where_closed reading book layers nodes valid one table next bound is ha
       goes = continues_from_legal_order book [] next (no_calls book) has.0 wide zeros has.1;
     }) (omega arith)
 
+-- Where a table of levels is closed for a valid book with one open, by the set of pairs of a list,
+-- no object that gives its last value first and begins with the empty list has a legal order of the
+-- book.
 pub closed_tables_have_no_order : ClosedTablesHaveNoOrder
 closed_tables_have_no_order reading book layers pairs valid one table =
     no_order_where_closed reading book layers (IsAmong pairs) valid one table

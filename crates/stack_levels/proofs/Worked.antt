@@ -1,4 +1,4 @@
--- The worked tables: two are closed, and a book with a legal order has none.
+-- The worked tables: two are closed, and for a book with a legal order no table is.
 use Rattle.std.proofs.Common.{◌≡◌, ◌≢◌, ℕ, zero, suc, ◌+◌, ◌<◌, ◌≤◌, ◌∙◌, true, false, IsTrue, List, [], ◌∷◌, ◌++◌, length, get_or, Some, None, refl, sym, ap, subst, inl, inr, slice_get, arith}
 use Rattle.std.specs.List.{AllByRecursion}
 use Rattle.std.proofs.lemmas.Bool.{true≢false, cases_lt}
@@ -26,8 +26,8 @@ use Rattle.stack_levels.proofs.Refuting.{closed_tables_have_no_order}
 abbrev call : ℕ → ℕ → Call
 call i k = record { caller = i; number = k }
 
--- Marks suffice that are on all callers whose next calls may come next, while an answered call is
--- outside.
+-- Where a cut lacks an answered call, marks suffice that are on all callers whose next calls may
+-- come next.
 marked_suffice : (book : List Page) (next : List ℕ → ℕ → List ℕ × ℕ) (cut list : List ℕ)
     (marks : Marks) (outside : Call) → IsAnswered book outside → (Holds cut outside → ⊥)
     → ((i : ℕ) → MayComeNext book cut (next_call cut i) → IsMarked marks i)
@@ -41,7 +41,7 @@ marked_suffice book next cut list marks outside answered out marked (place ∷ o
     subst (λ (c : Call). MayComeNext book cut c) same goes.0.may_come in
     (place, other, marked place.caller may, goes, omega arith)
 
--- what holds of each pair of a list, and of each of its levels
+-- What holds of all pairs of a list holds of each pair in it.
 each_pair : (P : ℕ → List ℕ → Type 0) (pairs : List (ℕ × List ℕ))
     → AllByRecursion (λ (pair : ℕ × List ℕ). P pair.0 pair.1) pairs → (l : ℕ) (cut : List ℕ) (k : ℕ)
     → slice_get pairs k ≡ Some (l, cut) → P l cut
@@ -56,7 +56,7 @@ each_layer P [] all l found at = absurd (none-some found at)
 each_layer P (first ∷ rest) all zero found at = subst P (same_Some first found at) all.0
 each_layer P (first ∷ rest) all (suc l) found at = each_layer P rest all.1 l found at
 
--- a level without parents, or with one
+-- Whatever is said of the parents of a level holds where it has none.
 no_parent : (P : ℕ → Type 0) (p : ℕ) → IsOneLevel [] p → P p
 no_parent P p one = absurd (none-some p one.1)
 
@@ -64,7 +64,7 @@ only_parent : (P : ℕ → Type 0) (parent p : ℕ) → P parent → IsOneLevel 
 only_parent P parent p it (zero, at) = subst P (same_Some parent p at) it
 only_parent P parent p it (suc k, at) = absurd (none-some p at)
 
--- marks on caller 0, on caller 1, and on both
+-- Caller 0 alone is marked.
 abbrev first : Marks
 first = record { callers = true ∷ [] }
 
@@ -88,7 +88,7 @@ at_both P one other zero marked = one
 at_both P one other (suc zero) marked = other
 at_both P one other (suc (suc i)) marked = absurd (true≢false (sym marked))
 
--- the bottom is kept
+-- The bottom, without parents, may be said to be kept.
 bottom_is_kept : (book : List Page) (layers : List Layer)
     → IsKeptLayer pile book layers (layer None true [])
 bottom_is_kept book layers = record {
@@ -98,7 +98,7 @@ bottom_is_kept book layers = record {
       × IsTrue under.top.kept) p one;
 }
 
--- of one caller its next call alone may come next
+-- In the book of one caller only its next call may come next.
 of_one : (cut : List ℕ) (i : ℕ) → MayComeNext (puts_and_takes 1) cut (next_call cut i)
     → IsMarked first i
 of_one cut zero may = refl
@@ -149,6 +149,8 @@ two_ends = record {
       ));
 }
 
+-- The table of the bottom, the 1 on it and the 2 on the 1 is closed for the book whose take shows
+-- the 1.
 pub one_below_two_is_closed : IsClosed pile (puts_and_takes 1) one_below_two (IsAmong up_to_two)
 one_below_two_is_closed = record {
   bottom = layer None true [];
@@ -167,14 +169,14 @@ one_below_two_is_closed = record {
 
 -- ---- the book that is taken from too often
 
--- After both puts caller 0 alone has calls.
+-- After the put of caller 1, only the next call of caller 0 may come next.
 of_two : (n i : ℕ) → MayComeNext taken_too_often (n ∷ 1 ∷ []) (next_call (n ∷ 1 ∷ []) i)
     → IsMarked first i
 of_two n zero may = refl
 of_two n (suc zero) may = absurd (omega (arith, may.is_call))
 of_two n (suc (suc i)) may = absurd (omega (arith, may.is_call))
 
--- Before the put of caller 1 no take may come.
+-- After the put of caller 0 alone, only the put of caller 1 may come next.
 of_put : (i : ℕ) → MayComeNext taken_too_often (1 ∷ 0 ∷ []) (next_call (1 ∷ 0 ∷ []) i)
     → IsMarked second i
 of_put zero may = absurd (omega (arith, may.preceded (call 1 0) (inl (omega arith))))
@@ -187,7 +189,7 @@ of_both zero may = refl
 of_both (suc zero) may = refl
 of_both (suc (suc i)) may = absurd (omega (arith, may.is_call))
 
--- nothing precedes the put of caller 0
+-- No call precedes the put of caller 0.
 first_is_free : (i k : ℕ) → Precedes taken_too_often (call i k) (call 0 0) → ⊥
 first_is_free zero zero p = elim p [
   | inl seen ↦ omega (arith, seen)
@@ -216,7 +218,7 @@ first_is_free (suc zero) zero p = elim p [
 first_is_free (suc zero) (suc k) p = elim p [ inl seen ↦ seen | inr own ↦ omega (arith, own.0) ]
 first_is_free (suc (suc i)) k p = elim p [ inl seen ↦ seen | inr own ↦ omega (arith, own.0) ]
 
--- both puts have one view
+-- The view of the put of caller 0 is within that of the put of caller 1.
 both_see : (r s : Record) → record_of taken_too_often (call 0 0) ≡ Some r
     → record_of taken_too_often (call 1 0) ≡ Some s → IsWithin r.view s.view
 both_see r s x y i =
@@ -228,7 +230,9 @@ both_see r s x y i =
       ap (λ (t : Record). get_or t.view i 0) its,
     )
 
--- a closed pair of the table that goes up and down, by the marks and what follows
+-- A pair of the table that goes up and down is closed where its cut lacks an answered call, all
+-- callers whose next calls may come next are marked, and the next call of each marked caller is
+-- followed.
 closed_pair : (l : ℕ) (cut : List ℕ) (at : Layer) (marks : Marks) (outside : Call)
     → length taken_too_often ≤ length cut → slice_get one_on_one l ≡ Some at
     → IsAnswered taken_too_often outside → (Holds cut outside → ⊥)
@@ -246,11 +250,13 @@ closed_pair l cut at marks outside wide there answered out marked followed = rec
   followed = followed;
 }
 
--- a call is followed from a pair of that table
+-- The next call of a caller is followed from a pair of the table that goes up and down.
 abbrev Goes : ℕ → Layer → List ℕ → ℕ → Type 0
 Goes l at cut i =
     IsFollowed pile taken_too_often one_on_one (IsAmong up_and_down) l at cut (next_call cut i)
 
+-- The table that goes up by two puts and down by two takes is closed for the book with a third
+-- take.
 pub one_on_one_is_closed : IsClosed pile taken_too_often one_on_one (IsAmong up_and_down)
 one_on_one_is_closed =
     let bottom : Layer = layer None true [] in
@@ -370,6 +376,7 @@ last_of_more (v ∷ []) x = refl
 last_of_more (v ∷ w ∷ rest) x =
     ap (λ (parts : List ℕ × ℕ). (v ∷ parts.0, parts.1)) (last_of_more (w ∷ rest) x)
 
+-- The pile gives its last value first, and its values are below 3.
 pub pile_gives_last_first : GivesLastFirst pile pile_next 3
 pile_gives_last_first = record {
   small = small_values;
@@ -390,7 +397,7 @@ pile_gives_last_first = record {
 
 -- ---- a book with a legal order
 
--- what holds of each record of the book of one caller
+-- What holds of the three records of the book of one caller holds of each record of it.
 of_its_records : (shown : ℕ) (P : ℕ → ℕ → List ℕ → Type 0) → P 0 0 (1 ∷ []) → P 0 1 (2 ∷ [])
     → P 0 2 (3 ∷ [])
     → (i k : ℕ) (r : Record) → record_of (puts_and_takes shown) (call i k) ≡ Some r → P i k r.view
@@ -482,6 +489,7 @@ none_yet : (i : ℕ) → let none : List ℕ = 0 ∷ [] in get_or none i 0 ≡ 0
 none_yet zero = refl
 none_yet (suc i) = refl
 
+-- The book whose take shows the 2 has a legal order of the pile.
 pub has_legal_order : HasLegalOrder [] pile_next (puts_and_takes 2)
 has_legal_order = (
   stand 0 0 0 ∷ stand 0 1 0 ∷ stand 0 2 3 ∷ [],
@@ -502,13 +510,14 @@ has_legal_order = (
       ),
 )
 
+-- No table is closed for the book whose take shows the 2.
 pub none_is_closed : (layers : List Layer) (pairs : List (ℕ × List ℕ))
     → IsClosed pile (puts_and_takes 2) layers (IsAmong pairs) → ⊥
 none_is_closed layers pairs closed =
     closed_tables_have_no_order pile (puts_and_takes 2) layers pairs is_valid has_one_open closed
     pile_next 3 pile_gives_last_first has_legal_order
 
--- the start isn't among the pairs without it
+-- The bottom after no call isn't among the pairs of `without_start`.
 no_start : (k : ℕ) → slice_get without_start k ≡ Some (0, 0 ∷ []) → ⊥
 no_start zero e =
     let same : 1 ≡ 0 = ap (λ (pair : ℕ × List ℕ). pair.0) (same_Some (1, 1 ∷ []) (0, 0 ∷ []) e) in
@@ -518,6 +527,7 @@ no_start (suc zero) e =
     omega (arith, same)
 no_start (suc (suc k)) e = none-some (0, 0 ∷ []) e
 
+-- The table without the bottom after no call isn't closed for the book whose take shows the 1.
 pub start_left_out : IsClosed pile (puts_and_takes 1) one_below_two (IsAmong without_start) → ⊥
 start_left_out closed = no_start closed.start.0 closed.start.1
 
@@ -526,9 +536,11 @@ start_left_out closed = no_start closed.start.0 closed.start.1
 neither_no_put : (v : ℕ) → Puts v ≡ Neither → ⊥
 neither_no_put v e = put_no_neither v (sym e)
 
+-- An unanswered take doesn't change the empty list.
 pub take_leaves_bottom : LeavesTop pile unanswered None (call 0 0)
 take_leaves_bottom = (λ answered. omega (arith, answered), (0, refl, inr (refl, refl)))
 
+-- An unanswered take changes a list with the last word 1.
 pub take_leaves_no_item : LeavesTop pile unanswered (Some 1) (call 0 0) → ⊥
 take_leaves_no_item leaves = elim leaves.1.2 [
   | inl neither ↦
@@ -537,6 +549,7 @@ take_leaves_no_item leaves = elim leaves.1.2 [
   | inr takes ↦ none-some 1 (sym takes.1)
 ]
 
+-- An unanswered put changes the empty list.
 pub put_leaves_nothing : LeavesTop pile unanswered None (call 1 0) → ⊥
 put_leaves_nothing leaves =
     let at : 1 ≡ leaves.1.0 = same_Some 1 leaves.1.0 leaves.1.1 in
@@ -545,9 +558,11 @@ put_leaves_nothing leaves =
       | inr takes ↦ put_no_take 1 (subst (λ (op : ℕ). pile_deed op ≡ Takes) (sym at) takes.0)
     ]
 
+-- An answered take isn't among the unanswered calls that don't change the empty list.
 pub answered_is_another : LeavesTop pile taken_too_often None (call 0 1) → ⊥
 answered_is_another leaves = leaves.0 (omega arith)
 
+-- A take leads to two levels below where both are pairs with the cut after it.
 pub take_leads_to_both : TakeLeads (IsAmong both_below) 3 (Some 1) (1 ∷ 2 ∷ []) (2 ∷ [])
 take_leads_to_both p (zero, at) =
     subst (λ (q : ℕ). IsAmong both_below q (2 ∷ [])) (same_Some 1 p at) (0, refl)
@@ -555,14 +570,16 @@ take_leads_to_both p (suc zero, at) =
     subst (λ (q : ℕ). IsAmong both_below q (2 ∷ [])) (same_Some 2 p at) (1, refl)
 take_leads_to_both p (suc (suc k), at) = absurd (none-some p at)
 
--- the one pair that is there is of level 1
+-- Each pair of `one_below` is one of level 1.
 one_pair : (l : ℕ) → IsAmong one_below l (2 ∷ []) → l ≡ 1
 one_pair l (zero, at) =
     sym (ap (λ (pair : ℕ × List ℕ). pair.0) (same_Some (1, 2 ∷ []) (l, 2 ∷ []) at))
 one_pair l (suc k, at) = absurd (none-some (l, 2 ∷ []) at)
 
+-- A take doesn't lead to two levels below where one of them is no pair with the cut after it.
 pub take_leads_not_to_one : TakeLeads (IsAmong one_below) 3 (Some 1) (1 ∷ 2 ∷ []) (2 ∷ []) → ⊥
 take_leads_not_to_one leads = omega (arith, one_pair 2 (leads 2 (1, refl)))
 
+-- A take at the bottom doesn't lead to the pairs where the bottom is no pair with the cut after it.
 pub take_stays_at_bottom : TakeLeads (IsAmong one_below) 0 None [] (2 ∷ []) → ⊥
 take_stays_at_bottom leads = omega (arith, one_pair 0 leads)

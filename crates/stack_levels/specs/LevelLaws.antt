@@ -7,13 +7,16 @@ use Rattle.history_rules.specs.Container.{Reading}
 use Rattle.stack_pruning.specs.LastFirst.{GivesLastFirst}
 use Rattle.stack_levels.specs.Levels.{Layer, IsAmong, IsClosed}
 
--- No object that gives its last value first and begins with nothing has a legal order of a book.
+-- An object that is read in this way, gives its last value first, and begins with the empty list
+-- has no legal order of the book.
 abbrev pub StackHasNoOrder : Reading → List Page → Type 0
 StackHasNoOrder reading book = (next : List ℕ → ℕ → List ℕ × ℕ) (bound : ℕ)
     → GivesLastFirst reading next bound
     → HasLegalOrder [] next book → ⊥
 
--- A valid book with one open has no legal order where a table of levels is closed.
+-- Where a table of levels is closed for a valid book, and each view of the book holds at most one
+-- unanswered call of each caller, no object that gives its last value first and begins with the
+-- empty list has a legal order of the book.
 abbrev pub ClosedTablesHaveNoOrder : Type 0
 ClosedTablesHaveNoOrder =
     (reading : Reading) (book : List Page) (layers : List Layer) (pairs : List (ℕ × List ℕ))

@@ -6,25 +6,28 @@ use Rattle.stack_levels.specs.declared.table.Node.{Node}
 use Rattle.stack_levels.specs.declared.table.NodeKey.{NodeKey}
 use Rattle.stack_levels.specs.Levels.{Layer, Nodes, IsOneLevel, no_calls}
 
--- a level, without how it was found
+-- A level in memory, without the puts and takes by which it was found.
 abbrev pub layer_of : Level → Layer
 layer_of level = record { top = level.top; parents = level.parents.items }
 
+-- The levels of a table in memory, without the puts and takes by which they were found.
 abbrev pub layers_of : List Level → List Layer
 layers_of levels = map layer_of levels
 
--- the cut of a node
+-- The cut of a node: as many of its counts as the book has callers.
 abbrev pub cut_at : List Page → Node → List ℕ
 cut_at book node = take (length book) node.counts
 
--- The pairs that these nodes are, where each names its cut by a place among these counts.
+-- The set of pairs for which these nodes stand: each node has the number of its level, and the
+-- place of its cut's counts in a list of counts, of which the cut has as many as the book has
+-- callers.
 abbrev pub nodes_of : List Page → List (List ℕ) → List NodeKey → Nodes
 nodes_of book cuts nodes l cut = (k : ℕ) × (key : NodeKey) × (slice_get nodes k ≡ Some key)
     × (key.level ≡ l)
     × ((counts : List ℕ) × (slice_get cuts key.cut ≡ Some counts)
     × (take (length book) counts ≡ cut))
 
--- The bottom is the first level, and one of the nodes is the bottom after no call.
+-- The first level is the bottom, and the bottom after no call is one of the pairs.
 pub record Begins (book : List Page) (levels : List Level) (cuts : List (List ℕ))
     (nodes : List NodeKey) : Type 0 where
   pub bottom : Layer
@@ -32,11 +35,11 @@ pub record Begins (book : List Page) (levels : List Level) (cuts : List (List �
   pub empty : bottom.top.last ≡ None
   pub start : nodes_of book cuts nodes 0 (no_calls book)
 
--- a level of these that is said to be kept
+-- There is a level with this number, and it is said to be kept.
 abbrev pub IsSaidKept : List Layer → ℕ → Type 0
 IsSaidKept layers p = (under : Layer) × (slice_get layers p ≡ Some under) × IsTrue under.top.kept
 
--- a level of these with this last word and this level below it
+-- There is a level m, it has this value as its last word, and level l is one of its parents.
 abbrev pub LiesOn : List Layer → ℕ → ℕ → ℕ → Type 0
 LiesOn layers m l v = (above : Layer) × (slice_get layers m ≡ Some above)
     × (above.top.last ≡ Some v)

@@ -19,52 +19,56 @@ ghost use Rattle.stack_levels.specs.Cases.{
   without_start,
 };
 
-/// A take that shows what lies below has no place: the table of all that leads there is closed.
+/// A take that shows the item below the last one has no place: the table of all pairs that lead
+/// there is closed.
 pub fn what_lies_below_is_not_shown()
     // The table with the bottom, the 1 on it and the 2 on the 1 is closed for the book whose take
     // shows the 1.
     ensures { IsClosed pile (puts_and_takes 1) one_below_two (IsAmong up_to_two) }
 {}
 
-/// A put serves for another one of its value, a take leads to what lies below, and from the bottom
-/// no take leads that shows a value.
+/// A put serves for another put of its value, a take leads to the level below, and at the bottom no
+/// take that shows a value has a place.
 pub fn two_puts_are_taken_twice()
     // The table that goes up by two puts and down by two takes is closed for the book with a third
     // take.
     ensures { IsClosed pile taken_too_often one_on_one (IsAmong up_and_down) }
 {}
 
-/// A book with a legal order has no closed table, whatever the table leaves out.
+/// A book with a legal order has no closed table, and no table is closed without the start.
 pub fn legal_books_have_no_closed_table()
     // The pile gives its last value first.
     ensures pile { GivesLastFirst pile pile_next 3 }
     // The book whose take shows the 2 has a legal order of the pile.
     ensures legal { HasLegalOrder [] pile_next (puts_and_takes 2) }
-    // None of its tables is closed.
+    // No table is closed for the book whose take shows the 2.
     ensures none { (layers : List Layer) (pairs : List (ℕ × List ℕ))
         → ¬ IsClosed pile (puts_and_takes 2) layers (IsAmong pairs) }
-    // A table that leaves out the start isn't closed for the book whose take shows the 1.
+    // A table without the bottom after no call isn't closed for the book whose take shows the 1.
     ensures start { ¬ IsClosed pile (puts_and_takes 1) one_below_two (IsAmong without_start) }
 {}
 
-/// An unanswered take leaves the bottom alone as it is, and no put leaves any list.
+/// Which unanswered calls don't change a list: a take doesn't change the empty list, and it changes
+/// each other one; a put changes the empty list too.
 pub fn an_unanswered_take_leaves_the_bottom_alone()
-    // An unanswered take leaves the list in which nothing is.
+    // An unanswered take doesn't change the empty list.
     ensures bottom { LeavesTop pile unanswered None (record { caller = 0; number = 0 }) }
-    // It doesn't leave a list with a last item.
+    // An unanswered take changes a list with a last item.
     ensures item { ¬ LeavesTop pile unanswered (Some 1) (record { caller = 0; number = 0 }) }
-    // An unanswered put doesn't leave the bottom.
+    // An unanswered put changes the empty list.
     ensures put { ¬ LeavesTop pile unanswered None (record { caller = 1; number = 0 }) }
-    // Nothing is said of an answered take.
+    // An answered take isn't among the unanswered calls that don't change the empty list.
     ensures answered { ¬ LeavesTop pile taken_too_often None (record { caller = 0; number = 1 }) }
 {}
 
-/// A take leads to all levels below the one that it ends, not to some of them.
+/// A take leads to all levels below the one that it ends, not just to one of them.
 pub fn a_take_leads_to_each_level_below()
-    // It leads to two levels below, where both are among the pairs.
+    // A take leads to the pairs where both levels below are pairs with the cut after it.
     ensures all { TakeLeads (IsAmong both_below) 3 (Some 1) (1 ∷ 2 ∷ []) (2 ∷ []) }
-    // It doesn't where one of the two is missing.
+    // A take doesn't lead to the pairs where one of two levels below is no pair with the cut after
+    // it.
     ensures missing { ¬ TakeLeads (IsAmong one_below) 3 (Some 1) (1 ∷ 2 ∷ []) (2 ∷ []) }
-    // From the bottom it leads nowhere else.
+    // A take at the bottom doesn't lead to the pairs where the bottom is no pair with the cut after
+    // it.
     ensures bottom { ¬ TakeLeads (IsAmong one_below) 0 None [] (2 ∷ []) }
 {}

@@ -20,8 +20,8 @@ use container_pruning::{Reader, Role};
 use next_calls::has_one_open;
 use stack_pruning::Top;
 
-/// A table of levels, to be looked at once more. Where all that may come next at each of its nodes
-/// leads to one of them, no order goes on from any.
+/// A table of levels that is to be checked once more. Where each call that has to be tried at a
+/// node of the table leads only to its nodes, no places continue an order from any node.
 pub struct Closure<'a, R> {
     pub on: &'a StackBook<'a, R>,
     pub table: &'a LevelTable,
@@ -34,8 +34,9 @@ impl<R> Drop for Closure<'_, R> {
 }
 
 impl<R: Reader> Closure<'_, R> {
-    /// Whether the table shows that a stack's book has no legal order: it has the start, and its
-    /// nodes lead to one another alone. No clause says that it does so wherever there is none.
+    /// Whether the table shows that a stack's book has no legal order: the bottom after no call is
+    /// one of its nodes, and its nodes lead to one another alone. No clause says that this is found
+    /// wherever the book has no legal order.
     pub fn refute(&self) -> bool
         // The sight lists each call of the book that puts in a value, and each answered one that
         // takes it out.
@@ -59,7 +60,7 @@ impl<R: Reader> Closure<'_, R> {
         self.are_closed()
     }
 
-    // Whether the first level is the bottom, and one of the nodes is the bottom after no call.
+    // Whether the first level is the bottom, and the bottom after no call is one of the nodes.
     fn begins(&self) -> bool
         ensures { IsTrue result → Begins self.now.on.now.book.now self.now.table.now.levels.items
             self.now.table.now.cuts.keys self.now.table.now.nodes.keys }
@@ -82,7 +83,7 @@ impl<R: Reader> Closure<'_, R> {
         self.table.levels.get(number)
     }
 
-    // Whether a level after these counts is one of the nodes.
+    // Whether a level and the cut with these counts are one of the nodes.
     fn has(&self, level: usize, counts: [u16; MAX_CALLERS]) -> bool
         ensures { IsTrue result
             → nodes_of self.now.on.now.book.now self.now.table.now.cuts.keys
@@ -105,7 +106,7 @@ impl<R: Reader> Closure<'_, R> {
         }
     }
 
-    // Whether a level is one of the nodes, after the counts of the cut with this number.
+    // Whether a level and the cut with this number, which has these counts, are one of the nodes.
     fn has_at(&self, level: usize, cut: usize, counts: [u16; MAX_CALLERS]) -> bool
         requires cut { slice_get self.now.table.now.cuts.keys cut ≡ Some counts }
         ensures { IsTrue result
@@ -119,7 +120,7 @@ impl<R: Reader> Closure<'_, R> {
         }
     }
 
-    // Whether all levels are kept that are said to be.
+    // Whether each level that is said to be kept is kept.
     fn levels_are_kept(&self) -> bool
         requires sight { ListsValues (R.reading self.now.on.now.reader.now) self.now.on.now.book.now
             self.now.on.now.sight.now }
@@ -136,7 +137,7 @@ impl<R: Reader> Closure<'_, R> {
         true
     }
 
-    // Whether the level with this number is kept, or isn't said to be.
+    // Whether there is a level with this number, and it is kept or isn't said to be kept.
     fn level_is_kept_at(&self, number: usize) -> bool
         requires sight { ListsValues (R.reading self.now.on.now.reader.now) self.now.on.now.book.now
             self.now.on.now.sight.now }
@@ -151,7 +152,7 @@ impl<R: Reader> Closure<'_, R> {
         }
     }
 
-    // Whether a level is kept, or isn't said to be.
+    // Whether a level is kept, or isn't said to be kept.
     fn level_is_kept(&self, level: &Level) -> bool
         requires sight { ListsValues (R.reading self.now.on.now.reader.now) self.now.on.now.book.now
             self.now.on.now.sight.now }
@@ -168,7 +169,7 @@ impl<R: Reader> Closure<'_, R> {
         self.are_said_kept(&level.parents)
     }
 
-    // Whether no answered call takes the last word, if there is one.
+    // Whether there is no last word, or no answered call takes it.
     fn is_free(&self, last: Option<u64>) -> bool
         requires sight { ListsValues (R.reading self.now.on.now.reader.now) self.now.on.now.book.now
             self.now.on.now.sight.now }
@@ -194,7 +195,7 @@ impl<R: Reader> Closure<'_, R> {
         true
     }
 
-    // Whether a level is said to be kept.
+    // Whether there is a level with this number, and it is said to be kept.
     fn is_said_kept(&self, level: usize) -> bool
         ensures { IsTrue result → IsSaidKept (layers_of self.now.table.now.levels.items) level }
     {
@@ -204,7 +205,8 @@ impl<R: Reader> Closure<'_, R> {
         }
     }
 
-    // Whether each of the nodes leads to them alone.
+    // Whether each node is closed: each call that has to be tried at it leads only to nodes of the
+    // table.
     fn are_closed(&self) -> bool
         requires sight { ListsValues (R.reading self.now.on.now.reader.now) self.now.on.now.book.now
             self.now.on.now.sight.now }
@@ -226,7 +228,7 @@ impl<R: Reader> Closure<'_, R> {
         true
     }
 
-    // Whether the node at a place leads to them alone.
+    // Whether the node at a place is closed, or there is no node.
     fn is_closed_at(&self, place: usize) -> bool
         requires sight { ListsValues (R.reading self.now.on.now.reader.now) self.now.on.now.book.now
             self.now.on.now.sight.now }
@@ -246,7 +248,7 @@ impl<R: Reader> Closure<'_, R> {
         }
     }
 
-    // Whether the node of a key leads to them alone.
+    // Whether the node of a key is closed, or the table has no such cut.
     fn is_closed_key(&self, key: NodeKey) -> bool
         requires sight { ListsValues (R.reading self.now.on.now.reader.now) self.now.on.now.book.now
             self.now.on.now.sight.now }
@@ -268,7 +270,8 @@ impl<R: Reader> Closure<'_, R> {
         }
     }
 
-    // Whether a node leads to them alone.
+    // Whether a node is closed: each call that has to be tried at it leads only to nodes of the
+    // table.
     fn is_closed(&self, node: &Node) -> bool
         requires sight { ListsValues (R.reading self.now.on.now.reader.now) self.now.on.now.book.now
             self.now.on.now.sight.now }
@@ -290,7 +293,7 @@ impl<R: Reader> Closure<'_, R> {
         self.callers_are_followed(node, level, &look)
     }
 
-    // Whether the next calls of all marked callers are followed.
+    // Whether the next calls of all marked callers are followed, as `is_followed` says.
     fn callers_are_followed(&self, node: &Node, level: &Level, look: &Look) -> bool
         requires cut { look.now.cut ≡ cut_at self.now.on.now.book.now node.now }
         requires all { MarksAllNext self.now.on.now.book.now look.now.cut look.now.all }
@@ -311,7 +314,8 @@ impl<R: Reader> Closure<'_, R> {
         true
     }
 
-    // Whether the next call of a caller is followed, or the caller isn't marked.
+    // Whether the next call of a caller is followed, as `is_followed` says, or the caller isn't
+    // marked.
     fn caller_is_followed(&self, node: &Node, level: &Level, look: &Look, caller: u32) -> bool
         requires cut { look.now.cut ≡ cut_at self.now.on.now.book.now node.now }
         requires all { MarksAllNext self.now.on.now.book.now look.now.cut look.now.all }
@@ -332,7 +336,9 @@ impl<R: Reader> Closure<'_, R> {
         self.is_followed(node, level, look, Call { caller, number })
     }
 
-    // Whether a caller's next call is followed.
+    // Whether a caller's next call is followed: it shows something other than the last word, or it
+    // is unanswered and doesn't change the list, or it leads to the nodes, or a next call that
+    // serves for it leads to them.
     fn is_followed(&self, node: &Node, level: &Level, look: &Look, call: Call) -> bool
         requires cut { look.now.cut ≡ cut_at self.now.on.now.book.now node.now }
         requires all { MarksAllNext self.now.on.now.book.now look.now.cut look.now.all }
@@ -358,7 +364,8 @@ impl<R: Reader> Closure<'_, R> {
         self.is_served(node, level, look, call)
     }
 
-    // Whether the next call of a caller that serves for this one leads to the nodes.
+    // Whether the next call of some caller may come next, serves for this call, and leads to the
+    // nodes.
     fn is_served(&self, node: &Node, level: &Level, look: &Look, call: Call) -> bool
         requires cut { look.now.cut ≡ cut_at self.now.on.now.book.now node.now }
         requires all { MarksAllNext self.now.on.now.book.now look.now.cut look.now.all }
@@ -379,7 +386,7 @@ impl<R: Reader> Closure<'_, R> {
         false
     }
 
-    // Whether the next call of a caller may come next, serves for another call, and leads to the
+    // Whether the next call of this caller may come next, serves for another call, and leads to the
     // nodes.
     fn serves(&self, node: &Node, level: &Level, look: &Look, caller: u32, call: Call) -> bool
         requires cut { look.now.cut ≡ cut_at self.now.on.now.book.now node.now }
@@ -405,7 +412,8 @@ impl<R: Reader> Closure<'_, R> {
         self.leads(node, level, look, other)
     }
 
-    // Whether all that a call may make of a list that the level ends is among the nodes.
+    // Whether a call leads from a level to the nodes: each level that may end the list after the
+    // call is in a node with the cut after the call.
     fn leads(&self, node: &Node, level: &Level, look: &Look, call: Call) -> bool
         requires cut { look.now.cut ≡ cut_at self.now.on.now.book.now node.now }
         requires caller { call.caller < length self.now.on.now.book.now }
@@ -426,7 +434,8 @@ impl<R: Reader> Closure<'_, R> {
         }
     }
 
-    // Whether a put of a value leads from a level to one of the nodes.
+    // Whether a put of a value, after which the cut has these counts, leads from a level to one of
+    // the nodes.
     fn put_leads(&self, level: usize, value: u64, counts: [u16; MAX_CALLERS]) -> bool
         ensures { IsTrue result → (m : ℕ)
             × LiesOn (layers_of self.now.table.now.levels.items) m level value
@@ -440,7 +449,8 @@ impl<R: Reader> Closure<'_, R> {
         self.put_leads_to(level, value, counts, false)
     }
 
-    // Whether it leads to one with this answer to whether the level is kept.
+    // Whether a put of a value leads from a level to a node whose level is kept, or isn't, as is
+    // asked.
     fn put_leads_to(&self, level: usize, value: u64, counts: [u16; MAX_CALLERS], kept: bool) -> bool
         ensures { IsTrue result → (m : ℕ)
             × LiesOn (layers_of self.now.table.now.levels.items) m level value
@@ -461,8 +471,8 @@ impl<R: Reader> Closure<'_, R> {
         }
     }
 
-    // Whether a level has this last word and another level below it, and is one of the nodes after
-    // these counts.
+    // Whether a level has this value as its last word and another level as a parent, and is in a
+    // node with the cut of these counts.
     fn leads_to(&self, above: usize, level: usize, value: u64, counts: [u16; MAX_CALLERS]) -> bool
         ensures { IsTrue result
             → LiesOn (layers_of self.now.table.now.levels.items) above level value
@@ -476,7 +486,7 @@ impl<R: Reader> Closure<'_, R> {
         self.has(above, counts)
     }
 
-    // Whether a level has this last word, and another level below it.
+    // Whether a level has this value as its last word, and another level as a parent.
     fn lies_on(&self, above: usize, level: usize, value: u64) -> bool
         ensures { IsTrue result
             → LiesOn (layers_of self.now.table.now.levels.items) above level value }
@@ -490,8 +500,8 @@ impl<R: Reader> Closure<'_, R> {
         is_among(&upper.parents, level)
     }
 
-    // Whether a take leads from a level to the nodes: to each of the levels below it, and from the
-    // bottom nowhere else.
+    // Whether a take, after which the cut has these counts, leads from a level to the nodes: to
+    // each of its parents, and from the bottom to the bottom.
     fn take_leads(&self, place: usize, level: &Level, counts: [u16; MAX_CALLERS]) -> bool
         ensures { IsTrue result
             → TakeLeads (nodes_of self.now.on.now.book.now self.now.table.now.cuts.keys
@@ -505,7 +515,7 @@ impl<R: Reader> Closure<'_, R> {
         }
     }
 
-    // Whether all of these levels after these counts are among the nodes.
+    // Whether each of these levels is in a node with the cut of these counts.
     fn has_all(&self, parents: &[usize], counts: [u16; MAX_CALLERS]) -> bool
         ensures { IsTrue result → (p : ℕ) → IsOneLevel parents.now p
             → nodes_of self.now.on.now.book.now self.now.table.now.cuts.keys
@@ -517,8 +527,8 @@ impl<R: Reader> Closure<'_, R> {
         }
     }
 
-    // Whether all of these levels are among the nodes, after the counts of the cut with this
-    // number.
+    // Whether each of these levels is in a node with the cut of this number, which has these
+    // counts.
     fn has_all_at(&self, parents: &[usize], cut: usize, counts: [u16; MAX_CALLERS]) -> bool
         requires cut { slice_get self.now.table.now.cuts.keys cut ≡ Some counts }
         ensures { IsTrue result → (p : ℕ) → IsOneLevel parents.now p
@@ -544,7 +554,7 @@ fn is_last(last: Option<u64>, value: u64) -> bool
     }
 }
 
-// Whether a level is one of these.
+// Whether a level is one of these levels.
 fn is_among(levels: &[usize], level: usize) -> bool
     ensures { IsTrue result → IsOneLevel levels.now level }
 {

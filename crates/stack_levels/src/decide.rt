@@ -17,7 +17,7 @@ use queue_pairs::{Table, places_of};
 use std::alloc::Global;
 use value_pruning::sight_of_values;
 
-/// What the levels of a stack's book say of it: a search of pairs of a level and a cut, as of a
+/// Decides a stack's book by its levels: by a search of pairs of a level and a cut, as of a
 /// pushdown system (Bouajjani, Esparza and Maler 1997), so that no list is kept.
 ///
 /// Counts of puts and takes are compared first: where they contradict one another, the book has no
@@ -27,8 +27,8 @@ use value_pruning::sight_of_values;
 /// values differ, nothing is said, and a search of orders has few lists at each cut.
 ///
 /// The search isn't trusted: the order that it finds is judged, and one that isn't legal isn't
-/// delivered; and the pairs that it found are looked at once more. No clause says how often
-/// anything is said: that costs time alone.
+/// delivered; and the pairs that it found are looked at once more. No clause says for which books a
+/// decision is made: where none is made, only time is lost.
 pub fn decide_stack<S: SeqObject + Reader>(
     alloc: Global,
     stack: &S,
@@ -36,14 +36,14 @@ pub fn decide_stack<S: SeqObject + Reader>(
 ) -> Result<Decision, NoMemory>
     // The object gives its last value first, and its values are below a bound.
     requires stack { (bound : ℕ) × GivesLastFirst (S.reading stack.now) (S.next stack.now) bound }
-    // It begins with nothing.
+    // The object begins with the empty list.
     requires empty { S.init stack.now ≡ [] }
-    // It is a container: it gives out only what was put in.
+    // The object is a container: it gives out only what was put in.
     requires container { IsContainer (S.reading stack.now) (S.next stack.now) }
-    // Its first list holds no value.
+    // The first list of the object holds no value.
     requires nothing { (S.reading stack.now).values (S.init stack.now) ≡ [] }
-    // A decision with an order carries a legal one, and where it says that there is none, there is
-    // none.
+    // An order that is answered is legal, and where it is answered that the book has no legal
+    // order, it has none.
     ensures { IfOk result (IsRightDecision (S.init stack.now) (S.next stack.now) book.now) }
 {
     if !has_one_open(book) {
@@ -89,7 +89,8 @@ fn has_equal_puts(sight: &Sight) -> bool {
     false
 }
 
-// The order of the calls that lead to a node, where it is legal.
+// The decision with the order of the calls that lead to a node, where this order is legal; else
+// nothing is said.
 fn order_of<S: SeqObject + Reader>(
     alloc: Global,
     stack: &S,

@@ -1,6 +1,6 @@
-//! Stacks decided by levels, without a search of orders: an order that is found is judged, and
-//! there is none where all that may come next at each pair of a level and a cut leads to one of the
-//! pairs.
+//! Stacks decided by levels, without a search of orders: an order that is found is judged; and the
+//! book has no legal order where each call that has to be tried at a pair of a level and a cut, of
+//! the start and of all pairs that follow, leads to one of these pairs.
 #![tactic(auto)]
 
 pub mod cases;

@@ -2,17 +2,18 @@ use crate::table::{LevelTable, Reached};
 use book_base::{Call, MAX_CALLERS, MAX_CALLS, NoMemory};
 use std::alloc::Global;
 
-// More steps than an order of a book's calls is read back in.
+// More steps than are needed to read back an order of a book's calls.
 const STEPS: u64 = 8 * MAX_CALLERS as u64 * MAX_CALLS + 8;
 
-/// What is still to be read back.
+/// A part of the order that is still to be read back.
 #[derive(Clone, Copy)]
 enum Task {
     /// The calls that lead to a node from the start.
     ToNode(usize),
-    /// Those of them that follow the put of its level.
+    /// Of the calls that lead to a node from the start, those that follow the first put of its
+    /// level.
     InLevel(usize),
-    /// Those that lead to a level's first put, and this put.
+    /// The calls that lead to the first put of a level from the start, and this put.
     ToLevel(usize),
     /// One call.
     One(Call),
@@ -40,8 +41,8 @@ pub fn calls_to(alloc: Global, table: &LevelTable, place: usize) -> Result<Vec<C
     Ok(calls)
 }
 
-// The last call that leads to a node in its level, and what leads there. The calls are read from
-// the last one on.
+// Reads back the last call that leads to a node within its level, and adds what leads to this call
+// to the tasks. The calls are read from the last one to the first.
 fn read_in_level(
     table: &LevelTable,
     place: usize,
@@ -64,7 +65,7 @@ fn read_in_level(
     Ok(())
 }
 
-// The first put of a level, and what leads there.
+// Reads back the first put of a level, and adds what leads to this put to the tasks.
 fn read_to_level(
     table: &LevelTable,
     level: usize,

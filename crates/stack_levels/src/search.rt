@@ -12,23 +12,24 @@ use stack_pruning::Top;
 use std::alloc::Global;
 use std::cmp::Reverse;
 
-// How many nodes a search looks at, and how often it may lead to one.
+// The greatest number of nodes that a search looks at.
 const NODES: u64 = 2_000_000;
 
+// How often a search may be led to a node, new or not, before it is given up.
 const LINKS: u64 = 30_000_000;
 
-/// What a search comes to.
+/// The result of a search.
 #[derive(Drop)]
 pub enum LevelsFound {
-    /// A node after all answered calls, by its number.
+    /// A node whose cut holds all answered calls, by its number.
     Whole(LevelTable, usize),
-    /// All was tried, and none was found.
+    /// All nodes were looked at, and the cut of none holds all answered calls.
     DeadEnds(LevelTable),
-    /// What a search may look at didn't suffice.
+    /// The search was given up at one of its bounds.
     Unsaid,
 }
 
-/// A search for a node after all answered calls of a stack's book.
+/// A search for a node of a stack's book whose cut holds all answered calls.
 pub struct LevelSearch<'a, R> {
     pub alloc: Global,
     pub on: &'a StackBook<'a, R>,
@@ -59,7 +60,8 @@ struct Here {
     top: Top,
 }
 
-/// A call that is to be tried, and its turn: the least is tried first.
+/// A call that is to be tried, and its turn: the search goes on first from the call of the least
+/// turn.
 #[derive(Clone, Copy, Drop)]
 struct Turn {
     turn: u64,
@@ -74,7 +76,7 @@ struct Step {
 }
 
 impl<R: Reader> LevelSearch<'_, R> {
-    /// Looks for a node after all answered calls.
+    /// Looks for a node whose cut holds all answered calls.
     pub fn run(&self) -> Result<LevelsFound, NoMemory>
         requires sight { ListsValues (R.reading self.now.on.now.reader.now) self.now.on.now.book.now
             self.now.on.now.sight.now }
@@ -101,7 +103,8 @@ impl<R: Reader> LevelSearch<'_, R> {
         Ok(LevelsFound::Unsaid)
     }
 
-    // Goes on from a node by each call that is to be tried, and tells whether none is left there.
+    // Follows each call that is to be tried from a node. Answers whether no call is, since the cut
+    // holds all answered calls.
     fn look_at(&self, progress: &mut Progress, place: usize) -> Result<bool, NoMemory>
         requires sight { ListsValues (R.reading self.now.on.now.reader.now) self.now.on.now.book.now
             self.now.on.now.sight.now }
@@ -127,8 +130,8 @@ impl<R: Reader> LevelSearch<'_, R> {
         Ok(false)
     }
 
-    // The number of what is to be tried at a cut and a top, which is looked for once; there is none
-    // where the cut holds all answered calls.
+    // The number of the list of calls that are to be tried at a cut and a top; each such list is
+    // made once. There is none where the cut holds all answered calls.
     fn steps_at(&self, progress: &mut Progress, at: Beginning) -> Result<Option<usize>, NoMemory>
         requires sight { ListsValues (R.reading self.now.on.now.reader.now) self.now.on.now.book.now
             self.now.on.now.sight.now }
@@ -155,7 +158,7 @@ impl<R: Reader> LevelSearch<'_, R> {
         Ok(Some(looked))
     }
 
-    // The calls that are to be tried, the best one last.
+    // The calls that are to be tried, the one of the least turn last.
     fn turns(&self, look: &Look, top: Top) -> Result<Vec<Turn>, NoMemory>
         requires wide { length look.now.cut ≡ length self.now.on.now.book.now }
         requires all { MarksAllNext self.now.on.now.book.now look.now.cut look.now.all }
@@ -175,8 +178,9 @@ impl<R: Reader> LevelSearch<'_, R> {
         Ok(turns)
     }
 
-    // Adds a call to those that are to be tried, unless it leaves the list, or may not come there,
-    // or another one serves for it.
+    // Adds a call to those that are to be tried, unless it shows something other than the last
+    // word, is unanswered and doesn't change the list, or one of them serves for it. Where it
+    // serves for one of them, it replaces that one.
     fn consider(&self, turns: &mut Vec<Turn>, top: Top, call: Call) -> Result<(), NoMemory> {
         if !self.is_call(call) {
             return Ok(());
@@ -208,8 +212,8 @@ impl<R: Reader> LevelSearch<'_, R> {
         call.caller < self.on.book.callers() && call.number < self.on.book.calls(call.caller)
     }
 
-    // A call and its turn: the calls with the least views first, takes before puts, and unanswered
-    // calls last.
+    // A call and its turn: a call whose view holds fewer calls comes sooner, of views with as many
+    // calls a take comes sooner, and unanswered calls come last.
     fn turn_of(&self, call: Call) -> Turn {
         if !self.is_call(call) || call.number >= self.on.book.answers(call.caller) {
             return Turn {
@@ -227,7 +231,7 @@ impl<R: Reader> LevelSearch<'_, R> {
         Turn { turn, call }
     }
 
-    // Goes on from a node by a call.
+    // Follows a call from a node to all nodes that it leads to.
     fn follow(&self, progress: &mut Progress, here: Here, step: Step) -> Result<(), NoMemory>
         requires sight { ListsValues (R.reading self.now.on.now.reader.now) self.now.on.now.book.now
             self.now.on.now.sight.now }
@@ -256,8 +260,8 @@ impl<R: Reader> LevelSearch<'_, R> {
         }
     }
 
-    // Goes on by a put: to the level that it shares with all puts of its value that lead to one
-    // cut.
+    // Follows a put, which leads to the level that it shares with all puts of its value that lead
+    // to the same cut, with the same answer to whether the list is kept.
     fn begin(
         &self,
         progress: &mut Progress,
@@ -294,7 +298,8 @@ fn step_of(progress: &Progress, looked: usize, k: usize) -> Option<Step> {
     progress.steps.get(looked)?.get(k).copied()
 }
 
-// The counts with one more call of a caller, where there may be one.
+// The counts with one more call of a caller, or as they are where the caller can have no more
+// calls.
 fn more(counts: &[u16; MAX_CALLERS], caller: u32) -> [u16; MAX_CALLERS] {
     let place = caller as usize;
     if place < MAX_CALLERS && u64::from(counts[place]) < MAX_CALLS {
@@ -304,7 +309,8 @@ fn more(counts: &[u16; MAX_CALLERS], caller: u32) -> [u16; MAX_CALLERS] {
     }
 }
 
-// Another level may lie below a level: each take that ended it leads there too.
+// Adds a level to those that may lie right below another one, with a put that leads from it: each
+// take that ended the upper level leads to the lower one too.
 fn lay_on(
     progress: &mut Progress,
     level: usize,
@@ -337,7 +343,7 @@ fn ending_of(progress: &Progress, level: usize, k: usize) -> Option<Ending> {
     progress.table.levels.get(level)?.endings.get(k).copied()
 }
 
-// A take ends a level: it leads to each of the levels below.
+// Adds a take to those that ended a level: it leads to each of the levels that may lie right below.
 fn end(progress: &mut Progress, level: usize, ending: Ending) -> Result<(), NoMemory> {
     let node = NodeKey {
         level,
@@ -363,7 +369,8 @@ fn end(progress: &mut Progress, level: usize, ending: Ending) -> Result<(), NoMe
     Ok(())
 }
 
-// The level with this number among those below a level, and a put that comes from it.
+// The level with this number among the parents of a level, and a put that leads from it to the
+// level.
 fn parent_of(progress: &Progress, level: usize, k: usize) -> Option<(usize, Origin)> {
     let upper = progress.table.levels.get(level)?;
     let below = upper.parents.get(k).copied()?;
@@ -371,7 +378,7 @@ fn parent_of(progress: &Progress, level: usize, k: usize) -> Option<(usize, Orig
     Some((below, origin))
 }
 
-// Something leads to a node, which is looked at if it is new.
+// Counts that something leads to a node; a new node is still to be looked at.
 fn reach(progress: &mut Progress, node: NodeKey, by: Reached) -> Result<(), NoMemory> {
     progress.links = progress.links.saturating_add(1);
     let (place, is_new) = progress.table.nodes.insert_full(node)?;

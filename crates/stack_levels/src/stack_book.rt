@@ -12,7 +12,7 @@ use next_calls::{all_next, cut_of, first_view, least_open};
 use stack_pruning::{Top, narrow_by_top};
 use value_pruning::{is_read, value_taken};
 
-/// A stack's book, with the calls of each value.
+/// A stack's book, how it is read, and for each value the calls that put it in or take it out.
 pub struct StackBook<'a, R> {
     pub reader: &'a R,
     pub sight: &'a Sight,
@@ -29,8 +29,8 @@ impl<R> Drop for StackBook<'_, R> {
     }
 }
 
-/// What may come next after a cut: the callers whose next calls may, and those of them that have to
-/// be tried.
+/// A cut, the callers whose next calls may come next after it, and those of them whose next calls
+/// have to be tried.
 #[derive(Drop)]
 pub struct Look {
     pub cut: Cut,
@@ -39,8 +39,8 @@ pub struct Look {
 }
 
 impl<R: Reader> StackBook<'_, R> {
-    /// What may come next after the calls of a cut, at a list with this top; nothing is said where
-    /// the cut holds all answered calls.
+    /// What may come next after the calls of a cut, at a list with this top. No answer is given
+    /// where the cut holds all answered calls.
     pub fn look(&self, counts: &[u16], top: Top) -> Option<Look>
         // The sight lists each call of the book that puts in a value, and each answered one that
         // takes it out.
@@ -52,12 +52,12 @@ impl<R: Reader> StackBook<'_, R> {
         requires wide { length counts.now ≡ length self.now.book.now }
         // The answer has the cut with these counts.
         ensures cut { IfSome result (λ look. look.cut ≡ counts.now) }
-        // It says which callers' next calls may come next.
+        // Exactly those callers are marked in `all` whose next calls may come next after the cut.
         ensures all { IfSome result (λ look. MarksAllNext self.now.book.now look.cut look.all) }
-        // Those that have to be tried are among them.
+        // Each caller whose next call has to be tried is one whose next call may come next.
         ensures fewer { IfSome result (λ look. IsMarkedWithin look.marks look.all) }
-        // For each object that gives its last value first, and each list with this top, those that
-        // have to be tried suffice.
+        // For each object that gives its last value first, and each list with this top, the callers
+        // suffice whose next calls have to be tried.
         ensures suffice { IfSome result
             (λ look. (next : List ℕ → ℕ → List ℕ × ℕ) (bound : ℕ) (list : List ℕ)
             → GivesLastFirst (R.reading self.now.reader.now) next bound
@@ -73,7 +73,7 @@ impl<R: Reader> StackBook<'_, R> {
         Some(Look { cut, all, marks })
     }
 
-    /// Whether an answered call takes, and shows something else than the last word.
+    /// Whether a call is an answered take that shows something other than the last word.
     pub fn shows_another(&self, last: Option<u64>, call: Call) -> bool
         // The call is one of the book's.
         requires caller { call.caller < length self.now.book.now }
@@ -90,7 +90,7 @@ impl<R: Reader> StackBook<'_, R> {
         }
     }
 
-    /// Whether a call is unanswered, and leaves each list with this last word.
+    /// Whether a call is unanswered and doesn't change a list with this last word.
     pub fn leaves_top(&self, last: Option<u64>, call: Call) -> bool
         // The call is one of the book's.
         requires caller { call.caller < length self.now.book.now }
@@ -108,7 +108,7 @@ impl<R: Reader> StackBook<'_, R> {
         }
     }
 
-    /// Whether a call serves for another one at each list with this last word.
+    /// Whether a call serves for another caller's call at each list with this last word.
     pub fn serves(&self, last: Option<u64>, one: Call, other: Call) -> bool
         // Both calls are calls of the book.
         requires one_caller { one.caller < length self.now.book.now }
@@ -133,7 +133,7 @@ impl<R: Reader> StackBook<'_, R> {
         self.are_alike(one, other)
     }
 
-    /// Whether an answered call takes a value.
+    /// Whether some answered call takes this value.
     pub fn is_taken(&self, value: u64) -> bool
         // The sight lists each call of the book that puts in a value, and each answered one that
         // takes it out.
@@ -147,7 +147,7 @@ impl<R: Reader> StackBook<'_, R> {
         is_read(self.reader, self.sight, self.book, &none, value)
     }
 
-    // Whether an answered call takes the last word.
+    // Whether a call is an answered take that shows the last word.
     fn takes_last(&self, last: Option<u64>, call: Call) -> bool
         ensures { IsTrue result → (v : ℕ) × (last ≡ Some v)
             × TakesOut (R.reading self.now.reader.now) self.now.book.now call v }
@@ -158,7 +158,7 @@ impl<R: Reader> StackBook<'_, R> {
         }
     }
 
-    // Whether an answered call takes a value.
+    // Whether a call is an answered take that shows this value.
     fn takes(&self, value: u64, call: Call) -> bool
         ensures { IsTrue result
             → TakesOut (R.reading self.now.reader.now) self.now.book.now call value }
@@ -169,8 +169,8 @@ impl<R: Reader> StackBook<'_, R> {
         }
     }
 
-    // Whether two answered calls have one reply, and the first has a view within that of the
-    // second.
+    // Whether two answered calls have the same reply, and the view of the first is within that of
+    // the second.
     fn are_alike(&self, one: Call, other: Call) -> bool
         requires one { IsAnswered self.now.book.now one }
         requires other { IsAnswered self.now.book.now other }
@@ -192,7 +192,8 @@ fn is_none(last: Option<u64>) -> bool
     }
 }
 
-// Whether what a take shows isn't the last word.
+// Whether a take shows something other than the last word: another value, or nothing where there is
+// a last word.
 fn is_another(shown: Option<u64>, last: Option<u64>) -> bool
     ensures { IsTrue result → shown ≢ last }
 {

@@ -6,7 +6,7 @@ use indexmap::IndexSet;
 use stack_pruning::Top;
 use std::alloc::Global;
 
-/// A level, by its number, and the counts of a cut after which it is the last item.
+/// A level, by its number, and the counts of a cut after which the list may end with it.
 #[derive(Clone, Copy)]
 pub struct Node {
     pub level: usize,
@@ -20,23 +20,24 @@ pub struct NodeKey {
     pub cut: usize,
 }
 
-/// What a level is shared by: all puts of one value that lead to one cut, by its number, with one
-/// answer to whether all below is kept.
+/// A cut, by its number, and what is known of a list after it. A level begins with one: all puts of
+/// one value that lead to one cut, with one answer to whether the list is kept, begin the same
+/// level.
 #[derive(Clone, Copy, Debug, PartialEq, Eq, Hash)]
 pub struct Beginning {
     pub cut: usize,
     pub top: Top,
 }
 
-/// A put that began a level, and the number of the node that it comes from.
+/// A put that began a level, and the number of the node from which it leads there.
 #[derive(Clone, Copy)]
 pub struct Origin {
     pub node: usize,
     pub put: Call,
 }
 
-/// A take that ended a level, the number of the node that it comes from, and the number of the cut
-/// that it leads to.
+/// A take that ended a level, the number of the node from which it leads away, and the number of
+/// the cut that it leads to.
 #[derive(Clone, Copy)]
 pub struct Ending {
     pub node: usize,
@@ -44,9 +45,9 @@ pub struct Ending {
     pub cut: usize,
 }
 
-/// A level: what is known of the lists that it ends, the levels that may lie below it with the puts
-/// that come from each, and the takes that end it. The bottom has no last word, and no levels below
-/// it.
+/// A level: what is known of the lists that it ends, the levels that may lie right below it with a
+/// put that leads from each, and the takes that end it. The bottom has no last word, and no levels
+/// below it.
 #[derive(Drop)]
 pub struct Level {
     pub top: Top,
@@ -58,18 +59,18 @@ pub struct Level {
 /// How a node was reached first.
 #[derive(Clone, Copy)]
 pub enum Reached {
-    /// The level begins there.
+    /// By a put that begins the node's level; or the node is the bottom after no call.
     Begins,
-    /// By a read-only call, from another node of the level.
+    /// By a call that doesn't change the list, from another node of the level, by its number.
     Stays(usize, Call),
-    /// From a node of the level by a put, and by a take that ended the level which the put began,
-    /// from this node.
+    /// From a node of the level by a put, and from a node of the level that this put began, by its
+    /// number, by a take that ended that level.
     Returns(Origin, usize, Call),
 }
 
-/// The levels of a search, the cuts that it came to, by their counts, and its nodes. The bottom is
-/// the first level; a level's number is that of its beginning, and a node's number that of how it
-/// was reached.
+/// The levels of a search, the cuts that it reached, by their counts, its nodes, and with each
+/// level the cuts to which takes that ended it lead. The bottom is the first level; a level has the
+/// number of its beginning, and a node that of the way in which it was reached.
 #[derive(Drop)]
 pub struct LevelTable {
     pub levels: Vec<Level>,
@@ -81,7 +82,7 @@ pub struct LevelTable {
 }
 
 impl NodeKey {
-    /// Whether both are one level and one cut.
+    /// Whether both keys have the same level and the same cut.
     pub fn is_same(&self, other: &NodeKey) -> bool
         ensures { IsTrue result → self.now ≡ other.now }
     {
@@ -90,7 +91,7 @@ impl NodeKey {
 }
 
 impl Level {
-    /// A level that nothing has led to yet.
+    /// A level with this top, which no put has begun and no take has ended yet.
     pub fn new(alloc: Global, top: Top) -> Level {
         Level {
             top,
@@ -102,7 +103,7 @@ impl Level {
 }
 
 impl LevelTable {
-    /// The bottom after no call, and nothing else.
+    /// The table whose only node is the bottom after no call.
     pub fn start(alloc: Global) -> Result<LevelTable, NoMemory> {
         let top = Top {
             last: None,

@@ -1,5 +1,5 @@
--- The forced call takes a value, or finds nothing: what is put in before it, and isn't what it
--- takes, may be put in after it.
+-- The forced call is a take: what is put in before it, and isn't what it takes, may be put in after
+-- it.
 use Rattle.std.proofs.Common.{◌≡◌, ◌≢◌, ℕ, zero, suc, ◌+◌, ◌<◌, ◌≤◌, ◌⊎◌, ◌∙◌, ◌↔◌, List, [], ◌∷◌, ◌++◌, map, length, get_or, Option, Some, refl, sym, ap, subst, inl, inr, arith}
 use Rattle.std.proofs.lemmas.Bool.{cases_eq}
 use Rattle.book_base.specs.declared.call.Call.{Call}
@@ -20,12 +20,13 @@ use Rattle.stack_pruning.specs.LastFirst.{GivesLastFirst, PutsNeedless}
 use Rattle.stack_pruning.proofs.Stepping.{put_no_take, neither_no_take}
 use Rattle.value_pruning.proofs.Moving.{MayBeNext, Comes, Goes, goes_from_continues, continues_from_goes, Waits, waits_later, comes_up, comes_up_two}
 
--- a run of the steps of places
+-- Places run from a list: their replies are those that the object gives to their operations in this
+-- order.
 abbrev Runs : List Page → (List ℕ → ℕ → List ℕ × ℕ) → List ℕ → List Place → Type 0
 Runs book next list places = IsRunFrom next list (map (step_at book) places)
 
--- A put and the take of what it puts in, next to one another, run at each list as they do at one,
--- and leave it.
+-- Two places next to one another are a put and a take of the value that it puts in, with the
+-- replies that the object gives from this list on.
 record IsPair (reading : Reading) (book : List Page) (next : List ℕ → ℕ → List ℕ × ℕ)
     (list : List ℕ) (put take : Place) : Type 0 where
   value : ℕ
@@ -69,14 +70,16 @@ pair_runs reading next bound is book one list put take rest pair runs =
       ),
     )
 
--- What goes on goes on by the forced call,
+-- Places that begin with the forced call, at most this many, continue an order from a cut and a
+-- list.
 record ByCall (book : List Page) (next : List ℕ → ℕ → List ℕ × ℕ) (cut list : List ℕ) (c : Place)
     (most : ℕ) : Type 0 where
   other : List Place
   goes : Goes book next cut list (c ∷ other)
   short : length other + 1 ≤ most
 
--- or by the put of what the forced call takes, and this call,
+-- Places that begin with the put of the value that the forced call takes and with this call, at
+-- most this many, continue an order from a cut and a list.
 record ByPut (reading : Reading) (book : List Page) (next : List ℕ → ℕ → List ℕ × ℕ)
     (cut list : List ℕ) (c : Place) (most : ℕ) : Type 0 where
   put : Place
@@ -88,7 +91,8 @@ record ByPut (reading : Reading) (book : List Page) (next : List ℕ → ℕ →
   goes : Goes book next cut list (put ∷ c ∷ other)
   short : length other + 2 ≤ most
 
--- or by a call that puts nothing in.
+-- Places that begin with another caller's call that puts nothing in, at most this many, continue an
+-- order from a cut and a list.
 record ByOther (reading : Reading) (book : List Page) (next : List ℕ → ℕ → List ℕ × ℕ)
     (cut list : List ℕ) (c : Place) (most : ℕ) : Type 0 where
   place : Place
@@ -103,7 +107,8 @@ abbrev AnswerCases : Reading → List Page → (List ℕ → ℕ → List ℕ ×
 AnswerCases reading book next cut list c most = ByCall book next cut list c most
     ⊎ (ByPut reading book next cut list c most ⊎ ByOther reading book next cut list c most)
 
--- What a first place is that puts a value in, and isn't the forced call.
+-- A place that puts a value in, is of another caller than the forced call, and has the reply that
+-- the object gives at the list.
 record PutsFirst (reading : Reading) (book : List Page) (next : List ℕ → ℕ → List ℕ × ℕ)
     (cut list : List ℕ) (c x : Place) : Type 0 where
   value : ℕ
@@ -112,11 +117,12 @@ record PutsFirst (reading : Reading) (book : List Page) (next : List ℕ → ℕ
   inside : x.caller < length cut
   reply : (next list (word_at book x)).1 ≡ x.reply
 
--- the list after it
+-- The list after the operation of a place.
 abbrev put_on : List Page → (List ℕ → ℕ → List ℕ × ℕ) → List ℕ → Place → List ℕ
 put_on book next list x = (next list (word_at book x)).0
 
--- The forced call takes what was put in: the put, and the call.
+-- Where places continue an order with a put first and the forced call next, they begin with the put
+-- of the value that the forced call takes and with this call.
 by-call : (reading : Reading) (next : List ℕ → ℕ → List ℕ × ℕ) (bound : ℕ)
     → GivesLastFirst reading next bound
     → (book : List Page) (cut list : List ℕ) (c x : Place) (most : ℕ)
@@ -137,7 +143,8 @@ by-call reading next bound is book cut list c x most takes it other goes short =
   short = omega (arith, short);
 }
 
--- The forced call takes what is put in next: both come before the first put.
+-- Where the put of the value that the forced call takes and this call come right after a first put,
+-- both may come before the first put.
 by-put : (reading : Reading) (next : List ℕ → ℕ → List ℕ × ℕ) (bound : ℕ)
     → GivesLastFirst reading next bound → (book : List Page) → IsValid book → HasOneOpen book
     → (cut list : List ℕ) (c x : Place) (most : ℕ) → reading.deed (word_at book c) ≡ Takes
@@ -176,7 +183,8 @@ by-put reading next bound is book valid one cut list c x most takes waits it may
       short = omega (arith, by.short);
     }
 
--- What neither puts in nor takes comes before the first put.
+-- Where a call that neither puts in nor takes comes right after a first put, it may come before the
+-- put.
 by-neither : (reading : Reading) (next : List ℕ → ℕ → List ℕ × ℕ) (bound : ℕ)
     → GivesLastFirst reading next bound → (book : List Page) → IsValid book → HasOneOpen book
     → (cut list : List ℕ) (c x : Place) (most : ℕ) → Waits book cut c
@@ -207,7 +215,8 @@ by-neither reading next bound is book valid one cut list c x most waits it may b
       short = omega (arith, by.short);
     }
 
--- A take of what was put in first: what goes on after the two goes on before them.
+-- Where a take of what was put in first comes right after the put, each of the three cases that
+-- holds after the two holds before them, with two places more.
 pair-first : (reading : Reading) (next : List ℕ → ℕ → List ℕ × ℕ) (bound : ℕ)
     → GivesLastFirst reading next bound → (book : List Page) → IsValid book → HasOneOpen book
     → (cut list : List ℕ) (c x t : Place) (most : ℕ) → Waits book cut c
@@ -276,7 +285,8 @@ pair-first reading next bound is book valid one cut list c x t most waits it pai
       ]
     ]
 
--- more places are enough too
+-- Where one of the three cases holds with a number of places, it holds with each greater or equal
+-- number.
 outcome_of-more : (reading : Reading) (book : List Page) (next : List ℕ → ℕ → List ℕ × ℕ)
     (cut list : List ℕ) (c : Place) (few most : ℕ) → few ≤ most
     → AnswerCases reading book next cut list c few → AnswerCases reading book next cut list c most
@@ -304,15 +314,15 @@ outcome_of-more reading book next cut list c few most le outcome = elim outcome 
   ]
 ]
 
--- The forced call: answered, and a take.
+-- The place of an answered take, with the recorded reply.
 record IsForcedTake (reading : Reading) (book : List Page) (c : Place) : Type 0 where
   record_there : Record
   known : record_of book (call_at c) ≡ Some record_there
   replies : record_there.reply ≡ c.reply
   takes : reading.deed (word_at book c) ≡ Takes
 
--- All that goes on goes on by the forced call, or by the put of what it takes, or by what puts
--- nothing in.
+-- Where places continue an order, as many or fewer do that begin with the forced call, or with the
+-- put of the value that it takes and this call, or with another caller's call that puts nothing in.
 outcomes : (reading : Reading) (next : List ℕ → ℕ → List ℕ × ℕ) (bound : ℕ)
     → GivesLastFirst reading next bound → (book : List Page) → IsValid book → HasOneOpen book
     → (c : Place) → IsForcedTake reading book c → (few : ℕ) (rest : List Place) (cut list : List ℕ)
@@ -409,7 +419,8 @@ outcomes reading next bound is book valid one c take (suc few)
 
 -- ---- what needn't be tried
 
--- What the forced call's place is.
+-- Where the forced caller's next call is a take, it has a place, with the recorded reply, that
+-- shows what this call shows.
 forced_place : (reading : Reading) (book : List Page) (cut : List ℕ) (forced : ℕ) (shown : Option ℕ)
     → length book ≤ length cut → IsForced book cut forced
     → (takes : TakesShowing reading book (next_call cut forced) shown)
@@ -431,7 +442,8 @@ forced_place reading book cut forced shown wide is takes =
       takes.5,
     )
 
--- The forced call comes before a put of what it takes where it takes the last item.
+-- Where the forced call takes the value of the last item, and places that begin with a put of this
+-- value and the forced call continue an order, as many or fewer do that begin with the forced call.
 call_first : (reading : Reading) (next : List ℕ → ℕ → List ℕ × ℕ) (bound : ℕ)
     → GivesLastFirst reading next bound → (book : List Page) → IsValid book → HasOneOpen book
     → (cut list below : List ℕ) (c : Place) (v most : ℕ) → IsForcedTake reading book c
@@ -477,15 +489,16 @@ call_first reading next bound is book valid one cut list below c v most take wai
       short = omega (arith, by.short);
     }
 
--- What goes on from a list goes on by a marked caller, and with no more places.
+-- Places that begin with the call of a marked caller, no more than some given places, continue an
+-- order from a cut and a list.
 abbrev GoesOnMarked : List Page → (List ℕ → ℕ → List ℕ × ℕ) → List ℕ → List ℕ → Marks
     → List Place → Type 0
 GoesOnMarked book next cut list marks rest =
     (place : Place) × (other : List Place) × IsMarked marks place.caller
     × Continues book next cut list (place ∷ other) × (length other < length rest)
 
--- What is left suffices where all that is left out puts in what the forced call doesn't take, or
--- what is the last item.
+-- The remaining marks suffice where each caller whose mark was taken away has a next call that puts
+-- in a value that the forced take doesn't show, or that is the last item.
 pub needed_suffice : (reading : Reading) (next : List ℕ → ℕ → List ℕ × ℕ) (bound : ℕ)
     → GivesLastFirst reading next bound → (book : List Page) → IsValid book → HasOneOpen book
     → (cut list : List ℕ) (forced : ℕ) (shown : Option ℕ) (all left : Marks)
@@ -568,13 +581,16 @@ needed_suffice reading next bound is book valid one cut list forced shown all le
       ]
     ]
 
--- One caller less is left, whose next call is needless.
+-- Each of the remaining marks was a mark, and each caller whose mark was taken away has a next call
+-- that puts in a value that the take doesn't show, or that is the last item.
 pub record AreLeft (reading : Reading) (book : List Page) (cut list : List ℕ) (shown : Option ℕ)
     (all left : Marks) : Type 0 where
   pub fewer : IsMarkedWithin left all
   pub needless : (i : ℕ) → IsMarked all i → IsMarked left i
       ⊎ PutsNeedless reading book cut list shown i
 
+-- One more mark may be taken away, where the next call of its caller puts in a value that the take
+-- doesn't show, or that is the last item.
 pub one_less_left : (reading : Reading) (book : List Page) (cut list : List ℕ) (shown : Option ℕ)
     (caller : ℕ) (all left new : Marks)
     → ((i : ℕ) → IsMarked new i ↔ ((i ≢ caller) × IsMarked left i))

@@ -1,5 +1,5 @@
--- A kept value is put in at once, where all that lies below is kept: nothing that is answered
--- reaches it.
+-- A kept value may be put in at once where all items of the list are kept: no answered call takes
+-- any of them.
 use Rattle.std.proofs.Common.{◌≡◌, ◌≢◌, ℕ, ◌+◌, ◌<◌, ◌≤◌, ◌∙◌, List, [], ◌∷◌, ◌++◌, length, get_or, Option, Some, unwrap_or, refl, sym, ap, subst, inl, inr, length-set, arith}
 use Rattle.std.specs.List.{AllByRecursion}
 use Rattle.std.proofs.lemmas.Bool.{cases_eq}
@@ -23,7 +23,8 @@ use Rattle.value_pruning.proofs.Writing.{outside_before, unread_later}
 use Rattle.stack_pruning.specs.LastFirst.{GivesLastFirst, IsSmall, IsKept, IsNeverEmpty, PutsKept}
 use Rattle.stack_pruning.proofs.Stepping.{cases_end, all-prefix, all_next, steps_above}
 
--- No answered call outside a cut takes one of these items, nor finds nothing.
+-- Items are unused after a cut: no answered call outside the cut takes any of them or finds
+-- nothing, and each is below the bound.
 record IsUnused (reading : Reading) (book : List Page) (bound : ℕ) (cut low : List ℕ) : Type 0 where
   kept : AllByRecursion (IsKept reading book cut) low
   small : IsSmall bound low
@@ -54,7 +55,7 @@ unused_taken reading next bound is book cut low op takes it = record {
   never_empty = it.never_empty;
 }
 
--- A take of a kept item is unanswered.
+-- A take that may stand next at a list whose last item is kept is unanswered.
 free_last : (reading : Reading) (next : List ℕ → ℕ → List ℕ × ℕ) (bound : ℕ)
     → GivesLastFirst reading next bound
     → (book : List Page) (cut prefix : List ℕ) (x : ℕ) (place : Place)
@@ -74,7 +75,7 @@ free_last reading next bound is book cut prefix x place small kept takes stands 
       ),
     )
 
--- A take of what lies below is unanswered.
+-- A take that may stand next at a list of unused items is unanswered.
 free_below : (reading : Reading) (next : List ℕ → ℕ → List ℕ × ℕ) (bound : ℕ)
     → GivesLastFirst reading next bound → (book : List Page) (cut low : List ℕ) (place : Place)
     → IsUnused reading book bound cut low → reading.deed (word_at book place) ≡ Takes
@@ -98,12 +99,13 @@ free_below reading next bound is book cut low place unused takes stands answered
           (subst (λ (xs : List ℕ). MayStandNext book next cut xs place) some.2 stands) answered
     ]
 
--- What goes on from a list goes on by no more places.
+-- Some places, no more than the given ones, continue an order from a cut and a list.
 abbrev GoesOnShort : List Page → (List ℕ → ℕ → List ℕ × ℕ) → List ℕ → List ℕ → List Place → Type 0
 GoesOnShort book next cut list rest = (other : List Place) × Continues book next cut list other
     × (length other ≤ length rest)
 
--- A place whose reply is the same at another list goes on there.
+-- A place whose reply is the same at another list may come first there, before places that continue
+-- the order.
 goes_on_by : (book : List Page) (next : List ℕ → ℕ → List ℕ × ℕ) (cut one other : List ℕ)
     (place : Place) (rest : List Place) → MayStandNext book next cut one place
     → (next one (word_at book place)).1 ≡ (next other (word_at book place)).1
@@ -117,7 +119,8 @@ goes_on_by book next cut one other place rest stands same on =
     } in
     (place ∷ on.0, (there, on.1), omega (arith, on.2))
 
--- An unanswered place is left out.
+-- Where some places, no more than the given ones, continue an order from a list after an unanswered
+-- call, some, at most one more, continue it from this list before the call.
 goes_on_past : (book : List Page) (next : List ℕ → ℕ → List ℕ × ℕ) (cut list : List ℕ)
     (place : Place) (rest : List Place) → length book ≤ length cut → HasOneOpen book
     → MayComeNext book cut (call_at place) → (IsAnswered book (call_at place) → ⊥)
@@ -127,7 +130,8 @@ goes_on_past book next cut list place rest wide one may free on =
     let without = goes_on_without book next cut list (call_at place) on.0 wide one may free on.1 in
     (without.0, without.1, omega (arith, without.2, on.2))
 
--- What lies below may be anything else where it is unused.
+-- Where places continue an order from a list, as many or fewer continue it from a list that has any
+-- items instead of the unused ones at the beginning of the first list.
 goes_on_above : (reading : Reading) (next : List ℕ → ℕ → List ℕ × ℕ) (bound : ℕ)
     → GivesLastFirst reading next bound → (book : List Page) → HasOneOpen book
     → (rest : List Place) (cut low other above : List ℕ) → length book ≤ length cut
@@ -171,7 +175,8 @@ goes_on_above reading next bound is book one
           (goes_on_past book next cut (other ++ []) place rest wide one goes.0.may_come free on)
     ]
 
--- So may a kept item, and what lies below it, be anything else.
+-- Where places continue an order from a list, as many or fewer continue it from the list without a
+-- kept item and with any items instead of the unused ones at its beginning.
 goes_on_over_kept : (reading : Reading) (next : List ℕ → ℕ → List ℕ × ℕ) (bound : ℕ)
     → GivesLastFirst reading next bound → (book : List Page) → HasOneOpen book → (v : ℕ) → v < bound
     → (rest : List Place) (cut low other middle above : List ℕ) → length book ≤ length cut
@@ -218,8 +223,9 @@ goes_on_over_kept reading next bound is book one v few
           (goes_on_past book next cut new place rest wide one goes.0.may_come free on)
     ]
 
--- What goes on from an unused list goes on from any other one, once the put of a kept value has
--- come.
+-- Where places continue an order from a list, fewer continue it, once the answered put of a kept
+-- value has come, from a list that has any items instead of the unused ones at the beginning of the
+-- first list; and the recorded reply of this put is the one that the object gives at each list.
 put_first : (reading : Reading) (next : List ℕ → ℕ → List ℕ × ℕ) (bound : ℕ)
     → GivesLastFirst reading next bound → (book : List Page) → HasOneOpen book
     → (v : ℕ) (put : Call)
@@ -317,8 +323,8 @@ put_first reading next bound is book one v put puts answered
           ]
     ]
 
--- Where the next call of a caller is answered and puts in a kept value, and all below is kept, it
--- suffices.
+-- Marks suffice where they are on a caller whose next call is answered and puts in a kept value,
+-- all items of the list are kept, and no answered call outside the cut finds nothing.
 pub kept_put_suffices : (reading : Reading) (next : List ℕ → ℕ → List ℕ × ℕ) (bound : ℕ)
     → GivesLastFirst reading next bound → (book : List Page) (cut list : List ℕ)
     (caller : ℕ) (marks : Marks) → IsSmall bound list → HasOneOpen book → length book ≤ length cut

@@ -12,7 +12,7 @@ use Rattle.book_base.specs.Pruning.{IsMarked, MarksAllNext, ViewsAreWithin}
 use Rattle.book_base.proofs.GrowthLemmas.{below_calls}
 use Rattle.book_base.proofs.ViewLemmas.{same_call}
 
--- a view counts calls of the book
+-- In a valid book, a view counts for each caller at most as many calls as the caller has.
 pub view_below_calls : (book : List Page) → IsValid book → (take : Call) (view : List ℕ)
     → IsSomeAnd (record_of book take) (λ (r : Record). view ≡ r.view) → (i : ℕ)
     → get_or view i 0 ≤ calls_of book i
@@ -24,8 +24,8 @@ view_below_calls book valid take view seen i =
     subst (λ (w : List ℕ). get_or w i 0 ≤ calls_of book i) (sym same)
     (below_calls book found.0.view (valid.within take found.0 found.1) i)
 
--- A call may come next, if it is a marked caller's next call wherever a take's view holds it, or
--- the take precedes it.
+-- A call may come next or a take precedes it, where this call, if the take's view holds it, is a
+-- marked caller's next call.
 pub next_or_later : (book : List Page) (cut : List ℕ) (take put : Call) (view : List ℕ)
     (marks : Marks) → MarksAllNext book cut marks
     → IsSomeAnd (record_of book take) (λ (r : Record). view ≡ r.view)
@@ -48,7 +48,7 @@ next_or_later book cut take put view marks all seen next =
           (subst (λ (w : List ℕ). get_or w put.caller 0 ≤ put.number) same past)))
     ]
 
--- The view of a call that this one's view doesn't hold is no less.
+-- In a valid book, a view that doesn't hold an answered call is within the view of this call.
 pub within_past : (book : List Page) → IsValid book → (take other : Call) (view : List ℕ)
     (r s : Record)
     → record_of book take ≡ Some r → view ≡ r.view → record_of book other ≡ Some s
@@ -64,7 +64,8 @@ within_past book valid take other view r s its same others past =
       ))
     ]
 
--- A call's view is within that of another one, if it is so wherever the view holds the other one.
+-- In a valid book, a call's view is within that of another call, if it is so where it holds the
+-- other call.
 pub least_view : (book : List Page) → IsValid book → (take other : Call) (view : List ℕ)
     → IsSomeAnd (record_of book take) (λ (r : Record). view ≡ r.view)
     → ((s : Record) → record_of book other ≡ Some s → other.number < get_or view other.caller 0

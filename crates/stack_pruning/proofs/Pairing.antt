@@ -1,4 +1,4 @@
--- A value is put in at once, where its take may come next too.
+-- A value that is put in once may be put in at once, where its take may come next too.
 use Rattle.std.proofs.Common.{◌≡◌, ◌≢◌, ℕ, ◌+◌, ◌<◌, ◌≤◌, ◌∙◌, List, [], ◌∷◌, ◌++◌, length, get_or, true, None, Option, Some, unwrap_or, refl, sym, ap, subst, inl, inr, length-set, arith}
 use Rattle.std.specs.List.{AllByRecursion}
 use Rattle.std.specs.Option.{IfSome, is_some}
@@ -27,7 +27,7 @@ use Rattle.stack_pruning.specs.LastFirst.{GivesLastFirst, IsSmall, Lacks, PutsPa
 use Rattle.stack_pruning.proofs.Stepping.{cases_end, all-prefix, all_next}
 use Rattle.stack_pruning.proofs.Taking.{IsAnother, taken_for_good, take_stands}
 
--- A take doesn't show a value that isn't in the list.
+-- A take from a list that lacks a value doesn't show this value.
 shows_other : (reading : Reading) (next : List ℕ → ℕ → List ℕ × ℕ) (bound : ℕ)
     → GivesLastFirst reading next bound → (v op : ℕ) (list : List ℕ)
     → reading.deed op ≡ Takes → AllByRecursion (IsAnother bound v) list
@@ -42,7 +42,7 @@ shows_other reading next bound is v op list takes all shows = elim (cases_end li
       ∙ (ap (λ (xs : List ℕ). reading.shown (next xs op).1) (sym some.2) ∙ shows)))
 ]
 
--- once the only put of a value has come, no call outside puts it in
+-- Once the only put of a value has come, no call outside the cut puts the value in.
 put_no_more : (reading : Reading) (book : List Page) (cut : List ℕ) (v : ℕ) (put : Call)
     → put.caller < length cut → MayComeNext book cut put → PutsInAlone reading book put v
     → IsWritten reading book (raised cut put.caller) v → ⊥
@@ -57,7 +57,9 @@ put_no_more reading book cut v put inside may alone written =
       ap (λ (c : Call). c.number) same,
     )
 
--- What goes on from a list without the value goes on from it once the put and the take have come.
+-- Where places continue an order from a list that lacks a value, at least two fewer continue it
+-- from there once the only put of the value and its take have come; and the recorded reply of the
+-- put is the one that the object gives at each list.
 put_and_taken : (reading : Reading) (next : List ℕ → ℕ → List ℕ × ℕ) (bound : ℕ)
     → GivesLastFirst reading next bound → (book : List Page) (v : ℕ) (put take : Call)
     → v < bound → IsValid book → HasOneOpen book → PutsInAlone reading book put v
@@ -151,15 +153,16 @@ put_and_taken reading next bound is book v put take small valid one alone two
           )
     ]
 
--- items that are below a bound and aren't this value
+-- Each item of a list that lacks a value and whose items are below a bound is another value, and
+-- below the bound.
 both_hold : (bound v : ℕ) (list : List ℕ) → Lacks list v → IsSmall bound list
     → AllByRecursion (IsAnother bound v) list
 both_hold bound v [] lacks small = tt
 both_hold bound v (x ∷ rest) lacks small =
     ((lacks.0, small.0), both_hold bound v rest lacks.1 small.1)
 
--- Where the next call of a caller alone puts in a value that isn't in the list, and its take may
--- come next, the put suffices.
+-- Marks suffice where they are on a caller whose next call alone puts in a value that isn't in the
+-- list, and the take of this value with the least view may come next.
 pub paired_put_suffices : (reading : Reading) (next : List ℕ → ℕ → List ℕ × ℕ) (bound : ℕ)
     → GivesLastFirst reading next bound → (book : List Page) (cut list : List ℕ)
     (caller : ℕ) (marks : Marks) → IsSmall bound list → IsValid book → HasOneOpen book
@@ -215,7 +218,9 @@ paired_put_suffices reading next bound is book cut list caller marks all valid o
       omega (arith, on.0.2),
     )
 
--- What a marked caller's next call is, by what was found of it.
+-- Where a caller's next call puts in a value that the list lacks and of which the sight lists one
+-- put, and a marked caller's next call is the take of this value with the least view, the put is
+-- paired with this take as `PutsPaired` says.
 pub puts_paired : (reading : Reading) (book : List Page) (cut list : List ℕ) (sight : Sight)
     (marks : Marks) (caller v : ℕ) (taker : Option ℕ) → ListsValues reading book sight
     → MarksAllNext book cut marks → PutsIn reading book (next_call cut caller) v → Lacks list v

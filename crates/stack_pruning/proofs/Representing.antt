@@ -1,4 +1,4 @@
--- Words that stand for a list: what is found by them holds of the list.
+-- Words that stand for a list: what is found by the words holds of the list.
 use Rattle.std.proofs.Common.{◌≡◌, ◌≢◌, ℕ, ◌<◌, ◌⊎◌, Bool, IsTrue, true, List, [], ◌∷◌, get_or, Option, Some, refl, sym, ap, subst, inl, inr, arith}
 use Rattle.std.specs.List.{AllByRecursion}
 use Rattle.std.specs.Option.{IfSome}
@@ -14,6 +14,8 @@ use Rattle.stack_pruning.specs.declared.top.Top.{Top}
 use Rattle.stack_pruning.specs.LastFirst.{IsSmall, Lacks, EndsWith, TakesLast, PutsPaired, PutsKept, PutsNeedless, IsItem, HasTop, StandFor}
 use Rattle.stack_pruning.proofs.Stepping.{all-prefix}
 
+-- Where a caller's next call takes the last word, as `TakesLast` says, it takes the last item of
+-- each list for which the words stand.
 pub takes_last : (reading : Reading) (book : List Page) (cut ends others list : List ℕ)
     (look : Bool) (caller : ℕ)
     → StandFor reading book cut ends others look list → TakesLast reading book cut ends caller
@@ -26,6 +28,8 @@ takes_last reading book cut ends others list look caller stands it =
       takes = it.takes;
     }
 
+-- Where a caller's next call puts in a value that the other words lack, as `PutsPaired` says, it
+-- does so for each list for which the words stand.
 pub puts_paired_in : (reading : Reading) (book : List Page) (cut ends others list : List ℕ)
     (look : Bool) (caller : ℕ)
     → StandFor reading book cut ends others look list → PutsPaired reading book cut others caller
@@ -39,6 +43,8 @@ puts_paired_in reading book cut ends others list look caller stands it = record 
   takes = it.takes;
 }
 
+-- Where a caller's next call puts in a kept value above kept words, as `PutsKept` says, it does so
+-- for each list for which these words stand, if it is asked whether they are kept.
 pub puts_kept : (reading : Reading) (book : List Page) (cut ends others list : List ℕ) (look : Bool)
     (caller : ℕ) → IsTrue look
     → StandFor reading book cut ends others look list → PutsKept reading book cut others caller
@@ -46,6 +52,8 @@ pub puts_kept : (reading : Reading) (book : List Page) (cut ends others list : L
 puts_kept reading book cut ends others list look caller told stands it =
     record { put = it.put; below = stands.kept told it.below; never_empty = it.never_empty }
 
+-- Where each caller whose mark was taken away puts in a value that a take doesn't show, or the last
+-- word, it puts in such a value, or the last item, for each list for which the words stand.
 pub puts_needless : (reading : Reading) (book : List Page) (cut ends others list : List ℕ)
     (look : Bool) (shown : Option ℕ) (all left : Marks)
     → StandFor reading book cut ends others look list
@@ -60,7 +68,7 @@ puts_needless reading book cut ends others list look shown all left stands needl
       ]
     ]
 
--- a list stands for itself
+-- A list stands for itself.
 pub stand_for_itself : (reading : Reading) (book : List Page) (cut list : List ℕ)
     → StandFor reading book cut list list true list
 stand_for_itself reading book cut list =
@@ -68,13 +76,14 @@ stand_for_itself reading book cut list =
 
 -- ---- by the top alone
 
+-- Each item of a list after a cut is below the bound.
 pub small_items : (reading : Reading) (book : List Page) (cut : List ℕ) (bound : ℕ) (list : List ℕ)
     → AllByRecursion (IsItem reading book cut bound) list → IsSmall bound list
 small_items reading book cut bound list all =
     all-weaker (IsItem reading book cut bound) (λ (x : ℕ). x < bound) list
     (λ (x : ℕ) (item : IsItem reading book cut bound x). item.small) all
 
--- a value that a call outside the cut alone puts in is none of the items
+-- A value that a caller's next call alone puts in is none of the items of a list after the cut.
 lacks_it : (reading : Reading) (book : List Page) (cut : List ℕ) (bound : ℕ) (list : List ℕ)
     (caller v : ℕ) → AllByRecursion (IsItem reading book cut bound) list
     → PutsInAlone reading book (next_call cut caller) v → Lacks list v
@@ -91,7 +100,7 @@ lacks_it reading book cut bound list caller v all alone =
     )))
     all
 
--- a list of one word ends with it alone, and one of none with none
+-- A list of one word ends with this word alone.
 ends_with_one : (w v : ℕ) → EndsWith (w ∷ []) v → v ≡ w
 ends_with_one w v ends =
     (all-prefix (λ (x : ℕ). x ≡ w) ends.0 v
@@ -101,7 +110,7 @@ ends_with_none : (v : ℕ) → EndsWith [] v → ⊥
 ends_with_none v ends = (all-prefix (λ (x : ℕ). ⊥) ends.0 v
     (subst (λ (xs : List ℕ). AllByRecursion (λ (x : ℕ). ⊥) xs) ends.1 tt)).1
 
--- the last word stands for each list with the top
+-- The last word of a top, with no other words, stands for each list with this top.
 pub stand_for_last : (reading : Reading) (book : List Page) (cut : List ℕ) (bound : ℕ) (top : Top)
     (list : List ℕ) (w : ℕ) → top.last ≡ Some w
     → HasTop reading book cut bound top list → StandFor reading book cut (w ∷ []) [] top.kept list
@@ -114,6 +123,7 @@ stand_for_last reading book cut bound top list w is has =
       kept = λ told all. has.kept told;
     }
 
+-- No words at all stand for each list with this top.
 pub stand_for_none : (reading : Reading) (book : List Page) (cut : List ℕ) (bound : ℕ) (top : Top)
     (list : List ℕ)
     → HasTop reading book cut bound top list → StandFor reading book cut [] [] top.kept list

@@ -1,4 +1,4 @@
--- What an operation makes of a list's end, whatever lies below.
+-- What an operation does to the end of a list, whatever the items before the end are.
 use Rattle.std.proofs.Common.{◌≡◌, ◌≢◌, ℕ, suc, ◌+◌, ◌-◌, ◌<◌, ◌⊎◌, ◌∙◌, List, [], ◌∷◌, ◌++◌, length, get_or, take, map, Some, refl, sym, ap, subst, inl, inr, append_assoc, arith}
 use Rattle.std.specs.List.{AllByRecursion}
 use Rattle.std.proofs.lemmas.List.{take_more, take_all}
@@ -19,18 +19,21 @@ cases_end (y ∷ rest) = elim (cases_end rest) [
   | inr some ↦ inr (y ∷ some.0, some.1, ap (λ (xs : List ℕ). y ∷ xs) some.2)
 ]
 
--- what holds of the items of two lists, and of a list's parts
+-- What holds of each item of a list, and of one more item, holds of each item of the list with this
+-- one at its end.
 pub all-append : (P : ℕ → Type 0) (xs : List ℕ) (y : ℕ) → AllByRecursion P xs → P y
     → AllByRecursion P (xs ++ y ∷ [])
 all-append P [] y all it = (it, tt)
 all-append P (x ∷ xs) y all it = (all.0, all-append P xs y all.1 it)
 
+-- What holds of each item of a list with an item at its end holds of each item of the list, and of
+-- this item.
 pub all-prefix : (P : ℕ → Type 0) (xs : List ℕ) (y : ℕ) → AllByRecursion P (xs ++ y ∷ [])
     → AllByRecursion P xs × P y
 all-prefix P [] y all = (tt, all.0)
 all-prefix P (x ∷ xs) y all = let rest = all-prefix P xs y all.1 in ((all.0, rest.0), rest.1)
 
--- what holds at each index holds of each item
+-- What holds at each index of a list holds of each item.
 pub all_by_index : (P : ℕ → Type 0) (list : List ℕ)
     → ((k : ℕ) → k < length list → P (get_or list k 0)) → AllByRecursion P list
 all_by_index P [] all = tt
@@ -39,25 +42,29 @@ all_by_index P (x ∷ rest) all = (
   all_by_index P rest (λ (k : ℕ) (below : k < length rest). all (suc k) (omega (arith, below))),
 )
 
--- a list with items ends with the last one
+-- A list with n + 1 items ends with the item at index n.
 pub ends_with_last : (list : List ℕ) (n : ℕ) → length list ≡ n + 1 → EndsWith list (get_or list n 0)
 ends_with_last list n long = (
   take n list,
   sym (take_all (n + 1) list (omega (arith, long))) ∙ take_more list n 0 (omega (arith, long)),
 )
 
+-- A list that isn't empty ends with the item at its last index.
 pub ends_with_before : (list : List ℕ) → length list - 1 < length list
     → EndsWith list (get_or list (length list - 1) 0)
 ends_with_before list some = ends_with_last list (length list - 1) (omega (arith, some))
 
+-- What a put does isn't what a take does.
 pub put_no_take : (v : ℕ) → Puts v ≡ Takes → ⊥
 put_no_take v e = cc
 
+-- What an operation does that neither puts nor takes isn't what a take does.
 pub neither_no_take : Neither ≡ Takes → ⊥
 neither_no_take e = cc
 
--- What an operation makes of two lists that end alike: it changes the end alone, and has one reply.
--- A take shows an item of the end.
+-- An operation does the same to two lists with the same end: it changes the end alone, to the same
+-- new end with both, and has the same reply to both; and a take shows an item of which the property
+-- holds.
 pub record StepsAbove (reading : Reading) (next : List ℕ → ℕ → List ℕ × ℕ) (P : ℕ → Type 0) (op : ℕ)
     (low other above : List ℕ) : Type 0 where
   pub new_above : List ℕ
@@ -126,7 +133,8 @@ above-neither reading next bound is P op low other above neither all =
       shown = λ (e : reading.deed op ≡ Takes). absurd (no e);
     }
 
--- An operation changes the end alone, or it takes from what lies below.
+-- An operation does the same to two lists with the same end, or the end is empty and the operation
+-- is a take.
 pub steps_above : (reading : Reading) (next : List ℕ → ℕ → List ℕ × ℕ) (bound : ℕ)
     → GivesLastFirst reading next bound → (P : ℕ → Type 0) → ((x : ℕ) → P x → x < bound)
     → (op : ℕ) (low other above : List ℕ) → ((v : ℕ) → reading.deed op ≡ Puts v → P v)
@@ -166,7 +174,8 @@ small-taken reading next bound is P list op takes all = elim (cases_end list) [
       (all-prefix P some.0 some.1 (subst (λ (xs : List ℕ). AllByRecursion P xs) some.2 all)).0
 ]
 
--- What holds of each item holds after an operation, where it holds of what is put in.
+-- A property of each item of a list, and of each value that an operation puts in, is one of each
+-- item of the list after this operation.
 pub all_next : (reading : Reading) (next : List ℕ → ℕ → List ℕ × ℕ) (bound : ℕ)
     → GivesLastFirst reading next bound → (P : ℕ → Type 0) (list : List ℕ) (op : ℕ)
     → ((v : ℕ) → reading.deed op ≡ Puts v → P v) → AllByRecursion P list
@@ -189,7 +198,8 @@ small-run reading next bound is list (step ∷ steps) small =
     small-run reading next bound is (next list step.0).0 steps
     (all_next reading next bound is (λ (x : ℕ). x < bound) list step.0 (is.small step.0) small)
 
--- Each item of a list that is reached is below the bound.
+-- Each item of a list that some order reaches is below the bound, where each item of the first list
+-- is.
 pub small_reached : (reading : Reading) (init : List ℕ) (next : List ℕ → ℕ → List ℕ × ℕ) (bound : ℕ)
     (book : List Page) (cut list : List ℕ) → GivesLastFirst reading next bound
     → IsSmall bound init → IsReached init next book cut list → IsSmall bound list

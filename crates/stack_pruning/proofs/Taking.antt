@@ -1,5 +1,5 @@
--- The last item is taken at once by the take of it that has the least view, where each call that
--- puts its value in again may come next, or comes after the take.
+-- The last item may be taken at once by the take of it that has the least view, where each call
+-- outside the cut that puts its value in may come next, or comes after the take.
 use Rattle.std.proofs.Common.{◌≡◌, ◌≢◌, ℕ, ◌+◌, ◌<◌, ◌≤◌, ◌⊎◌, ◌∙◌, List, [], ◌∷◌, ◌++◌, length, get_or, Option, Some, unwrap_or, refl, sym, ap, subst, inl, inr, length-set, arith}
 use Rattle.std.specs.List.{AllByRecursion}
 use Rattle.std.proofs.lemmas.Bool.{cases_eq}
@@ -24,11 +24,11 @@ use Rattle.value_pruning.proofs.Taking.{word_at, word_is, word_stands, GoesOnAft
 use Rattle.stack_pruning.specs.LastFirst.{GivesLastFirst, IsSmall, PutsAreNextOrLater, TakesLast}
 use Rattle.stack_pruning.proofs.Stepping.{all-prefix, put_no_take, steps_above}
 
--- an item below a bound that isn't this value
+-- A value is another one than v, and is below a bound.
 abbrev pub IsAnother : ℕ → ℕ → ℕ → Type 0
 IsAnother bound v x = (x ≢ v) × (x < bound)
 
--- an operation puts in this value, or it doesn't
+-- Where what two puts do is equal, they put in the same value.
 same_put : (w v : ℕ) → Puts w ≡ Puts v → w ≡ v
 same_put w v e = same_Some w v (ap value_put e)
 
@@ -47,7 +47,8 @@ cases_put reading op v = elim (cases_deed (reading.deed op)) [
   ]
 ]
 
--- What may come next or comes later does so after one more call of another caller.
+-- Where each call outside a cut that puts in a value may come next or comes after a take, this
+-- holds after one more call of some caller too.
 next_or_later_on : (reading : Reading) (book : List Page) (cut : List ℕ) (v i : ℕ) (take : Call)
     → i < length cut → PutsAreNextOrLater reading book cut v take
     → PutsAreNextOrLater reading book (raised cut i) v take
@@ -65,7 +66,9 @@ next_or_later_on reading book cut v i take inside puts put writes =
       | inr later ↦ inr later
     ]
 
--- What goes on from a list goes on once a take and then a put of a value have come.
+-- A put of a value, of another caller than the take, may stand next, and at least two places fewer
+-- than some given ones continue the order from the same list once the take and then this put have
+-- come.
 pub record PutsFirst (reading : Reading) (book : List Page) (next : List ℕ → ℕ → List ℕ × ℕ)
     (cut list : List ℕ) (v : ℕ) (take : Call) (rest : List Place) : Type 0 where
   pub put : Place
@@ -74,7 +77,8 @@ pub record PutsFirst (reading : Reading) (book : List Page) (next : List ℕ →
   pub stands : MayStandNext book next cut list put
   pub goes : GoesOnAfter 1 book next (raised cut take.caller) put.caller list rest
 
--- So it goes on before another place.
+-- Where a put is first, as `PutsFirst` says, after a place of another caller than the take, some
+-- put is first before this place too.
 puts_earlier : (reading : Reading) (next : List ℕ → ℕ → List ℕ × ℕ) (bound : ℕ)
     → GivesLastFirst reading next bound → (book : List Page) (cut list : List ℕ) (v : ℕ)
     (take : Call) (place : Place) (rest : List Place) → length book ≤ length cut
@@ -143,15 +147,18 @@ puts_earlier reading next bound is book cut list v take place rest wide inside t
           (raised_twice cut place.caller take.caller apart) on.goes);
     }
 
--- What goes on from a list with a value goes on without it, once the take with the least view has
--- come, or with it, once the take and then a put of the value have come.
+-- Fewer places than some given ones continue the order from the list without a value, once the take
+-- with the least view has come; or, from the list with the value, once the take and then a put of
+-- the value have come.
 abbrev pub GoesOnTaken : Reading → List Page → (List ℕ → ℕ → List ℕ × ℕ) → List ℕ → ℕ → Call
     → List ℕ → List ℕ → List Place → Type 0
 GoesOnTaken reading book next cut v take having lacking rest =
     GoesOnAfter 0 book next cut take.caller lacking rest
     ⊎ PutsFirst reading book next cut having v take rest
 
--- So it does where each call that puts the value in again may come next, or comes after the take.
+-- `GoesOnTaken` holds where the given places continue the order from a list in which the value
+-- isn't among the items above it, the take with the least view may come next, and each call outside
+-- the cut that puts the value in may come next or comes after the take.
 pub taken_later : (reading : Reading) (next : List ℕ → ℕ → List ℕ × ℕ) (bound : ℕ)
     → GivesLastFirst reading next bound → (book : List Page) (v : ℕ) (take : Call)
     → v < bound → IsValid book → HasOneOpen book → (rest : List Place) (cut below above : List ℕ)
@@ -284,7 +291,8 @@ taken_later reading next bound is book v take small valid one
           ]
     ]
 
--- Where no call puts the value in again, it goes on without it.
+-- Where no call outside the cut puts the value in, fewer places continue the order from the list
+-- without the value, once the take with the least view has come.
 pub taken_for_good : (reading : Reading) (next : List ℕ → ℕ → List ℕ × ℕ) (bound : ℕ)
     → GivesLastFirst reading next bound → (book : List Page) (v : ℕ) (take : Call)
     → v < bound → IsValid book → HasOneOpen book → (rest : List Place) (cut below above : List ℕ)
@@ -314,7 +322,8 @@ taken_for_good reading next bound is book v take small valid one rest cut below 
           ))
     ]
 
--- The take with the least view may stand next where the value is the last item, and takes it.
+-- The take with the least view may stand next, with its recorded reply, at a list whose last item
+-- is the value, and the list after it is without this item.
 pub take_stands : (reading : Reading) (next : List ℕ → ℕ → List ℕ × ℕ) (bound : ℕ)
     → GivesLastFirst reading next bound → (book : List Page) (cut : List ℕ) (v : ℕ)
     (below : List ℕ) (take : Call) (least : IsLeastTake reading book cut v take) → v < bound
@@ -337,8 +346,8 @@ take_stands reading next bound is book cut v below take least small now may =
       ap (λ (w : ℕ). (next (below ++ v ∷ []) w).0) word ∙ is.take below v op least.takes.4,
     )
 
--- Where the next call of a caller takes the last item with the least view, and each call that puts
--- its value in again may come next, or comes later, it suffices.
+-- Marks suffice where they are on a caller whose next call takes the last item with the least view,
+-- and each call outside the cut that puts its value in may come next or comes after the take.
 pub last_take_suffices : (reading : Reading) (next : List ℕ → ℕ → List ℕ × ℕ) (bound : ℕ)
     → GivesLastFirst reading next bound → (book : List Page) (cut list : List ℕ)
     (caller : ℕ) (marks : Marks) → IsSmall bound list → IsValid book → HasOneOpen book

@@ -23,9 +23,10 @@ Lacks list v = AllByRecursion (λ x. x ≢ v) list
 abbrev pub EndsWith : List ℕ → ℕ → Type 0
 EndsWith list v = (below : List ℕ) × (list ≡ below ++ v ∷ [])
 
--- An object that gives its last value first: a put adds its value, below a bound, at the end, and a
--- take gives out the last item. What is no take has the same reply at each list, all takes are one
--- operation, and a value is shown by one reply.
+-- An object that gives its last value first: a put adds its value, below a bound, at the end; a
+-- take gives out the last item, or shows nothing at the empty list; and an operation that does
+-- neither doesn't change the list. An operation that is no take has the same reply at each list,
+-- all takes are one operation, and a value is shown by one reply.
 pub record GivesLastFirst (reading : Reading) (next : List ℕ → ℕ → List ℕ × ℕ)
     (bound : ℕ) : Type 0 where
   pub small : (op v : ℕ) → reading.deed op ≡ Puts v → v < bound
@@ -43,13 +44,15 @@ pub record GivesLastFirst (reading : Reading) (next : List ℕ → ℕ → List 
   pub one_take : (a b : ℕ) → reading.deed a ≡ Takes → reading.deed b ≡ Takes → a ≡ b
   pub one_reply : (a b v : ℕ) → reading.shown a ≡ Some v → reading.shown b ≡ Some v → a ≡ b
 
--- Each call outside a cut that puts in a value may come next, or a take precedes it.
+-- Each call outside a cut that puts in this value may come next after the cut, or the take precedes
+-- it.
 abbrev pub PutsAreNextOrLater : Reading → List Page → List ℕ → ℕ → Call → Type 0
 PutsAreNextOrLater reading book cut v take = (put : Call) → WritesOutside reading book cut v put
     → MayComeNext book cut put ⊎ Precedes book take put
 
--- The next call of a caller takes the last item with the least view, and each call outside the cut
--- that puts this value in again may come next, or the take precedes it.
+-- The next call of a caller takes the last item of the list, and has the least view of all answered
+-- calls outside the cut that take this value; and each call outside the cut that puts this value in
+-- may come next, or the take precedes it.
 pub record TakesLast (reading : Reading) (book : List Page) (cut list : List ℕ)
     (caller : ℕ) : Type 0 where
   pub value : ℕ
@@ -58,7 +61,8 @@ pub record TakesLast (reading : Reading) (book : List Page) (cut list : List ℕ
   pub takes : IsLeastTake reading book cut value (next_call cut caller)
 
 -- The next call of a caller alone puts in a value that isn't in the list, and the next call of
--- another one takes it.
+-- another caller may come next and takes this value, with the least view of all answered calls
+-- outside the cut that take it.
 pub record PutsPaired (reading : Reading) (book : List Page) (cut list : List ℕ)
     (caller : ℕ) : Type 0 where
   pub value : ℕ
@@ -68,16 +72,16 @@ pub record PutsPaired (reading : Reading) (book : List Page) (cut list : List �
   pub may_come : MayComeNext book cut (next_call cut taker)
   pub takes : IsLeastTake reading book cut value (next_call cut taker)
 
--- a value is kept after a cut: no answered call outside takes it
+-- A value is kept after a cut: no answered call outside the cut takes it.
 abbrev pub IsKept : Reading → List Page → List ℕ → ℕ → Type 0
 IsKept reading book cut v = IsRead reading book cut v → ⊥
 
--- no answered call outside a cut finds nothing
+-- No answered call outside the cut is a take that finds nothing.
 abbrev pub IsNeverEmpty : Reading → List Page → List ℕ → Type 0
 IsNeverEmpty reading book cut = (call : Call) → FindsNothing reading book call
     → slice_index cut call.caller ≤ call.number → ⊥
 
--- the next call of a caller is answered, and puts in a kept value
+-- The next call of a caller is answered, and puts in a value that is kept after the cut.
 abbrev pub IsKeptPut : Reading → List Page → List ℕ → ℕ → Type 0
 IsKeptPut reading book cut caller = IsAnswered book (next_call cut caller)
     × IsUnreadWrite reading book cut (next_call cut caller)
@@ -90,32 +94,33 @@ pub record PutsKept (reading : Reading) (book : List Page) (cut list : List ℕ)
   pub below : AllByRecursion (IsKept reading book cut) list
   pub never_empty : IsNeverEmpty reading book cut
 
--- The next call of a caller puts in a value that a take, which shows this, doesn't show, or that is
--- the last item already.
+-- The next call of a caller puts in a value that isn't the one that some take shows, or that is the
+-- last item of the list already.
 abbrev pub PutsNeedless : Reading → List Page → List ℕ → List ℕ → Option ℕ → ℕ → Type 0
 PutsNeedless reading book cut list shown caller = (value : ℕ)
     × PutsIn reading book (next_call cut caller) value
     × ((shown ≢ Some value) ⊎ EndsWith list value)
 
--- An item of a list after a cut: it is below a bound, and a call inside the cut put it in.
+-- An item of a list after a cut: it is below a bound, and some call of the cut puts it in.
 pub record IsItem (reading : Reading) (book : List Page) (cut : List ℕ) (bound v : ℕ) : Type 0 where
   pub small : v < bound
   pub put : Call
   pub puts : PutsIn reading book put v
   pub inside : Holds cut put
 
--- A list after a cut has this top: it ends with the last word, if there is one, calls inside the
--- cut put in its items, and where they are said to be kept, no answered call outside the cut takes
--- any of them.
+-- A list after a cut has this top: it ends with the last word, if the top has one; each item is
+-- below a bound and put in by some call of the cut; and where the top says that they are kept, no
+-- answered call outside the cut takes any of the items.
 pub record HasTop (reading : Reading) (book : List Page) (cut : List ℕ) (bound : ℕ) (top : Top)
     (list : List ℕ) : Type 0 where
   pub last : IfSome top.last (EndsWith list)
   pub items : AllByRecursion (IsItem reading book cut bound) list
   pub kept : IsTrue top.kept → AllByRecursion (IsKept reading book cut) list
 
--- Words stand for a list after a cut: it ends as some of them do; it lacks the value that the next
--- call of a caller alone puts in, where others lack it; and where those are looked at, it is kept
--- if they are.
+-- Two lists of words stand for a list after a cut: the list ends with each word with which the
+-- first one ends; the list lacks each value that the next call of some caller alone puts in and
+-- that the other words lack; and, where this is asked for, if all the other words are kept, all
+-- items of the list are.
 pub record StandFor (reading : Reading) (book : List Page) (cut ends others : List ℕ) (look : Bool)
     (list : List ℕ) : Type 0 where
   pub last : (v : ℕ) → EndsWith ends v → EndsWith list v

@@ -39,8 +39,8 @@ pub fn puts_are_next_or_later<R: Reader>(
     true
 }
 
-// Whether one of a caller's calls outside the cut, and below a number, puts in a value, and isn't a
-// marked caller's next call.
+// Whether some call of a caller, outside the cut and with a number below this one, puts in a value,
+// and isn't a marked caller's next call.
 fn puts_below<R: Reader>(
     reader: &R,
     book: &Book,

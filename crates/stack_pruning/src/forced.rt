@@ -10,8 +10,8 @@ use book_base::{Book, Call, Cut, Marks};
 use container_pruning::{Reader, Role};
 use value_pruning::value_put;
 
-/// What the forced call shows, where it takes. No clause says that it is found to: that costs time
-/// alone.
+/// What the forced caller's next call shows, where it is a take: a value, or nothing. No clause
+/// says that an answer is given for each take: where none is, only time is lost.
 pub fn forced_take<R: Reader>(
     reader: &R,
     book: &Book,
@@ -36,8 +36,8 @@ pub fn forced_take<R: Reader>(
     }
 }
 
-/// The marks without those on callers whose next calls put in what a forced take doesn't show, or
-/// what is the last word already.
+/// The marks without those on callers whose next calls put in a value that the forced take doesn't
+/// show, or that is the last word already.
 pub fn without_needless<R: Reader>(
     reader: &R,
     book: &Book,
@@ -61,8 +61,8 @@ pub fn without_needless<R: Reader>(
     left
 }
 
-// Whether a caller's next call puts in what a forced take doesn't show, or what is the last word
-// already.
+// Whether a caller's next call puts in a value that the forced take doesn't show, or that is the
+// last word already.
 fn puts_needless<R: Reader>(
     reader: &R,
     book: &Book,
@@ -87,7 +87,7 @@ fn puts_needless<R: Reader>(
     }
 }
 
-// Whether a take that shows this doesn't show a value.
+// Whether what a take shows isn't this value.
 fn shows_another(shown: Option<u64>, value: u64) -> bool
     ensures { IsTrue result → shown ≢ Some value }
 {

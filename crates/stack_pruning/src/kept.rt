@@ -12,8 +12,8 @@ use container_pruning::{Reader, Role};
 use value_pruning::{is_read, value_put};
 
 /// A marked caller whose next call is answered and puts in a value that no answered call outside
-/// the cut takes, where none takes one of the words, nor finds nothing. No clause says that one is
-/// found: that costs time alone.
+/// the cut takes, where no answered call outside the cut takes any of the words, or finds nothing.
+/// No clause says that such a caller is found: where none is, only time is lost.
 pub fn kept_put<R: Reader>(
     reader: &R,
     sight: &Sight,
@@ -39,7 +39,8 @@ pub fn kept_put<R: Reader>(
     Some(caller)
 }
 
-// A marked caller whose next call is answered and puts in a kept value.
+// A marked caller whose next call is answered and puts in a value that no answered call outside the
+// cut takes.
 fn next_kept_put<R: Reader>(
     reader: &R,
     sight: &Sight,
@@ -61,7 +62,8 @@ fn next_kept_put<R: Reader>(
     None
 }
 
-// Whether a caller's next call is answered and puts in a kept value.
+// Whether a caller's next call is answered and puts in a value that no answered call outside the
+// cut takes.
 fn is_kept_put<R: Reader>(reader: &R, sight: &Sight, book: &Book, cut: &Cut, caller: u32) -> bool
     requires sight { ListsValues (R.reading reader.now) book.now sight.now }
     requires wide { length cut.now ≡ length book.now }
@@ -76,7 +78,7 @@ fn is_kept_put<R: Reader>(reader: &R, sight: &Sight, book: &Book, cut: &Cut, cal
     puts_kept(reader, sight, book, cut, Call { caller, number })
 }
 
-// Whether a call puts in a kept value.
+// Whether a call puts in a value that no answered call outside the cut takes.
 fn puts_kept<R: Reader>(reader: &R, sight: &Sight, book: &Book, cut: &Cut, call: Call) -> bool
     requires sight { ListsValues (R.reading reader.now) book.now sight.now }
     requires wide { length cut.now ≡ length book.now }
@@ -89,7 +91,7 @@ fn puts_kept<R: Reader>(reader: &R, sight: &Sight, book: &Book, cut: &Cut, call:
     }
 }
 
-// Whether no answered call outside a cut takes one of these words.
+// Whether no answered call outside a cut takes any of these words.
 fn are_kept<R: Reader>(reader: &R, sight: &Sight, book: &Book, cut: &Cut, words: &[u64]) -> bool
     requires sight { ListsValues (R.reading reader.now) book.now sight.now }
     requires wide { length cut.now ≡ length book.now }
@@ -104,7 +106,7 @@ fn are_kept<R: Reader>(reader: &R, sight: &Sight, book: &Book, cut: &Cut, words:
     true
 }
 
-// Whether an answered call outside a cut finds nothing.
+// Whether some answered call outside a cut is a take that finds nothing.
 fn is_found_empty<R: Reader>(reader: &R, book: &Book, cut: &Cut) -> bool
     requires wide { length cut.now ≡ length book.now }
     ensures { result ≡ false → IsNeverEmpty (R.reading reader.now) book.now cut.now }
@@ -117,7 +119,7 @@ fn is_found_empty<R: Reader>(reader: &R, book: &Book, cut: &Cut) -> bool
     false
 }
 
-// Whether an answered call of a caller outside a cut finds nothing.
+// Whether some answered call of a caller outside a cut is a take that finds nothing.
 fn caller_finds_nothing<R: Reader>(reader: &R, book: &Book, cut: &Cut, caller: u32) -> bool
     requires wide { length cut.now ≡ length book.now }
     requires caller { caller < length book.now }
@@ -133,7 +135,7 @@ fn caller_finds_nothing<R: Reader>(reader: &R, book: &Book, cut: &Cut, caller: u
     false
 }
 
-// Whether an answered call finds nothing.
+// Whether an answered call is a take that finds nothing.
 fn finds_nothing<R: Reader>(reader: &R, book: &Book, call: Call) -> bool
     requires { IsAnswered book.now call }
     ensures { result ≡ false → FindsNothing (R.reading reader.now) book.now call → ⊥ }

@@ -14,12 +14,13 @@ use book_base::{Book, Call, Cut, Marks, Sight};
 use container_pruning::Reader;
 use value_pruning::{is_put_once, value_put};
 
-/// Which of the calls that may come next a search has to try, of a stack. A take that shows the
-/// last item alone, where it has the least view of all that show it and no call puts the value in
-/// again before it but one that may come next; and else a put of a value that is put in once, where
-/// its take may come next too; and else an answered put of a value that no call takes, where all
-/// that lies below is such. Otherwise, where the forced call takes, all but the puts of other
-/// values than it shows, and of the last item.
+/// Which callers' next calls a search has to try, at a list of a stack. Only a take of the last
+/// item, where it has the least view of all answered calls outside the cut that take this value,
+/// and each call outside the cut that puts the value in may come next or comes after the take. Else
+/// only a put of a value that is put in once and isn't in the list, where its take may come next
+/// too. Else only an answered put of a value that no answered call outside the cut takes, where
+/// none takes an item of the list or finds nothing. Otherwise, where the forced call is a take, all
+/// but the puts of other values than it shows, and of the last item.
 pub fn narrow_last_first<R: Reader>(
     reader: &R,
     sight: &Sight,
@@ -42,9 +43,9 @@ pub fn narrow_last_first<R: Reader>(
     requires marks { MarksAllNext book.now cut.now marks }
     // Each caller that the answer marks was marked.
     ensures fewer { IsMarkedWithin result marks }
-    // For each object that gives its last value first, from a list of small items on, where some
-    // order reaches this cut and list: all that goes on from here goes on by the next call of a
-    // caller that the answer marks as well, with no more places.
+    // For each object that gives its last value first and begins with items below a bound, where
+    // some order reaches this cut and list: where places continue an order from there, as many or
+    // fewer that begin with the next call of a caller that the answer marks do too.
     ensures suffice { (init : List ℕ) (next : List ℕ → ℕ → List ℕ × ℕ) (bound : ℕ)
         → GivesLastFirst (R.reading reader.now) next bound
         → IsSmall bound init → IsReached init next book.now cut.now words.now
@@ -53,9 +54,9 @@ pub fn narrow_last_first<R: Reader>(
     narrow_by(reader, sight, book, cut, words, words, true, forced, marks)
 }
 
-/// Which of the calls that may come next a search has to try, of a stack of which the top alone is
-/// known, as `narrow_last_first` says it of a whole list. A value that is put in once, by a call
-/// that may come next, is in no list.
+/// Which callers' next calls a search has to try, at each list of a stack with this top, as
+/// `narrow_last_first` says it for one list. A value that is put in once, by a call that may come
+/// next, is in no such list.
 pub fn narrow_by_top<R: Reader>(
     reader: &R,
     sight: &Sight,
@@ -78,9 +79,9 @@ pub fn narrow_by_top<R: Reader>(
     requires marks { MarksAllNext book.now cut.now marks }
     // Each caller that the answer marks was marked.
     ensures fewer { IsMarkedWithin result marks }
-    // For each object that gives its last value first, and each list with this top whose items
-    // calls inside the cut put in: all that goes on from the cut and the list goes on by the next
-    // call of a caller that the answer marks as well, with no more places.
+    // For each object that gives its last value first, and each list with this top: where places
+    // continue an order from the cut and the list, as many or fewer that begin with the next call
+    // of a caller that the answer marks do too.
     ensures suffice { (next : List ℕ → ℕ → List ℕ × ℕ) (bound : ℕ) (list : List ℕ)
         → GivesLastFirst (R.reading reader.now) next bound
         → HasTop (R.reading reader.now) book.now cut.now bound top list
@@ -102,9 +103,9 @@ pub fn narrow_by_top<R: Reader>(
     }
 }
 
-// Which of the calls that may come next a search has to try, where words stand for the list: it
-// ends as some of them do, and a value that others lack isn't in it. Whether the others are kept is
-// looked at where this is asked for.
+// Which callers' next calls a search has to try, where two lists of words stand for the list: the
+// list ends as the first words do, and lacks a value that the other words lack. Whether all the
+// other words are kept is looked at only where this is asked for.
 fn narrow_by<R: Reader>(
     reader: &R,
     sight: &Sight,
@@ -144,8 +145,8 @@ fn narrow_by<R: Reader>(
     }
 }
 
-// A marked caller whose next call is answered and puts in a kept value, where it is asked for and
-// others are kept too.
+// A marked caller whose next call is answered and puts in a kept value, where this is asked for,
+// the other words are kept too, and no answered call outside the cut finds nothing.
 fn put_if_kept<R: Reader>(
     reader: &R,
     sight: &Sight,
@@ -170,8 +171,9 @@ fn put_if_kept<R: Reader>(
     }
 }
 
-// A marked caller whose next call takes the last item, with the least view, where each call outside
-// the cut that puts its value in again may come next, or comes later.
+// A marked caller whose next call takes the last word, with the least view of all answered calls
+// outside the cut that take it, where each call outside the cut that puts this value in may come
+// next, or comes after the take.
 fn last_take<R: Reader>(
     reader: &R,
     book: &Book,
@@ -193,8 +195,8 @@ fn last_take<R: Reader>(
     Some(caller)
 }
 
-// A marked caller whose next call alone puts in a value that isn't among the words, where the
-// value's take may come next.
+// A marked caller whose next call alone puts in a value that isn't among the words, where the take
+// of this value with the least view may come next.
 fn paired_put<R: Reader>(
     reader: &R,
     sight: &Sight,
@@ -219,7 +221,7 @@ fn paired_put<R: Reader>(
 }
 
 // Whether a marked caller's next call alone puts in a value that isn't among the words, and the
-// value's take may come next.
+// take of this value with the least view may come next.
 fn puts_paired<R: Reader>(
     reader: &R,
     sight: &Sight,

@@ -1,4 +1,4 @@
-//! What a search for a legal order needn't try, of stacks.
+//! Which calls a search for a legal order of a stack's book needn't try.
 #![tactic(auto)]
 
 mod again;

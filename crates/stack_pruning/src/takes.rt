@@ -13,8 +13,9 @@ use container_pruning::Reader;
 use value_pruning::value_taken;
 
 /// A marked caller whose next call takes out a value, with the least view of all answered calls
-/// outside the cut that take it out. A call that its view doesn't hold has no lesser view, so that
-/// few calls are looked at. No clause says that one is found: that costs time alone.
+/// outside the cut that take it out. A call that the take's view doesn't hold has no lesser view,
+/// so that few calls are looked at. No clause says that such a caller is found: where none is, only
+/// time is lost.
 pub fn next_least_take<R: Reader>(
     reader: &R,
     book: &Book,
@@ -36,7 +37,8 @@ pub fn next_least_take<R: Reader>(
     None
 }
 
-// Whether a caller's next call takes out a value, with the least view.
+// Whether a caller's next call takes out a value, with the least view of all answered calls outside
+// the cut that take it out.
 fn takes_least<R: Reader>(reader: &R, book: &Book, cut: &Cut, caller: u32, value: u64) -> bool
     requires wide { length cut.now ≡ length book.now }
     requires caller { caller < length book.now }
@@ -73,8 +75,8 @@ fn has_least_view<R: Reader>(reader: &R, book: &Book, cut: &Cut, take: Call, val
     true
 }
 
-// Whether one of a caller's calls from a number on, which a view holds, takes out a value, and the
-// view isn't within its own.
+// Whether some call of a caller, of those from a number on that a view holds, takes out a value,
+// and the view isn't within that of this call.
 fn takes_sooner<R: Reader>(
     reader: &R,
     book: &Book,
@@ -99,7 +101,7 @@ fn takes_sooner<R: Reader>(
     false
 }
 
-// Whether a call takes out a value, and a view isn't within its own.
+// Whether a call takes out a value, and the given view isn't within that of this call.
 fn is_sooner<R: Reader>(reader: &R, book: &Book, view: &Cut, call: Call, value: u64) -> bool
     requires wide { length view.now ≡ length book.now }
     requires caller { call.caller < length book.now }

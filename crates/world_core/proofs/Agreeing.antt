@@ -1,4 +1,4 @@
--- Which worked locals agree with words, part by part.
+-- Which worked locals agree with words of the table, and which don't, by the part that fails.
 use Rattle.std.proofs.Common.{◌≡◌, ℕ, zero, suc, ◌<◌, ◌≤◌, ◌==◌, Bool, true, false, ◌||◌, List, [], ◌∷◌, length, Some, None, slice_index, refl, sym, ap, ◌∙◌, ne_eqb, arith}
 use Rattle.std.specs.Prelude.{IsTrue}
 use Rattle.world_core.specs.declared.region.Region.{Region}
@@ -20,45 +20,57 @@ fails e = absurd cc
 holds : true ≡ false → ⊥
 holds e = absurd cc
 
--- the lengths of lists
+-- a local in the phase announce with one announced call and no published record lacks the counts of
+-- its phase
 pub no_announced : HasPhase uncounted → ⊥
 no_announced h = one_or_none h.announced
 
+-- the fresh local with an operation added lacks the lengths of its phase
 pub no_operation : HasPhase (record fresh { operations = 5 ∷ [] }) → ⊥
 no_operation h = one_or_none h.operations
 
+-- the fresh local with a reply added lacks the lengths of its phase
 pub no_reply : HasPhase (record fresh { replies = 50 ∷ [] }) → ⊥
 no_reply h = one_or_none h.replies
 
+-- the fresh local with a view added lacks the lengths of its phase
 pub no_view : HasPhase (record fresh { views = [] ∷ [] }) → ⊥
 no_view h = one_or_none h.views
 
+-- the fresh local with a seen cut added lacks the lengths of its phase
 pub no_seen : HasPhase (record fresh { seen = [] ∷ [] }) → ⊥
 no_seen h = one_or_none h.seen
 
+-- the fresh local with a cut embedded in N added lacks the lengths of its phase
 pub none_in_N : HasPhase (record fresh { embedded_in_N = [] ∷ [] }) → ⊥
 none_in_N h = one_or_none h.embedded_in_N
 
+-- the fresh local with a cut embedded in M added lacks the lengths of its phase
 pub none_in_M : HasPhase (record fresh { embedded_in_M = [] ∷ [] }) → ⊥
 none_in_M h = one_or_none h.embedded_in_M
 
+-- the fresh local with a list of object steps added lacks the lengths of its phase
 pub no_steps : HasPhase (record fresh { object_steps = [] ∷ [] }) → ⊥
 no_steps h = one_or_none h.object_steps
 
--- the view's scan, the staged words, and the cut to embed
+-- in the phase view the view's scan under way isn't of M
 pub not_view_of_M : FitsPhase Viewing (Some (scan_of M true)) → ⊥
 not_view_of_M h = let regions : M ≡ N = h.1 in absurd cc
 
+-- in the phase view the scan under way isn't another than the view's
 pub not_view : FitsPhase Viewing (Some (scan_of N false)) → ⊥
 not_view h = fails h.0
 
+-- in the phase ask the view's scan isn't under way
 pub not_in_asking : FitsPhase Asking (Some (scan_of N true)) → ⊥
 not_in_asking h = holds h
 
+-- a list of one staged word isn't empty
 pub not_staged : staged_word 0 5 ∷ [] ≡ [] → ⊥
 not_staged e = one_or_none (ap (λ (ws : List Staged). length ws) e)
 
--- the caller that is alone, with its reply staged
+-- the words of the table after the run in which the caller that is alone stages its reply, and the
+-- caller's local then
 abbrev words : List ℕ
 words = (end_of single reply_staged).words
 
@@ -89,6 +101,8 @@ staged M (suc place) stages is =
     ne_eqb 0 (suc place) (λ (e : 0 ≡ suc place). omega (arith, e)) in
     absurd (fails (sym (ap (λ (b : Bool). b || false) apart) ∙ is))
 
+-- the local of the caller that is alone agrees with the words of the table after the run in which
+-- this caller stages its reply
 pub agrees : Agrees single words 0 alone
 agrees =
     record {
@@ -111,47 +125,60 @@ agrees =
       scan = tt;
     }
 
+-- the fresh local doesn't agree with words in which the count in N is 1
 pub other_count_of_N : Agrees single (1 ∷ 0 ∷ 0 ∷ 0 ∷ 0 ∷ 0 ∷ 0 ∷ 0 ∷ []) 0 fresh → ⊥
 other_count_of_N a = one_or_none (a.counts N)
 
+-- the fresh local doesn't agree with words in which the count in M is 1
 pub other_count_of_M : Agrees single (0 ∷ 1 ∷ 0 ∷ 0 ∷ 0 ∷ 0 ∷ 0 ∷ 0 ∷ []) 0 fresh → ⊥
 other_count_of_M a = one_or_none (a.counts M)
 
+-- a local that has announced two calls doesn't agree with words where the cap is 1
 pub too_many : Agrees single (2 ∷ 1 ∷ 0 ∷ 0 ∷ 0 ∷ 0 ∷ 0 ∷ 0 ∷ []) 0 crowded → ⊥
 too_many a = let few : 2 ≤ 1 = a.few in omega (arith, few)
 
+-- a local doesn't agree with words in which its row of N has another high word
 pub other_row_of_N : Agrees single (1 ∷ 0 ∷ 5 ∷ 1 ∷ 0 ∷ 0 ∷ 0 ∷ 0 ∷ []) 0 asking_alone → ⊥
 other_row_of_N a = one_or_none (a.rows N 0 1 (omega arith) (omega arith))
 
+-- a local doesn't agree with words in which its row of M has another entry of the view
 pub other_row_of_M : Agrees single (1 ∷ 1 ∷ 5 ∷ 0 ∷ 0 ∷ 50 ∷ 0 ∷ 0 ∷ []) 0
     (local_after_all single published_alone 0) → ⊥
 other_row_of_M a = let entries : 0 ≡ 1 = a.rows M 0 1 (omega arith) (omega arith) in
     omega (arith, entries)
 
+-- a local that has staged 5 at place 0 doesn't agree with words that have 0 there
 pub not_standing : Agrees single no_words 0 staged_low → ⊥
 not_standing a = let words : 0 ≡ 5 = (a.staged N 0 refl refl).stands in omega (arith, words)
 
+-- a local with a staged word in the phase ask doesn't agree with words
 pub staged_as_asking : Agrees single (1 ∷ 0 ∷ 5 ∷ 0 ∷ 0 ∷ 0 ∷ 0 ∷ 0 ∷ []) 0 asking_staged → ⊥
 staged_as_asking a = one_or_none (ap (λ (ws : List Staged). length ws) a.staged_in)
 
+-- a local with a cut to embed in the phase ask doesn't agree with words
 pub kept_as_asking : Agrees single (1 ∷ 0 ∷ 5 ∷ 0 ∷ 0 ∷ 0 ∷ 0 ∷ 0 ∷ []) 0 asking_embeds → ⊥
 kept_as_asking a = let cuts : Some (0 ∷ []) ≡ None = a.kept_in in absurd cc
 
+-- a local without the lengths of its phase doesn't agree with words
 pub other_lists : Agrees single no_words 0 (record fresh { replies = 50 ∷ [] }) → ⊥
 other_lists a = no_reply a.phase
 
+-- a local with the view's scan under way in the phase ask doesn't agree with words
 pub view_as_asking : Agrees single (1 ∷ 0 ∷ 5 ∷ 0 ∷ 0 ∷ 0 ∷ 0 ∷ 0 ∷ []) 0 asking_views → ⊥
 view_as_asking a = holds a.scan
 
--- a word that is staged
+-- a word that was staged in a row beyond the cap isn't in its row
 pub past_rows : IsInRow single no_words 0 staged_past N 0 → ⊥
 past_rows h = let row : 1 < 1 = h.row in omega (arith, row)
 
+-- a word that was staged at a place that the region doesn't have isn't in its row
 pub past_places : IsInRow single no_words 0 staged_beside N 3 → ⊥
 past_places h = let place : 3 < 3 = h.place_fits in omega (arith, place)
 
+-- a staged word isn't in its row where the table has another word there
 pub stands_not : IsInRow single no_words 0 staged_low N 0 → ⊥
 stands_not h = let words : 0 ≡ 5 = h.stands in omega (arith, words)
 
+-- a staged word that the table has isn't in its row where it doesn't belong there
 pub not_due : IsInRow single (0 ∷ 0 ∷ 0 ∷ 0 ∷ 5 ∷ 0 ∷ 0 ∷ 0 ∷ []) 0 staged_entry N 2 → ⊥
 not_due h = fails h.due

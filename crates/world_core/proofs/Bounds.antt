@@ -1,4 +1,5 @@
--- A scan over counts that never fall, while its own caller's stands still, is short.
+-- The words of a scan over counts that never fall, while its own caller's count stays as it is, are
+-- few.
 use Rattle.std.proofs.Common.{◌≡◌, ℕ, zero, suc, ◌+◌, ◌-◌, ◌*◌, ◌/◌, ◌<◌, ◌≤◌, Bool, true, false, if◌then◌else◌, nat_lt, List, [], ◌∷◌, ◌++◌, length, take, drop, slice_index, sum, Option, Some, None, refl, sym, ap, ◌∙◌, arith, inl, inr, length-drop}
 use Rattle.std.proofs.lemmas.List.{drop-append-le, take-append-le, take-append-drop, length-take-le, get_or-take, get_or-drop}
 use Rattle.std.proofs.lemmas.Nat.{div-mul-add, mul-le}
@@ -8,7 +9,8 @@ use Rattle.world_core.specs.declared.course.Course.{Course}
 use Rattle.world_core.specs.declared.course.Course.TheVariants.{Collects, Borrows, Ends}
 use Rattle.world_core.specs.Scan.{round, last_of, open_round, course, course_after, course_on, lent_by, mover, mover_from, is_same_cut, wanted, wanted_by, is_look, is_peek, looks, has_ended, IsSteady, IsShort, AreWanted}
 
--- What a scan did after a whole round hangs on the words up to its end alone.
+-- Whole rounds of some words, and what a scan did after them, stay as they are where words are
+-- added.
 module _ (n : ℕ) (xs ys : List ℕ) where
   round_prefix : (k : ℕ) → k * n + n ≤ length xs → round n (xs ++ ys) k ≡ round n xs k
   round_prefix k fits =
@@ -29,7 +31,8 @@ module _ (n : ℕ) (xs ys : List ℕ) where
       let r : round n (xs ++ ys) k ≡ round n xs k = round_prefix k (omega arith) in
       cc (before, f, l, r)
 
--- What is wanted is a look in a collect, and a peek while the scan borrows.
+-- Whether a scan collects, and whether it borrows: it needs a look exactly where it collects, and a
+-- peek exactly where it borrows.
 abbrev is_collecting : Course → Bool
 is_collecting Collects = true
 is_collecting _ = false
@@ -53,7 +56,7 @@ collecting_is Collects h = refl
 collecting_is (Borrows j row) h = absurd cc
 collecting_is (Ends cut) h = absurd cc
 
--- what went on from a round began before it
+-- a scan that collects or borrows after a round made a collect in that round
 collects_before : (f : List ℕ) (l : Option (List ℕ)) (r : List ℕ) (c : Course)
     → course_on f l r c ≡ Collects → c ≡ Collects
 collects_before f l r Collects h = refl
@@ -70,7 +73,8 @@ lent_none : (latest : List ℕ) (m : Option ℕ) → lent_by latest m ≡ Collec
 lent_none latest None h = refl
 lent_none latest (Some j) h = absurd cc
 
--- a collect after which the scan makes another isn't that before it, and nobody has moved twice
+-- what holds of a collect after which a scan makes another: it differs from the collect before it,
+-- and no caller has moved twice since the first collect
 record GoesOn (first before latest : List ℕ) : Type 0 where
   apart : is_same_cut before latest ≡ false
   nobody : mover first latest ≡ None
@@ -82,7 +86,8 @@ going_on true first before latest e h = absurd cc
 going_on false first before latest e h =
     record { apart = e; nobody = lent_none latest (mover first latest) h }
 
--- where nobody has moved twice, each count is at most one more
+-- where no caller has moved twice, each count in the second collect is at most 1 more than in the
+-- first
 mover_none : (j : ℕ) (a b : List ℕ) → mover_from j a b ≡ None → (t : ℕ) → t < length a
     → t < length b → slice_index b t ≤ slice_index a t + 1
 mover_none j [] b h t below low = absurd (omega arith)
@@ -101,7 +106,7 @@ mover_none j (x ∷ xs) (y ∷ ys) h (suc t) below low = elim (cases_Bool (nat_l
       (omega arith) (omega arith)
 ]
 
--- The words of a scan.
+-- The words of a scan, and the number of the caller that makes it.
 module _ (n me : ℕ) (xs : List ℕ) (low : me < n) where
   some : 0 < n
   some = omega (arith, low)
@@ -112,7 +117,8 @@ module _ (n me : ℕ) (xs : List ℕ) (low : me < n) where
   row_ends : (p : ℕ) → p < (p / n) * n + n
   row_ends p = let h = some in omega arith
 
-  -- the course after some of the words
+  -- what a scan does that has taken the first p of the words: what it does after the whole rounds
+  -- among them
   course_at : (p : ℕ) → p ≤ length xs → course n (take p xs) ≡ course_after n xs (p / n)
   course_at p le =
       let prefix : length (take p xs) ≡ p = length-take-le p xs le in
@@ -130,7 +136,7 @@ module _ (n me : ℕ) (xs : List ℕ) (low : me < n) where
   peek_at p le =
       peek_by (course n (take p xs)) (open_round n (take p xs)) ∙ ap is_borrowing (course_at p le)
 
-  -- a word of a round
+  -- word t of round k is word k * n + t of all words
   word_at : (k t : ℕ) → t < n → slice_index (round n xs k) t ≡ slice_index xs (k * n + t)
   word_at k t below = get_or-take n (drop (k * n) xs) t 0 below ∙ get_or-drop (k * n) xs t 0
 
@@ -138,7 +144,7 @@ module _ (n me : ℕ) (xs : List ℕ) (low : me < n) where
   round_long k fits = length-take-le n (drop (k * n) xs) (omega (arith, length-drop (k * n) xs))
 
   module _ (steady : IsSteady n me xs) where
-    -- a look of a collect after the first
+    -- the words of a collect that isn't the first came of looks
     look_in : (k t : ℕ) → t < n → k * n + t + n < length xs → course_after n xs (suc k) ≡ Collects
         → is_look (wanted n (take (k * n + t + n) xs)) ≡ true
     look_in k t below fits going =
@@ -168,7 +174,8 @@ module _ (n me : ℕ) (xs : List ℕ) (low : me < n) where
         word_at (suc k) me low ∙ ap (slice_index xs) there ∙ same ∙ sym (word_at k me low)
         ∙ own_stays k (omega arith) before
 
-    -- after each collect after the first, after which the scan makes another
+    -- a collect that isn't the first, and after which the scan makes another, differs from the one
+    -- before it, and by it no caller has moved twice since the first collect
     went_on : (k : ℕ) → course_after n xs (suc (suc k)) ≡ Collects
         → GoesOn (round n xs 0) (round n xs k) (round n xs (suc k))
     went_on k going =
@@ -193,7 +200,7 @@ module _ (n me : ℕ) (xs : List ℕ) (low : me < n) where
         (λ t below. round_rises k fits before t (omega (arith, long))) (went_on k going).apart in
         omega (arith, rest, more)
 
-    -- the scan makes a collect after at most n of them
+    -- a scan that makes a collect has made at most n rounds before it
     pub collects_few : (k : ℕ) → k * n ≤ length xs → course_after n xs k ≡ Collects → k ≤ n
     collects_few zero fits going = omega arith
     collects_few (suc zero) fits going = omega (arith, low)
@@ -218,7 +225,7 @@ module _ (n me : ℕ) (xs : List ℕ) (low : me < n) where
         let few : p / n ≤ n = collects_few (p / n) (omega (arith, row_starts p)) going in
         omega (arith, row_ends p, mul-le (p / n) n n n few (omega arith))
 
-    -- before a collect the scan made collects alone
+    -- a scan that makes a collect made collects in all rounds before
     collects_down : (m k : ℕ) → k ≤ m → course_after n xs m ≡ Collects
         → course_after n xs k ≡ Collects
     collects_down zero k le going =
@@ -230,7 +237,7 @@ module _ (n me : ℕ) (xs : List ℕ) (low : me < n) where
           (round n xs m) (course_after n xs m) going)
     ]
 
-    -- and so before it borrows, which it does once
+    -- a scan doesn't borrow in two rounds, since before it borrows it makes collects alone
     borrows_once : (k m : ℕ) → k < m → is_borrowing (course_after n xs k) ≡ true
         → is_borrowing (course_after n xs m) ≡ true → ⊥
     borrows_once k zero less first second = omega arith
@@ -253,7 +260,7 @@ module _ (n me : ℕ) (xs : List ℕ) (low : me < n) where
               (arith, row_starts p, row_ends q, mul-le (q / n) n (p / n) n not_less (omega arith))
         ]
 
-    -- a scan that borrows made few collects before
+    -- a scan that borrows has made at most n + 1 collects before
     borrows_few : (k : ℕ) → k * n ≤ length xs
         → is_borrowing (course_after n xs k) ≡ true → k ≤ n + 1
     borrows_few zero fits borrows = omega arith
@@ -277,6 +284,7 @@ module _ (n me : ℕ) (xs : List ℕ) (low : me < n) where
         (omega (arith, row_starts p, long)) in
         omega (arith, long, row_ends p, mul-le (p / n) n (n + 1) n few (omega arith))
 
+    -- the words of a scan are few where they are steady
     pub scan_is_short : IsShort n xs
     scan_is_short =
         record {

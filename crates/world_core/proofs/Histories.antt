@@ -1,4 +1,4 @@
--- Which of the worked histories are linearizable.
+-- Which of the worked histories of two callers are linearizable.
 use Rattle.std.proofs.Common.{◌≡◌, ◌≢◌, ℕ, zero, suc, ◌+◌, ◌*◌, ◌<◌, ◌≤◌, List, [], ◌∷◌, length, map, slice_get, slice_index_or, Some, refl, sym, ap, subst, arith}
 use Rattle.std.specs.Prelude.{All, AllPairs, Contains}
 use Rattle.book_base.specs.declared.call.Call.{Call}
@@ -13,14 +13,16 @@ done call operation reply = record { call = call; operation = operation; reply =
 callers_differ : first ≡ second → ⊥
 callers_differ e = let n : 0 ≡ 1 = ap (λ (c : Call). c.caller) e in omega (arith, n)
 
--- what stands at a place
+-- where the entry of an order at place k, which is below its length, is d, `slice_get` finds d
+-- there
 pub at_place : (ds : List Done) (k : ℕ) (d : Done) → k < length ds → slice_index_or ds k d ≡ d
     → slice_get ds k ≡ Some d
 at_place [] k d below is = absurd (omega arith)
 at_place (x ∷ xs) zero d below is = ap Some is
 at_place (x ∷ xs) (suc k) d below is = at_place xs k d (omega arith) is
 
--- each reply is the number of operations before
+-- in a run of `numbering` each reply is the length of the list at its start plus the number of
+-- operations before
 pub numbered : (ds : List Done) (list : List ℕ) → IsRunFrom numbering list (map step_of ds)
     → (k : ℕ) (d : Done) → k < length ds → (slice_index_or ds k d).reply ≡ length list + k
 numbered [] list run k d below = absurd (omega arith)
@@ -35,7 +37,7 @@ all_tenfold [] list run k d below = absurd (omega arith)
 all_tenfold (x ∷ xs) list run zero d below = sym run.0
 all_tenfold (x ∷ xs) list run (suc k) d below = all_tenfold xs list run.1 k d (omega arith)
 
--- the first call stands before the second, so it can't reply 1
+-- the first call returned before the second was invoked, so it comes first and can't return 1
 pub order_forbids : IsLinearizable [] numbering one_after_another → ⊥
 unfolding done
 order_forbids (ds, l) =
@@ -56,12 +58,13 @@ order_forbids (ds, l) =
       numbered ds [] l.legal m (done second y 0) under,
     )
 
--- its operation is the one that it was invoked with
+-- the operation with which the call of `reply_of_another` was invoked is 5
 invoked_with : (x : ℕ) → Contains reply_of_another (Invoked first x) → x ≡ 5
 invoked_with x (zero, below, is) = cc
 invoked_with x (suc zero, below, is) = absurd cc
 invoked_with x (suc (suc k), below, is) = absurd (omega arith)
 
+-- a call with operation 5 can't return 60, which `tenfold` replies to the operation 6 alone
 pub operation_forbids : IsLinearizable [] tenfold reply_of_another → ⊥
 unfolding done
 operation_forbids (ds, l) =
@@ -74,7 +77,7 @@ operation_forbids (ds, l) =
     let operation : (slice_index_or ds k d).operation ≡ x = ap (λ (e : Done). e.operation) is in
     omega (arith, reply, operation, five, all_tenfold ds [] l.legal k d below)
 
--- where both calls are invoked before any returns, no order is asked for
+-- in `side_by_side` calls are invoked at the first two places of the history alone
 side_early : (j x : ℕ) (call : Call) → slice_get side_by_side j ≡ Some (Invoked call x) → j < 2
 side_early zero x call h = omega arith
 side_early (suc zero) x call h = omega arith
@@ -105,6 +108,7 @@ side_invoked zero d below = (1, omega arith, refl)
 side_invoked (suc zero) d below = (0, omega arith, refl)
 side_invoked (suc (suc k)) d below = absurd (omega arith)
 
+-- two entries of different calls make an order in which no call is twice
 pub two_once : (a b : Done) → (a.call ≡ b.call → ⊥)
     → AllPairs (λ (d e : Done). d.call ≢ e.call) (a ∷ b ∷ [])
 two_once a b apart zero (suc zero) d lt below = apart
@@ -114,6 +118,7 @@ two_once a b apart (suc i) zero d lt below = absurd (omega arith)
 two_once a b apart (suc i) (suc zero) d lt below = absurd (omega arith)
 two_once a b apart (suc i) (suc (suc j)) d lt below = absurd (omega arith)
 
+-- calls that overlap may be ordered with the second call first
 pub side_by_side_linearizable : IsLinearizable [] numbering side_by_side
 unfolding done
 side_by_side_linearizable = (
@@ -128,7 +133,7 @@ side_by_side_linearizable = (
   },
 )
 
--- an unanswered call may stand in the order
+-- in `after_unanswered` calls are invoked at the first two places of the history alone
 after_early : (j x : ℕ) (call : Call) → slice_get after_unanswered j ≡ Some (Invoked call x) → j < 2
 after_early zero x call h = omega arith
 after_early (suc zero) x call h = omega arith
@@ -156,6 +161,7 @@ after_invoked zero d below = (0, omega arith, refl)
 after_invoked (suc zero) d below = (1, omega arith, refl)
 after_invoked (suc (suc k)) d below = absurd (omega arith)
 
+-- a call that never returned may be in the order
 pub unanswered_stands : IsLinearizable [] numbering after_unanswered
 unfolding done
 unanswered_stands = (
@@ -170,7 +176,7 @@ unanswered_stands = (
   },
 )
 
--- and may be left out
+-- in `without_unanswered` calls are invoked at the first two places of the history alone
 without_early : (j x : ℕ) (call : Call)
     → slice_get without_unanswered j ≡ Some (Invoked call x) → j < 2
 without_early zero x call h = omega arith
@@ -199,6 +205,7 @@ unfolding done
 without_invoked zero d below = (1, omega arith, refl)
 without_invoked (suc k) d below = absurd (omega arith)
 
+-- the order of the second call alone, without the call that never returned, is a linearization
 pub leaves_it_out : IsLinearization [] numbering without_unanswered second_alone
 unfolding done
 leaves_it_out =
@@ -211,5 +218,6 @@ leaves_it_out =
           (omega (arith, lt, without_early j operation e.call v, without_late i reply d.call r));
     }
 
+-- a history is linearizable by an order without a call that never returned
 pub unanswered_left_out : IsLinearizable [] numbering without_unanswered
 unanswered_left_out = (second_alone, leaves_it_out)

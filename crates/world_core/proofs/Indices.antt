@@ -1,16 +1,16 @@
--- No two places of the table are one word.
+-- The indices of two places of the table differ where the places do.
 use Rattle.std.proofs.Common.{◌≡◌, ◌≢◌, ℕ, ◌+◌, ◌*◌, ◌<◌, ◌≤◌, refl, arith}
 use Rattle.std.proofs.lemmas.Nat.{same_from_place, mul-add-lt}
 use Rattle.world_core.specs.declared.region.Region.{Region}
 use Rattle.world_core.specs.declared.region.Region.TheVariants.{N, M}
 use Rattle.world_core.specs.Layout.{places, first_place, row_width, count_index, place_index, row_words, object_index}
 
--- a place of a region lies in its row
+-- each place of a region lies within its row
 place_fits : (n : ℕ) (r : Region) (p : ℕ) → p < places n r → first_place n r + p < row_width n
 place_fits n N p h = omega arith
 place_fits n M p h = omega arith
 
--- and is the place of no other region
+-- places of a row that are equal as words of the row are of one region, and equal in it
 place_apart : (n : ℕ) (r q : Region) (p t : ℕ) → p < places n r → t < places n q
     → first_place n r + p ≡ first_place n q + t → (r ≡ q) × (p ≡ t)
 place_apart n N N p t a b e = (refl, omega arith)
@@ -19,10 +19,12 @@ place_apart n N M p t a b e = absurd (omega arith)
 place_apart n M N p t a b e = absurd (omega arith)
 
 module _ (n : ℕ) where
+  -- each count word is before the rows
   pub count_low : (r : Region) (i : ℕ) → i < n → count_index n r i < 2 * n
   count_low N i h = omega arith
   count_low M i h = omega arith
 
+  -- count words with one index are of one region and one caller
   pub count_apart : (r q : Region) (i j : ℕ) → i < n → j < n → count_index n r i ≡ count_index n q j
       → (r ≡ q) × (i ≡ j)
   count_apart N N i j a b e = (refl, e)
@@ -30,7 +32,7 @@ module _ (n : ℕ) where
   count_apart N M i j a b e = absurd (omega arith)
   count_apart M N i j a b e = absurd (omega arith)
 
--- two row words that are one have one region, caller, row and place
+-- two words of rows are of one region, caller and row, and at one place
 pub record IsSamePlace (r q : Region) (i j k m p t : ℕ) : Type 0 where
   pub region : r ≡ q
   pub caller : i ≡ j
@@ -38,14 +40,16 @@ pub record IsSamePlace (r q : Region) (i j k m p t : ℕ) : Type 0 where
   pub place : p ≡ t
 
 module _ (n cap : ℕ) where
+  -- each word of a row is after the count words
   pub row_high : (r : Region) (i k p : ℕ) → 2 * n ≤ place_index n cap r i k p
   row_high r i k p = omega arith
 
-  -- a count is no row word
+  -- no count word is a word of a row
   pub count_or_row : (r q : Region) (i j k p : ℕ) → i < n
       → count_index n r i ≢ place_index n cap q j k p
   count_or_row r q i j k p h e = omega (arith, count_low n r i h, row_high q j k p, e)
 
+  -- words of rows below the cap with one index are of one region, caller and row, and at one place
   pub row_apart : (r q : Region) (i j k m p t : ℕ) → k < cap → m < cap → p < places n r
       → t < places n q
       → place_index n cap r i k p ≡ place_index n cap q j m t → IsSamePlace r q i j k m p t
@@ -57,10 +61,11 @@ module _ (n cap : ℕ) where
       let place = place_apart n r q p t c d rows.1 in
       record { region = place.0; caller = callers.0; row = callers.1; place = place.1 }
 
-  -- each count word and each row word is a word before the object words
+  -- each count word is before the object words
   pub count_within : (r : Region) (i : ℕ) → i < n → count_index n r i < row_words n cap
   count_within r i h = omega (arith, count_low n r i h)
 
+  -- each word of a row below the cap, of one of the callers, is before the object words
   pub row_within : (r : Region) (i k p : ℕ) → i < n → k < cap → p < places n r
       → place_index n cap r i k p < row_words n cap
   row_within r i k p a b c =
@@ -73,10 +78,11 @@ module _ (n cap : ℕ) where
       ) in
       omega (arith, word)
 
-  -- so neither is an object word
+  -- no count word is an object word
   pub count_or_object : (r : Region) (i t : ℕ) → i < n → count_index n r i ≢ object_index n cap t
   count_or_object r i t h e = omega (arith, count_within r i h, e)
 
+  -- no word of a row below the cap, of one of the callers, is an object word
   pub row_or_object : (r : Region) (i k p t : ℕ) → i < n → k < cap → p < places n r
       → place_index n cap r i k p ≢ object_index n cap t
   row_or_object r i k p t a b c e = omega (arith, row_within r i k p a b c, e)

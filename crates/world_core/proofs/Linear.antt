@@ -1,5 +1,5 @@
 -- The object history of two whole calls is linearizable for an object that gives their replies, and
--- for no object that gives others.
+-- not for an object whose replies are all 0.
 use Rattle.std.proofs.Common.{◌≡◌, ◌≢◌, ℕ, zero, suc, ◌<◌, List, [], ◌∷◌, length, map, slice_get, slice_index_or, Some, refl, sym, ap, subst, arith}
 use Rattle.std.specs.Prelude.{All, AllPairs, Contains}
 use Rattle.book_base.specs.declared.call.Call.{Call}
@@ -103,6 +103,7 @@ ordered (suc zero) (suc zero) d e hd he (i, j, reply, operation, lt, r, v) =
 ordered (suc (suc p)) (suc zero) d e hd he before = absurd cc
 ordered p (suc (suc q)) d e hd he before = absurd cc
 
+-- the two calls in the order of their invocations are a linearization for `tenfold`
 pub linearizable : IsLinearizable [] tenfold (history_of pair two_calls)
 unfolding history first second order
 linearizable = (
@@ -123,6 +124,7 @@ all_silent [] list run k d below = absurd (omega arith)
 all_silent (x ∷ xs) list run zero d below = sym run.0
 all_silent (x ∷ xs) list run (suc k) d below = all_silent xs list run.1 k d (omega arith)
 
+-- the first call returned 50, which `silent` replies to no operation
 pub not_linearizable : IsLinearizable [] silent (history_of pair two_calls) → ⊥
 not_linearizable (ds, l) =
     let (operation, (k, below, is)) = l.returned (call_of 0 0) 50 (1, omega arith, refl) in

@@ -13,7 +13,7 @@ done call operation reply = record { call = call; operation = operation; reply =
 calls_differ : first ≡ again → ⊥
 calls_differ e = let n : 0 ≡ 1 = ap (λ (c : Call). c.number) e in omega (arith, n)
 
--- two calls in turn
+-- the order of both calls of the caller in turn, with the replies 0 and 1
 abbrev turns : List Done
 turns = record { call = first; operation = 5; reply = 0 }
     ∷ record { call = again; operation = 5; reply = 1 } ∷ []
@@ -80,6 +80,7 @@ turns_ordered (suc zero) (suc zero) d e hd he (i, j, reply, operation, lt, r, v)
 turns_ordered (suc (suc p)) (suc zero) d e hd he before = absurd cc
 turns_ordered p (suc (suc q)) d e hd he before = absurd cc
 
+-- two calls in turn that return 0 and 1 are linearizable
 pub in_turn_linearizable : IsLinearizable [] numbering in_turn
 in_turn_linearizable = (
   turns,
@@ -92,7 +93,7 @@ in_turn_linearizable = (
   },
 )
 
--- its second call stands after its first
+-- the second call of the caller comes after its first, so the first can't return 1
 pub caller_forbids : IsLinearizable [] numbering out_of_turn → ⊥
 caller_forbids (ds, l) =
     let (x, (k, below, is)) = l.returned first 1 (1, omega arith, refl) in
@@ -112,12 +113,13 @@ caller_forbids (ds, l) =
       numbered ds [] l.legal m (done again y 0) under,
     )
 
--- a call that stands once, and alone, replies 0
+-- the only call that is invoked in `returns_one` is the first call of caller 0
 invoked_alone : (call : Call) (x : ℕ) → Contains returns_one (Invoked call x) → call ≡ first
 invoked_alone call x (zero, below, is) = cc
 invoked_alone call x (suc zero, below, is) = absurd cc
 invoked_alone call x (suc (suc k), below, is) = absurd (omega arith)
 
+-- a call that alone is invoked can't return 1 from the empty list on
 pub one_forbids : IsLinearizable [] numbering returns_one → ⊥
 one_forbids (ds, l) =
     let (x, (k, below, is)) = l.returned first 1 (1, omega arith, refl) in
@@ -129,7 +131,7 @@ one_forbids (ds, l) =
     let this : (slice_index_or ds k d).call ≡ first = ap (λ (e : Done). e.call) is in
     l.once 0 k d early below (before ∙ sym this)
 
--- after one operation in the first list it replies 1, and never 0
+-- in `returns_one` a call is invoked at the first place of the history alone
 one_early : (j x : ℕ) (call : Call) → slice_get returns_one j ≡ Some (Invoked call x) → j ≡ 0
 one_early zero x call h = refl
 one_early (suc zero) x call h = absurd cc
@@ -147,6 +149,7 @@ one_invoked : All (λ (d : Done). Contains returns_one (Invoked d.call d.operati
 one_invoked zero d below = (0, omega arith, refl)
 one_invoked (suc k) d below = absurd (omega arith)
 
+-- a call that alone is invoked may return 1 where the first list has one operation
 pub list_allows : IsLinearizable (7 ∷ []) numbering returns_one
 list_allows = (
   done first 5 1 ∷ [],
@@ -160,6 +163,7 @@ list_allows = (
   },
 )
 
+-- a call that alone is invoked can't return 0 where the first list has one operation
 pub list_forbids : IsLinearizable (7 ∷ []) numbering returns_none → ⊥
 list_forbids (ds, l) =
     let (x, (k, below, is)) = l.returned first 0 (1, omega arith, refl) in
@@ -167,7 +171,7 @@ list_forbids (ds, l) =
     let reply : (slice_index_or ds k d).reply ≡ 0 = ap (λ (e : Done). e.reply) is in
     omega (arith, reply, numbered ds (7 ∷ []) l.legal k d below)
 
--- no call stands before itself
+-- a call that returned before it was invoked would have to come before itself
 pub before_forbids : IsLinearizable [] numbering returns_before → ⊥
 before_forbids (ds, l) =
     let (x, (k, below, is)) = l.returned first 0 (0, omega arith, refl) in

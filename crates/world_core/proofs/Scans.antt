@@ -1,4 +1,4 @@
--- How a scan stands after one more word.
+-- The state of a scan after one more word.
 use Rattle.std.proofs.Common.{◌≡◌, ℕ, zero, suc, ◌+◌, ◌*◌, ◌/◌, ◌<◌, ◌≤◌, ◌≢◌, slice_set, List, [], ◌∷◌, ◌++◌, length, take, drop, Option, Some, refl, sym, ap, ◌∙◌, arith, length-append, length-drop}
 use Rattle.std.specs.Option.{unwrap_or}
 use Rattle.std.proofs.lemmas.List.{drop-append-le, take-append-le, take_all, drop_all, length-take-le, take_more_set, length-set}
@@ -10,7 +10,8 @@ use Rattle.world_core.specs.Standing.{ScanState, standing, first_of}
 use Rattle.world_core.specs.declared.scan_core.ScanCore.TheInside.{Inside}
 use Rattle.world_core.specs.ScanLayout.{standing_of}
 
--- two that are equal in what they keep
+-- states of scans of one caller and region are equal where they keep equal rounds, words and
+-- courses
 same_standing : (n me : ℕ) (region : Region) {e f l m : Option (List ℕ)} {c d : List ℕ}
     {a b : Course} → e ≡ f → l ≡ m → c ≡ d → a ≡ b
     → (let s : ScanState = record {
@@ -25,7 +26,7 @@ same_standing : (n me : ℕ) (region : Region) {e f l m : Option (List ℕ)} {c 
     ≡ record { callers = n; me = me; region = region; first = f; last = m; current = d; course = b }
 same_standing n me region p q r s = cc
 
--- the first round, if there is one, else these words
+-- the first whole round of these words, or the given words where there is no whole round
 pub first_round : ℕ → List ℕ → List ℕ → List ℕ
 first_round n taken words = unwrap_or (first_of n taken (rounds n taken)) words
 
@@ -33,15 +34,17 @@ module _ (n : ℕ) (taken : List ℕ) (w : ℕ) (some : 0 < n) where
   whole_words : rounds n taken * n ≤ length taken
   whole_words = omega arith
 
+  -- the words are as many as the whole rounds and the round under way have together
   pub open_length : length (open_round n taken) + rounds n taken * n ≡ length taken
   open_length = let h : rounds n taken * n ≤ length taken = whole_words in
       omega (arith, length-drop (rounds n taken * n) taken)
 
-  -- a round under way lacks a word
+  -- the round under way has fewer than n words
   pub open_lacks : length (open_round n taken) < n
   open_lacks = omega (arith, open_length)
 
-  -- the number of whole rounds, while the round under way lacks another word
+  -- where the round under way has fewer than n - 1 words, one more word makes no further whole
+  -- round
   pub rounds_more : length (open_round n taken) + 1 < n
       → rounds n (taken ++ w ∷ []) ≡ rounds n taken
   rounds_more lacks =
@@ -50,7 +53,7 @@ module _ (n : ℕ) (taken : List ℕ) (w : ℕ) (some : 0 < n) where
       omega (arith, length-append taken (w ∷ []), open_length) in e)
       ∙ div-mul-add (rounds n taken) n (length (open_round n taken) + 1) lacks
 
-  -- and where this word is its last
+  -- where the round under way has n - 1 words, one more word makes one further whole round
   pub rounds_whole : length (open_round n taken) + 1 ≡ n
       → rounds n (taken ++ w ∷ []) ≡ suc (rounds n taken)
   rounds_whole fills =
@@ -58,7 +61,7 @@ module _ (n : ℕ) (taken : List ℕ) (w : ℕ) (some : 0 < n) where
       omega (arith, length-append taken (w ∷ []), open_length, fills) in e)
       ∙ div-mul-add (suc (rounds n taken)) n 0 some
 
-  -- a whole round stays as it is
+  -- one more word changes no whole round
   pub round_kept : (k : ℕ) → k < rounds n taken → round n (taken ++ w ∷ []) k ≡ round n taken k
   round_kept k below =
       let here : k * n + n ≤ length taken =
@@ -66,6 +69,8 @@ module _ (n : ℕ) (taken : List ℕ) (w : ℕ) (some : 0 < n) where
       ap (take n) (drop-append-le (k * n) taken (w ∷ []) (omega arith))
       ∙ take-append-le n (drop (k * n) taken) (w ∷ []) (omega (arith, length-drop (k * n) taken))
 
+  -- with one more word, the words after the whole rounds that there were are those of the round
+  -- under way and this word
   pub open_more : (k : ℕ) → k ≡ rounds n taken
       → drop (k * n) (taken ++ w ∷ []) ≡ open_round n taken ++ w ∷ []
   open_more k is = ap (λ m. drop (m * n) (taken ++ w ∷ [])) is
@@ -75,11 +80,12 @@ module _ (n : ℕ) (taken : List ℕ) (w : ℕ) (some : 0 < n) where
   first_kept zero le = refl
   first_kept (suc k) le = ap Some (round_kept 0 (omega arith))
 
+  -- one more word doesn't change the last of the first k whole rounds
   pub last_kept : (k : ℕ) → k ≤ rounds n taken → last_of n (taken ++ w ∷ []) k ≡ last_of n taken k
   last_kept zero le = refl
   last_kept (suc k) le = ap Some (round_kept k le)
 
-  -- what the scan did after each whole round stays
+  -- one more word doesn't change what the scan did after each of the whole rounds
   pub course_kept : (k : ℕ) → k ≤ rounds n taken
       → course_after n (taken ++ w ∷ []) k ≡ course_after n taken k
   course_kept zero le = refl
@@ -91,7 +97,8 @@ module _ (n : ℕ) (taken : List ℕ) (w : ℕ) (some : 0 < n) where
       let r : round n (taken ++ w ∷ []) k ≡ round n taken k = round_kept k le in
       cc (before, f, l, r)
 
-  -- while the round under way lacks another word, the word is added to it
+  -- where the round under way has fewer than n - 1 words, one more word is added to it, and nothing
+  -- else of the state changes
   pub standing_more : (me : ℕ) (region : Region) → length (open_round n taken) + 1 < n
       → standing n me region (taken ++ w ∷ [])
       ≡ record (standing n me region taken) { current = open_round n taken ++ w ∷ [] }
@@ -103,19 +110,21 @@ module _ (n : ℕ) (taken : List ℕ) (w : ℕ) (some : 0 < n) where
       (open_more (rounds n (taken ++ w ∷ [])) k)
       (ap (course_after n (taken ++ w ∷ [])) k ∙ course_kept (rounds n taken) (omega arith))
 
-  -- the round under way is whole with the word
+  -- where the round under way has n - 1 words, it makes a whole round with one more word
   pub round_filled : length (open_round n taken) + 1 ≡ n → (k : ℕ) → k ≡ rounds n taken
       → round n (taken ++ w ∷ []) k ≡ open_round n taken ++ w ∷ []
   round_filled fills k is = ap (take n) (open_more k is) ∙ take_all n (open_round n taken ++ w ∷ [])
       (omega (arith, length-append (open_round n taken) (w ∷ [])))
 
-  -- the first round after that: the one that was first before, else this one
+  -- where one more word fills the round under way, the first round is the one that was first
+  -- before, or the filled one where there was no whole round
   first_filled : length (open_round n taken) + 1 ≡ n → (k : ℕ) → k ≡ rounds n taken
       → round n (taken ++ w ∷ []) 0 ≡ unwrap_or (first_of n taken k) (open_round n taken ++ w ∷ [])
   first_filled fills zero is = round_filled fills 0 is
   first_filled fills (suc k) is = round_kept 0 (omega (arith, is))
 
-  -- and what the scan does then
+  -- where one more word fills the round under way, what the scan does next follows from the first
+  -- round, the last one before, the filled one, and what the scan did before
   pub course_filled : length (open_round n taken) + 1 ≡ n → (k : ℕ) → k ≡ rounds n taken
       → course_after n (taken ++ w ∷ []) (suc k)
       ≡ course_on (unwrap_or (first_of n taken k) (open_round n taken ++ w ∷ []))
@@ -129,11 +138,15 @@ module _ (n : ℕ) (taken : List ℕ) (w : ℕ) (some : 0 < n) where
       course_kept k (omega (arith, is)) in
       cc (f, l, r, before)
 
+  -- where one more word fills the round under way, the next round has no word yet
   pub open_whole : length (open_round n taken) + 1 ≡ n → open_round n (taken ++ w ∷ []) ≡ []
   open_whole fills =
       drop_all (rounds n (taken ++ w ∷ []) * n) (taken ++ w ∷ []) (omega
       (arith, ap (λ j. j * n) (rounds_whole fills), length-append taken (w ∷ []), open_length))
 
+  -- where one more word fills the round under way, the state keeps this round as the last one, and
+  -- as the first where there was none; the next round has no word yet; and what the scan does
+  -- follows from the first round, the one before this, this one, and what the scan did
   pub standing_whole : (me : ℕ) (region : Region) → length (open_round n taken) + 1 ≡ n
       → standing n me region (taken ++ w ∷ [])
       ≡ record {
@@ -155,7 +168,8 @@ module _ (n : ℕ) (taken : List ℕ) (w : ℕ) (some : 0 < n) where
       (open_whole fills)
       (ap (course_after n (taken ++ w ∷ [])) k ∙ course_filled fills (rounds n taken) refl)
 
--- two that are equal in what they are of
+-- states of scans are equal where they keep equal rounds, words and courses, and are of equal
+-- numbers of callers, callers and regions
 same_scanner : {n m i j : ℕ} {r q : Region} (e l : Option (List ℕ)) (c : List ℕ) (a : Course)
     → n ≡ m → i ≡ j → r ≡ q
     → (let s : ScanState =
@@ -163,7 +177,8 @@ same_scanner : {n m i j : ℕ} {r q : Region} (e l : Option (List ℕ)) (c : Lis
     ≡ record { callers = m; me = j; region = q; first = e; last = l; current = c; course = a }
 same_scanner e l c a p u v = cc
 
--- What the fields are after a word, where the scan stood as one that has taken these words.
+-- The state that the fields of a scan keep after one more word, where they kept that of these words
+-- before.
 module _ (c : Inside) (w : ℕ) (n me : ℕ) (region : Region) (taken : List ℕ)
     (stood : standing_of c ≡ standing n me region taken) (lacks : c.taken < length c.current) where
   callers : length c.current ≡ n
@@ -177,6 +192,7 @@ module _ (c : Inside) (w : ℕ) (n me : ℕ) (region : Region) (taken : List ℕ
   filled =
       take_more_set c.current c.taken w lacks ∙ ap (λ (s : ScanState). s.current ++ w ∷ []) stood
 
+  -- where the word doesn't fill the round under way, the fields keep the state with one more word
   pub stands_more : c.taken + 1 ≢ length c.current
       → standing_of (record c { current = slice_set c.current c.taken w; taken = c.taken + 1 })
       ≡ standing n me region (taken ++ w ∷ [])
@@ -189,6 +205,7 @@ module _ (c : Inside) (w : ℕ) (n me : ℕ) (region : Region) (taken : List ℕ
       ∙ sym (standing_more n taken w (omega (arith, callers)) me region
       (omega (arith, callers, counted))))
 
+  -- where the word fills the round under way, the fields keep the state with one more word
   pub stands_whole : c.taken + 1 ≡ length c.current
       → standing_of (record c {
         current = slice_set c.current c.taken w;

@@ -12,7 +12,8 @@ use Rattle.world_core.proofs.Histories.{at_place, numbered}
 abbrev done : Call → ℕ → ℕ → Done
 done call operation reply = record { call = call; operation = operation; reply = reply }
 
--- a call that returned stands at the place that its reply tells
+-- in a linearization for `numbering`, from the empty list on, each call that returned is at the
+-- place whose number is its reply
 module _ (history : List Happening) (ds : List Done)
     (l : IsLinearization [] numbering history ds) where
   stands : (call : Call) (reply : ℕ) → Contains history (Returned call reply)
@@ -30,7 +31,7 @@ module _ (history : List Happening) (ds : List Done)
         subst (λ (j : ℕ). slice_get ds j ≡ Some d) at (at_place ds k d below is),
       )
 
--- the second call of a caller can't reply what its first did
+-- two calls of a caller can't both return 0, since both would be at the first place of the order
 pub both_0_forbidden : IsLinearizable [] numbering both_return_0 → ⊥
 both_0_forbidden (ds, l) =
     let a = stands both_return_0 ds l first 0 (1, omega arith, refl) in
@@ -40,12 +41,13 @@ both_0_forbidden (ds, l) =
     let n : 0 ≡ 1 = ap (λ (d : Done). d.call.number) same in
     omega (arith, n)
 
--- the one call of the second caller can't reply 1
+-- the only call that is invoked in `second_returns_1` is the first call of caller 1
 alone_invoked : (call : Call) (x : ℕ) → Contains second_returns_1 (Invoked call x) → call ≡ second
 alone_invoked call x (zero, below, is) = cc
 alone_invoked call x (suc zero, below, is) = absurd cc
 alone_invoked call x (suc (suc k), below, is) = absurd (omega arith)
 
+-- a call that alone is invoked can't return 1, since it would be at the second place of the order
 pub second_1_forbidden : IsLinearizable [] numbering second_returns_1 → ⊥
 second_1_forbidden (ds, l) =
     let a = stands second_returns_1 ds l second 1 (1, omega arith, refl) in
@@ -55,7 +57,7 @@ second_1_forbidden (ds, l) =
     alone_invoked (slice_index_or ds 0 d).call (slice_index_or ds 0 d).operation here in
     l.once 0 1 d (omega arith) a.1 (is ∙ sym (ap (λ (e : Done). e.call) a.2))
 
--- an unanswered call can't stand before a call that had returned
+-- only the first and the second call are invoked in `before_unanswered`
 before_invoked : (call : Call) (x : ℕ) → Contains before_unanswered (Invoked call x)
     → (call ≡ first) ⊎ (call ≡ second)
 before_invoked call x (zero, below, is) = inl cc
@@ -63,6 +65,8 @@ before_invoked call x (suc zero, below, is) = absurd cc
 before_invoked call x (suc (suc zero), below, is) = inr cc
 before_invoked call x (suc (suc (suc k)), below, is) = absurd (omega arith)
 
+-- the first call can't return 1, since only the second could be before it, which was invoked after
+-- that return
 pub unanswered_forbidden : IsLinearizable [] numbering before_unanswered → ⊥
 unanswered_forbidden (ds, l) =
     let a = stands before_unanswered ds l first 1 (1, omega arith, refl) in
@@ -79,7 +83,8 @@ unanswered_forbidden (ds, l) =
           omega (arith, wrong)
     ]
 
--- the first call can't stand before the third, which had returned, though the second overlaps both
+-- the third call can't return 3 where the first returns 1, since the third returned before the
+-- first was invoked; the second overlaps both
 pub beside_forbidden : IsLinearizable [] numbering beside_all → ⊥
 beside_forbidden (ds, l) =
     let a = stands beside_all ds l third 3 (3, omega arith, refl) in
@@ -88,7 +93,7 @@ beside_forbidden (ds, l) =
     (3, 5, 3, 5, omega arith, refl, refl) in
     omega (arith, wrong)
 
--- of three calls none can reply 3, since the unanswered one doesn't stand again after another
+-- only the first, the second and the third call are invoked in `returns_1_and_3`
 three_invoked : (call : Call) (x : ℕ) → Contains returns_1_and_3 (Invoked call x) → (call ≡ first)
     ⊎ (call ≡ second) ⊎ (call ≡ third)
 three_invoked call x (zero, below, is) = inl cc
@@ -98,6 +103,7 @@ three_invoked call x (suc (suc (suc zero)), below, is) = inr (inr cc)
 three_invoked call x (suc (suc (suc (suc zero))), below, is) = absurd cc
 three_invoked call x (suc (suc (suc (suc (suc k)))), below, is) = absurd (omega arith)
 
+-- of three calls no call can return 3, since a fourth place of an order would have a call twice
 pub again_forbidden : IsLinearizable [] numbering returns_1_and_3 → ⊥
 again_forbidden (ds, l) =
     let a = stands returns_1_and_3 ds l second 1 (2, omega arith, refl) in

@@ -1,5 +1,5 @@
--- The six kinds of event, each of which is one atomic step of one caller: where it is allowed, and
--- what it does.
+-- The six kinds of event, each of which is one atomic step of one caller: where an event is
+-- allowed, and what it does to the words of the table and to its caller's local.
 use Rattle.std.specs.Prelude.{ℕ, zero, suc, ◌+◌, ◌^◌, Bool, true, false, not, ◌&&◌, ◌||◌, ◌==◌, nat_lt, if◌then◌else◌, List, [], ◌∷◌, ◌++◌, length, Option, Some, None, slice_index, slice_set}
 use Rattle.std.specs.List.{list_any}
 use Rattle.std.specs.Option.{unwrap_or}
@@ -13,16 +13,17 @@ use Rattle.world_core.specs.Shape.{Shape}
 use Rattle.world_core.specs.Scan.{wanted, first_caller}
 use Rattle.world_core.specs.Local.{Phase, Announcing, Asking, Viewing, Publishing, Judging, Staged, Scan, Given, Looked, Peeked, Object_step, Local, own_count, word_of, with_step}
 
--- What a look begins: nothing; a scan; or the view's scan, where it carries the reply that the
--- object gave.
+-- What a look begins: nothing; a scan that isn't the view's; or the view's scan, in which case the
+-- look carries the reply that the object gave.
 pub data Opening : Type 0 where
   Begins_none : Opening
   Begins_scan : Opening
   Begins_view : (reply : ℕ) → Opening
 
--- An event of a caller. Stage puts a word at a place of its row under way; Announce and Publish
--- raise its count in N and in M; Object makes a step on an object word; Look loads a count word of
--- caller j, and Peek the word at a place of a row of caller j.
+-- An event of a caller. Stage puts a word at a place of the caller's row under way in a region;
+-- Announce raises its count in N by 1, and Publish its count in M; Object makes a step on an object
+-- word; Look loads the count word of caller j in a region; and Peek loads the word at a place of a
+-- region in a row of caller j.
 pub data Event : Type 0 where
   Stage : (region : Region) (place word : ℕ) → Event
   Announce : Event
@@ -31,70 +32,77 @@ pub data Event : Type 0 where
   Peek : (region : Region) (j row place word : ℕ) → Event
   Publish : Event
 
--- Two regions are the same.
+-- Whether two regions are equal.
 abbrev pub is_same_region : Region → Region → Bool
 is_same_region N N = true
 is_same_region M M = true
 is_same_region _ _ = false
 
--- A word of the table is below 2^64.
+-- Whether a number is below 2^64, as each word of the table is.
 abbrev pub is_word : ℕ → Bool
 is_word x = nat_lt x (2 ^ 64)
 
--- The phase announce stages the row of N, the phase publish that of M, and no other phase stages.
+-- Whether words of a region are staged in a phase: words of N in the phase announce, words of M in
+-- the phase publish, and no words in other phases.
 abbrev pub is_staging : Phase → Region → Bool
 is_staging Announcing N = true
 is_staging Publishing M = true
 is_staging _ _ = false
 
--- The word is the entry of caller j of the cut that the row under way embeds. Without a cut to
--- embed none is.
+-- Whether x is the entry for caller j of the cut to embed. Without a cut to embed no number is such
+-- an entry.
 abbrev pub is_entry_to_embed : Option (List ℕ) → ℕ → ℕ → Bool
 is_entry_to_embed None j x = false
 is_entry_to_embed (Some cut) j x = x == slice_index cut j
 
--- What belongs at a place of the row under way: any word of an operation, the entries of the cut to
--- embed, and else the word of the call under way, whose number is the own count in M.
+-- Whether x belongs at a place of the row under way, given what the place is for: the low and the
+-- high word of the operation may be any words; an entry of the embedded cut is that of the cut to
+-- embed; and the reply and the view's entries are those of the call under way, whose number is the
+-- count of published records.
 abbrev pub is_due : Local → Content → ℕ → Bool
 is_due l Low x = is_word x
 is_due l High x = is_word x
 is_due l (Embedded_entry region j) x = is_entry_to_embed l.to_embed j x
 is_due l part x = x == word_of l l.published part
 
--- A word is staged at this place.
+-- Whether a word is staged at a place.
 abbrev pub is_staged : List Staged → ℕ → Bool
 is_staged staged place = list_any (λ (w : Staged). w.place == place) staged
 
--- Each place below this one is staged.
+-- Whether a word is staged at each place below a number.
 abbrev pub are_staged : List Staged → ℕ → Bool
 are_staged staged zero = true
 are_staged staged (suc p) = is_staged staged p && are_staged staged p
 
--- The phase stages this region, and all places of the row there are staged.
+-- Whether the phase of a local stages words of a region, and a word is staged at each place that a
+-- row has there, with n callers.
 abbrev pub is_row_staged : ℕ → Local → Region → Bool
 is_row_staged n l region = is_staging l.phase region && are_staged l.staged (places n region)
 
--- The word that was staged last at a place, or 0 where none was.
+-- The word that was staged last at a place, or 0 where no word was staged there.
 abbrev pub staged_at : List Staged → ℕ → ℕ
 staged_at [] place = 0
 staged_at (w ∷ ws) place = if w.place == place then w.word else staged_at ws place
 
--- The operation that was staged: N has its low word at place 0 and its high word at place 1.
+-- The operation that was staged: its low word is the one at place 0, and its high word the one at
+-- place 1.
 abbrev pub staged_operation : List Staged → ℕ
 staged_operation staged = joined (staged_at staged 0) (staged_at staged 1)
 
--- The view's scan is under way.
+-- Whether a scan is under way and is the view's.
 abbrev pub is_view_under_way : Option Scan → Bool
 is_view_under_way None = false
 is_view_under_way (Some scan) = scan.is_view
 
--- The call is announced, and no look carried a reply of the object yet.
+-- Whether the phase is ask: the call under way is announced, and no look has carried its reply yet.
 abbrev pub is_asking : Phase → Bool
 is_asking Asking = true
 is_asking _ = false
 
--- A look may begin a scan, at the first caller, unless the view's scan is under way; and the view's
--- scan, which is of N, in the phase ask, with a reply that the program allows.
+-- Whether a look of caller `me` at the count of caller j in a region may begin what its opening
+-- says. Every look may begin nothing. A look may begin a scan that isn't the view's where j is the
+-- first caller and the view's scan isn't under way. It may begin the view's scan where j is the
+-- first caller, the region is N, the phase is ask, and the reply is a word that the program allows.
 abbrev pub may_begin : Shape → ℕ → Local → Region → ℕ → Opening → Bool
 may_begin s me l region j Begins_none = true
 may_begin s me l region j Begins_scan = j == first_caller && not (is_view_under_way l.scan)
@@ -102,14 +110,14 @@ may_begin s me l region j (Begins_view reply) =
     j == first_caller && (is_same_region region N
     && (is_asking l.phase && (is_word reply && s.program.may_reply me l reply)))
 
--- The place is for the entry of caller j of a view.
+-- Whether a place with this content is for the view's entry for caller j.
 abbrev pub is_view_entry : Content → ℕ → Bool
 is_view_entry (View_entry i) j = i == j
 is_view_entry _ j = false
 
--- The caller knows that row k of caller j is counted in a region: from a count of j there that it
--- looked at; from the entry for j of a cut of that region that a scan gave it; or, in N, from the
--- entry for j of a view that it peeked from a row of M.
+-- Whether a caller knows that row k of caller j is counted in a region, by a number above k: a
+-- count of j in that region that it looked at; the entry for j of a cut that a scan of that region
+-- gave it; or, in N, the entry for j of a view that it peeked from a row of M.
 abbrev pub knows_row : ℕ → Local → Region → ℕ → ℕ → Bool
 knows_row n l region j k =
     list_any (λ (look : Looked). is_same_region look.region region
@@ -119,8 +127,14 @@ knows_row n l region j k =
     || (is_same_region region N && list_any (λ (p : Peeked). is_same_region p.region M
     && (is_view_entry (content n M p.place) j && nat_lt k p.word)) l.peeked))
 
--- Where an event of caller number me is allowed. The condition speaks of the shape, the caller's
--- number and its own local, and the loaded word alone.
+-- Whether the condition of an event holds for caller `me` with this local. A stage needs a phase
+-- that stages the region, a row below the cap, a place that the region has, and a word that belongs
+-- there; an announcement needs a whole staged row of N, and a publication one of M; an object step
+-- needs the phase ask, an object word at its place, a number below 2^64 to write, and a program
+-- that allows the step; a look needs a caller with its number j, and an opening that it may begin;
+-- and a peek needs a caller with its number j, a place that the region has, and a row that is known
+-- to be counted. The condition speaks of the shape, the caller's number, its own local and the
+-- event alone, and of no word of the table.
 abbrev pub is_enabled : Shape → ℕ → Local → Event → Bool
 is_enabled s me l (Stage region place x) =
     is_staging l.phase region && (nat_lt (own_count l region) s.cap
@@ -135,12 +149,13 @@ is_enabled s me l (Peek region j k place x) = nat_lt j s.callers
     && (nat_lt place (places s.callers region) && knows_row s.callers l region j k)
 is_enabled s me l Publish = is_row_staged s.callers l M
 
--- The caller is one of the callers, and the event is allowed.
+-- Whether `me` is the number of a caller, and the condition of the event holds for this caller.
 abbrev pub is_allowed : Shape → ℕ → Local → Event → Bool
 is_allowed s me l event = nat_lt me s.callers && is_enabled s me l event
 
--- The loaded word of a look or a peek, and the old word of an object step, is the one that stands
--- there. The other events load none.
+-- Whether an event loads the word that the table has: as the old word of an object step, as the
+-- count of a look, or as the word of a peek. A stage, an announcement and a publication load no
+-- word, and for them the answer is yes.
 abbrev pub is_loaded : Shape → List ℕ → Event → Bool
 is_loaded s words (Object step) =
     step.old == slice_index words (object_index s.callers s.cap step.place)
@@ -152,8 +167,8 @@ is_loaded s words (Stage region place x) = true
 is_loaded s words Announce = true
 is_loaded s words Publish = true
 
--- What an event does to the words of the table: a stage, an announcement, a publication and an
--- object step each write one word.
+-- The words of the table after an event of caller `me`: a stage, an announcement, an object step
+-- and a publication each write one word, and a look and a peek write no word.
 abbrev pub words_after : Shape → ℕ → Local → List ℕ → Event → List ℕ
 words_after s me l words (Stage region place x) =
     slice_set words (place_index s.callers s.cap region me (own_count l region) place) x
@@ -164,22 +179,23 @@ words_after s me l words (Look region j x opening) = words
 words_after s me l words (Peek region j k place x) = words
 words_after s me l words Publish = slice_set words (count_index s.callers M me) (l.published + 1)
 
--- What the cut of a scan serves: the row under way, which may embed it; the view; the seen cut; or
--- nothing.
+-- What the cut of a scan serves: the row under way, which is to embed it; the view, which it
+-- becomes; the seen cut, which it becomes; or nothing.
 pub data Purpose : Type 0 where
   For_row : Purpose
   For_view : Purpose
   For_seen : Purpose
   For_nothing : Purpose
 
--- No word of the row under way is staged.
+-- Whether no word of the row under way is staged.
 abbrev pub is_unstaged : List Staged → Bool
 is_unstaged [] = true
 is_unstaged (w ∷ ws) = false
 
--- In the phases announce and publish a scan of the region that the phase stages gives the cut to
--- embed, where no word of the row is staged before it ends; in the phase view the view's scan of N
--- gives the view; and in the phase judge a scan of M gives the seen cut.
+-- What the cut of a scan serves, given the phase and the staged words where the scan ends. In the
+-- phase announce a scan of N, and in the phase publish a scan of M, serves the row under way if no
+-- word is staged; in the phase view the view's scan of N serves the view; in the phase judge a scan
+-- of M serves the seen cut; and any other scan serves nothing.
 abbrev pub purpose_of : Phase → List Staged → Scan → Purpose
 purpose_of Announcing staged scan =
     if is_same_region scan.region N && is_unstaged staged then For_row else For_nothing
@@ -190,43 +206,48 @@ purpose_of Viewing staged scan =
 purpose_of Judging staged scan = if is_same_region scan.region M then For_seen else For_nothing
 purpose_of Asking staged scan = For_nothing
 
--- The local after a cut served its purpose.
+-- The local after a cut has served its purpose: the cut becomes the one to embed; or it is added as
+-- the last view, and the phase becomes publish; or it is added as the last seen cut, and the phase
+-- becomes announce; or nothing changes.
 abbrev pub served : Local → Purpose → List ℕ → Local
 served l For_row cut = record l { to_embed = Some cut }
 served l For_view cut = record l { views = l.views ++ cut ∷ []; phase = Publishing }
 served l For_seen cut = record l { seen = l.seen ++ cut ∷ []; phase = Announcing }
 served l For_nothing cut = l
 
--- The cut that a scan gave.
+-- A cut that a scan gave, noted with the scan's region, and with how many counts were looked at
+-- before the scan began.
 abbrev pub given_by : Scan → List ℕ → Given
 given_by scan cut = record { region = scan.region; cut = cut; since = scan.since }
 
--- The local after its scan under way took a word, by what the scan wants now: one that is done
--- gives its cut.
+-- The local after its scan under way took a word, given what the scan needs next. A scan that is
+-- done with a cut is under way no more, and its cut is added to those that were given and serves
+-- its purpose. Any other scan stays under way.
 abbrev pub went_on : Local → Scan → Want → Local
 went_on l scan (Done cut) =
     served (record l { scan = None; cuts = l.cuts ++ given_by scan cut ∷ [] })
     (purpose_of l.phase l.staged scan) cut
 went_on l scan _ = record l { scan = Some scan }
 
--- A look at the count of caller j is what is wanted.
+-- Whether what a scan needs next is the look at the count of caller j.
 abbrev pub is_look_wanted : ℕ → Want → Bool
 is_look_wanted j (Wants_look i) = i == j
 is_look_wanted j _ = false
 
--- A peek at this place of a region in row k of caller j is what is wanted: an entry of the cut that
--- the row embeds there.
+-- Whether what a scan needs next is the peek at this place of a region in row k of caller j, where
+-- the row has an entry of the cut that it embeds in that region.
 abbrev pub is_peek_wanted : ℕ → Region → ℕ → ℕ → ℕ → Want → Bool
 is_peek_wanted n region j k place (Wants_peek i row entry) =
     i == j && (row == k && embedded_place n region entry == place)
 is_peek_wanted n region j k place _ = false
 
--- The scan, with one more word taken.
+-- A scan once it has taken one more word.
 abbrev pub with_word : Scan → ℕ → Scan
 with_word scan x = record scan { taken = scan.taken ++ x ∷ [] }
 
--- The local after a word of a region was loaded: the scan under way, if there is one, takes it
--- where it is of its region and is what it wants.
+-- The local after a word x of a region was loaded. The scan under way takes x where it is a scan of
+-- that region and what it needs next passes the test `is_it`; where the scan is of the other
+-- region, or what it needs fails the test, or no scan is under way, nothing changes.
 abbrev pub fed : ℕ → Local → Option Scan → Region → (Want → Bool) → ℕ → Local
 fed n l None region is_it x = l
 fed n l (Some scan) region is_it x =
@@ -234,13 +255,14 @@ fed n l (Some scan) region is_it x =
     then went_on l (with_word scan x) (wanted n (with_word scan x).taken)
     else l
 
--- A scan of a region that begins now.
+-- A scan of a region that the local's caller begins now, and that has taken no word.
 abbrev pub begun : Local → Region → Bool → Scan
 begun l region is_view =
     record { region = region; is_view = is_view; since = length l.looked; taken = [] }
 
--- The local as a look begins a scan, which gives up the scan that was under way. With the object's
--- reply it is the view's.
+-- The local once a look has begun what its opening says, and before it loads its count. A scan that
+-- begins takes the place of one that was under way; and where the view's scan begins, the reply is
+-- added to the replies, and the phase becomes view.
 abbrev pub opened : Local → Region → Opening → Local
 opened l region Begins_none = l
 opened l region Begins_scan = record l { scan = Some (begun l region false) }
@@ -250,31 +272,38 @@ opened l region (Begins_view reply) = record l {
   scan = Some (begun l region true);
 }
 
--- The local with one more count that it looked at; and with one more word that it peeked.
+-- The local with one more count that its caller looked at.
 abbrev pub with_look : Local → Looked → Local
 with_look l look = record l { looked = look ∷ l.looked }
 
+-- The local with one more word that its caller peeked.
 abbrev pub with_peek : Local → Peeked → Local
 with_peek l peek = record l { peeked = peek ∷ l.peeked }
 
--- The cut that the row under way embeds.
+-- The cut that the row under way is to embed, or the empty cut where there is no such cut.
 abbrev pub cut_to_embed : Local → List ℕ
 cut_to_embed l = unwrap_or l.to_embed []
 
--- The local after it looked at a count, and after it peeked a word.
+-- The local after its caller loaded x as the count of caller j in a region: the look is noted, and
+-- the scan under way takes x where it needs that look.
 abbrev pub looked_at : ℕ → Local → Region → ℕ → ℕ → Local
 looked_at n l region j x =
     let saw : Local = with_look l (record { region = region; caller = j; count = x }) in
     fed n saw saw.scan region (is_look_wanted j) x
 
+-- The local after its caller loaded x as the word at a place of a region in row k of caller j: the
+-- peek is noted, and the scan under way takes x where it needs that peek.
 abbrev pub peeked_at : ℕ → Local → Region → ℕ → ℕ → ℕ → ℕ → Local
 peeked_at n l region j k place x =
     let saw : Local =
     with_peek l (record { region = region; caller = j; row = k; place = place; word = x }) in
     fed n saw saw.scan region (is_peek_wanted n region j k place) x
 
--- What an event does to the caller's own local. An announcement and a publication give up the scan
--- under way.
+-- The local of a caller after an event of its own. An announcement adds the staged operation to the
+-- operations and an empty list to the object steps, and the phase becomes ask; after a publication
+-- the phase is judge. Each of the two raises its count by 1 and adds the cut to embed to the
+-- embedded cuts of its region; and after each of them there is no staged word, no cut to embed and
+-- no scan under way. A stage, an object step, a look and a peek are noted.
 abbrev pub local_after : ℕ → Local → Event → Local
 local_after n l (Stage region place x) =
     record l { staged = record { place = place; word = x } ∷ l.staged }

@@ -1,37 +1,41 @@
--- Worked histories of two calls of an object, by two callers.
+-- Worked histories of two callers that make one call of an object each.
 use Rattle.std.specs.Prelude.{ℕ, List, [], ◌∷◌, length}
 use Rattle.book_base.specs.declared.call.Call.{Call}
 use Rattle.world_core.specs.History.{Happening, Invoked, Returned, Done, call_of}
 
--- An object whose reply is the number of operations before.
+-- An object that adds each operation to its list, and whose reply is the length of its list before:
+-- from the empty list on, the number of operations before.
 abbrev pub numbering : List ℕ → ℕ → List ℕ × ℕ
 numbering list operation = (operation ∷ list, length list)
 
+-- The first call of caller 0.
 abbrev pub first : Call
 first = call_of 0 0
 
+-- The first call of caller 1.
 abbrev pub second : Call
 second = call_of 1 0
 
--- The first call returns 1 right before the second, which returns 0, is invoked; and the same with
--- both invoked before.
+-- The first call returns 1, and after that the second is invoked, which returns 0.
 abbrev pub one_after_another : List Happening
 one_after_another = Invoked first 5 ∷ Returned first 1 ∷ Invoked second 6 ∷ Returned second 0 ∷ []
 
+-- Both calls are invoked before the first returns 1 and the second 0.
 abbrev pub side_by_side : List Happening
 side_by_side = Invoked first 5 ∷ Invoked second 6 ∷ Returned first 1 ∷ Returned second 0 ∷ []
 
--- A reply that belongs to another operation.
+-- The call with operation 5 returns 60, the reply of the object `tenfold` to operation 6.
 abbrev pub reply_of_another : List Happening
 reply_of_another = Invoked first 5 ∷ Returned first 60 ∷ []
 
--- The first call is unanswered, and the second replies 1, or 0.
+-- The first call is invoked and never returns; the second, invoked after it, returns 1.
 abbrev pub after_unanswered : List Happening
 after_unanswered = Invoked first 5 ∷ Invoked second 6 ∷ Returned second 1 ∷ []
 
+-- The first call is invoked and never returns; the second, invoked after it, returns 0.
 abbrev pub without_unanswered : List Happening
 without_unanswered = Invoked first 5 ∷ Invoked second 6 ∷ Returned second 0 ∷ []
 
--- The order of the second call alone, which replies 0.
+-- The order of the second call alone, with the reply 0.
 abbrev pub second_alone : List Done
 second_alone = record { call = second; operation = 6; reply = 0 } ∷ []

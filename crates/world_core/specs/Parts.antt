@@ -1,4 +1,4 @@
--- Values at which the definitions of the world are worked out part by part.
+-- Values at which the definitions of the world hold or fail by one part alone.
 use Rattle.std.specs.Prelude.{ℕ, ◌+◌, ◌*◌, ◌^◌, Bool, true, List, [], ◌∷◌, ◌++◌, map, replicate, Some}
 use Rattle.book_base.specs.Book.{Page}
 use Rattle.world_core.specs.declared.region.Region.{Region}
@@ -11,42 +11,46 @@ use Rattle.world_core.specs.World.{World, Step}
 use Rattle.world_core.specs.Snapshot.{Span}
 use Rattle.world_core.specs.Schedules.{by, scan, announcement, publication, single, local_after_all}
 
--- The five phases, in order.
+-- The five phases of a call, in order.
 abbrev pub phases : List Phase
 phases = Announcing ∷ Asking ∷ Viewing ∷ Publishing ∷ Judging ∷ []
 
--- A scan that has taken no word yet.
+-- A scan of a region, the view's or another, that has taken no word.
 abbrev pub scan_of : Region → Bool → Scan
 scan_of region is_view = record { region = region; is_view = is_view; since = 0; taken = [] }
 
--- A staged word.
+-- The word staged at a place.
 abbrev pub staged_word : ℕ → ℕ → Staged
 staged_word place word = record { place = place; word = word }
 
--- What the cut of a scan serves in each phase.
+-- What the cut of a scan serves in each of the five phases, given the staged words, the region of
+-- the scan, and whether it is the view's.
 abbrev pub purposes : List Staged → Region → Bool → List Purpose
 purposes staged region is_view = map (λ p. purpose_of p staged (scan_of region is_view)) phases
 
--- A count that was looked at.
+-- A look at the count of a caller in N that found this count.
 abbrev pub look_at : ℕ → ℕ → Looked
 look_at caller count = record { region = N; caller = caller; count = count }
 
--- A local that knows of rows by an older look, cut or peek of several.
+-- A local with three looks, of which the newest found the count 0 of caller 1, the middle one the
+-- count 2 of caller 0, and the oldest the count 0 of caller 0.
 abbrev pub with_looks : Local
 with_looks = record fresh { looked = look_at 1 0 ∷ look_at 0 2 ∷ look_at 0 0 ∷ [] }
 
+-- A local with two cuts that scans gave: first the cut 2 0 of N, and then the cut 0 1 of M.
 abbrev pub with_cuts : Local
 with_cuts = record fresh {
   cuts = record { region = N; cut = 2 ∷ 0 ∷ []; since = 0 }
       ∷ record { region = M; cut = 0 ∷ 1 ∷ []; since = 0 } ∷ [];
 }
 
--- A local whose row of M is the second one, where the cap is 1.
+-- A local in the phase publish whose row under way in M is the second one, which a cap of 1 doesn't
+-- have.
 abbrev pub rowless : Local
 rowless = record fresh { phase = Publishing; announced = 2; published = 1 }
 
--- Scans of the caller that is alone, which looks last at its count in N: one finds a count that
--- doesn't stand there; one began before the first step; and one is given up for another.
+-- A span with these steps before the first, this first step and these steps between, whose last
+-- step is a look of caller 0 at its count in N that finds 1.
 abbrev pub span_to_look : List Step → Step → List Step → Span
 span_to_look before first between = record {
   before = before;
@@ -55,104 +59,124 @@ span_to_look before first between = record {
   last = by 0 (Look N 0 1 Begins_none);
 }
 
+-- A span whose first look finds a count that the table doesn't have.
 abbrev pub span_of_no_run : Span
 span_of_no_run = span_to_look [] (by 0 (Look N 0 1 Begins_scan)) []
 
+-- A span whose first step begins no scan, since the scan began in a step before.
 abbrev pub span_begun_before : Span
 span_begun_before = span_to_look (announcement 0 5 (0 ∷ []) ++ by 0 (Look N 0 1 Begins_scan) ∷ [])
     (by 0 (Look M 0 0 Begins_none)) []
 
+-- A span in which the scan is given up for another one.
 abbrev pub span_given_up : Span
 span_given_up = span_to_look (announcement 0 5 (0 ∷ [])) (by 0 (Look N 0 1 Begins_scan))
     (by 0 (Look N 0 1 Begins_scan) ∷ [])
 
--- The cut of N with count 1 of a scan before which this many counts had been looked at.
+-- The cut of N with the one count 1, given by a scan before which its caller had looked at this
+-- many counts.
 abbrev pub given_since : ℕ → Given
 given_since since = record { region = N; cut = 1 ∷ []; since = since }
 
--- No callers and one object word, and a world of them in which a step was made.
+-- No callers, and one object word.
 abbrev pub nobody : Shape
 nobody = record { callers = 0; cap = 1; program = scrap }
 
+-- A world without callers whose one word isn't 0.
 abbrev pub stepped : World
 stepped = record { words = 7 ∷ []; locals = [] }
 
--- Words that a caller peeked.
+-- A peek at a place of a region in a row of a caller that found this word.
 abbrev pub peek_of : Region → ℕ → ℕ → ℕ → ℕ → Peeked
 peek_of region caller row place word =
     record { region = region; caller = caller; row = row; place = place; word = word }
 
+-- The fresh local, but with these peeks.
 abbrev pub with_peeks : List Peeked → Local
 with_peeks peeked = record fresh { peeked = peeked }
 
--- The words of one call of the caller that is alone: the low and the high word of its operation,
--- its reply, and its view's entry.
+-- The peek of the low word of the operation in the first row of the caller that is alone.
 abbrev pub low_peek : Peeked
 low_peek = peek_of N 0 0 0 5
 
+-- The peek of the high word of the operation in the first row of the caller that is alone.
 abbrev pub high_peek : Peeked
 high_peek = peek_of N 0 0 1 7
 
+-- The peek of the reply in the first row of the caller that is alone.
 abbrev pub reply_peek : Peeked
 reply_peek = peek_of M 0 0 0 50
 
+-- The peek of the view's entry in the first row of the caller that is alone, which found this
+-- count.
 abbrev pub entry_peek : ℕ → Peeked
 entry_peek count = peek_of M 0 0 1 count
 
--- A local that has peeked them all, and both words of an operation of a second call; and locals
--- that lack one of the four.
+-- A local that has peeked all four words of the first call, with this count as the view's entry,
+-- and both words of the operation of a second call.
 abbrev pub lacking_none : ℕ → Local
 lacking_none count = with_peeks (low_peek ∷ high_peek ∷ reply_peek ∷ entry_peek count
     ∷ peek_of N 0 1 0 6 ∷ peek_of N 0 1 1 0 ∷ [])
 
+-- A local that has peeked the words of the first call but the low word of the operation.
 abbrev pub lacking_low : Local
 lacking_low = with_peeks (high_peek ∷ reply_peek ∷ entry_peek 1 ∷ [])
 
+-- A local that has peeked the words of the first call but the high word of the operation.
 abbrev pub lacking_high : Local
 lacking_high = with_peeks (low_peek ∷ reply_peek ∷ entry_peek 1 ∷ [])
 
+-- A local that has peeked the words of the first call but the reply.
 abbrev pub lacking_reply : Local
 lacking_reply = with_peeks (low_peek ∷ high_peek ∷ entry_peek 1 ∷ [])
 
+-- A local that has peeked the words of the first call but the view's entry.
 abbrev pub lacking_entry : Local
 lacking_entry = with_peeks (low_peek ∷ high_peek ∷ reply_peek ∷ [])
 
--- A page with one record, of the reply 50 and this view.
+-- A page with these operations and one record, of the reply 50 and this view.
 abbrev pub page_of_one : List ℕ → List ℕ → Page
 page_of_one operations view =
     record { operations = operations; records = record { reply = 50; view = view } ∷ [] }
 
+-- The operation with the low word 5 and the high word 7.
 abbrev pub operation_alone : ℕ
 operation_alone = 5 + 7 * 2 ^ 64
 
--- Its book; one with a second caller; one with a second call, that no view holds; one whose view
--- holds a second call, that isn't there; and one whose view is too long.
+-- The book of one caller with one answered call, whose view holds this call.
 abbrev pub book_alone : List Page
 book_alone = page_of_one (operation_alone ∷ []) (1 ∷ []) ∷ []
 
+-- The book of the one answered call with a second page, which has no call.
 abbrev pub book_of_another : List Page
 book_of_another =
     page_of_one (operation_alone ∷ []) (1 ∷ []) ∷ record { operations = []; records = [] } ∷ []
 
+-- The book of the one answered call with a second call, which no view holds.
 abbrev pub book_unheld : List Page
 book_unheld = page_of_one (operation_alone ∷ 6 ∷ []) (1 ∷ []) ∷ []
 
+-- A book of one call whose view holds a second call, which the book doesn't have.
 abbrev pub book_lacking : List Page
 book_lacking = page_of_one (operation_alone ∷ []) (2 ∷ []) ∷ []
 
+-- A book of one caller with a view of two counts.
 abbrev pub book_too_wide : List Page
 book_too_wide = page_of_one (operation_alone ∷ []) (1 ∷ 0 ∷ []) ∷ []
 
--- The caller that is alone announces 5, takes its view, and stages its reply; and it publishes.
+-- The caller that is alone announces the operation 5, takes its view, scans M, and stages its
+-- reply.
 abbrev pub reply_staged : List Step
 reply_staged = announcement 0 5 (0 ∷ []) ++ scan 0 N (Begins_view 50) (1 ∷ [])
     ++ scan 0 M Begins_scan (0 ∷ []) ++ by 0 (Stage M 0 50) ∷ []
 
+-- The caller that is alone announces the operation 5, takes its view, and publishes its record.
 abbrev pub published_alone : List Step
 published_alone = announcement 0 5 (0 ∷ []) ++ scan 0 N (Begins_view 50) (1 ∷ [])
     ++ publication 0 50 (1 ∷ []) (0 ∷ [])
 
--- Locals that fail one part of what a local's lists are, in the phase announce.
+-- A local in the phase announce that has announced one call and published no record; the lengths of
+-- its lists fit these counts.
 abbrev pub uncounted : Local
 uncounted = record fresh {
   announced = 1;
@@ -161,7 +185,8 @@ uncounted = record fresh {
   object_steps = [] ∷ [];
 }
 
--- A local that announced twice, where the cap is 1, all of whose words are 0.
+-- A local in the phase ask that has announced two calls, where the cap is 1; all words of these
+-- calls are 0.
 abbrev pub crowded : Local
 crowded =
     record fresh {
@@ -177,40 +202,44 @@ crowded =
       phase = Asking;
     }
 
--- Locals in the phase ask of a first call with the operation 5: with a staged word; with a cut to
--- embed; and with the view's scan.
+-- The local of a caller that is alone, in the phase ask of its first call, with the operation 5.
 abbrev pub asking_alone : Local
 asking_alone = local_after_all single (announcement 0 5 (0 ∷ [])) 0
 
+-- The local `asking_alone`, but with a staged word.
 abbrev pub asking_staged : Local
 asking_staged = record asking_alone { staged = staged_word 0 0 ∷ [] }
 
+-- The local `asking_alone`, but with a cut to embed.
 abbrev pub asking_embeds : Local
 asking_embeds = record asking_alone { to_embed = Some (0 ∷ []) }
 
+-- The local `asking_alone`, but with the view's scan under way.
 abbrev pub asking_views : Local
 asking_views = record asking_alone { scan = Some (scan_of N true) }
 
--- Locals that staged a word of a row that isn't there; at a place that isn't there; and an entry
--- that doesn't belong there.
+-- A local that has staged a word of its second row of N, which a cap of 1 doesn't have.
 abbrev pub staged_past : Local
 staged_past = record fresh { announced = 1; staged = staged_word 0 0 ∷ [] }
 
+-- A local that has staged a word at place 3 of N, which a row of one caller doesn't have.
 abbrev pub staged_beside : Local
 staged_beside = record fresh { staged = staged_word 3 0 ∷ []; to_embed = Some (0 ∷ []) }
 
+-- A local that has staged 5 at place 2 of N, where the entry of the cut to embed is 0.
 abbrev pub staged_entry : Local
 staged_entry = record fresh { staged = staged_word 2 5 ∷ []; to_embed = Some (0 ∷ []) }
 
+-- A local that has staged 5 at place 0 of N.
 abbrev pub staged_low : Local
 staged_low = record fresh { staged = staged_word 0 5 ∷ [] }
 
--- The eight words of the table of the caller that is alone: its counts, its row of N, and its row
--- of M.
+-- Eight words 0, as many as the table of the caller that is alone has: two counts, the three places
+-- of its row in N, and the three in M.
 abbrev pub no_words : List ℕ
 no_words = replicate 8 0
 
--- The words that a scan of two callers takes by which caller 0 moves twice and lends a cut; caller
--- 1 scans.
+-- The words that a scan by caller 1 of two callers takes where caller 0 moves twice and its row
+-- embeds the cut 0 0: three collects, and two peeked entries.
 abbrev pub lent_words : List ℕ
 lent_words = 0 ∷ 0 ∷ 1 ∷ 0 ∷ 2 ∷ 0 ∷ 0 ∷ 0 ∷ []

@@ -1,4 +1,6 @@
--- Steps that the conditions of the events refuse, each beside a like one that they allow.
+-- Steps that are refused after worked runs of two callers, since they aren't enabled there, beside
+-- like steps that are enabled; locals that know of rows in one way; and a program that allows
+-- little.
 use Rattle.std.specs.Prelude.{◌-◌, ◌^◌, ◌==◌, ◌&&◌, List, [], ◌∷◌, ◌++◌}
 use Rattle.world_core.specs.declared.region.Region.TheVariants.{N, M}
 use Rattle.world_core.specs.Shape.{Shape}
@@ -7,182 +9,198 @@ use Rattle.world_core.specs.Event.{Stage, Announce, Object, Look, Peek, Publish,
 use Rattle.world_core.specs.World.{Step}
 use Rattle.world_core.specs.Schedules.{by, scan, collect, stages, announcement, announced_both, object_step}
 
--- At the start.
+-- Steps that are enabled at the start.
 abbrev pub allowed_at_start : List Step
 allowed_at_start =
     by 0 (Stage N 0 5)
-    -- the greatest word is one
+    -- the greatest word may be the low or the high word of an operation
     ∷ by 0 (Stage N 0 (2 ^ 64 - 1))
     ∷ by 1 (Stage N 1 (2 ^ 64 - 1))
     ∷ by 1 (Look N 0 0 Begins_scan)
     ∷ by 0 (Look N 1 0 Begins_none)
     ∷ []
 
+-- Steps that aren't enabled at the start.
 abbrev pub refused_at_start : List Step
 refused_at_start =
-    -- there is no caller 2
+    -- there are only the callers 0 and 1
     by 2 (Stage N 0 5)
-    -- a row has four places in N
+    -- a row of two callers has only the places 0 to 3 in N
     ∷ by 0 (Stage N 4 0)
-    -- no scan gave a cut to embed
+    -- no scan has given a cut to embed
     ∷ by 0 (Stage N 2 0)
-    -- each half of an operation is a word
+    -- the low and the high word of an operation are below 2^64
     ∷ by 0 (Stage N 0 (2 ^ 64))
     ∷ by 0 (Stage N 1 (2 ^ 64))
-    -- the phase announce stages the row of N
+    -- the phase announce stages only the row of N
     ∷ by 0 (Stage M 0 0)
-    -- nothing is staged
+    -- no word is staged
     ∷ by 0 Announce
     ∷ by 0 Publish
-    -- there is no count of a caller 2
+    -- only the callers 0 and 1 have counts
     ∷ by 0 (Look N 2 0 Begins_none)
-    -- the word that stands there is 0
+    -- the count of caller 1 is 0, not 1
     ∷ by 0 (Look N 1 1 Begins_none)
-    -- a scan begins at caller 0
+    -- the look that begins a scan is at caller 0
     ∷ by 0 (Look N 1 0 Begins_scan)
-    -- the view's scan begins in the phase ask
+    -- the view's scan begins only in the phase ask
     ∷ by 0 (Look N 0 0 (Begins_view 50))
-    -- the caller knows of no row
+    -- the caller knows of no counted row
     ∷ by 0 (Peek N 1 0 0 0)
     ∷ []
 
--- After a scan of N that found nobody.
+-- Caller 0 scans N, and finds that no caller has announced.
 abbrev pub scanned : List Step
 scanned = scan 0 N Begins_scan (0 ∷ 0 ∷ [])
 
+-- Stages of both entries of the cut to embed, which are enabled after `scanned`.
 abbrev pub allowed_as_scanned : List Step
 allowed_as_scanned = by 0 (Stage N 2 0) ∷ by 0 (Stage N 3 0) ∷ []
 
+-- Stages that aren't enabled after `scanned`.
 abbrev pub refused_as_scanned : List Step
 refused_as_scanned =
-    -- the entry of the cut is another
+    -- the entry of the cut to embed is 0, not 1
     by 0 (Stage N 2 1)
-    -- there is no entry of a caller 2
+    -- a cut of two callers has no third entry
     ∷ by 0 (Stage N 4 0)
     ∷ []
 
--- A scan of M in the phase announce gives no cut to embed.
+-- Caller 0 scans M in the phase announce, which gives no cut to embed.
 abbrev pub scanned_other : List Step
 scanned_other = scan 0 M Begins_scan (0 ∷ 0 ∷ [])
 
--- With three of the four places of N staged.
+-- Caller 0 scans N and stages three of the four places of its row in N.
 abbrev pub staged_three_of_N : List Step
 staged_three_of_N = scanned ++ stages 0 N 0 (5 ∷ 0 ∷ 0 ∷ [])
 
--- In the phase ask.
+-- Caller 0 announces the operation 5, and so is in the phase ask.
 abbrev pub asked : List Step
 asked = announcement 0 5 (0 ∷ 0 ∷ [])
 
+-- Looks of caller 0 that are enabled in the phase ask, after `asked`.
 abbrev pub allowed_as_asked : List Step
 allowed_as_asked =
     by 0 (Look N 0 1 (Begins_view 50))
-    -- the greatest word is a reply
+    -- the greatest word may be a reply
     ∷ by 0 (Look N 0 1 (Begins_view (2 ^ 64 - 1)))
     ∷ by 0 (Look N 0 1 Begins_scan)
     ∷ by 0 (Look M 0 0 Begins_scan)
     ∷ []
 
+-- Steps of caller 0 that aren't enabled in the phase ask, after `asked`.
 abbrev pub refused_as_asked : List Step
 refused_as_asked =
-    -- the view is of N
+    -- the view's scan is of N
     by 0 (Look M 0 0 (Begins_view 50))
-    -- and begins at caller 0
+    -- the look that begins the view's scan is at caller 0
     ∷ by 0 (Look N 1 0 (Begins_view 50))
-    -- a reply is a word
+    -- a reply is below 2^64
     ∷ by 0 (Look N 0 1 (Begins_view (2 ^ 64)))
-    -- the object is outside
+    -- an object outside the world has no object words
     ∷ by 0 (Object (object_step 0 0 0))
-    -- no row is staged
+    -- the phase ask stages no row
     ∷ by 0 (Stage M 0 0)
     ∷ by 0 (Stage N 0 0)
     ∷ []
 
--- In the phase view.
+-- Caller 0 announces the operation 5 and begins its view's scan with the reply 50, and so is in the
+-- phase view.
 abbrev pub viewing : List Step
 viewing = asked ++ by 0 (Look N 0 1 (Begins_view 50)) ∷ []
 
+-- Looks and a peek of caller 0 that are enabled in the phase view, after `viewing`.
 abbrev pub allowed_as_viewing : List Step
 allowed_as_viewing =
     by 0 (Look N 1 0 Begins_none) ∷ by 0 (Look M 0 0 Begins_none) ∷ by 0 (Peek N 0 0 0 5) ∷ []
 
+-- Looks of caller 0 that aren't enabled in the phase view, after `viewing`.
 abbrev pub refused_as_viewing : List Step
 refused_as_viewing =
-    -- the view's scan isn't given up for another scan
+    -- no other scan begins while the view's scan is under way
     by 0 (Look N 0 1 Begins_scan)
-    -- nor for another view
+    -- the view's scan begins only in the phase ask
     ∷ by 0 (Look N 0 1 (Begins_view 50))
     ∷ []
 
--- In the phase publish, where the reply is 50, the view 1 1, and the cut to embed 0 0.
+-- Caller 0 ends its view's scan with the view 1 1, and so is in the phase publish; its reply is 50,
+-- and it has no cut to embed yet.
 abbrev pub viewed : List Step
 viewed = announced_both ++ by 0 (Look N 1 1 Begins_none) ∷ []
 
+-- After `viewed` caller 0 scans M, which gives it the cut 0 0 to embed.
 abbrev pub ready : List Step
 ready = viewed ++ scan 0 M Begins_scan (0 ∷ 0 ∷ [])
 
+-- Stages of caller 0 that aren't enabled after `viewed`.
 abbrev pub refused_as_viewed : List Step
 refused_as_viewed =
-    -- no scan of M gave a cut to embed
+    -- no scan of M has given a cut to embed
     by 0 (Stage M 3 0)
-    -- the phase publish stages the row of M
+    -- the phase publish stages only the row of M
     ∷ by 0 (Stage N 0 5)
     ∷ []
 
+-- Stages of all five places of the row of M, which are enabled after `ready`.
 abbrev pub allowed_as_ready : List Step
 allowed_as_ready = by 0 (Stage M 0 50) ∷ by 0 (Stage M 1 1) ∷ by 0 (Stage M 2 1)
     ∷ by 0 (Stage M 3 0) ∷ by 0 (Stage M 4 0) ∷ []
 
+-- Stages of caller 0 that aren't enabled after `ready`.
 abbrev pub refused_as_ready : List Step
 refused_as_ready =
-    -- the reply is another
+    -- the reply is 50, not 51
     by 0 (Stage M 0 51)
-    -- so is this entry of the view
+    -- the view's entry for caller 1 is 1, not 0
     ∷ by 0 (Stage M 2 0)
-    -- and this entry of the cut to embed
+    -- the entry for caller 1 of the cut to embed is 0, not 1
     ∷ by 0 (Stage M 4 1)
-    -- a row has five places in M
+    -- a row of two callers has only the places 0 to 4 in M
     ∷ by 0 (Stage M 5 0)
     ∷ []
 
--- With four of the five places of M staged.
+-- After `ready` caller 0 stages four of the five places of its row in M.
 abbrev pub staged_four : List Step
 staged_four = ready ++ stages 0 M 0 (50 ∷ 1 ∷ 1 ∷ 0 ∷ [])
 
+-- Steps of caller 0 that aren't enabled after `staged_four`.
 abbrev pub refused_as_staged_four : List Step
 refused_as_staged_four =
-    -- an entry of the cut isn't staged
+    -- the last entry of the cut to embed isn't staged
     by 0 Publish
-    -- the row under way is one of M
+    -- an announcement needs the phase announce
     ∷ by 0 Announce
     ∷ []
 
--- With all five.
+-- After `ready` caller 0 stages all five places of its row in M.
 abbrev pub staged_five : List Step
 staged_five = staged_four ++ by 0 (Stage M 4 0) ∷ []
 
--- What caller 1 may peek after it looked at the count of caller 0 in N.
+-- Caller 0 announces the operation 5, and caller 1 looks at the count of caller 0 in N.
 abbrev pub looked : List Step
 looked = asked ++ by 1 (Look N 0 1 Begins_none) ∷ []
 
+-- Peeks of caller 1 at the first row of caller 0 in N, which are enabled after `looked`.
 abbrev pub allowed_as_looked : List Step
 allowed_as_looked = by 1 (Peek N 0 0 0 5) ∷ by 1 (Peek N 0 0 1 0) ∷ by 1 (Peek N 0 0 3 0) ∷ []
 
+-- Peeks of caller 1 that aren't enabled after `looked`.
 abbrev pub refused_as_looked : List Step
 refused_as_looked =
-    -- the row isn't below the count
+    -- the count that caller 1 found is 1, so it knows of no row 1
     by 1 (Peek N 0 1 0 0)
-    -- the count is another caller's
+    -- caller 1 has looked at no count of its own
     ∷ by 1 (Peek N 1 0 0 0)
-    -- the count is one of N
+    -- caller 1 has looked at no count of M
     ∷ by 1 (Peek M 0 0 0 0)
-    -- a row has four places in N
+    -- a row of two callers has only the places 0 to 3 in N
     ∷ by 1 (Peek N 0 0 4 0)
-    -- the word that stands there is 5
+    -- the low word of the operation is 5, not 6
     ∷ by 1 (Peek N 0 0 0 6)
     ∷ []
 
--- Caller 0 alone publishes the reply 50, the view 1 0 and the cut 0 0. Caller 1 looks at its count
--- in M and peeks the reply.
+-- Caller 0, which alone has announced, publishes the reply 50 and the view 1 0 in a row that embeds
+-- the cut 0 0. Then caller 1 looks at the count of caller 0 in M and peeks the reply.
 abbrev pub reply_peeked : List Step
 reply_peeked =
     viewing
@@ -195,50 +213,58 @@ reply_peeked =
     ∷ by 1 (Peek M 0 0 0 50)
     ∷ []
 
--- And peeks the view's entry for caller 0.
+-- After `reply_peeked` caller 1 peeks the view's entry for caller 0, which is 1.
 abbrev pub entry_peeked : List Step
 entry_peeked = reply_peeked ++ by 1 (Peek M 0 0 1 1) ∷ []
 
+-- Peeks of caller 1 that aren't enabled after `entry_peeked`.
 abbrev pub refused_as_entry_peeked : List Step
 refused_as_entry_peeked =
-    -- the row isn't below the entry
+    -- the peeked entry for caller 0 is 1, so caller 1 knows of no row 1
     by 1 (Peek N 0 1 0 0)
-    -- the entry is for caller 0
+    -- the peeked entry is for caller 0, not for caller 1
     ∷ by 1 (Peek N 1 0 0 0)
     ∷ []
 
--- Locals that know of the first row of caller 0 in one way alone: a count of N or of M; a cut of N
--- or of M; a view that was peeked from a row of M; and locals that don't know of it: a word of a
--- row of N, and an entry of a cut that a row of M embeds.
+-- A local that knows of the first row of caller 0 in N, by a look at a count of N alone.
 abbrev pub looked_in_N : Local
 looked_in_N = record fresh { looked = record { region = N; caller = 0; count = 1 } ∷ [] }
 
+-- A local that knows of the first row of caller 0 in M, by a look at a count of M alone.
 abbrev pub looked_in_M : Local
 looked_in_M = record fresh { looked = record { region = M; caller = 0; count = 1 } ∷ [] }
 
+-- A local that knows of the first row of caller 0 in N, by a cut that a scan of N gave alone.
 abbrev pub cut_of_N : Local
 cut_of_N = record fresh { cuts = record { region = N; cut = 1 ∷ 0 ∷ []; since = 0 } ∷ [] }
 
+-- A local that knows of the first row of caller 0 in M, by a cut that a scan of M gave alone.
 abbrev pub cut_of_M : Local
 cut_of_M = record fresh { cuts = record { region = M; cut = 1 ∷ 0 ∷ []; since = 0 } ∷ [] }
 
+-- A local that knows of the first row of caller 0 in N, by the entry of a view alone, which it
+-- peeked from a row of M of caller 1.
 abbrev pub view_peeked : Local
 view_peeked =
     record fresh { peeked = record { region = M; caller = 1; row = 0; place = 1; word = 1 } ∷ [] }
 
+-- A local that has peeked the high word of an operation from a row of N, and knows of no counted
+-- row.
 abbrev pub announcement_peeked : Local
 announcement_peeked =
     record fresh { peeked = record { region = N; caller = 1; row = 0; place = 1; word = 1 } ∷ [] }
 
+-- A local that has peeked, from a row of M of two callers, the entry for caller 0 of the cut that
+-- the row embeds, and knows of no counted row.
 abbrev pub embedded_peeked : Local
 embedded_peeked =
     record fresh { peeked = record { region = M; caller = 1; row = 0; place = 3; word = 1 } ∷ [] }
 
--- A local that looked at the count of a caller 2 that isn't there.
+-- A local that has looked at the count 1 of caller 2, which a world of two callers doesn't have.
 abbrev pub looked_past : Local
 looked_past = record fresh { looked = record { region = N; caller = 2; count = 1 } ∷ [] }
 
--- A local of the phase announce with five places staged.
+-- A local in the phase announce with a word staged at each of the places 0 to 4.
 abbrev pub staged_early : Local
 staged_early =
     record fresh {
@@ -251,8 +277,8 @@ staged_early =
           ∷ [];
     }
 
--- A program of one object word: caller 1 may leave 7 there and get the reply 7, and nobody anything
--- else.
+-- Two callers with one row each, and one object word: caller 1 may leave 7 there and get the reply
+-- 7, and no other step or reply is allowed.
 abbrev pub narrow : Shape
 narrow =
     record {
@@ -265,9 +291,10 @@ narrow =
       };
     }
 
--- A local in the phase ask; and in the phase view.
+-- The fresh local, but in the phase ask.
 abbrev pub asking : Local
 asking = record fresh { phase = Asking }
 
+-- The fresh local, but in the phase view, without a scan under way.
 abbrev pub viewing_local : Local
 viewing_local = record fresh { phase = Viewing }

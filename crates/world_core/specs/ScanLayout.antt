@@ -1,11 +1,12 @@
--- How a scan lies in its fields: the words of the round under way stand first in a cut, after which
--- the rest doesn't matter.
+-- How the fields of `ScanCore` keep the state of a scan: the words of the round under way are the
+-- first counts of a cut, whose other counts have no meaning.
 use Rattle.std.specs.Prelude.{◌≡◌, ◌<◌, ℕ, List, length, take, Option, MatchOption}
 use Rattle.world_core.specs.declared.course.Course.{Course}
 use Rattle.world_core.specs.declared.course.Course.TheVariants.{Collects, Borrows, Ends}
 use Rattle.world_core.specs.declared.scan_core.ScanCore.TheInside.{Inside}
 use Rattle.world_core.specs.Standing.{ScanState}
 
+-- The state of a scan that its fields keep.
 abbrev pub standing_of : Inside → ScanState
 standing_of c =
     record {
@@ -18,18 +19,20 @@ standing_of c =
       course = c.course;
     }
 
--- A round, if there is one, has as many words as there are callers.
+-- A round, if there is one, has n words.
 abbrev pub FitsRound : ℕ → Option (List ℕ) → Type 0
 FitsRound n round = MatchOption round (Unit {0}) (λ words. length words ≡ n)
 
--- A scan borrows from one of the callers, and ends with one count for each of them.
+-- What a scan does fits n callers where it borrows from one of them, or ends with n counts, or
+-- collects.
 abbrev pub FitsCourse : ℕ → Course → Type 0
 FitsCourse n Collects = Unit {0}
 FitsCourse n (Borrows j row) = j < n
 FitsCourse n (Ends cut) = length cut ≡ n
 
--- The caller that scans is one of the callers; a round under way lacks a caller; and whole rounds
--- have as many words as there are callers.
+-- The fields of a scan keep a state: the caller that scans is one of the callers, the round under
+-- way has fewer words than there are callers, the first and the last round, if there is one, have
+-- one word for each caller, and what the scan does fits the callers.
 pub record IsWhole (c : Inside) : Type 0 where
   pub me : c.me < length c.current
   pub lacks : c.taken < length c.current

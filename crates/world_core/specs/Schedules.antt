@@ -10,78 +10,89 @@ use Rattle.world_core.specs.Event.{Event, Stage, Announce, Object, Look, Peek, P
 use Rattle.world_core.specs.World.{Step, local_of, end_of, is_possible}
 use Rattle.world_core.specs.Snapshot.{Span}
 
--- Two callers, with one row each: the words are the four counts, the row of caller 0, and that of
--- caller 1.
+-- Two callers with one row each and no object words: the words of the table are the four counts,
+-- the row of caller 0, and the row of caller 1.
 abbrev pub pair : Shape
 pair = record { callers = 2; cap = 1; program = outside }
 
--- An event of a caller.
+-- The step in which this caller makes this event.
 abbrev pub by : ℕ → Event → Step
 by who event = record { who = who; event = event }
 
--- Looks at the counts of a region, from caller j on, that find these words; a collect; and a
--- collect whose first look begins a scan.
+-- The looks of a caller at the counts of a region, from caller j on, that find these counts and
+-- begin nothing.
 abbrev pub looks_from : ℕ → Region → ℕ → List ℕ → List Step
 looks_from who region j [] = []
 looks_from who region j (x ∷ xs) =
     by who (Look region j x Begins_none) ∷ looks_from who region (suc j) xs
 
+-- The looks of a collect of a region that finds these counts, and begins nothing.
 abbrev pub collect : ℕ → Region → List ℕ → List Step
 collect who region counts = looks_from who region 0 counts
 
+-- The looks of a collect of a region that finds these counts, and whose first look begins what the
+-- opening says.
 abbrev pub first_collect : ℕ → Region → Opening → List ℕ → List Step
 first_collect who region opening [] = []
 first_collect who region opening (x ∷ xs) =
     by who (Look region 0 x opening) ∷ looks_from who region 1 xs
 
--- A scan of two equal collects.
+-- The looks of a scan that makes two collects of a region, both with these counts, and that begins
+-- as the opening says.
 abbrev pub scan : ℕ → Region → Opening → List ℕ → List Step
 scan who region opening counts =
     first_collect who region opening counts ++ collect who region counts
 
--- Stages of these words at the places of a region from number p on.
+-- The stages of these words at the places of a region, in order, from place p on.
 abbrev pub stages : ℕ → Region → ℕ → List ℕ → List Step
 stages who region p [] = []
 stages who region p (x ∷ xs) = by who (Stage region p x) ∷ stages who region (suc p) xs
 
--- A caller scans N, and announces an operation of this low word, embedding the cut.
+-- A caller scans N, which gives this cut, stages a row that embeds the cut, and announces the
+-- operation with this low word and the high word 0.
 abbrev pub announcement : ℕ → ℕ → List ℕ → List Step
 announcement who low cut =
     scan who N Begins_scan cut ++ stages who N 0 (low ∷ 0 ∷ cut) ++ by who Announce ∷ []
 
--- A caller scans M, and publishes this reply and view, embedding the cut.
+-- A caller scans M, which gives this cut, stages a row that embeds the cut, and publishes this
+-- reply and this view.
 abbrev pub publication : ℕ → ℕ → List ℕ → List ℕ → List Step
 publication who reply view cut =
     scan who M Begins_scan cut ++ stages who M 0 (reply ∷ view ++ cut) ++ by who Publish ∷ []
 
--- The local of a caller after these steps.
+-- The local of a caller after these steps from the start.
 abbrev pub local_after_all : Shape → List Step → ℕ → Local
 local_after_all s steps who = local_of (end_of s steps) who
 
+-- The local of a caller after these steps from the start, in the world of `pair`.
 abbrev pub local_at : List Step → ℕ → Local
 local_at steps who = local_after_all pair steps who
 
--- The phase of a caller after each of these numbers of the steps.
+-- The phase of a caller after the first k of these steps, for each of the numbers k listed, in the
+-- world of `pair`.
 abbrev pub phases_at : List Step → ℕ → List ℕ → List Phase
 phases_at steps who moments = map (λ k. (local_at (take k steps) who).phase) moments
 
--- Each of the further steps is enabled after these steps.
+-- Whether each of the further steps is enabled right after these steps from the start.
 abbrev pub allows_in : Shape → List Step → List Step → Bool
 allows_in s steps further = list_all (λ (step : Step). is_possible s (end_of s steps) step) further
 
--- None of the further steps is enabled after these steps.
+-- Whether none of the further steps is enabled right after these steps from the start.
 abbrev pub refuses_in : Shape → List Step → List Step → Bool
 refuses_in s steps further =
     list_all (λ (step : Step). not (is_possible s (end_of s steps) step)) further
 
+-- Whether each of the further steps is enabled right after these steps, in the world of `pair`.
 abbrev pub allows : List Step → List Step → Bool
 allows steps further = allows_in pair steps further
 
+-- Whether none of the further steps is enabled right after these steps, in the world of `pair`.
 abbrev pub refuses : List Step → List Step → Bool
 refuses steps further = refuses_in pair steps further
 
--- Caller 0 announces the operation 5 and its object replies 50. Caller 1 announces 6 in the midst
--- of the first collect of the view of caller 0, so the view takes a third collect.
+-- Caller 0 announces the operation 5, and its object replies 50. Caller 1 announces the operation 6
+-- right after the first collect of the view of caller 0, so this view needs a third collect, of
+-- which the first look is made.
 abbrev pub announced_both : List Step
 announced_both =
     announcement 0 5 (0 ∷ 0 ∷ [])
@@ -93,8 +104,8 @@ announced_both =
     ∷ by 0 (Look N 0 1 Begins_none)
     ∷ []
 
--- The last look of the view of caller 0, its scan of M, its record, and its publication; the object
--- of caller 1 replies 60 meanwhile.
+-- Caller 0 makes the last look of its view, scans M, stages its row, and publishes; meanwhile the
+-- object replies 60 to caller 1, which makes the first collect of its view.
 abbrev pub published_one : List Step
 published_one =
     by 0 (Look N 1 1 Begins_none)
@@ -109,11 +120,12 @@ published_one =
     ∷ by 0 Publish
     ∷ []
 
--- Caller 0 sees its own record alone.
+-- Caller 0 scans M, which gives it the seen cut 1 0: it sees its own record alone.
 abbrev pub judged_one : List Step
 judged_one = scan 0 M Begins_scan (1 ∷ 0 ∷ [])
 
--- Caller 1 ends its view, publishes, and sees both records. It stages its row in another order.
+-- Caller 1 ends its view, scans M, stages the places of its row out of order, publishes, and sees
+-- the records of both callers.
 abbrev pub judged_both : List Step
 judged_both =
     collect 1 N (1 ∷ 1 ∷ [])
@@ -126,11 +138,11 @@ judged_both =
     ∷ by 1 Publish
     ∷ scan 1 M Begins_scan (1 ∷ 1 ∷ [])
 
--- Two callers make one whole call each.
+-- Both callers make one whole call each.
 abbrev pub two_calls : List Step
 two_calls = ((announced_both ++ published_one) ++ judged_one) ++ judged_both
 
--- The scan of the view of caller 0 in the run of two whole calls.
+-- The span of the view's scan of caller 0 in `two_calls`.
 abbrev pub view_span : Span
 view_span =
     record {
@@ -140,9 +152,9 @@ view_span =
       last = by 0 (Look N 1 1 Begins_none);
     }
 
--- Caller 0 begins a scan of M and gives it up for a scan of N, which gives the cut to embed. It
--- begins another scan of N, and gives that up as it announces, with its row staged between the
--- looks. A look after that is no scan's.
+-- Caller 0 begins a scan of M and gives it up for a scan of N, which gives the cut to embed. While
+-- it stages its row it begins another scan of N, which its announcement gives up. Its look after
+-- the announcement belongs to no scan.
 abbrev pub scans_given_up : List Step
 scans_given_up =
     by 0 (Look M 0 0 Begins_scan)
@@ -162,15 +174,17 @@ scans_given_up =
     ∷ by 0 (Look N 0 1 Begins_none)
     ∷ []
 
--- In the phase ask it makes a whole scan of N without the object's reply, which serves nothing.
+-- Caller 0, in the phase ask, makes a whole scan of N that doesn't carry the object's reply, and
+-- whose cut serves nothing.
 abbrev pub scan_for_nothing : List Step
 scan_for_nothing = scan 0 N Begins_scan (1 ∷ 0 ∷ [])
 
--- The first look of the view's scan carries the reply.
+-- The first look of the view's scan of caller 0, which carries the reply 50.
 abbrev pub reply_carried : List Step
 reply_carried = by 0 (Look N 0 1 (Begins_view 50)) ∷ []
 
--- Caller 0 ends its view and stages its row, and a scan of M is under way as it publishes.
+-- Caller 0 ends its view, scans M and stages its row. It publishes while another scan of M is under
+-- way, and its look after the publication belongs to no scan.
 abbrev pub published_in_a_scan : List Step
 published_in_a_scan =
     by 0 (Look N 1 0 Begins_none)
@@ -183,22 +197,26 @@ published_in_a_scan =
     ∷ by 0 (Look M 0 1 Begins_none)
     ∷ []
 
--- Caller 0 scans N twice, with an announcement of caller 1 between, and then stages: the later cut
--- is the one to embed. A third scan, which ends after a word was staged, serves nothing.
+-- Caller 0 scans N twice, with an announcement of caller 1 between, and stages nothing: the cut of
+-- the second scan is the one to embed.
 abbrev pub scanned_twice : List Step
 scanned_twice = scan 0 N Begins_scan (0 ∷ 0 ∷ []) ++ announcement 1 6 (0 ∷ 0 ∷ [])
     ++ scan 0 N Begins_scan (0 ∷ 1 ∷ [])
 
+-- Caller 0 scans N twice, with an announcement of caller 1 between, and stages a word before the
+-- second scan: the cut of the first scan is the one to embed, and that of the second serves
+-- nothing.
 abbrev pub scanned_late : List Step
 scanned_late = scan 0 N Begins_scan (0 ∷ 0 ∷ []) ++ announcement 1 6 (0 ∷ 0 ∷ [])
     ++ by 0 (Stage N 0 5) ∷ scan 0 N Begins_scan (0 ∷ 1 ∷ [])
 
--- Three callers, with two rows each. Caller 2 scans N while the others move.
+-- Three callers with two rows each and no object words.
 abbrev pub trio : Shape
 trio = record { callers = 3; cap = 2; program = outside }
 
--- Its first collect finds nobody; then caller 0 announces 5, and the second finds that; then caller
--- 1 announces 7, and the third finds that too.
+-- The first collect of a scan of N by caller 2 finds that no caller has announced; then caller 0
+-- announces the operation 5, and the second collect finds that call; then caller 1 announces the
+-- operation 7, and the third collect finds both calls.
 abbrev pub three_collects : List Step
 three_collects =
     first_collect 2 N Begins_scan (0 ∷ 0 ∷ 0 ∷ [])
@@ -207,7 +225,7 @@ three_collects =
     ++ announcement 1 7 (1 ∷ 0 ∷ 0 ∷ [])
     ++ collect 2 N (1 ∷ 1 ∷ 0 ∷ [])
 
--- Caller 0 ends its call, and announces 6 after a scan that gave 1 1 0.
+-- Caller 0 ends its first call, and announces the operation 6 after a scan that gave the cut 1 1 0.
 abbrev pub moved_again : List Step
 moved_again =
     scan 0 N (Begins_view 50) (1 ∷ 1 ∷ 0 ∷ [])
@@ -215,9 +233,9 @@ moved_again =
     ++ scan 0 M Begins_scan (1 ∷ 0 ∷ 0 ∷ [])
     ++ announcement 0 6 (1 ∷ 1 ∷ 0 ∷ [])
 
--- The fourth collect of caller 2 finds that caller 0 has moved twice, and it peeks the cut that the
--- second row of caller 0 embeds. A look and a peek of its own that the scan doesn't want are none
--- of its words.
+-- The fourth collect of caller 2 finds that caller 0 has moved twice since the first, and caller 2
+-- peeks the cut that the second row of caller 0 embeds. Between its peeks it makes a look and
+-- another peek that the scan doesn't need, and whose words the scan doesn't take.
 abbrev pub borrowed : List Step
 borrowed =
     collect 2 N (2 ∷ 1 ∷ 0 ∷ [])
@@ -228,14 +246,15 @@ borrowed =
     ∷ by 2 (Peek N 0 1 4 0)
     ∷ []
 
--- Up to the fourth collect; and the whole run.
+-- The steps before the fourth collect of caller 2.
 abbrev pub moved_twice : List Step
 moved_twice = three_collects ++ moved_again
 
+-- The whole run in which caller 2 borrows a cut.
 abbrev pub borrowing : List Step
 borrowing = moved_twice ++ borrowed
 
--- The scan of caller 2 in that run.
+-- The span of the scan of caller 2 in `borrowing`.
 abbrev pub borrowing_span : Span
 borrowing_span =
     record {
@@ -245,13 +264,14 @@ borrowing_span =
       last = by 2 (Peek N 0 1 4 0);
     }
 
--- The words that the scan takes: four collects, and the peeks.
+-- The words that the scan of caller 2 takes in `borrowing`: those of four collects, and then the
+-- three entries of the borrowed cut.
 abbrev pub borrowed_words : List ℕ
 borrowed_words =
     (0 ∷ 0 ∷ 0 ∷ []) ++ (1 ∷ 0 ∷ 0 ∷ []) ++ (1 ∷ 1 ∷ 0 ∷ []) ++ (2 ∷ 1 ∷ 0 ∷ []) ++ 1 ∷ 1 ∷ 0 ∷ []
 
--- Caller 1 has announced. Between the looks of its scan caller 0 stages words of its row and peeks
--- a row that it knows; the scan goes on, and gives its cut.
+-- The span of a scan of N by caller 0, after caller 1 has announced. Between the looks of the scan
+-- caller 0 peeks a word of a row that it knows of, and stages two words of its own row.
 abbrev pub span_beside_stages : Span
 span_beside_stages =
     record {
@@ -267,14 +287,15 @@ span_beside_stages =
       last = by 0 (Look N 1 1 Begins_none);
     }
 
--- One caller alone.
+-- One caller with one row and no object words.
 abbrev pub single : Shape
 single = record { callers = 1; cap = 1; program = outside }
 
+-- The scan of N that a caller alone makes at the start.
 abbrev pub scan_alone : List Step
 scan_alone = scan 0 N Begins_scan (0 ∷ [])
 
--- It scans N again once it has announced.
+-- The span of a scan of N that a caller alone makes once it has announced.
 abbrev pub span_after_announcement : Span
 span_after_announcement =
     record {
@@ -284,18 +305,21 @@ span_after_announcement =
       last = by 0 (Look N 0 1 Begins_none);
     }
 
--- The cut of this one count of a region, of a scan before which two counts had been looked at.
+-- The cut of a region with this one count, given by a scan before which its caller had looked at
+-- two counts.
 abbrev pub given_alone : Region → ℕ → Given
 given_alone region count = record { region = region; cut = count ∷ []; since = 2 }
 
--- Two callers with one row each, and one object word, on which every step is allowed.
+-- Two callers with one row each, and one object word, where every step and every reply is allowed.
 abbrev pub scrap_pair : Shape
 scrap_pair = record { callers = 2; cap = 1; program = scrap }
 
+-- The step on the object word at this place that finds the old word and leaves the new one.
 abbrev pub object_step : ℕ → ℕ → ℕ → Object_step
 object_step place old new = record { place = place; old = old; new = new }
 
--- Caller 0 adds 3 twice to the object word; caller 1 announces, and stores 9.
+-- Caller 0 announces, and raises the object word from 0 to 3 and to 6; caller 1 announces, and
+-- raises it to 9; then caller 0 begins its view's scan with the reply 3.
 abbrev pub object_steps_made : List Step
 object_steps_made =
     announcement 0 5 (0 ∷ 0 ∷ [])
@@ -306,9 +330,10 @@ object_steps_made =
     ∷ by 0 (Look N 0 1 (Begins_view 3))
     ∷ []
 
--- An object whose reply is ten times the operation, and one whose reply is always 0.
+-- An object whose reply is ten times the operation, and whose list never changes.
 abbrev pub tenfold : List ℕ → ℕ → List ℕ × ℕ
 tenfold list operation = (list, operation * 10)
 
+-- An object whose reply is always 0, and whose list never changes.
 abbrev pub silent : List ℕ → ℕ → List ℕ × ℕ
 silent list operation = (list, 0)

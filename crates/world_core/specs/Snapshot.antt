@@ -1,5 +1,5 @@
--- What it means that a scan gave a cut in a run, and that the cut is the state of its region at one
--- moment of the run (Afek and others 1993).
+-- What it means that a scan gave a cut in a run, and that the cut was the counts of its region at
+-- one moment of the run (Afek and others 1993).
 use Rattle.std.specs.Prelude.{◌≡◌, ℕ, Bool, true, false, not, ◌&&◌, ◌==◌, IsTrue, List, [], ◌∷◌, ◌++◌, map}
 use Rattle.std.specs.List.{list_all, range_with_len}
 use Rattle.world_core.specs.declared.region.Region.{Region}
@@ -8,55 +8,57 @@ use Rattle.world_core.specs.Local.{Given}
 use Rattle.world_core.specs.Event.{Event, Announce, Look, Publish, Opening, Begins_none, Begins_scan, Begins_view, is_same_region}
 use Rattle.world_core.specs.World.{World, Step, local_of, count_of, IsRun, end_of}
 
--- The counts of a region in a world, which are a cut.
+-- The counts of all callers in a region of a world, by number of the caller. They are a cut.
 abbrev pub counts_in : Shape → Region → World → List ℕ
 counts_in s region w = map (λ i. count_of s w region i) (range_with_len 0 s.callers)
 
--- A look begins a scan.
+-- Whether an opening begins a scan, the view's or another.
 abbrev pub is_opening : Opening → Bool
 is_opening Begins_none = false
 is_opening Begins_scan = true
 is_opening (Begins_view reply) = true
 
--- The event is a look that begins a scan of this region.
+-- Whether an event is a look in this region that begins a scan.
 abbrev pub is_first_look : Region → Event → Bool
 is_first_look region (Look r j x opening) = is_same_region r region && is_opening opening
 is_first_look region _ = false
 
--- The step begins a scan of this region by this caller.
+-- Whether a step is a look of this caller in this region that begins a scan.
 abbrev pub begins_scan : ℕ → Region → Step → Bool
 begins_scan who region step = step.who == who && is_first_look region step.event
 
--- The event gives up a scan of its caller that was under way: it begins another, announces, or
--- publishes.
+-- Whether an event gives up the scan that its caller has under way, if there is one: it is an
+-- announcement, a publication, or a look that begins a scan.
 abbrev pub gives_up : Event → Bool
 gives_up Announce = true
 gives_up Publish = true
 gives_up (Look region j x opening) = is_opening opening
 gives_up _ = false
 
--- The step doesn't give up the scan of this caller.
+-- Whether a step doesn't give up the scan of this caller: it is another caller's, or its event
+-- gives up no scan.
 abbrev pub keeps_scan : ℕ → Step → Bool
 keeps_scan who step = not (step.who == who && gives_up step.event)
 
--- The part of a run up to the end of a scan: the steps before it, its first look, the steps
--- between, and its last step, which is a look, or the last peek of a borrowed cut.
+-- The steps of a run up to the end of a scan, in four parts: the steps before the scan, its first
+-- look, the steps between, and its last step, which is a look, or the last peek at a borrowed cut.
 pub record Span : Type 0 where
   pub before : List Step
   pub first : Step
   pub between : List Step
   pub last : Step
 
--- The steps up to the scan's last step, without it; and with it.
+-- All steps of a span but the scan's last one, from the start of the run on.
 abbrev pub up_to_last : Span → List Step
 up_to_last r = r.before ++ r.first ∷ r.between
 
+-- All steps of a span, from the start of the run through the scan's last step.
 abbrev pub through_last : Span → List Step
 through_last r = up_to_last r ++ r.last ∷ []
 
--- A scan by a caller spans this part of a run, and gave this cut of its region: its first look
--- begins it, none of the later steps gives it up, and the last one adds the cut to those that the
--- caller's scans gave.
+-- A scan of caller `who` has this span and gives this cut: the steps of the span are a run, its
+-- first look is that caller's and begins a scan of the cut's region, no later step gives the scan
+-- up, and the last step adds the cut to those that the caller's scans gave.
 pub record GivesCut (s : Shape) (who : ℕ) (given : Given) (r : Span) : Type 0 where
   pub run : IsRun s (through_last r)
   pub begins : IsTrue (begins_scan who given.region r.first)
@@ -64,8 +66,8 @@ pub record GivesCut (s : Shape) (who : ℕ) (given : Given) (r : Span) : Type 0 
   pub ends : (local_of (end_of s (through_last r)) who).cuts
       ≡ (local_of (end_of s (up_to_last r)) who).cuts ++ given ∷ []
 
--- The cut is instantaneous: at some moment after the scan's first look and before its last step,
--- the counts of the region were exactly this cut.
+-- The cut of a scan is instantaneous where the counts of its region were exactly this cut at some
+-- moment after the scan's first look and before its last step.
 abbrev pub IsInstantaneous : Shape → Given → Span → Type 0
 IsInstantaneous s given r =
     (early late : List Step) × (r.between ≡ early ++ late)

@@ -1,16 +1,17 @@
--- How a scan stands: the little that is kept of the words that it has taken.
+-- The state of a scan: what is kept of the words that it has taken.
 use Rattle.std.specs.Prelude.{ℕ, zero, suc, List, Option, Some, None}
 use Rattle.world_core.specs.declared.region.Region.{Region}
 use Rattle.world_core.specs.declared.course.Course.{Course}
 use Rattle.world_core.specs.Scan.{rounds, round, last_of, open_round, course}
 
--- The first of this many rounds, if there is one.
+-- The words of the first of k rounds; where k is 0 there is no such round.
 abbrev pub first_of : ℕ → List ℕ → ℕ → Option (List ℕ)
 first_of n taken zero = None
 first_of n taken (suc k) = Some (round n taken 0)
 
--- How many callers there are, which of them scans, and which region; the first and the last round,
--- if there is one; the words of the round under way; and what the scan does now.
+-- The state of a scan: how many callers there are, the number of the caller that scans, and the
+-- region; the words of the first and of the last whole round, if there is one; the words of the
+-- round under way; and what the scan does now.
 pub record ScanState : Type 0 where
   pub callers : ℕ
   pub me : ℕ
@@ -20,7 +21,7 @@ pub record ScanState : Type 0 where
   pub current : List ℕ
   pub course : Course
 
--- How a scan stands that has taken these words.
+-- The state of a scan of a region by caller `me` of n callers that has taken these words.
 abbrev pub standing : ℕ → ℕ → Region → List ℕ → ScanState
 standing n me region taken =
     record {

@@ -6,27 +6,28 @@ use Rattle.world_core.specs.History.{Happening, Invoked, Returned, call_of}
 use Rattle.world_core.specs.Histories.{first, second}
 use Rattle.world_core.specs.OneCaller.{again}
 
--- The calls of a third and of a fourth caller.
+-- The first call of caller 2.
 abbrev pub third : Call
 third = call_of 2 0
 
+-- The first call of caller 3.
 abbrev pub fourth : Call
 fourth = call_of 3 0
 
--- Both calls of one caller return 0.
+-- Caller 0 makes two calls, one after another, and both return 0.
 abbrev pub both_return_0 : List Happening
 both_return_0 = Invoked first 5 ∷ Returned first 0 ∷ Invoked again 5 ∷ Returned again 0 ∷ []
 
--- The second caller makes one call, which returns 1.
+-- Caller 1 makes one call, which returns 1; no other call is invoked.
 abbrev pub second_returns_1 : List Happening
 second_returns_1 = Invoked second 6 ∷ Returned second 1 ∷ []
 
--- The first call returns 1 right before the second is invoked, which never returns.
+-- The first call returns 1, and after that the second is invoked, which never returns.
 abbrev pub before_unanswered : List Happening
 before_unanswered = Invoked first 5 ∷ Returned first 1 ∷ Invoked second 6 ∷ []
 
--- The third call returns 3, and later the first is invoked, which returns 1. Between them the
--- fourth returns 0. The second overlaps all of them, and returns 2.
+-- The third call returns 3 and then the fourth 0, before the first is invoked, which returns 1. The
+-- second overlaps all of them, and returns 2.
 abbrev pub beside_all : List Happening
 beside_all =
     Invoked second 6
@@ -39,7 +40,7 @@ beside_all =
     ∷ Returned second 2
     ∷ []
 
--- The first call never returns. The second returns 1, and the third 3.
+-- The first call never returns. The second returns 1, and the third, invoked after that, returns 3.
 abbrev pub returns_1_and_3 : List Happening
 returns_1_and_3 =
     Invoked first 5 ∷ Invoked second 6 ∷ Returned second 1 ∷ Invoked third 7 ∷ Returned third 3 ∷ []

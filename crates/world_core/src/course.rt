@@ -5,8 +5,8 @@ use book_base::Cut;
 pub enum Course {
     /// It makes a collect: a look at the count of each caller.
     Collects,
-    /// It borrows the cut that a row of a caller embeds: the caller, and the row.
+    /// It peeks the cut that a row of a caller embeds, entry by entry: the caller, and the row.
     Borrows(u32, u64),
-    /// Nothing: it has ended with this cut.
+    /// Nothing, since it has ended with this cut.
     Ends(Cut),
 }

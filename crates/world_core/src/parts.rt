@@ -21,254 +21,278 @@ ghost use Rattle.world_core.specs.Refusals.{entry_peeked};
 ghost use Rattle.world_core.specs.SecondCalls.{as_announced, as_viewed, as_published, as_judged};
 ghost use Rattle.world_core.specs.Parts.{phases, scan_of, staged_word, purposes, with_looks, with_cuts, rowless, span_of_no_run, span_begun_before, span_given_up, given_since, nobody, stepped, peek_of, with_peeks, lacking_none, lacking_low, lacking_high, lacking_reply, lacking_entry, book_alone, book_of_another, book_unheld, book_lacking, book_too_wide, reply_staged, published_alone, uncounted, crowded, asking_alone, asking_staged, asking_embeds, asking_views, staged_past, staged_beside, staged_entry, staged_low, no_words, lent_words};
 
-/// What holds in each phase: which region it stages, whether it asks, and how many calls, replies,
-/// views and records are of no published record, or of no seen cut, yet.
+/// Which region each phase stages, which phase asks the object, and how many calls, replies and
+/// views of a caller have no published record in each phase, and how many published records no seen
+/// cut.
 pub fn phases_differ()
-    // The phase announce alone stages the region N.
+    // Of the five phases the phase announce alone stages words of N.
     ensures staging_N { map (λ p. is_staging p N) phases
         ≡ true ∷ false ∷ false ∷ false ∷ false ∷ [] }
-    // The phase publish alone stages the region M.
+    // Of the five phases the phase publish alone stages words of M.
     ensures staging_M { map (λ p. is_staging p M) phases
         ≡ false ∷ false ∷ false ∷ true ∷ false ∷ [] }
-    // The phase ask alone asks the object.
+    // Of the five phases the phase ask alone asks the object.
     ensures asking { map is_asking phases ≡ false ∷ true ∷ false ∷ false ∷ false ∷ [] }
-    // In the phases ask, view and publish one announced call is of no published record.
+    // One announced call has no published record in the phases ask, view and publish, and no call
+    // in the other phases.
     ensures calls { map unpublished_calls phases ≡ 0 ∷ 1 ∷ 1 ∷ 1 ∷ 0 ∷ [] }
-    // In the phases view and publish one reply is of no published record.
+    // One reply is in no published record in the phases view and publish, and no reply in the other
+    // phases.
     ensures replies { map unpublished_replies phases ≡ 0 ∷ 0 ∷ 1 ∷ 1 ∷ 0 ∷ [] }
-    // In the phase publish one view is of no published record.
+    // One view is in no published record in the phase publish, and no view in the other phases.
     ensures views { map unpublished_views phases ≡ 0 ∷ 0 ∷ 0 ∷ 1 ∷ 0 ∷ [] }
-    // In the phase judge one published record has no seen cut.
+    // One published record has no seen cut in the phase judge, and no record in the other phases.
     ensures records { map unseen_records phases ≡ 0 ∷ 0 ∷ 0 ∷ 0 ∷ 1 ∷ [] }
 {}
 
-/// What the cut of a scan serves in each phase, by its region, and whether a word is staged.
+/// What the cut of a scan serves in each phase, by the scan's region, by whether the scan is the
+/// view's, and by whether a word is staged.
 pub fn cuts_serve_by_phase()
-    // A cut of N serves the row in the phase announce, and nothing in the others.
+    // Where no word is staged, the cut of a scan of N that isn't the view's serves the row in the
+    // phase announce, and nothing in the other phases.
     ensures of_N { purposes [] N false
         ≡ For_row ∷ For_nothing ∷ For_nothing ∷ For_nothing ∷ For_nothing ∷ [] }
-    // A cut of M serves the row in the phase publish and as the seen cut in the phase judge, and
-    // nothing in the others.
+    // Where no word is staged, the cut of a scan of M that isn't the view's serves the row in the
+    // phase publish and the seen cut in the phase judge, and nothing in the other phases.
     ensures of_M { purposes [] M false
         ≡ For_nothing ∷ For_nothing ∷ For_nothing ∷ For_row ∷ For_seen ∷ [] }
-    // A cut of N serves nothing once a word is staged.
+    // Where a word is staged, the cut of a scan of N that isn't the view's serves nothing in any
+    // phase.
     ensures late_of_N { purposes (staged_word 0 5 ∷ []) N false
         ≡ For_nothing ∷ For_nothing ∷ For_nothing ∷ For_nothing ∷ For_nothing ∷ [] }
-    // A cut of M serves as the seen cut alone once a word is staged.
+    // Where a word is staged, the cut of a scan of M that isn't the view's serves the seen cut in
+    // the phase judge, and nothing in the other phases.
     ensures late_of_M { purposes (staged_word 0 5 ∷ []) M false
         ≡ For_nothing ∷ For_nothing ∷ For_nothing ∷ For_nothing ∷ For_seen ∷ [] }
-    // The cut of the view's scan of N is the view in the phase view.
+    // Where no word is staged, the cut of the view's scan of N serves the row in the phase announce
+    // and the view in the phase view, and nothing in the other phases.
     ensures view { purposes [] N true
         ≡ For_row ∷ For_nothing ∷ For_view ∷ For_nothing ∷ For_nothing ∷ [] }
-    // A cut of M is no view, whatever its scan is said to be.
+    // The cut of a scan of M serves no view, even where the scan is said to be the view's.
     ensures view_of_M { purposes [] M true
         ≡ For_nothing ∷ For_nothing ∷ For_nothing ∷ For_row ∷ For_seen ∷ [] }
 {}
 
-/// The tests of the conditions, value by value.
+/// The tests that the conditions of events consist of, value by value.
 pub fn tests_tell_apart()
-    // A region is the same as itself alone.
+    // Each of the two regions is the same as itself and not the same as the other.
     ensures regions { is_same_region N N ∷ is_same_region N M ∷ is_same_region M N
         ∷ is_same_region M M ∷ [] ≡ true ∷ false ∷ false ∷ true ∷ [] }
-    // The view's entry of one caller is no entry of another, no entry of an embedded cut and no
-    // other place.
+    // A place for the view's entry for caller 1 is one for that entry; a place for the view's entry
+    // for caller 0, for an entry of an embedded cut, or for a word of the operation isn't.
     ensures entries { map (λ part. is_view_entry part 1)
         (View_entry 1 ∷ View_entry 0 ∷ Embedded_entry M 1 ∷ Low ∷ [])
         ≡ true ∷ false ∷ false ∷ false ∷ [] }
-    // A scan that wants a look at one count wants no look at another, no peek, and isn't done.
+    // The look at caller 1 is what a scan needs that needs a look at caller 1, and not what a scan
+    // needs that needs a look at caller 0, that needs a peek, or that is done.
     ensures looks { map (is_look_wanted 1)
         (Wants_look 1 ∷ Wants_look 0 ∷ Wants_peek 1 0 0 ∷ Done [] ∷ [])
         ≡ true ∷ false ∷ false ∷ false ∷ [] }
-    // A scan that wants a peek wants it of the caller, the row and the entry that it names, and in
-    // N.
+    // The peek at place 2 in N of row 3 of caller 1 is what a scan needs that needs the entry for
+    // caller 0 of the cut in that row, and not what a scan needs that needs a peek into a row of
+    // another caller, into another row or at another entry, or a look.
     ensures peeks { map (is_peek_wanted 2 N 1 3 2) (Wants_peek 1 3 0 ∷ Wants_peek 0 3 0 ∷ Wants_peek
         1 2 0 ∷ Wants_peek 1 3 1 ∷ Wants_look 1 ∷ []) ≡ true ∷ false ∷ false ∷ false ∷ false ∷ [] }
-    // A peek in M is wanted at the place for the entry of the embedded cut.
+    // The peek at place 4 in M of a row of two callers is what a scan needs that needs the entry
+    // for caller 1 of the cut in that row, and not what a scan needs that needs another entry.
     ensures peeks_of_M { map (is_peek_wanted 2 M 1 3 4) (Wants_peek 1 3 1 ∷ Wants_peek 1 3 2 ∷ [])
         ≡ true ∷ false ∷ [] }
-    // A caller may peek a row that an older look of it has counted.
+    // A caller may peek a row that is below a count which an older look of it found.
     ensures older_look { is_enabled pair 1 with_looks (Peek N 0 1 0 0) ≡ true }
-    // A caller may not peek a row beyond all counts that it has looked at.
+    // A caller may not peek a row that isn't below any count which its looks found.
     ensures beyond_all_looks { is_enabled pair 1 with_looks (Peek N 0 2 0 0) ≡ false }
-    // A caller may peek a row that an older cut of it has counted.
+    // A caller may peek a row of N that is below a count of an older cut, which a scan of N gave
+    // it.
     ensures older_cut { is_enabled pair 1 with_cuts (Peek N 0 1 0 0) ≡ true }
-    // A caller may peek a row of M that a later cut of it has counted.
+    // A caller may peek a row of M that is below a count of a later cut, which a scan of M gave it.
     ensures later_cut { is_enabled pair 1 with_cuts (Peek M 1 0 0 0) ≡ true }
-    // A caller may not peek a row that only a cut of the other region has counted.
+    // A caller may not peek a row of M that is below a count of a cut of N alone.
     ensures cut_of_another { is_enabled pair 1 with_cuts (Peek M 0 1 0 0) ≡ false }
-    // A caller may not stage a word of a row of M that the cap doesn't have.
+    // A caller may not stage a word of its second row of M where the cap is 1.
     ensures no_row_of_M { is_enabled pair 0 rowless (Stage M 0 0) ≡ false }
 {}
 
-/// What an event begins and gives up.
+/// What events begin, and what they give up.
 pub fn events_begin_and_give_up()
-    // A look that begins a scan, or the view's scan, is an opening one, and one that begins nothing
-    // isn't.
+    // The openings of a scan and of the view's scan begin a scan, and the opening of nothing
+    // doesn't.
     ensures openings { map is_opening (Begins_none ∷ Begins_scan ∷ Begins_view 7 ∷ [])
         ≡ false ∷ true ∷ true ∷ [] }
-    // The first look of a scan of N is a look in N that begins a scan, and no other look or event.
+    // A look in N that begins a scan or the view's scan is the first look of a scan of N; a look in
+    // M, a look that begins nothing, a peek and an announcement aren't.
     ensures first_looks { map (is_first_look N) (Look N 0 0 Begins_scan ∷ Look N 0 0 (Begins_view 7)
         ∷ Look M 0 0 Begins_scan ∷ Look N 0 0 Begins_none ∷ Peek N 0 0 0 0 ∷ Announce ∷ [])
         ≡ true ∷ true ∷ false ∷ false ∷ false ∷ false ∷ [] }
-    // A scan of caller 1 is begun by a look of that caller which begins one.
+    // A look of caller 1 that begins a scan begins a scan by caller 1; a look of caller 0, and a
+    // look of caller 1 that begins nothing, don't.
     ensures by_whom { map (begins_scan 1 N) (by 1 (Look N 0 0 Begins_scan) ∷ by 0
         (Look N 0 0 Begins_scan) ∷ by 1 (Look N 0 0 Begins_none) ∷ []) ≡ true ∷ false ∷ false ∷ [] }
-    // An announcement, a publication and a look that begins a scan give up a scan, and no other
-    // event does.
+    // An announcement, a publication, and a look that begins a scan or the view's scan give up a
+    // scan; a look that begins nothing, a stage, an object step and a peek don't.
     ensures gives_up { map gives_up
         (Announce ∷ Publish ∷ Look M 0 0 Begins_scan ∷ Look N 0 0 (Begins_view 7)
         ∷ Look N 0 0 Begins_none ∷ Stage N 0 0 ∷ Object (object_step 0 0 0) ∷ Peek N 0 0 0 0 ∷ [])
         ≡ true ∷ true ∷ true ∷ true ∷ false ∷ false ∷ false ∷ false ∷ [] }
-    // A caller's scan is kept by others' events and by its own stage, and not by its own
-    // announcement.
+    // A scan of caller 1 is kept by the announcement of caller 0 and by a stage of caller 1, and
+    // not by an announcement of caller 1.
     ensures keeps { map (keeps_scan 1) (by 1 Announce ∷ by 0 Announce ∷ by 1 (Stage N 0 0) ∷ [])
         ≡ false ∷ true ∷ true ∷ [] }
 {}
 
-/// A scan gives a cut where all of its parts hold: not in steps that are no run, nor where another
-/// scan began before, nor where it is given up between, nor another cut than the one that it gave.
+/// A scan gives a cut in a span where all parts of the definition hold: not in steps that are no
+/// run, not where the first step begins no scan, not where the scan is given up between, and no cut
+/// but its own.
 #[tactic(auto, using(crate::proofs::Spans::no_run, crate::proofs::Spans::not_begun, crate::proofs::Spans::not_kept, crate::proofs::Spans::other_cut, crate::proofs::Spans::other_time))]
 pub fn scans_give_cuts_in_spans()
-    // A scan gives no cut in steps that are no run.
+    // Steps that are no run are no span in which a scan gives a cut.
     ensures no_run { ¬ GivesCut single 0 (given_since 0) span_of_no_run }
     // A scan gives no cut in a span whose first step began no scan.
     ensures not_begun { ¬ GivesCut single 0 (given_since 2) span_begun_before }
-    // A scan gives no cut in a span in which it was given up.
+    // A scan gives no cut in a span in which it was given up for another scan.
     ensures not_kept { ¬ GivesCut single 0 (given_since 3) span_given_up }
-    // A scan gives no other cut than the one that it gave.
+    // A scan that found the count 1 doesn't give the cut with the count 0.
     ensures other_cut { ¬ GivesCut single 0 (given_alone N 0) span_after_announcement }
-    // A scan doesn't give its cut with another number of counts looked at before it.
+    // A scan before which its caller had looked at two counts doesn't give its cut as one before
+    // which the caller had looked at one count.
     ensures other_time { ¬ GivesCut single 0 (given_since 1) span_after_announcement }
 {}
 
-/// Runs and the worlds that they reach: each step of a run is enabled where it stands; a world that
-/// no run ends in isn't reachable; and as many locals are together as there are callers.
+/// Runs and the worlds that they reach: each step of a run is enabled in the world before it; a
+/// world in which no run ends isn't reachable; and as many locals are together as there are
+/// callers.
 #[tactic(auto, using(crate::proofs::Together::first_impossible, crate::proofs::Together::later_impossible, crate::proofs::Together::not_reachable, crate::proofs::Together::one_local, crate::proofs::Together::both_locals, crate::proofs::Together::second_local, crate::proofs::Together::third_local))]
 pub fn worlds_are_reached_by_runs()
-    // At the start all words are 0, and each local is the fresh one.
+    // At the start of a world of two callers, with one row each and one object word, the 23 words
+    // are 0, and both locals are the fresh one.
     ensures start { start (record { callers = 2; cap = 1; program = scrap })
         ≡ record { words = replicate 23 0; locals = fresh ∷ fresh ∷ [] } }
-    // Steps whose first one isn't possible are no run.
+    // Steps of which the first isn't enabled at the start are no run.
     ensures first_impossible { ¬ IsRun pair (by 0 Announce ∷ []) }
-    // Steps of which a later one isn't possible are no run.
+    // Steps of which a later one isn't enabled after those before it are no run.
     ensures later_impossible { ¬ IsRun pair
         (by 0 (Look N 0 0 Begins_none) ∷ by 0 (Look N 0 1 Begins_none) ∷ []) }
-    // A world that no run ends in isn't reachable.
+    // A world without callers whose object word isn't 0 isn't reachable.
     ensures not_reachable { ¬ IsReachable nobody stepped }
-    // One local isn't the locals of a world of two callers.
+    // A single local isn't the list of locals of a world of two callers.
     ensures one_local { ¬ AreTogether pair (fresh ∷ []) }
-    // The locals at the end of a run are those of one reachable world.
+    // The locals at the end of the run of two whole calls are together.
     ensures both_locals { AreTogether pair (end_of pair two_calls).locals }
-    // The local of caller 1 after the run is one of caller 1.
+    // The local of caller 1 at the end of the run of two whole calls is a local of caller 1.
     ensures second_local { IsLocalOf pair 1 (local_at two_calls 1) }
-    // A fresh local isn't one of caller 2 in a world of two callers.
+    // The fresh local isn't a local of caller 2 in a world of two callers.
     ensures third_local { ¬ IsLocalOf pair 2 fresh }
 {}
 
-/// A cut of what was published: as wide as there are callers, and nowhere above the published
-/// counts, whatever was announced.
+/// A cut of published records has one count for each caller, which is at most the number of records
+/// that this caller published, whatever it announced.
 #[tactic(auto, using(crate::proofs::Published::none_published, crate::proofs::Published::one_published, crate::proofs::Published::announced_alone, crate::proofs::Published::too_many, crate::proofs::Published::too_narrow))]
 pub fn cuts_are_published()
-    // The cut of zeros is one of what was published after two announcements.
+    // After two announcements, and no publication, the cut 0 0 counts published records alone.
     ensures none { IsPublished (end_of pair announced_both).locals (0 ∷ 0 ∷ []) }
-    // A cut below the published counts is one of what was published.
+    // After two calls the cut 1 0 counts published records alone.
     ensures below { IsPublished (end_of pair two_calls).locals (1 ∷ 0 ∷ []) }
-    // A cut that counts an announced call is none of what was published.
+    // After two announcements, and no publication, the cut 1 0 doesn't count published records
+    // alone.
     ensures announced { ¬ IsPublished (end_of pair announced_both).locals (1 ∷ 0 ∷ []) }
-    // A cut with a count above the published one is none of what was published.
+    // After two callers published one record each, the cut 1 2 doesn't count published records
+    // alone.
     ensures above { ¬ IsPublished (end_of pair two_calls).locals (1 ∷ 2 ∷ []) }
-    // A cut of one count is none of what two callers published.
+    // A cut of one count isn't a cut of the published records of two callers.
     ensures narrow { ¬ IsPublished (end_of pair two_calls).locals (1 ∷ []) }
 {}
 
-/// A caller has peeked a word where all five of its parts are those of one peek.
+/// A caller has peeked a word where one peek of it agrees in all five parts: the region, the
+/// caller, the row, the place and the word.
 #[tactic(auto, using(crate::proofs::Peeking::peeked, crate::proofs::Peeking::other_region, crate::proofs::Peeking::other_caller, crate::proofs::Peeking::other_row, crate::proofs::Peeking::other_place, crate::proofs::Peeking::other_word))]
 pub fn words_are_peeked()
-    // Caller 1 has peeked the view's entry in the first row of M of caller 0.
+    // Caller 1 has peeked 1 as the view's entry for caller 0 in the first row of M of caller 0.
     ensures peeked { HasPeeked (local_at entry_peeked 1) M (call_of 0 0) 1 1 }
     // A peek in M is no peek in N.
     ensures other_region { ¬ HasPeeked (with_peeks (peek_of M 1 2 3 4 ∷ [])) N (call_of 1 2) 3 4 }
-    // A peek of a row of one caller is none of another's.
+    // A peek into a row of caller 1 is no peek into a row of caller 2.
     ensures other_caller { ¬ HasPeeked (with_peeks (peek_of M 1 2 3 4 ∷ [])) M (call_of 2 2) 3 4 }
-    // A peek of one row is none of another.
+    // A peek into row 2 is no peek into row 1.
     ensures other_row { ¬ HasPeeked (with_peeks (peek_of M 1 2 3 4 ∷ [])) M (call_of 1 1) 3 4 }
-    // A peek at one place is none at another.
+    // A peek at place 3 is no peek at place 4.
     ensures other_place { ¬ HasPeeked (with_peeks (peek_of M 1 2 3 4 ∷ [])) M (call_of 1 2) 4 4 }
-    // A peek that found one word is none that found another.
+    // A peek that found the word 4 is no peek that found the word 3.
     ensures other_word { ¬ HasPeeked (with_peeks (peek_of M 1 2 3 4 ∷ [])) M (call_of 1 2) 3 3 }
 {}
 
-/// A book is gathered at a cut where each of its words was peeked, and it is the book at the cut:
-/// with one page for each caller, as many records as the cut holds, and just the calls that their
-/// views hold.
+/// A book is gathered at a cut where its caller has peeked each of its words and it is the book at
+/// that cut: with one page for each caller, as many records as the cut counts, and exactly the
+/// calls that the views of these records hold.
 #[tactic(auto, using(crate::proofs::Gathering::gathered, crate::proofs::Gathering::lacks_low, crate::proofs::Gathering::lacks_high, crate::proofs::Gathering::lacks_reply, crate::proofs::Gathering::lacks_entry, crate::proofs::Gathering::of_another, crate::proofs::Gathering::other_cut, crate::proofs::Gathering::unheld, crate::proofs::Gathering::lacking, crate::proofs::Gathering::too_wide))]
 pub fn books_are_gathered()
-    // The book alone is gathered at its cut by a caller that has peeked all of its words.
+    // The book of one answered call is gathered at the cut 1 by a caller that has peeked all of its
+    // words.
     ensures gathered { IsGathered 1 (lacking_none 1) (1 ∷ []) book_alone }
-    // A book isn't gathered by a caller that lacks the low word of an operation.
+    // A book isn't gathered by a caller that hasn't peeked the low word of an operation.
     ensures low { ¬ IsGathered 1 lacking_low (1 ∷ []) book_alone }
-    // A book isn't gathered by a caller that lacks the high word of an operation.
+    // A book isn't gathered by a caller that hasn't peeked the high word of an operation.
     ensures high { ¬ IsGathered 1 lacking_high (1 ∷ []) book_alone }
-    // A book isn't gathered by a caller that lacks a reply.
+    // A book isn't gathered by a caller that hasn't peeked a reply.
     ensures reply { ¬ IsGathered 1 lacking_reply (1 ∷ []) book_alone }
-    // A book isn't gathered by a caller that lacks an entry of a view.
+    // A book isn't gathered by a caller that hasn't peeked an entry of a view.
     ensures entry { ¬ IsGathered 1 lacking_entry (1 ∷ []) book_alone }
-    // A book with a page more than there are callers isn't gathered.
+    // A book with more pages than there are callers isn't gathered.
     ensures callers { ¬ IsGathered 1 (lacking_none 1) (1 ∷ []) book_of_another }
-    // A book with fewer records than the cut holds isn't gathered.
+    // A book with fewer records than the cut counts isn't gathered at that cut.
     ensures records { ¬ IsGathered 1 (lacking_none 1) (2 ∷ []) book_alone }
     // A book with a call that no view holds isn't gathered.
     ensures held { ¬ IsGathered 1 (lacking_none 1) (1 ∷ []) book_unheld }
     // A book that lacks a call which a view holds isn't gathered.
     ensures there { ¬ IsGathered 1 (lacking_none 2) (1 ∷ []) book_lacking }
-    // A book with a view of another width than there are callers isn't gathered.
+    // A book with a view of more counts than there are callers isn't gathered.
     ensures wide { ¬ IsGathered 1 (lacking_none 1) (1 ∷ []) book_too_wide }
 {}
 
-/// The lengths of a local's lists are those of its phase, each of them.
+/// A local has the counts and the lengths of lists of its phase at moments of a run, and lacks them
+/// where one count or one list differs.
 #[tactic(auto, using(crate::proofs::Agreeing::no_announced, crate::proofs::Agreeing::no_operation, crate::proofs::Agreeing::no_reply, crate::proofs::Agreeing::no_view, crate::proofs::Agreeing::no_seen, crate::proofs::Agreeing::none_in_N, crate::proofs::Agreeing::none_in_M, crate::proofs::Agreeing::no_steps))]
 pub fn lists_have_lengths_by_phase()
-    // The fresh local has the lengths of its phase.
+    // The fresh local has the counts and the lengths of its phase.
     ensures idle { HasPhase fresh }
-    // The local of a caller that has announced has the lengths of its phase.
+    // Right after an announcement a caller's local has the counts and the lengths of its phase.
     ensures asking { HasPhase as_announced }
-    // The local of a caller that has its view has the lengths of its phase.
+    // Right after its view a caller's local has the counts and the lengths of its phase.
     ensures publishing { HasPhase as_viewed }
-    // The local of a caller that has published has the lengths of its phase.
+    // Right after a publication a caller's local has the counts and the lengths of its phase.
     ensures judging { HasPhase as_published }
-    // The local of a caller that has judged has the lengths of its phase.
+    // Right after its seen cut a caller's local has the counts and the lengths of its phase.
     ensures judged { HasPhase as_judged }
-    // A local in the phase announce with an unpublished call doesn't have the lengths of its phase.
+    // A local in the phase announce with one announced call and no published record doesn't have
+    // the counts of its phase.
     ensures announced { ¬ HasPhase uncounted }
-    // An idle local with an operation more doesn't have the lengths of its phase.
+    // The fresh local with an operation added doesn't have the lengths of its phase.
     ensures operations { ¬ HasPhase (record fresh { operations = 5 ∷ [] }) }
-    // An idle local with a reply more doesn't have the lengths of its phase.
+    // The fresh local with a reply added doesn't have the lengths of its phase.
     ensures replies { ¬ HasPhase (record fresh { replies = 50 ∷ [] }) }
-    // An idle local with a view more doesn't have the lengths of its phase.
+    // The fresh local with a view added doesn't have the lengths of its phase.
     ensures views { ¬ HasPhase (record fresh { views = [] ∷ [] }) }
-    // An idle local with a seen cut more doesn't have the lengths of its phase.
+    // The fresh local with a seen cut added doesn't have the lengths of its phase.
     ensures seen { ¬ HasPhase (record fresh { seen = [] ∷ [] }) }
-    // An idle local with a cut embedded in N more doesn't have the lengths of its phase.
+    // The fresh local with a cut embedded in N added doesn't have the lengths of its phase.
     ensures embedded_in_N { ¬ HasPhase (record fresh { embedded_in_N = [] ∷ [] }) }
-    // An idle local with a cut embedded in M more doesn't have the lengths of its phase.
+    // The fresh local with a cut embedded in M added doesn't have the lengths of its phase.
     ensures embedded_in_M { ¬ HasPhase (record fresh { embedded_in_M = [] ∷ [] }) }
-    // An idle local with object steps of a call more doesn't have the lengths of its phase.
+    // The fresh local with a list of object steps added doesn't have the lengths of its phase.
     ensures object_steps { ¬ HasPhase (record fresh { object_steps = [] ∷ [] }) }
 {}
 
-/// The view's scan is under way in the phase view alone, and words are staged, and a cut to embed
-/// is kept, in the phases announce and publish alone.
+/// What fits a phase: the view's scan is under way in the phase view alone, and words are staged,
+/// and a cut to embed is kept, in the phases announce and publish alone.
 #[tactic(auto, using(crate::proofs::Agreeing::not_view_of_M, crate::proofs::Agreeing::not_view, crate::proofs::Agreeing::not_in_asking, crate::proofs::Agreeing::not_staged))]
 pub fn parts_fit_phases()
     // The view's scan of N fits the phase view.
     ensures view { FitsPhase Viewing (Some (scan_of N true)) }
     // A scan of M that isn't the view's fits the phase ask.
     ensures scan { FitsPhase Asking (Some (scan_of M false)) }
-    // No scan under way fits the phase ask.
+    // A caller without a scan under way fits the phase ask.
     ensures none { FitsPhase Asking None }
-    // No scan under way doesn't fit the phase view.
+    // A caller without a scan under way doesn't fit the phase view.
     ensures no_view { ¬ FitsPhase Viewing None }
-    // A view's scan of M doesn't fit the phase view.
+    // A scan of M that is said to be the view's doesn't fit the phase view.
     ensures view_of_M { ¬ FitsPhase Viewing (Some (scan_of M true)) }
     // A scan that isn't the view's doesn't fit the phase view.
     ensures not_view { ¬ FitsPhase Viewing (Some (scan_of N false)) }
@@ -302,50 +326,56 @@ pub fn parts_fit_phases()
     ensures judging_is_busy { ¬ IsIdle (record fresh { phase = Judging }) }
 {}
 
-/// A local agrees with the words where its counts and its rows stand there, it has few calls, what
-/// it staged stands in a row that exists, at a place of it, and belongs there, and its parts fit
-/// its phase.
+/// A local agrees with the words of the table where its counts and its counted rows are in the
+/// table, it has announced at most as many calls as the cap says, its staged words are in the
+/// table, each in a row below the cap, at a place of the region and as the word that belongs there,
+/// and its parts fit its phase.
 #[tactic(auto, using(crate::proofs::Agreeing::agrees, crate::proofs::Agreeing::other_count_of_N, crate::proofs::Agreeing::other_count_of_M, crate::proofs::Agreeing::too_many, crate::proofs::Agreeing::other_row_of_N, crate::proofs::Agreeing::other_row_of_M, crate::proofs::Agreeing::not_standing, crate::proofs::Agreeing::staged_as_asking, crate::proofs::Agreeing::kept_as_asking, crate::proofs::Agreeing::other_lists, crate::proofs::Agreeing::view_as_asking, crate::proofs::Agreeing::past_rows, crate::proofs::Agreeing::past_places, crate::proofs::Agreeing::stands_not, crate::proofs::Agreeing::not_due))]
 pub fn locals_agree_with_words()
-    // The local of a caller that has staged its reply agrees with the words after its run.
+    // After the run in which a caller stages its reply the caller's local agrees with the words.
     ensures agrees { Agrees single (end_of single reply_staged).words 0
         (local_after_all single reply_staged 0) }
-    // A fresh local doesn't agree with words that count a row of N.
+    // The fresh local doesn't agree with words in which the count in N is 1.
     ensures counts_of_N { ¬ Agrees single (1 ∷ 0 ∷ 0 ∷ 0 ∷ 0 ∷ 0 ∷ 0 ∷ 0 ∷ []) 0 fresh }
-    // A fresh local doesn't agree with words that count a row of M.
+    // The fresh local doesn't agree with words in which the count in M is 1.
     ensures counts_of_M { ¬ Agrees single (0 ∷ 1 ∷ 0 ∷ 0 ∷ 0 ∷ 0 ∷ 0 ∷ 0 ∷ []) 0 fresh }
-    // A local with more calls than the cap doesn't agree with words.
+    // A local that has announced more calls than the cap says doesn't agree with words that have
+    // its counts.
     ensures few { ¬ Agrees single (2 ∷ 1 ∷ 0 ∷ 0 ∷ 0 ∷ 0 ∷ 0 ∷ 0 ∷ []) 0 crowded }
-    // A local doesn't agree with words that have another word in a row of N.
+    // A local doesn't agree with words in which its row of N has another high word.
     ensures rows_of_N { ¬ Agrees single (1 ∷ 0 ∷ 5 ∷ 1 ∷ 0 ∷ 0 ∷ 0 ∷ 0 ∷ []) 0 asking_alone }
-    // A local doesn't agree with words that have another word in a row of M.
+    // A local doesn't agree with words in which its row of M has another entry of the view.
     ensures rows_of_M { ¬ Agrees single (1 ∷ 1 ∷ 5 ∷ 0 ∷ 0 ∷ 50 ∷ 0 ∷ 0 ∷ []) 0
         (local_after_all single published_alone 0) }
-    // A local doesn't agree with words that lack what it staged.
+    // A local that has staged 5 at place 0 doesn't agree with words that have 0 there.
     ensures staged { ¬ Agrees single no_words 0 staged_low }
-    // A local with a word staged in the phase ask doesn't agree with words.
+    // A local with a staged word in the phase ask doesn't agree with words that have its counts and
+    // rows.
     ensures staged_in { ¬ Agrees single (1 ∷ 0 ∷ 5 ∷ 0 ∷ 0 ∷ 0 ∷ 0 ∷ 0 ∷ []) 0 asking_staged }
-    // A local with a cut to embed in the phase ask doesn't agree with words.
+    // A local with a cut to embed in the phase ask doesn't agree with words that have its counts
+    // and rows.
     ensures kept_in { ¬ Agrees single (1 ∷ 0 ∷ 5 ∷ 0 ∷ 0 ∷ 0 ∷ 0 ∷ 0 ∷ []) 0 asking_embeds }
-    // A local without the lengths of its phase doesn't agree with words.
+    // A local without the lengths of its phase doesn't agree with words that have its counts.
     ensures phase { ¬ Agrees single no_words 0 (record fresh { replies = 50 ∷ [] }) }
-    // A local with the view's scan under way in the phase ask doesn't agree with words.
+    // A local with the view's scan under way in the phase ask doesn't agree with words that have
+    // its counts and rows.
     ensures scan { ¬ Agrees single (1 ∷ 0 ∷ 5 ∷ 0 ∷ 0 ∷ 0 ∷ 0 ∷ 0 ∷ []) 0 asking_views }
-    // A word that was staged past the last row isn't in its row.
+    // A word that was staged in a row beyond the cap isn't in its row.
     ensures row { ¬ IsInRow single no_words 0 staged_past N 0 }
-    // A word that was staged beside the row's places isn't in its row.
+    // A word that was staged at a place that the region doesn't have isn't in its row.
     ensures place { ¬ IsInRow single no_words 0 staged_beside N 3 }
-    // A word that was staged and doesn't stand there isn't in its row.
+    // A staged word isn't in its row where the table has another word there.
     ensures stands { ¬ IsInRow single no_words 0 staged_low N 0 }
-    // A word that stands there and doesn't belong there isn't in its row.
+    // A staged word that the table has isn't in its row where it doesn't belong there.
     ensures due { ¬ IsInRow single (0 ∷ 0 ∷ 0 ∷ 0 ∷ 5 ∷ 0 ∷ 0 ∷ 0 ∷ []) 0 staged_entry N 2 }
 {}
 
-/// How a scan stands, what it wants of whom, and which words it may have taken.
+/// What a scan keeps of its words, what it may need of which callers, and which words it may have
+/// taken.
 #[tactic(auto, using(crate::proofs::Steady::steady, crate::proofs::Steady::falls, crate::proofs::Steady::moves, crate::proofs::Steady::others_move, crate::proofs::Steady::wanted_all, crate::proofs::Steady::unwanted, crate::proofs::Steady::long))]
 pub fn scans_stand_by_their_words()
-    // After seven words a scan of two callers has its first, its last and its current collect, and
-    // borrows.
+    // After three collects and one peek a scan of two callers keeps its first collect, its last
+    // collect and the peeked word, and borrows from the second row of caller 0.
     ensures standing { standing 2 1 N (0 ∷ 0 ∷ 1 ∷ 0 ∷ 2 ∷ 0 ∷ 7 ∷ []) ≡ record {
       callers = 2;
       me = 1;
@@ -355,46 +385,47 @@ pub fn scans_stand_by_their_words()
       current = 7 ∷ [];
       course = Borrows 0 1;
     } }
-    // A scan that has made no whole collect has no first one.
+    // A scan that has made no whole collect keeps no first one.
     ensures beginning { (standing 2 1 M (3 ∷ [])).first ≡ None }
     // A look at caller 1 fits two callers.
     ensures look { FitsCallers 2 (Wants_look 1) }
-    // A peek of the entry of caller 1 in a row of caller 1 fits two callers.
+    // A peek at the entry for caller 1 in a row of caller 1 fits two callers.
     ensures peek { FitsCallers 2 (Wants_peek 1 5 1) }
     // A cut of two counts fits two callers.
     ensures done { FitsCallers 2 (Done (4 ∷ 5 ∷ [])) }
     // A look at caller 2 doesn't fit two callers.
     ensures no_look { ¬ FitsCallers 2 (Wants_look 2) }
-    // A peek in a row of caller 2 doesn't fit two callers.
+    // A peek into a row of caller 2 doesn't fit two callers.
     ensures no_peek { ¬ FitsCallers 2 (Wants_peek 2 5 1) }
-    // A peek of the entry of caller 2 doesn't fit two callers.
+    // A peek at an entry for caller 2 doesn't fit two callers.
     ensures no_entry { ¬ FitsCallers 2 (Wants_peek 1 5 2) }
     // A cut of one count doesn't fit two callers.
     ensures narrow { ¬ FitsCallers 2 (Done (4 ∷ [])) }
-    // The course of the words with a borrowed cut has ended, and that of three looks hasn't.
+    // A scan has ended that has taken the words of a whole borrowed cut, and one that has taken
+    // three looks at two callers hasn't.
     ensures ends { map (λ taken. has_ended (course 2 taken)) (lent_words ∷ (0 ∷ 0 ∷ 0 ∷ []) ∷ [])
         ≡ true ∷ false ∷ [] }
-    // What a scan wants is its end for a cut, and not for a look or a peek.
+    // Of a look, a peek and a finished cut, the finished cut alone says that a scan is done.
     ensures dones { map is_done (Wants_look 0 ∷ Wants_peek 0 0 0 ∷ Done [] ∷ [])
         ≡ false ∷ false ∷ true ∷ [] }
-    // What a scan wants is a look for a look, and not for a peek or a cut.
+    // Of a look, a peek and a finished cut, the look alone is a look.
     ensures looks { map is_look (Wants_look 0 ∷ Wants_peek 0 0 0 ∷ Done [] ∷ [])
         ≡ true ∷ false ∷ false ∷ [] }
-    // What a scan wants is a peek for a peek, and not for a look or a cut.
+    // Of a look, a peek and a finished cut, the peek alone is a peek.
     ensures peeks { map is_peek (Wants_look 0 ∷ Wants_peek 0 0 0 ∷ Done [] ∷ [])
         ≡ false ∷ true ∷ false ∷ [] }
-    // Peeked entries may be less than the counts before them.
+    // Words with peeked entries that are less than the counts before them may be steady.
     ensures steady { IsSteady 2 1 lent_words }
-    // Words of counts that fall aren't steady.
+    // Words of a scan by caller 0 in which the count of caller 1 falls aren't steady.
     ensures falls { ¬ IsSteady 2 0 (0 ∷ 1 ∷ 0 ∷ 0 ∷ []) }
-    // Words in which the own count moves aren't steady.
+    // Words of a scan by caller 0 in which its own count rises aren't steady.
     ensures moves { ¬ IsSteady 2 0 (0 ∷ 0 ∷ 1 ∷ 0 ∷ []) }
-    // Words in which another's count moves are steady.
+    // Words of a scan by caller 1 in which the count of caller 0 rises are steady.
     ensures others_move { IsSteady 2 1 (0 ∷ 0 ∷ 1 ∷ 0 ∷ []) }
-    // Two equal collects of two callers were wanted word by word.
+    // Each word of two equal collects was taken by a scan that hadn't ended.
     ensures wanted { AreWanted 2 (0 ∷ 0 ∷ 0 ∷ 0 ∷ []) }
-    // A word after two equal collects wasn't wanted.
+    // A word after two equal collects was taken by a scan that had ended.
     ensures unwanted { ¬ AreWanted 2 (0 ∷ 0 ∷ 0 ∷ 0 ∷ 0 ∷ []) }
-    // Three looks are more than a scan of one caller makes at most.
+    // Three looks are more than a scan of one caller makes where its words are few.
     ensures long { ¬ IsShort 1 (0 ∷ 1 ∷ 2 ∷ []) }
 {}

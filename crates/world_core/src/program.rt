@@ -4,14 +4,15 @@ ghost use Rattle.world_core.specs.Shape.{Meaning};
 
 use book_base::{MAX_CALLERS, MAX_CALLS};
 
-/// What an object does inside the world. A program is a value that a world keeps and never changes.
+/// How an object works inside the world. A program is a value that a world keeps and never changes.
 ///
-/// Its meaning, for `n` callers and a cap, says how many object words it has, which step a caller
-/// may make on one of them, and which reply a caller may get, each by the caller's local.
+/// Its meaning, for `n` callers and a cap, says how many object words there are, which step a
+/// caller may make on one of them, and which reply a caller may get. The last two depend on the
+/// caller's number and on its local.
 pub trait Program: Copy {
     ghost meaning: { Self → ℕ → ℕ → Meaning };
 
-    /// How many object words a world of `n` callers and this cap has.
+    /// How many object words a world of `n` callers with `cap` rows each has: at most 65536.
     fn object_words(&self, n: u32, cap: u64) -> u64
         requires some_callers { 1 ≤ n }
         requires few_callers { n ≤ MAX_CALLERS }
@@ -24,8 +25,8 @@ pub trait Program: Copy {
 /// A program whose object is inside the world: its callers make their steps on object words.
 pub trait InWorld: Program {}
 
-/// The object is outside the world: there are no object words, no steps on them, and every reply is
-/// allowed.
+/// The program of an object outside the world: there are no object words, no steps on them, and
+/// every reply is allowed.
 #[derive(Clone, Copy, Debug, PartialEq, Eq)]
 pub struct Outside;
 
@@ -39,7 +40,7 @@ impl Program for Outside {
     }
 }
 
-/// A program for tests: one object word, every step on it and every reply.
+/// A program for tests: there is one object word, and every step on it and every reply is allowed.
 #[derive(Clone, Copy, Debug, PartialEq, Eq)]
 pub struct Scrap;
 

@@ -11,13 +11,13 @@ use crate::want::Want;
 use book_base::{Cut, MAX_CALLERS};
 use std::marker::Model;
 
-/// A scan of a region by one caller, as a machine that is handed each word that it wants.
+/// A scan of a region by one caller, as a machine that is handed each word that it needs.
 ///
 /// It makes collects, and compares each with the one before it: two equal ones end it. Where a
 /// caller has moved twice since the first collect, it ends with the cut that this caller's latest
 /// counted row embeds (Afek and others 1993). It keeps the first and the last whole round and the
-/// words of the round under way. Clauses see it as a standing: how a scan stands that has taken
-/// some list of words.
+/// words of the round under way. Clauses see it as the state of a scan that has taken some list of
+/// words.
 #[derive(Debug, Drop)]
 pub struct ScanCore {
     me: u32,
@@ -74,17 +74,18 @@ impl ScanCore {
         self.region
     }
 
-    /// What the scan wants next.
+    /// What the scan needs next.
     pub fn next(&self) -> Want
-        // The answer is what the scan's course wants next, with the entries that it has taken of a
-        // borrowed cut.
+        // The answer is what the scan needs next, by what it does now and by the words of the round
+        // under way.
         ensures now { result ≡ wanted_by self.now.course self.now.current }
-        // A finished cut is answered exactly where the scan has ended.
+        // The answer is a cut exactly where the scan has ended.
         ensures ended { is_done result ≡ has_ended self.now.course }
-        // What is wanted names one of the callers, and a finished cut has one count for each of
+        // The answer names callers of the scan alone, and a cut in it has one count for each of
         // them.
         ensures fits { FitsCallers self.now.callers result }
-        // The answer is what a scan of these callers wants after the words that this one has taken.
+        // The answer is what a scan of n callers needs next after the words that this scan has
+        // taken.
         ensures wanted { (n me : ℕ) (region : Region) (taken : List ℕ)
             → self.now ≡ standing n me region taken → result ≡ wanted n taken }
     {
@@ -95,18 +96,18 @@ impl ScanCore {
         }
     }
 
-    /// Takes the word that the scan wants. It has not ended.
+    /// Takes the word that the scan needs next. The scan must not have ended.
     ///
-    /// Where counts never fall and the scanning caller's own count stands still, a scan of `n`
+    /// Where counts never fall and the scanning caller's own count stays as it is, a scan of `n`
     /// callers makes at most `n + 1` collects, which is `n * (n + 1)` looks, and at most `n` peeks.
     pub fn take(&mut self, word: u64)
         // The scan hasn't ended.
         requires { has_ended self.old.course ≡ false }
-        // The scan has taken this word after those that it had taken.
+        // The scan is now one that has taken this word after the words that it had taken.
         ensures taken { (n me : ℕ) (region : Region) (taken : List ℕ) → self.old
             ≡ standing n me region taken → self.new ≡ standing n me region (taken ++ word ∷ []) }
-        // Where counts never fall and the caller's own stands still, the scan has made at most n *
-        // (n + 1) looks and n peeks.
+        // Where the words with this one are steady, since counts never fall and the caller's own
+        // stays as it is, the scan has made at most n * (n + 1) looks and n peeks.
         ensures short { (n me : ℕ) (region : Region) (taken : List ℕ)
             → self.old ≡ standing n me region taken → IsSteady n me (taken ++ word ∷ [])
             → IsShort n (taken ++ word ∷ []) }
@@ -123,7 +124,7 @@ impl ScanCore {
     }
 }
 
-// What a scan does after a round, by what it did in it.
+// What a scan does after a round, by what it did in the round.
 fn course_on(course: Course, first: &Cut, last: &Option<Cut>, latest: &Cut) -> Course
     requires first { length first.now ≡ length latest.now }
     requires last { FitsRound (length latest.now) last.now }
@@ -137,7 +138,8 @@ fn course_on(course: Course, first: &Cut, last: &Option<Cut>, latest: &Cut) -> C
     }
 }
 
-// What a scan does after a collect.
+// What a scan does after a collect, by the first collect, the one before, if there is one, and the
+// latest.
 fn course_by(first: &Cut, last: &Option<Cut>, latest: &Cut) -> Course
     requires first { length first.now ≡ length latest.now }
     requires last { FitsRound (length latest.now) last.now }
@@ -151,7 +153,8 @@ fn course_by(first: &Cut, last: &Option<Cut>, latest: &Cut) -> Course
     }
 }
 
-// The row that a caller lends which has moved twice, if there is one.
+// What a scan does after two collects that differ: it borrows from the least caller that has moved
+// twice since the first collect, and collects again where no caller has.
 fn lent_by(first: &Cut, latest: &Cut) -> Course
     requires first { length first.now ≡ length latest.now }
     ensures course { result ≡ lent_by latest.now (mover first.now latest.now) }

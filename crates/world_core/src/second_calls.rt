@@ -1,5 +1,5 @@
-//! Worked runs in which one caller makes two calls: what a local, the words, the book and the
-//! history keep of each call, and what the world remembers of each word.
+//! Worked runs in which one caller makes two calls: what its local, the words of the table, the
+//! book and the history keep of each call, and which steps and words belong to which call.
 
 ghost use Rattle.std.specs.Prelude.{◌≡◌, ◌+◌, ◌*◌, ◌^◌, true, false, [], ◌∷◌, ◌++◌, IsTrue, Some, None, take, map};
 ghost use Rattle.world_core.specs.declared.region.Region.TheVariants.{N, M};
@@ -15,10 +15,10 @@ ghost use Rattle.world_core.specs.Schedules.{pair, trio, by, local_at, local_aft
 ghost use Rattle.world_core.specs.Refusals.{entry_peeked};
 ghost use Rattle.world_core.specs.SecondCalls.{twice, two_by_one, first_operation, second_operation, as_announced, as_viewed, as_published, as_judged, second_ready, first_record, second_record, made, book_of_two, contents, staged_again, first_unstaged, peeking, looked_beside, two_words, steps_by_call, by_operation};
 
-/// One caller makes two calls, beside another that announces one: what its local keeps of them, in
-/// their order.
+/// One caller makes two calls, after another caller has announced one: what the first caller's
+/// local keeps of its calls, in their order.
 pub fn a_caller_makes_two_calls()
-    // The steps of a caller that makes two calls beside another one are a run.
+    // The announcement of one caller and the two whole calls of the other are a run.
     ensures run { IsRun twice two_by_one }
     // The caller has both operations, in their order.
     ensures operations { as_judged.operations ≡ first_operation ∷ second_operation ∷ [] }
@@ -49,7 +49,7 @@ pub fn a_caller_makes_two_calls()
         ∷ record { region = M; cut = 1 ∷ 0 ∷ []; since = 24 }
         ∷ record { region = M; cut = 2 ∷ 0 ∷ []; since = 28 }
         ∷ [] }
-    // The words at the end are the counts and the rows.
+    // The words of the table at the end are the four counts and the four rows.
     ensures words { (end_of twice two_by_one).words
         ≡ (2 ∷ 1 ∷ 2 ∷ 0 ∷ [])
         ++ (5 ∷ 7 ∷ 0 ∷ 1 ∷ 50 ∷ 1 ∷ 1 ∷ 0 ∷ 0 ∷ [])
@@ -60,11 +60,12 @@ pub fn a_caller_makes_two_calls()
     ensures count_of_N { count_of twice (end_of twice two_by_one) N 1 ≡ 1 }
     // Caller 0 has published two records.
     ensures count_of_M { count_of twice (end_of twice two_by_one) M 0 ≡ 2 }
-    // The second row of caller 0 has the high word of its operation at place 1 in N.
+    // The second row of caller 0 has 8, the high word of its second operation, at place 1 in N.
     ensures row_of_N { row_word twice (end_of twice two_by_one) N 0 1 1 ≡ 8 }
-    // The second row of caller 0 has its reply at place 0 in M.
+    // The second row of caller 0 has 60, its second reply, at place 0 in M.
     ensures row_of_M { row_word twice (end_of twice two_by_one) M 0 1 0 ≡ 60 }
-    // The history has both calls of caller 0 after the invocation of caller 1.
+    // The history has the invocation of caller 1, and then invocation and return of the first call
+    // of caller 0, and those of its second.
     ensures history { history_of twice two_by_one
         ≡ Invoked (call_of 1 0) 9
         ∷ Invoked (call_of 0 0) first_operation
@@ -72,70 +73,73 @@ pub fn a_caller_makes_two_calls()
         ∷ Invoked (call_of 0 1) second_operation
         ∷ Returned (call_of 0 1) 60
         ∷ [] }
-    // Call 2 of caller 3 is the one with these numbers.
+    // Call 2 of caller 3 is the call with the caller 3 and the number 2.
     ensures call { call_of 3 2 ≡ record { caller = 3; number = 2 } }
 {}
 
-/// How far the second call of a caller has come, by number: its operation, its record, and its seen
-/// cut; and what belongs at the places of its row and of the row before.
+/// How far the second call of a caller has come at moments of the run, and what belongs at the
+/// places of its row and of the row before.
 pub fn second_calls_have_their_own()
-    // After the second announcement the first call has its seen cut, and the second is announced.
+    // Right after the second announcement the first call has its record and its seen cut, and the
+    // second is announced.
     ensures announced { calls_in as_announced ≡ made first_operation
         (Has_seen first_record (1 ∷ 0 ∷ [])) ∷ made second_operation Is_announced ∷ [] }
-    // After the second view the second call has its record.
+    // Right after the second view the second call has its record.
     ensures viewed { calls_in as_viewed ≡ made first_operation (Has_seen first_record (1 ∷ 0 ∷ []))
         ∷ made second_operation (Has_record second_record) ∷ [] }
-    // After the second publication the second call still has its record alone.
+    // Right after the second publication the second call has its record, and no seen cut yet.
     ensures published { calls_in as_published
         ≡ made first_operation (Has_seen first_record (1 ∷ 0 ∷ []))
         ∷ made second_operation (Has_record second_record) ∷ [] }
-    // After the second verdict the second call has its seen cut.
+    // Right after the second seen cut the second call has it, with its record.
     ensures judged { calls_in as_judged ≡ made first_operation (Has_seen first_record (1 ∷ 0 ∷ []))
         ∷ made second_operation (Has_seen second_record (2 ∷ 0 ∷ [])) ∷ [] }
     // The book at the end has both calls of caller 0 with their records, and the call of caller 1.
     ensures book { book_in (end_of twice two_by_one).locals ≡ book_of_two }
-    // The words that belong in the first row are those of the first call.
+    // The words that belong at the places of the first row are those of the first call.
     ensures first_words { map (word_of as_judged 0) contents
         ≡ 5 ∷ 7 ∷ 0 ∷ 1 ∷ 50 ∷ 1 ∷ 1 ∷ 0 ∷ 0 ∷ [] }
-    // The words that belong in the second row are those of the second call.
+    // The words that belong at the places of the second row are those of the second call.
     ensures second_words { map (word_of as_judged 1) contents
         ≡ 6 ∷ 8 ∷ 1 ∷ 1 ∷ 60 ∷ 2 ∷ 1 ∷ 1 ∷ 0 ∷ [] }
     // The caller's own count in N is 2 after the second announcement.
     ensures count_in_N { own_count as_announced N ≡ 2 }
     // The caller's own count in M is 1 after the second announcement.
     ensures count_in_M { own_count as_announced M ≡ 1 }
-    // The operation of the call under way is the second one.
+    // Right after the second view the operation of the call under way is the second one.
     ensures operation { operation_now as_viewed ≡ second_operation }
-    // The row of the second call takes its own reply and view.
+    // In its second row a caller may stage the reply of its second call, an entry of that call's
+    // view, and an entry of the cut to embed.
     ensures own { IsTrue (allows_in twice second_ready
         (by 0 (Stage M 0 60) ∷ by 0 (Stage M 1 2) ∷ by 0 (Stage M 3 1) ∷ [])) }
-    // The words of the first call may not be staged in the second row.
+    // In its second row a caller may not stage the reply, an entry of the view or an entry of the
+    // embedded cut of its first call.
     ensures of_the_first { IsTrue (refuses_in twice second_ready
         (by 0 (Stage M 0 50) ∷ by 0 (Stage M 1 1) ∷ by 0 (Stage M 3 0) ∷ [])) }
 {}
 
-/// Each object step belongs to the call under way, and is made on the object word that it names;
-/// which steps and replies a program allows may depend on the caller's local.
+/// Each object step is noted with the call under way, and is made on the object word that it names;
+/// and which steps and replies a program allows may depend on the caller's local.
 pub fn object_steps_belong_to_calls()
-    // The steps on two object words are a run.
+    // The three steps on two object words, in two calls, are a run with the rest of these calls.
     ensures run { IsRun two_words steps_by_call }
     // The object steps of each call are those that the caller made in it.
     ensures by_call { (local_after_all two_words steps_by_call 0).object_steps
         ≡ (object_step 1 0 3 ∷ object_step 0 0 4 ∷ []) ∷ (object_step 1 3 8 ∷ []) ∷ [] }
-    // The object steps of the call under way are those of the second call.
+    // The object steps of the call under way are those of the second call alone.
     ensures now { steps_now (local_after_all two_words steps_by_call 0) ≡ object_step 1 3 8 ∷ [] }
-    // The operation of the call under way is that of the second call.
+    // The operation of the call under way is that of the second call, 6.
     ensures operation { operation_now (local_after_all two_words steps_by_call 0) ≡ 6 }
-    // The object steps of all calls are those of the first call and then the second's.
+    // The object steps of all calls are those of the first call and then those of the second.
     ensures all { all_steps_of (local_after_all two_words steps_by_call 0)
         ≡ object_step 1 0 3 ∷ object_step 0 0 4 ∷ object_step 1 3 8 ∷ [] }
-    // The words at the end have both object words after the rows.
+    // The words of the table at the end are the counts, both rows, and then both object words.
     ensures words { (end_of two_words steps_by_call).words
         ≡ 2 ∷ 1 ∷ 5 ∷ 0 ∷ 0 ∷ 50 ∷ 1 ∷ 0 ∷ 6 ∷ 0 ∷ 1 ∷ 0 ∷ 0 ∷ 0 ∷ 4 ∷ 8 ∷ [] }
     // The second object word is 8.
     ensures second_word { object_word two_words (end_of two_words steps_by_call) 1 ≡ 8 }
-    // An object step isn't allowed from another word than that which stands there, nor on a word
-    // that isn't there.
+    // No object step is enabled with another old word than the table has, nor on an object word
+    // that the table doesn't have.
     ensures its_word { IsTrue (refuses_in two_words steps_by_call
         (by 0 (Object (object_step 1 4 5)) ∷ by 0 (Object (object_step 2 0 5)) ∷ [])) }
     // A program that goes by the operation allows a step and a reply of the caller's own operation.
@@ -146,36 +150,36 @@ pub fn object_steps_belong_to_calls()
         (by 0 (Object (object_step 0 0 6)) ∷ by 0 (Look N 0 1 (Begins_view 6)) ∷ [])) }
 {}
 
-/// A place may be staged again, and has the last word that was staged there; an operation is
-/// announced with its high word; and no place of a row may lack.
+/// A place may be staged again, and the row then has the word that was staged last; an operation is
+/// announced with its high word; and each place of the row has to be staged before it is announced.
 pub fn places_are_staged_again()
-    // The steps with places that are staged again are a run.
+    // The steps in which a caller stages both words of its operation twice are a run.
     ensures run { IsRun pair staged_again }
-    // The announced operation is that of the words that were staged last.
+    // The announced operation is that of the two words that were staged last.
     ensures operation { (local_at staged_again 0).operations ≡ second_operation ∷ [] }
     // The row has the low word that was staged last.
     ensures low { row_word pair (end_of pair staged_again) N 0 0 0 ≡ 6 }
     // The row has the high word that was staged last.
     ensures high { row_word pair (end_of pair staged_again) N 0 0 1 ≡ 8 }
-    // Each staged word is kept, newest first.
+    // Each staged word is kept in the local, newest first.
     ensures staged { (local_at (take 7 staged_again) 0).staged ≡ record { place = 0; word = 6 }
         ∷ record { place = 1; word = 7 } ∷ record { place = 0; word = 5 } ∷ [] }
-    // The call is invoked with the operation of the words that were staged last.
+    // The call is invoked with the operation of the two words that were staged last.
     ensures invoked { history_of pair staged_again ≡ Invoked (call_of 0 0) second_operation ∷ [] }
-    // A caller that lacks place 0 alone may not announce.
+    // A caller that has staged each place of its row in N but place 0 may not announce.
     ensures first_lacks { IsTrue (refuses first_unstaged (by 0 Announce ∷ [])) }
-    // A caller that has staged place 0 too may announce.
+    // A caller that has staged each place of its row in N, place 0 last, may announce.
     ensures first_is_staged { IsTrue
         (allows (first_unstaged ++ by 0 (Stage N 0 5) ∷ []) (by 0 Announce ∷ [])) }
 {}
 
 /// What a caller keeps of a word that it peeked: the region, the caller, the row, the place, and
-/// the word, newest first. Looks and peeks of the region that a scan isn't of are none of its
-/// words.
+/// the word, newest first. A scan takes no word of a look or a peek in the other region.
 pub fn peeks_are_kept()
-    // The steps with peeks in both regions are a run.
+    // The steps in which a caller borrows a cut and then peeks an operation are a run.
     ensures run { IsRun trio peeking }
-    // The peeked words of N are kept with region, caller, row and place, newest first.
+    // The words that the caller peeked in N are kept with region, caller, row and place, newest
+    // first.
     ensures of_N { (local_after_all trio peeking 2).peeked
         ≡ record { region = N; caller = 1; row = 0; place = 0; word = 7 }
         ∷ record { region = N; caller = 0; row = 1; place = 4; word = 0 }
@@ -183,34 +187,35 @@ pub fn peeks_are_kept()
         ∷ record { region = N; caller = 0; row = 0; place = 3; word = 0 }
         ∷ record { region = N; caller = 0; row = 1; place = 2; word = 1 }
         ∷ [] }
-    // The peeked words of M are kept with region, caller, row and place, newest first.
+    // The words that the caller peeked in M are kept with region, caller, row and place, newest
+    // first.
     ensures of_M { (local_at entry_peeked 1).peeked
         ≡ record { region = M; caller = 0; row = 0; place = 1; word = 1 }
         ∷ record { region = M; caller = 0; row = 0; place = 0; word = 50 } ∷ [] }
-    // A look in the region that a scan isn't of is none of its words.
+    // A scan of N doesn't take the word of a look in M, though it needs a look at the same caller.
     ensures looked_beside { (local_at looked_beside 0).scan
         ≡ Some (record { region = N; is_view = false; since = 0; taken = 0 ∷ [] }) }
-    // A peek in the region that a scan isn't of is none of its words.
+    // A scan of N doesn't take the word of a peek in M, though it needs a peek into the same row.
     ensures peeked_beside { (peeked_at 3 (local_after_all trio (moved_twice ++ take 3 borrowed) 2) M
         0 1 4 9).scan ≡ (local_after_all trio (moved_twice ++ take 3 borrowed) 2).scan }
 {}
 
-/// Which histories of one caller are linearizable: its second call stands after its first, though
-/// both have one operation; no call stands twice, or before itself; and the replies are those from
-/// the first list on.
+/// Which histories of one caller are linearizable: its second call comes after its first, though
+/// both have one operation; no call is in the order twice, or before itself; and the replies depend
+/// on the first list.
 #[tactic(auto, using(crate::proofs::OneCaller::in_turn_linearizable, crate::proofs::OneCaller::caller_forbids, crate::proofs::OneCaller::one_forbids, crate::proofs::OneCaller::list_allows, crate::proofs::OneCaller::list_forbids, crate::proofs::OneCaller::before_forbids))]
 pub fn histories_of_one_caller_are_linearizable()
-    // A history of two calls of one caller in their order is linearizable.
+    // A history of two calls of one caller that return 0 and 1, one after the other, is
+    // linearizable.
     ensures in_turn { IsLinearizable [] numbering in_turn }
-    // A history in which a caller's second call stands before its first isn't linearizable.
+    // A history of two calls of one caller that return 1 and 0, one after the other, isn't
+    // linearizable.
     ensures by_caller { ¬ IsLinearizable [] numbering out_of_turn }
-    // A history in which one call has the reply of the second isn't linearizable from the empty
-    // list.
+    // A history of one call, which returns 1, isn't linearizable from the empty list.
     ensures once { ¬ IsLinearizable [] numbering returns_one }
-    // A history in which one call has the reply of the second is linearizable from a list of one
-    // operation.
+    // A history of one call, which returns 1, is linearizable from a list of one operation.
     ensures from_a_list { IsLinearizable (7 ∷ []) numbering returns_one }
-    // A history in which one call has the reply of the first isn't linearizable from that list.
+    // A history of one call, which returns 0, isn't linearizable from a list of one operation.
     ensures from_that_list { ¬ IsLinearizable (7 ∷ []) numbering returns_none }
     // A history in which a call returns before it is invoked isn't linearizable.
     ensures before_itself { ¬ IsLinearizable [] numbering returns_before }

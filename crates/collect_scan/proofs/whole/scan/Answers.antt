@@ -41,7 +41,7 @@ returns-in-Some-clause-looked g c =
     (local_with c.loop-cut.caller) c.loop-cut.invariant.still.0.seat.local
     (returns-in-Some-clause-scanned g c)
 
--- The scan under way is the one of the invariant, and hasn't ended.
+-- Where the local gives no cut yet, the scan that the loop has begun is under way and isn't done.
 pub go_on-requires-clause-goes : goal.go_on-requires-clause-goes
 go_on-requires-clause-goes g c =
     let h = c.loop-cut.invariant in

@@ -24,15 +24,16 @@ use Rattle.row_gather.proofs.gather.grow_at.Goals as goal
 abbrev items : Vec Record Global → List Record
 items v = v.items
 
--- the counts of calls, of the lists that were read
+-- Counts that are the greatest ones in the views of some lists are the greatest ones in the views
+-- of lists that are equal to these.
 counts_of_lists : (n k : ℕ) (counts : List ℕ) (vs ws : List (Vec Record Global)) → k ≡ n → ws ≡ vs
     → ((j : ℕ) → j < k → slice_index counts j ≡ greatest_in (map items ws) j)
     → (j : ℕ) → j < n → slice_index counts j ≡ greatest_in (map items vs) j
 counts_of_lists n k counts vs ws same is are j low = are j (omega (arith, low, same))
     ∙ ap (λ (xs : List (Vec Record Global)). greatest_in (map items xs) j) is
 
--- the whole book was gathered, from what was kept, what was read, and the calls and records that
--- were added
+-- The whole book is gathered at the cut, where it is the book with which the gathering began, with
+-- the calls that were added and the records that were read.
 grown : (n k : ℕ) (l m o : Local) (kept : Option Gathered) (cut counts : List ℕ)
     (start book whole : List Page) (vs us ws : List (Vec Record Global))
     → IsBegunWith kept cut start
@@ -213,7 +214,8 @@ returns-clause-exact g c =
     (local_with c.add_calls.new.caller) c.args.cut.now c.add_answers.new.book
     c.add_calls.ensures.peeks.still.0.seat.who (returns-clause-gathered g c)
 
--- the words beyond those that it began with
+-- The counter has risen by the number of words that the whole book has and the book with which the
+-- gathering began lacks.
 words_grown : (n : ℕ) (o : Local) (kept : Option Gathered) (cut : List ℕ)
     (start book whole : List Page) (lists : List (List Record)) (a b c : ℕ)
     → IsBegunWith kept cut start → length cut ≡ n

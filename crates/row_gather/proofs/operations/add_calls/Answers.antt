@@ -11,7 +11,8 @@ pub returns-in_err-add_calls_of-clause-peeks : goal.returns-in_err-add_calls_of-
 returns-in_err-add_calls_of-clause-peeks g c = alone_then g.P.Program.meaning c.args.rows.now _ _ _
     _ _ _ c.loop-j.invariant.alone c.add_calls_of.ensures.peeks
 
--- the callers up to j have their calls once j has its own
+-- Where the first j callers have their calls, and then caller j gets its own, the first j + 1
+-- callers have theirs.
 done_more : (start now new : List Page) (counts : List ℕ) (j count : ℕ)
     → count ≡ slice_index counts j
     → ((i : ℕ) → i < j → calls_of now i ≡ max (calls_of start i) (slice_index counts i))

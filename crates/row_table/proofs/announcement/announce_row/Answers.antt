@@ -7,7 +7,7 @@ use Rattle.row_table.specs.Staging.{staged_from, with_staged}
 use Rattle.row_table.proofs.StagedRows.{staged_N, row_N, announced_N}
 use Rattle.row_table.proofs.announcement.announce_row.Goals as goal
 
--- the local once the operation is staged, and once the whole row is
+-- the local once the two words of the operation are staged, and once the whole row is
 after_operation : (n : ℕ) (l a b : Local) (low high : ℕ) → a ≡ local_after n l (Stage N 0 low)
     → b ≡ local_after n a (Stage N 1 high)
     → b ≡ with_staged l

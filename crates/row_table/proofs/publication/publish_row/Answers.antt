@@ -7,7 +7,7 @@ use Rattle.row_table.specs.Staging.{staged_from, with_staged}
 use Rattle.row_table.proofs.StagedRows.{may_still, staged_M, row_M, row_left, reply_may, view_may, entry_may_M}
 use Rattle.row_table.proofs.publication.publish_row.Goals as goal
 
--- the local once the reply is staged, then the view, and then the whole row
+-- the local once the reply and the view are staged, and once the whole row is
 after_view : (n : ℕ) (l a b : Local) (reply : ℕ) (view : List ℕ)
     → a ≡ local_after n l (Stage M 0 reply) → b ≡ with_staged a (staged_from 1 view a.staged)
     → b ≡ with_staged l (staged_from 1 view (record { place = 0; word = reply } ∷ l.staged))

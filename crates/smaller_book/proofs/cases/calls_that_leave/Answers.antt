@@ -3,7 +3,7 @@ use Rattle.book_base.specs.PruningRules.{Leaves}
 use Rattle.book_laws.specs.Cases.{line_next}
 use Rattle.smaller_book.proofs.cases.calls_that_leave.Goals as goal
 
--- a list of one item isn't the list without items
+-- The empty list isn't a list of one item.
 one_is_not_none : (item : ℕ) → ◌≡◌ {A = List ℕ} [] (item ∷ []) → ⊥
 one_is_not_none item same =
     let long : ◌≡◌ {A = ℕ} 0 1 = ap length same in

@@ -9,11 +9,12 @@ use Rattle.seq_objects.specs.Replies.{reply_done, reply_value}
 use Rattle.smaller_book.specs.Worked.{two_puts}
 use Rattle.smaller_book.proofs.cases.cuts_with_one_open.Goals as goal
 
--- the book at the cut without the last put
+-- The book `two_puts` at the cut without the last put.
 abbrev part : List Page
 part = book_at (1 ∷ 1 ∷ []) two_puts
 
--- the counts of its two views
+-- Each count of the view of the first put is at most one more than the answers of its caller at the
+-- cut.
 first_counts : (i : ℕ) → get_or (1 ∷ 0 ∷ []) i 0 ≤ answers_of part i + 1
 first_counts zero = omega arith
 first_counts (suc zero) = omega arith

@@ -8,7 +8,7 @@ use Rattle.seq_objects.specs.Replies.{reply_value}
 use Rattle.smaller_book.specs.Worked.{one_open}
 use Rattle.smaller_book.proofs.cases.open_calls.Goals as goal
 
--- the counts of the only view
+-- Each count of the only view is at most one more than the answers of its caller.
 few_counts : (i : ℕ) → get_or (1 ∷ 1 ∷ []) i 0 ≤ answers_of one_open i + 1
 few_counts zero = omega arith
 few_counts (suc zero) = omega arith

@@ -4,7 +4,8 @@ use Rattle.smaller_book.specs.Keys.{key_of_call}
 use Rattle.smaller_book.specs.Minimal.{IsKeyNeeded}
 use Rattle.smaller_book.proofs.keyless.without_key_of.Goals as goal
 
--- what is so where none is found, is so where more follows from it
+-- Where a claim holds if nothing is found, each claim that follows from it holds if nothing is
+-- found.
 none_then : {X E : Type 0} (r : Result (Option X) E) (P Q : Type 0) → (P → Q)
     → IfOk r (λ o. IfNone o P) → IfOk r (λ o. IfNone o Q)
 none_then (Ok (Some x)) P Q f h = h

@@ -1,4 +1,5 @@
--- No caller below the one that is looked at has moved twice.
+-- No caller with a number below i has moved twice: the mover of the two collects is that among the
+-- callers from i on.
 use Rattle.std.proofs.Common.{◌≡◌, drop}
 use Rattle.world_core.specs.Scan.{mover, mover_from}
 use Rattle.world_core.proofs.scan_core.lent_by.Given as goal

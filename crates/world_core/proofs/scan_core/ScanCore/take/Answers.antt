@@ -23,7 +23,7 @@ returns-else-self-n-clause-taken c n me region taken stood =
     (stands_more c.self.inside c.args.word n me region taken (c.self.view_is ∙ stood)
     c.self.invariant.lacks (λ whole. c.if-self-n.false (whole ∙ sym (c.n.ensures.count ∙ kept))))
 
--- the scan's own caller is one of its callers
+-- where the fields of a scan keep the state of one by caller `me` of n callers, `me` is below n
 scans : (c : Inside) (n me : ℕ) (region : Region) (taken : List ℕ) → c.me < length c.current
     → standing_of c ≡ standing n me region taken → me < n
 scans c n me region taken low stood =
