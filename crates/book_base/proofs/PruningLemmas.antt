@@ -2,7 +2,7 @@
 use Rattle.std.proofs.Common.{◌≡◌, ℕ, ◌<◌, ◌≢◌, Bool, false, List, [], ◌∷◌, length, get_or, set, refl, subst, arith}
 use Rattle.std.proofs.lemmas.List.{get_or-set_same, get_or-set_other}
 use Rattle.book_base.specs.declared.call.Call.{Call}
-use Rattle.book_base.specs.declared.marks.Marks.{Marks}
+use Rattle.book_base.specs.declared.marked_callers.MarkedCallers.{MarkedCallers}
 use Rattle.book_base.specs.Book.{Page}
 use Rattle.book_base.specs.Order.{call_at}
 use Rattle.book_base.specs.Next.{next_call, MayComeNext}
@@ -11,7 +11,7 @@ use Rattle.book_base.proofs.ViewLemmas.{same_call}
 
 -- Where a caller is forced, marks on all callers whose next calls may come next suffice.
 pub all_next_suffice : (book : List Page) (next : List ℕ → ℕ → List ℕ × ℕ) (cut list : List ℕ)
-    (forced : ℕ) (marks : Marks) → IsForced book cut forced
+    (forced : ℕ) (marks : MarkedCallers) → IsForced book cut forced
     → MarksAllNext book cut marks → MarksSuffice book next cut list marks
 all_next_suffice book next cut list forced marks is all [] goes =
     let held : get_or cut forced 0 < get_or cut forced 0 =

@@ -3,7 +3,7 @@ use Rattle.std.specs.Prelude.{◌≡◌, ℕ, ◌+◌, ◌<◌, ◌≤◌, ◌�
 use Rattle.book_base.specs.declared.call.Call.{Call}
 use Rattle.book_base.specs.declared.call.Place.{Place}
 use Rattle.book_base.specs.declared.call.Record.{Record}
-use Rattle.book_base.specs.declared.marks.Marks.{Marks}
+use Rattle.book_base.specs.declared.marked_callers.MarkedCallers.{MarkedCallers}
 use Rattle.book_base.specs.Cut.{IsWithin}
 use Rattle.book_base.specs.Book.{Page, answers_of, IsAnswered, record_of}
 use Rattle.book_base.specs.Order.{IsLegalOrder}
@@ -55,20 +55,20 @@ pub record IsReached (init : List ℕ) (next : List ℕ → ℕ → List ℕ × 
       → IsLegalOrder init next book (before ++ rest)
 
 -- a caller is marked
-abbrev pub IsMarked : Marks → ℕ → Type 0
+abbrev pub IsMarked : MarkedCallers → ℕ → Type 0
 IsMarked marks i = IsTrue (slice_index_or marks.callers i false)
 
 -- Exactly those callers are marked whose next calls after a cut may come next.
-abbrev pub MarksAllNext : List Page → List ℕ → Marks → Type 0
+abbrev pub MarksAllNext : List Page → List ℕ → MarkedCallers → Type 0
 MarksAllNext book cut marks = (i : ℕ) → IsMarked marks i ↔ MayComeNext book cut (next_call cut i)
 
 -- Where places continue an order from a cut and a list, as many or fewer that begin with the next
 -- call of a marked caller do too.
-abbrev pub MarksSuffice : List Page → (List ℕ → ℕ → List ℕ × ℕ) → List ℕ → List ℕ → Marks → Type 0
+abbrev pub MarksSuffice : List Page → (List ℕ → ℕ → List ℕ × ℕ) → List ℕ → List ℕ → MarkedCallers → Type 0
 MarksSuffice book next cut list marks = (rest : List Place) → Continues book next cut list rest
     → (place : Place) × (other : List Place) × IsMarked marks place.caller
     × Continues book next cut list (place ∷ other) × (length other < length rest)
 
 -- all callers that are marked here are marked there
-abbrev pub IsMarkedWithin : Marks → Marks → Type 0
+abbrev pub IsMarkedWithin : MarkedCallers → MarkedCallers → Type 0
 IsMarkedWithin few many = (i : ℕ) → IsMarked few i → IsMarked many i

@@ -11,7 +11,7 @@ use crate::book::Book;
 use crate::cut::Cut;
 use crate::decision::Decision;
 use crate::fault::NoMemory;
-use crate::marks::Marks;
+use crate::marked_callers::MarkedCallers;
 use crate::pruning_rules::PruningRules;
 use crate::sight::Sight;
 use crate::state::State;
@@ -95,8 +95,8 @@ pub trait SeqObject {
         cut: &Cut,
         words: &[u64],
         forced: u32,
-        marks: Marks,
-    ) -> Marks
+        marks: MarkedCallers,
+    ) -> MarkedCallers
         // The sight is one that the object prepared of this book.
         requires sight { sees self.now book.now sight.now }
         // Each view of the book holds at most one unanswered call of each caller.

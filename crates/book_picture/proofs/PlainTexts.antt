@@ -10,7 +10,7 @@ use Rattle.seq_objects.specs.declared.kind.Kind.{Kind}
 use Rattle.seq_objects.specs.declared.kind.Kind.TheVariants as kinds
 use Rattle.seq_objects.specs.Words.{kind_name}
 use Rattle.book_base.specs.declared.call.Call.{Call}
-use Rattle.book_picture.specs.declared.marks.Marks.{Marks}
+use Rattle.book_picture.specs.declared.marked_calls.MarkedCalls.{MarkedCalls}
 use Rattle.book_picture.specs.Elements.{GrowsByBar}
 use Rattle.book_picture.specs.Escape.{escape_of, escaped}
 use Rattle.book_picture.specs.Groups.{HasNoGroup, is_of_no_group, is_plain, GrowsPlain}
@@ -169,7 +169,7 @@ plain_error None = refl
 plain_error (Some call) =
     plain_line (codes "note") 12 80 (error_text call) refl (omega arith) (omega arith)
 
-pub plain_first_lines : (legal : Bool) (marks : Marks) (error : Option Call)
+pub plain_first_lines : (legal : Bool) (marks : MarkedCalls) (error : Option Call)
     → is_plain (first_lines legal marks error) ≡ true
 plain_first_lines legal marks error =
     plain-append (line_text (codes "title") 12 24 (title legal marks)) (error_line error)

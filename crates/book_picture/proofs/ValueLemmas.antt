@@ -16,7 +16,7 @@ use Rattle.seq_objects.specs.Words.{entries}
 use Rattle.sketch.specs.declared.event.Event.{Event}
 use Rattle.sketch.specs.declared.event.Event.TheVariants.{Invoke, Return}
 use Rattle.sketch.specs.Sketch.{StandsIn}
-use Rattle.book_picture.specs.Marks.{numbers_in}
+use Rattle.book_picture.specs.MarkedCalls.{numbers_in}
 use Rattle.book_picture.specs.Values.{has_argument, takes_number, value_of_call, with_value, with_event, values_after, place_among, colour_of}
 
 -- the operations with an argument are those that the tables have with one

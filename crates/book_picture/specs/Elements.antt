@@ -8,7 +8,7 @@ use Rattle.sketch.specs.declared.event.Event.{Event}
 use Rattle.sketch.specs.Sketch.{IsSketch}
 use Rattle.call_intervals.specs.declared.interval.Interval.{Interval}
 use Rattle.call_intervals.specs.Intervals.{HaveOneEach, StandOnTheirLanes, AreTold}
-use Rattle.book_picture.specs.declared.marks.Marks.{Marks}
+use Rattle.book_picture.specs.declared.marked_calls.MarkedCalls.{MarkedCalls}
 use Rattle.book_picture.specs.declared.row.Row.{Row}
 use Rattle.book_picture.specs.Groups.{HasNoGroup, is_plain}
 use Rattle.book_picture.specs.Rows.{has_part, AreFolded}
@@ -73,7 +73,7 @@ AreLanesElements class rows (lane ∷ lanes) text =
 -- it has one element for the one interval of each call, by lanes. The places of the sketch are
 -- folded into rows. A call's classes are the colour of the value that it shows, by the order in
 -- which values appear, and whether the call is marked.
-pub record ShowsEachCall (kind : Kind) (book : List Page) (marks : Marks)
+pub record ShowsEachCall (kind : Kind) (book : List Page) (marks : MarkedCalls)
     (text : List ℕ) : Type 0 where
   pub events : List Event
   pub lanes : List (List Interval)

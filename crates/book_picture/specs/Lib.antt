@@ -1,6 +1,6 @@
 pub mod Escape
 pub mod Groups
-pub mod Marks
+pub mod MarkedCalls
 pub mod Values
 pub mod Rows
 pub mod Titles

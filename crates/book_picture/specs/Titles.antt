@@ -3,8 +3,8 @@ use Rattle.std.specs.Prelude.{◌≡◌, ℕ, ◌<◌, ◌^◌, Bool, true, fals
 use Rattle.book_base.specs.declared.call.Call.{Call}
 use Rattle.frontier_check.specs.declared.verdict.Verdict.{Verdict}
 use Rattle.frontier_check.specs.declared.verdict.Verdict.TheVariants.{Legal, Illegal}
-use Rattle.book_picture.specs.declared.marks.Marks.{Marks}
-use Rattle.book_picture.specs.declared.marks.Marks.TheVariants.{Unasked, Smaller, TooLarge, NoMemory}
+use Rattle.book_picture.specs.declared.marked_calls.MarkedCalls.{MarkedCalls}
+use Rattle.book_picture.specs.declared.marked_calls.MarkedCalls.TheVariants.{Unasked, Smaller, TooLarge, NoMemory}
 use Rattle.book_picture.specs.declared.sheet.TheConstants.{STYLE}
 use Rattle.book_picture.specs.Escape.{escaped}
 use Rattle.book_picture.specs.Groups.{is_plain}
@@ -26,14 +26,14 @@ verdict_text true = codes "legal: the numbers give an order of the calls that ex
 verdict_text false = codes "illegal: no order explains these replies"
 
 -- What the title says of the marks.
-abbrev pub marks_text : Marks → List ℕ
+abbrev pub marks_text : MarkedCalls → List ℕ
 marks_text Unasked = []
 marks_text (Smaller numbers) = codes ", nor those of the marked calls alone"
 marks_text TooLarge = codes " (so many calls: none are marked)"
 marks_text NoMemory = codes " (no memory: none are marked)"
 
 -- The title of a picture.
-abbrev pub title : Bool → Marks → List ℕ
+abbrev pub title : Bool → MarkedCalls → List ℕ
 title legal marks = verdict_text legal ++ marks_text marks
 
 -- What a picture says of the first error line of a run, which is that of this call.
@@ -47,7 +47,7 @@ error_line None = []
 error_line (Some call) = line_text (codes "note") 12 80 (error_text call)
 
 -- The first lines of a picture: its title, and which error line was the first.
-abbrev pub first_lines : Bool → Marks → Option Call → List ℕ
+abbrev pub first_lines : Bool → MarkedCalls → Option Call → List ℕ
 first_lines legal marks error =
     line_text (codes "title") 12 24 (title legal marks) ++ error_line error
 

@@ -13,8 +13,8 @@ use Rattle.sketch.specs.declared.event.Event.{Event}
 use Rattle.sketch.specs.declared.event.Event.TheVariants.{Invoke, Return}
 use Rattle.sketch.specs.Sketch.{StandsIn}
 use Rattle.book_picture.specs.declared.values.TheConstants.{COLOURS}
-use Rattle.book_picture.specs.Marks.{is_marked}
-use Rattle.book_picture.specs.declared.marks.Marks.{Marks}
+use Rattle.book_picture.specs.MarkedCalls.{is_marked}
+use Rattle.book_picture.specs.declared.marked_calls.MarkedCalls.{MarkedCalls}
 
 -- Whether a number follows the name of an operation that has this code.
 abbrev pub has_argument : Kind → ℕ → Bool
@@ -107,6 +107,6 @@ mark_class true = codes " marked"
 mark_class false = []
 
 -- The classes of a call's element: its colour, and whether it is marked.
-abbrev pub class_of_call : Kind → List Page → List ℕ → Marks → Call → List ℕ
+abbrev pub class_of_call : Kind → List Page → List ℕ → MarkedCalls → Call → List ℕ
 class_of_call kind book values marks call = colour_class
     (colour_of values (value_of_call kind book call)) ++ mark_class (is_marked marks call)

@@ -5,9 +5,9 @@ ghost use Rattle.book_picture.specs.Sheets.{AreDrawable, AreAllDrawable};
 ghost use Rattle.book_picture.specs.Titles.{is_legal, first_lines, SaysFirst};
 ghost use Rattle.book_picture.specs.Values.{class_of_call};
 
-use crate::marks::Marks;
+use crate::marked_calls::MarkedCalls;
 use crate::rows::folded;
-use crate::sheet::Sheet;
+use crate::sheet::PictureSheet;
 use crate::values::values_of;
 use book_base::{Book, Call, NoMemory, Place};
 use call_intervals::{Interval, call_lanes};
@@ -35,7 +35,7 @@ pub fn draw_book(
     kind: Kind,
     book: &Book,
     verdict: &Verdict,
-    marks: &Marks,
+    marks: &MarkedCalls,
     error: Option<Call>,
 ) -> Result<String, NoMemory>
     // The picture shows each call of the book by one element on its caller's lane, with its class
@@ -51,7 +51,7 @@ pub fn draw_book(
     let lanes = call_lanes(alloc, book, &events)?;
     let values = values_of(alloc, kind, book, &events)?;
     let rows = folded(alloc, kind, book, &lanes, events.len(), top_of(error))?;
-    let sheet = Sheet {
+    let sheet = PictureSheet {
         alloc,
         kind,
         book,
@@ -86,7 +86,7 @@ fn order_of(verdict: &Verdict) -> Option<&[Place]>
 }
 
 // Appends the elements of the calls of all callers.
-fn put_lanes(out: &mut String, sheet: &Sheet, lanes: &[Vec<Interval>]) -> Result<(), NoMemory>
+fn put_lanes(out: &mut String, sheet: &PictureSheet, lanes: &[Vec<Interval>]) -> Result<(), NoMemory>
     requires { AreAllDrawable sheet.now.book.now (rows_of lanes.now) }
     ensures { OnOk result ((text : List ℕ) × AreLanesElements
         (class_of_call sheet.now.kind sheet.now.book.now sheet.now.values.now sheet.now.marks.now)
@@ -100,7 +100,7 @@ fn put_lanes(out: &mut String, sheet: &Sheet, lanes: &[Vec<Interval>]) -> Result
 }
 
 // Appends the elements of a caller's calls.
-fn put_lane(out: &mut String, sheet: &Sheet, lane: &[Interval]) -> Result<(), NoMemory>
+fn put_lane(out: &mut String, sheet: &PictureSheet, lane: &[Interval]) -> Result<(), NoMemory>
     requires { AreDrawable sheet.now.book.now lane.now }
     ensures { OnOk result ((text : List ℕ) × AreElementsOf
         (class_of_call sheet.now.kind sheet.now.book.now sheet.now.values.now sheet.now.marks.now)

@@ -7,7 +7,7 @@ mod draw;
 mod escape;
 mod label;
 pub mod laws;
-mod marks;
+mod marked_calls;
 mod number;
 mod row;
 mod rows;
@@ -15,4 +15,4 @@ mod sheet;
 mod values;
 
 pub use draw::draw_book;
-pub use marks::Marks;
+pub use marked_calls::MarkedCalls;

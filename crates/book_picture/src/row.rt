@@ -27,7 +27,7 @@ pub(crate) struct Row {
 /// The part of an interval in a row: the edges at which it begins and ends, and whether the
 /// interval begins and ends at them too.
 #[derive(Clone, Copy, Debug)]
-pub(crate) struct Part {
+pub(crate) struct IntervalPart {
     pub begin: usize,
     pub end: usize,
     pub begins: bool,
@@ -36,7 +36,7 @@ pub(crate) struct Part {
 
 impl Stretch {
     /// The part of an interval on these places, if it has one.
-    pub fn part_of(self, interval: &Interval) -> Option<Part>
+    pub fn part_of(self, interval: &Interval) -> Option<IntervalPart>
         ensures some { is_some result ≡ has_part self.first self.places interval.now }
         ensures place { IfSome result (λ part. (part.begin < part.end) × (part.end ≤ self.places)) }
     {
@@ -44,7 +44,7 @@ impl Stretch {
         let until = interval.end.saturating_sub(self.first);
         let end = until.min(self.places);
         if begin < end {
-            Some(Part {
+            Some(IntervalPart {
                 begin,
                 end,
                 begins: self.first <= interval.begin,
@@ -58,7 +58,7 @@ impl Stretch {
 
 impl Row {
     /// The part of an interval in the row, if it has one.
-    pub fn part_of(&self, interval: &Interval) -> Option<Part>
+    pub fn part_of(&self, interval: &Interval) -> Option<IntervalPart>
         ensures some { is_some result
             ≡ has_part self.now.first (length self.now.edges.items - 1) interval.now }
         ensures place { IfSome result (λ part. (part.begin < part.end)

@@ -8,9 +8,9 @@ ghost use Rattle.book_picture.specs.Sheets.{IsDrawable};
 
 use crate::escape::put_escaped;
 use crate::label::Label;
-use crate::marks::Marks;
+use crate::marked_calls::MarkedCalls;
 use crate::number::number_in;
-use crate::row::{Part, Row};
+use crate::row::{IntervalPart, Row};
 use crate::rows::LANE;
 use crate::values::{class_of, colour_of, value_of};
 use book_base::{Book, Call, NoMemory, Place};
@@ -57,14 +57,14 @@ const STYLE: &str = "<style>\n\
 /// A sheet for the picture of a book: the rows that its places are folded into, and what is said of
 /// it.
 #[derive(Drop)]
-pub(crate) struct Sheet<'a> {
+pub(crate) struct PictureSheet<'a> {
     pub alloc: Global,
     pub kind: Kind,
     pub book: &'a Book,
     pub order: Option<&'a [Place]>,
     pub rows: &'a [Row],
     pub values: &'a [u64],
-    pub marks: &'a Marks,
+    pub marks: &'a MarkedCalls,
     pub error: Option<Call>,
 }
 
@@ -80,7 +80,7 @@ struct Bar {
     is_open: bool,
 }
 
-impl Sheet<'_> {
+impl PictureSheet<'_> {
     /// The text before the bars of a picture: the legend, and in each row the lanes with their
     /// callers.
     pub fn head(&self) -> Result<String, NoMemory>
@@ -372,7 +372,7 @@ fn put_part(
 }
 
 // The bar of a part in a row.
-fn bar_of(row: &Row, interval: &Interval, part: Part) -> Bar
+fn bar_of(row: &Row, interval: &Interval, part: IntervalPart) -> Bar
     requires begin { part.begin < length row.now.edges.items }
     requires end { part.end < length row.now.edges.items }
 {

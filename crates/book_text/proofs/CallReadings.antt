@@ -13,7 +13,7 @@ use Rattle.text_fields.specs.Faults.{AreSharp}
 use Rattle.text_fields.specs.Operations.{Operations}
 use Rattle.text_fields.proofs.Readings.{one_part, no_part_fault}
 use Rattle.text_fields.proofs.Sharp.{one_fault}
-use Rattle.book_text.specs.CallLines.{Progress, reading, no_call_read, call_rules, AreCallLines, AreNoCallLines, IsFirstCallFault}
+use Rattle.book_text.specs.CallLines.{BookSoFar, reading, no_call_read, call_rules, AreCallLines, AreNoCallLines, IsFirstCallFault}
 use Rattle.book_text.specs.Ending.{IsEnded, IsNoEnd}
 use Rattle.book_text.proofs.EntryTexts.{OneOperation}
 use Rattle.book_text.proofs.SharpBooks.{call_sharp}
@@ -32,7 +32,7 @@ module _ (version : Version) (operations : Operations) (one : OneOperation opera
   only_calls (Ok b) new left h k book read =
       let same = one_part (call_rules version operations) sharp (no_call_read calls) text
       (reading b []) (reading book []) new left tt tt h read in
-      (ap (λ (p : Progress). p.book) same.0, same.1)
+      (ap (λ (p : BookSoFar). p.book) same.0, same.1)
   only_calls (Err NoMemory) new left h k book read = refl
   only_calls (Err (Text fault)) new left h k book read =
       absurd (no_part_fault (call_rules version operations) sharp (no_call_read calls) text

@@ -25,7 +25,7 @@ use Rattle.text_fields.specs.Head.{TitleDue, ObjectDue, CallersDue, CountsDue, H
 use Rattle.text_fields.specs.Faults.{Wanted, ALine, IsWrong, IsWrongLine, AllPass}
 use Rattle.text_fields.proofs.LineTexts.{cut_again, cut_line, text_of-cons, text_of-append}
 use Rattle.text_fields.proofs.Sharp.{AllPass-append}
-use Rattle.book_text.specs.CallLines.{Progress, with_line, IsNamedCall, IsCallLine, call_words, calls_from, all_calls, EntryFails, view_test}
+use Rattle.book_text.specs.CallLines.{BookSoFar, with_line, IsNamedCall, IsCallLine, call_words, calls_from, all_calls, EntryFails, view_test}
 use Rattle.book_text.specs.Grammar.{end_words}
 use Rattle.book_text.specs.BookRules.{BookDue, InHead, InCalls, AtEnd, after_head, BookPasses, BookFails, book_wanted, book_rules, IsBookText, IsFirstBookFault}
 use Rattle.book_text.specs.Beginnings.{BeginsSomeText, AreWholeLines, BreaksText, EndsEarly, GoesOn, LeavesTexts}
@@ -165,7 +165,7 @@ module _ (version : Version) where
         text = refl;
         book_is = refl;
       } in
-      let next : Progress = record { book = after; due = calls } in
+      let next : BookSoFar = record { book = after; due = calls } in
       one_more (InCalls kind book (call ∷ calls)) (InCalls kind after calls)
       (call_words version operations call 0 None) (next, (read, refl), refl)
       (calls_come kind after calls

@@ -12,7 +12,7 @@ use Rattle.text_fields.proofs.LineTexts.{cut_again, cut_line, text_of-cons, text
 use Rattle.text_fields.proofs.Sharp.{AllPass-append}
 use Rattle.text_fields.proofs.Readings.{no_first}
 use Rattle.book_text.specs.Beginnings.{AreWholeLines, EndsEarly}
-use Rattle.book_text.specs.ReadOnly.{BeginsSome, Breaks, GoesPast, LeavesAt}
+use Rattle.book_text.specs.AnyTextBeginnings.{BeginsSome, BreaksOff, GoesPast, LeavesAt}
 
 -- right lines that lead from a state to the end of a text
 pub record Completes {Due Said : Type 0} (rules : Rules Due) (ended : Said → Due)
@@ -116,7 +116,7 @@ module _ {Due Said : Type 0} (rules : Rules Due) (are_sharp : AreSharp rules) (s
         })
 
     breaks : (rest : List ℕ) (name : What) → rules.wanted reached ≡ ALine
-        → IsWrongLine rules reached rest name → Breaks IsText (text_of lines) rest name
+        → IsWrongLine rules reached rest name → BreaksOff IsText (text_of lines) rest name
     breaks rest name wanted wrong = record {
       named = named reached (words_of wrong.line) name wrong.test.fails;
       line = wrong.line;
@@ -138,7 +138,7 @@ module _ {Due Said : Type 0} (rules : Rules Due) (are_sharp : AreSharp rules) (s
     }
 
     abbrev Leaves : List ℕ → What → Type 0
-    Leaves rest name = Breaks IsText (text_of lines) rest name
+    Leaves rest name = BreaksOff IsText (text_of lines) rest name
         ⊎ (EndsEarly rest name ⊎ GoesPast IsText (text_of lines) rest name)
 
     line_leaves : (rest : List ℕ) (name : What) → rules.wanted reached ≡ ALine

@@ -14,7 +14,7 @@ use Rattle.text_fields.specs.Faults.{ALine, IsWrong}
 use Rattle.text_fields.specs.Head.{HeadDue, TitleDue, ObjectDue, CallersDue, CountsDue, HeadRead, HeadPasses, head_wanted, head_rules}
 use Rattle.text_fields.specs.Operations.{kind_operations}
 use Rattle.text_fields.proofs.Within.{AreWithin, wrong_alike}
-use Rattle.book_text.specs.CallLines.{Progress, CallPasses, call_wanted, call_rules}
+use Rattle.book_text.specs.CallLines.{BookSoFar, CallPasses, call_wanted, call_rules}
 use Rattle.book_text.specs.BookRules.{InCalls, after_head, in_calls, BookPasses, book_wanted, book_rules}
 
 pub few_calls : (version : Version) (calls : List ℕ) → AreAtMost (most_calls version) calls
@@ -56,7 +56,7 @@ module _ (version : Version) where
   head_within = record { right = head_right; wrong = head_wrong }
 
   module _ (kind : Kind) where
-    calls_right : (due after : Progress) (words : List (List ℕ))
+    calls_right : (due after : BookSoFar) (words : List (List ℕ))
         → (call_rules version (kind_operations version kind)).Passes due words after
         → BookPasses version (in_calls kind due) words (in_calls kind after)
     calls_right due after words h = right_here due.book due.due h where
@@ -66,7 +66,7 @@ module _ (version : Version) where
       right_here book [] h = absurd h
       right_here book (call ∷ calls) h = (after, h, refl)
 
-    calls_wrong : (due : Progress) (bytes : List ℕ) (what : What) → IsWrong
+    calls_wrong : (due : BookSoFar) (bytes : List ℕ) (what : What) → IsWrong
         (call_rules version (kind_operations version kind)) due (call_wanted due.due) bytes what
         → IsWrong (book_rules version) (in_calls kind due)
         (book_wanted (in_calls kind due)) bytes what

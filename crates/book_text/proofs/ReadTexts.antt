@@ -17,7 +17,7 @@ use Rattle.text_fields.specs.Counts.{AreAtMost}
 use Rattle.text_fields.specs.Operations.{Operations, kind_operations}
 use Rattle.text_fields.specs.Head.{TitleDue, ObjectDue, CallersDue, CountsDue, AreCallers, AreCalls, title_words, object_words, callers_words, calls_words, head_lines}
 use Rattle.text_fields.specs.Faults.{AllPass}
-use Rattle.book_text.specs.CallLines.{Progress, MayStand, with_line, IsCallLine, call_words, calls_from, all_calls}
+use Rattle.book_text.specs.CallLines.{BookSoFar, MayStand, with_line, IsCallLine, call_words, calls_from, all_calls}
 use Rattle.book_text.specs.Grammar.{line_of, end_words, book_lines, IsWrittenText}
 use Rattle.book_text.specs.BookRules.{BookDue, InHead, InCalls, AtEnd, after_head, BookPasses, IsBookText}
 use Rattle.book_text.proofs.Pages.{page_with, page_of-middle, with_line-middle, AreSameTo, page_with-before, page_with-operation, page_with-record, page_with-few, slice_get-set_cases}
@@ -194,7 +194,7 @@ module _ (version : Version) (kind : Kind) (book : List Page) where
         let call : Call = record { caller = length done; number = number } in
         let others = calls_from (length done) (number + 1) more ++ due in
         let first = has_line (InCalls k sofar (call ∷ others)) lines (λ e. absurd cc) h in
-        let progress : Progress = first.right.0 in
+        let progress : BookSoFar = first.right.0 in
         let read : IsCallLine version operations sofar call first.words progress.book =
         first.right.1.0 in
         let next = page_with page number read.op read.answer in

@@ -25,7 +25,7 @@ use Rattle.text_fields.specs.Operations.{Operations, kind_operations}
 use Rattle.text_fields.specs.OperationLaws.{one_kind_operation, solid_kind_words}
 use Rattle.text_fields.proofs.NumberTexts.{same_first, solid_word, solid_decimal}
 use Rattle.text_fields.proofs.HeadTexts.{solid_numbers, plain, head_sharp}
-use Rattle.book_text.specs.CallLines.{place_words, answer_words, call_words, HasView, EntryFails, ViewFails, is_gap, MayStand, with_line, IsNamedCall, IsCallLine, CallPasses, CallFails, Progress, reading, call_wanted, call_rules}
+use Rattle.book_text.specs.CallLines.{place_words, answer_words, call_words, HasView, EntryFails, ViewFails, is_gap, MayStand, with_line, IsNamedCall, IsCallLine, CallPasses, CallFails, BookSoFar, reading, call_wanted, call_rules}
 use Rattle.book_text.specs.BookRules.{BookDue, InHead, InCalls, AtEnd, after_head, BookPasses, BookFails, book_wanted, book_rules}
 use Rattle.book_text.proofs.EntryTexts.{OneOperation, same_after, after_place, one_after, passes_place, passes_op, passes_gap, passes_reply, passes_view}
 use Rattle.book_text.proofs.CallTexts.{cut_once, one_view}
@@ -187,11 +187,11 @@ module _ (version : Version) (operations : Operations) (one : OneOperation opera
 
 module _ (version : Version) (operations : Operations) (one : OneOperation operations)
     (solid_operation : (op : ℕ) → IsTrue (operations.has op) → AreSolid (operations.words op)) where
-  same_progress : (a b : Progress) → a.book ≡ b.book → a.due ≡ b.due → a ≡ b
+  same_progress : (a b : BookSoFar) → a.book ≡ b.book → a.due ≡ b.due → a ≡ b
   same_progress a b books dues =
       ap (λ (book : List Page). reading book a.due) books ∙ ap (reading b.book) dues
 
-  calls_one_way : (book : List Page) (due : List Call) (a b : Progress) (words : List (List ℕ))
+  calls_one_way : (book : List Page) (due : List Call) (a b : BookSoFar) (words : List (List ℕ))
       → CallPasses version operations book due words a
       → CallPasses version operations book due words b → a ≡ b
   calls_one_way book [] a b words h k = absurd h
@@ -199,20 +199,20 @@ module _ (version : Version) (operations : Operations) (one : OneOperation opera
       (line_one_way version operations one solid_operation book call words a.book b.book h.0 k.0)
       (h.1 ∙ sym k.1)
 
-  calls_apart : (book : List Page) (due : List Call) (after : Progress) (words : List (List ℕ))
+  calls_apart : (book : List Page) (due : List Call) (after : BookSoFar) (words : List (List ℕ))
       (name : What) → CallPasses version operations book due words after
       → CallFails version operations book due words name → ⊥
   calls_apart book [] after words name h k = h
   calls_apart book (call ∷ calls) after words name h k =
       line_apart version operations one solid_operation book call calls words after.book name h.0 k
 
-  calls_solid : (book : List Page) (due : List Call) (after : Progress) (words : List (List ℕ))
+  calls_solid : (book : List Page) (due : List Call) (after : BookSoFar) (words : List (List ℕ))
       → CallPasses version operations book due words after → AreSolid words
   calls_solid book [] after words h = absurd h
   calls_solid book (call ∷ calls) after words h =
       line_solid version operations one solid_operation book call words after.book h.0
 
-  calls_wanted : (book : List Page) (due : List Call) (after : Progress) (words : List (List ℕ))
+  calls_wanted : (book : List Page) (due : List Call) (after : BookSoFar) (words : List (List ℕ))
       → CallPasses version operations book due words after → call_wanted due ≡ ALine
   calls_wanted book [] after words h = absurd h
   calls_wanted book (call ∷ calls) after words h = refl

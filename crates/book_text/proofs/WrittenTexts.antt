@@ -21,7 +21,7 @@ use Rattle.text_fields.specs.Operations.{Operations, kind_operations}
 use Rattle.text_fields.specs.Head.{TitleDue, ObjectDue, CallersDue, CountsDue, HeadRead}
 use Rattle.text_fields.specs.Faults.{AllPass}
 use Rattle.text_fields.proofs.Sharp.{AllPass-append}
-use Rattle.book_text.specs.CallLines.{Progress, MayStand, IsCallLine, calls_from, all_calls}
+use Rattle.book_text.specs.CallLines.{BookSoFar, MayStand, IsCallLine, calls_from, all_calls}
 use Rattle.book_text.specs.Grammar.{line_of, call_lines, end_words, book_lines, IsWritable, IsWrittenText}
 use Rattle.book_text.specs.BookRules.{BookDue, InHead, InCalls, AtEnd, BookPasses, book_rules, IsBookText}
 use Rattle.book_text.proofs.Pages.{page_of-middle, with_line-middle, page_to, length-operations_to, page_to-more, page_to-all}
@@ -200,7 +200,7 @@ module _ (version : Version) (kind : Kind) (book : List Page)
         ap (λ (n : ℕ). InCalls kind (so_far n) due) same
     caller_passes k (suc more) due size =
         let same : k + 1 + more ≡ k + suc more = omega arith in
-        let next : Progress =
+        let next : BookSoFar =
         record { book = so_far (k + 1); due = calls_from (length done) (k + 1) more ++ due } in (
           InCalls kind next.book next.due,
           (next, (line_passes k (omega arith), refl), refl),

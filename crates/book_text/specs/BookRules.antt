@@ -11,7 +11,7 @@ use Rattle.text_fields.specs.Lines.{Unread}
 use Rattle.text_fields.specs.Faults.{Wanted, ALine, TheEnd, Rules, IsFirstFault, IsReadTo}
 use Rattle.text_fields.specs.Head.{HeadDue, TitleDue, ObjectDue, CallersDue, CountsDue, HeadRead, HeadPasses, HeadFails}
 use Rattle.text_fields.specs.Operations.{kind_operations}
-use Rattle.book_text.specs.CallLines.{Progress, CallPasses, CallFails, no_call_read}
+use Rattle.book_text.specs.CallLines.{BookSoFar, CallPasses, CallFails, no_call_read}
 use Rattle.book_text.specs.Grammar.{end_words}
 
 -- the states of reading a book's text, each with what the lines before say
@@ -29,7 +29,7 @@ after_head (CountsDue kind n) = InHead (CountsDue kind n)
 after_head (HeadRead kind calls) = InCalls kind (no_call_read calls).book (no_call_read calls).due
 
 -- how far the lines of calls are read, as a state of reading the book of an object of this kind
-abbrev pub in_calls : Kind → Progress → BookDue
+abbrev pub in_calls : Kind → BookSoFar → BookDue
 in_calls kind progress = InCalls kind progress.book progress.due
 
 -- the right lines of a book's text
@@ -38,7 +38,7 @@ BookPasses version (InHead due) words after = (next : HeadDue)
     × HeadPasses version (codes "book") due words next × (after ≡ after_head next)
 BookPasses version (InCalls kind book []) words after = (words ≡ end_words)
     × (after ≡ AtEnd kind book)
-BookPasses version (InCalls kind book (call ∷ calls)) words after = (next : Progress)
+BookPasses version (InCalls kind book (call ∷ calls)) words after = (next : BookSoFar)
     × CallPasses version (kind_operations version kind) book (call ∷ calls) words next
     × (after ≡ in_calls kind next)
 BookPasses version (AtEnd kind book) words after = ⊥

@@ -139,7 +139,7 @@ pub record ViewFails (version : Version) (operations : Operations) (book : List 
 
 -- What the lines of calls so far say: a book with all the calls that the head announces, in which
 -- the calls that are still due have the operation 0 and no answer; and those calls, in their order.
-pub record Progress : Type 0 where
+pub record BookSoFar : Type 0 where
   pub book : List Page
   pub due : List Call
 
@@ -154,11 +154,11 @@ all_calls i [] = []
 all_calls i (count ∷ counts) = calls_from i 0 count ++ all_calls (i + 1) counts
 
 -- the lines so far give this book, and these calls are still due
-abbrev pub reading : List Page → List Call → Progress
+abbrev pub reading : List Page → List Call → BookSoFar
 reading book due = record { book = book; due = due }
 
 -- how far the lines of calls are read before the first of them
-abbrev pub no_call_read : List ℕ → Progress
+abbrev pub no_call_read : List ℕ → BookSoFar
 no_call_read calls = record { book = unanswered_book calls; due = all_calls 0 calls }
 
 -- whether an earlier call of this caller is unanswered
@@ -197,7 +197,7 @@ pub record IsCallLine (version : Version) (operations : Operations) (book : List
 
 -- the right lines of calls
 abbrev pub CallPasses : Version → Operations → List Page → List Call → List (List ℕ)
-    → Progress → Type 0
+    → BookSoFar → Type 0
 CallPasses version operations book [] words after = ⊥
 CallPasses version operations book (call ∷ calls) words after =
     IsCallLine version operations book call words after.book × (after.due ≡ calls)
@@ -215,7 +215,7 @@ call_wanted [] = Nothing
 call_wanted (call ∷ calls) = ALine
 
 -- the rules of the lines of calls
-abbrev pub call_rules : Version → Operations → Rules Progress
+abbrev pub call_rules : Version → Operations → Rules BookSoFar
 call_rules version operations = record {
   Passes =
       λ progress words after. CallPasses version operations progress.book progress.due words after;

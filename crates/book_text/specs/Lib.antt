@@ -4,4 +4,4 @@ pub mod Ending
 pub mod BookRules
 pub mod Entries
 pub mod Beginnings
-pub mod ReadOnly
+pub mod AnyTextBeginnings

@@ -5,8 +5,8 @@ use Rattle.book_base.specs.declared.fault.TextFault.{TextFault}
 use Rattle.book_base.specs.declared.fault.What.TheVariants.{Long}
 use Rattle.text_fields.specs.Refusal.{refusal_text}
 use Rattle.byte_streams.specs.declared.TheConstants.{INPUT_LIMIT}
-use Rattle.byte_streams.specs.declared.program.Answer.{Answer}
-use Rattle.byte_streams.specs.declared.program.Answer.TheVariants as answers
+use Rattle.byte_streams.specs.declared.program.ProgramAnswer.{ProgramAnswer}
+use Rattle.byte_streams.specs.declared.program.ProgramAnswer.TheVariants as answers
 use Rattle.byte_streams.specs.declared.status.Status.{Status}
 use Rattle.byte_streams.specs.declared.status.Status.TheVariants.{Fine, Found, Refused, ReadFault, NoMemory}
 use Rattle.byte_streams.specs.Told.{HasRead}
@@ -14,7 +14,7 @@ use Rattle.byte_streams.specs.Writing.{EndsWriting}
 
 -- The text of an answer is as `IsFine` says where its status is `Fine`, and as `IsFound` says where
 -- its status is `Found`.
-abbrev pub IsAnswer : (List ℕ → Type 0) → (List ℕ → Type 0) → Answer → Type 0
+abbrev pub IsAnswer : (List ℕ → Type 0) → (List ℕ → Type 0) → ProgramAnswer → Type 0
 IsAnswer IsFine IsFound (answers.Fine text) = IsFine text.items
 IsAnswer IsFine IsFound (answers.Found text) = IsFound text.items
 

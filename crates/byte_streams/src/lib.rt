@@ -18,7 +18,7 @@ mod transfer;
 pub use failed::{Failed, ReadAllError};
 pub use memory_sink::MemorySink;
 pub use memory_source::MemorySource;
-pub use program::{Answer, TextProgram, run_program};
+pub use program::{ProgramAnswer, TextProgram, run_program};
 pub use sink::Sink;
 pub use source::Source;
 pub use status::Status;

@@ -19,7 +19,7 @@ use text_fields::refusal;
 
 /// The answer of a program to an input that it doesn't refuse.
 #[derive(Drop)]
-pub enum Answer {
+pub enum ProgramAnswer {
     /// A text with the status `Fine`: a picture, a certificate, or that nothing was found.
     Fine(Vec<u8>),
     /// A text with the status `Found`, which says what was found.
@@ -38,7 +38,7 @@ pub trait TextProgram {
     ghost is_fault: { Self → List ℕ → TextFault → Type 0 };
 
     /// The answer of the program to an input, or why the input is refused.
-    fn answer(&self, alloc: Global, bytes: &[u8]) -> Result<Answer, ReadFault>
+    fn answer(&self, alloc: Global, bytes: &[u8]) -> Result<ProgramAnswer, ReadFault>
         // The text of an answer is one to this input with the answer's status.
         ensures told { IfOk result
             (IsAnswer (is_fine self.now bytes.now) (is_found self.now bytes.now)) }
@@ -112,11 +112,11 @@ fn output_for<P: TextProgram>(program: &P, alloc: Global, bytes: &[u8]) -> Resul
         output.status output.text.items) }
 {
     match answer_within(program, alloc, bytes) {
-        Ok(Answer::Fine(text)) => Ok(Output {
+        Ok(ProgramAnswer::Fine(text)) => Ok(Output {
             status: Status::Fine,
             text,
         }),
-        Ok(Answer::Found(text)) => Ok(Output {
+        Ok(ProgramAnswer::Found(text)) => Ok(Output {
             status: Status::Found,
             text,
         }),
@@ -133,7 +133,7 @@ fn answer_within<P: TextProgram>(
     program: &P,
     alloc: Global,
     bytes: &[u8],
-) -> Result<Answer, ReadFault>
+) -> Result<ProgramAnswer, ReadFault>
     ensures short { IfOk result (λ _. length bytes.now ≤ INPUT_LIMIT) }
     ensures told { IfOk result
         (IsAnswer (P.is_fine program.now bytes.now) (P.is_found program.now bytes.now)) }

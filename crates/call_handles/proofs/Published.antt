@@ -17,7 +17,7 @@ use Rattle.drv_wrapper.specs.Growth.{Grows}
 use Rattle.drv_wrapper.specs.Stands.{IsSame}
 use Rattle.drv_wrapper.specs.States.{caller_announced, announced_local, caller_answered, answered_local, reply_answered, caller_viewed, viewed_local, reply_viewed, view_viewed, record_viewed}
 use Rattle.drv_wrapper.proofs.Growing.{grows_on}
-use Rattle.frontier_check.specs.declared.mark.KeptOrder.{KeptOrder}
+use Rattle.frontier_check.specs.declared.kept_order.KeptOrder.{KeptOrder}
 use Rattle.enforcer.specs.declared.judged.Judged.{Judged}
 use Rattle.enforcer.specs.declared.judged.Judged.TheVariants.{Delivered, Illegal}
 use Rattle.enforcer.specs.declared.outcome.Outcome.{Outcome}

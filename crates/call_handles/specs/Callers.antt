@@ -22,14 +22,14 @@ use Rattle.drv_wrapper.specs.States.{caller_announced, announced_local}
 use Rattle.enforcer.specs.declared.outcome.Outcome.{Outcome}
 use Rattle.enforcer.specs.declared.outcome.Outcome.TheVariants as outcome
 use Rattle.enforcer.specs.Judged.{is_illegal}
-use Rattle.enforcer.specs.Lines.{StandsIn}
-use Rattle.call_handles.specs.declared.stage.Stage.{Stage}
-use Rattle.call_handles.specs.declared.stage.Stage.TheVariants.{Idle, Announced, Wrong, Unjudged}
+use Rattle.enforcer.specs.Lines.{OrderStandsIn}
+use Rattle.call_handles.specs.declared.stage.HandleStage.{HandleStage}
+use Rattle.call_handles.specs.declared.stage.HandleStage.TheVariants.{Idle, Announced, Wrong, Unjudged}
 use Rattle.call_handles.specs.declared.stage.Wrong as wrong
-use Rattle.call_handles.specs.declared.caller_handle.Answer.{Answer}
-use Rattle.call_handles.specs.declared.caller_handle.Answer.TheVariants as answer
+use Rattle.call_handles.specs.declared.caller_handle.CallAnswer.{CallAnswer}
+use Rattle.call_handles.specs.declared.caller_handle.CallAnswer.TheVariants as answer
 use Rattle.call_handles.specs.declared.caller_handle.CallerHandle.{CallerHandle}
-use Rattle.call_handles.specs.declared.kept.Kept.{Kept}
+use Rattle.call_handles.specs.declared.kept.KeptByHandle.{KeptByHandle}
 use Rattle.call_handles.specs.Ends.{IsAnnouncedBy, IsPublishedBy, IsJudgedAs}
 
 -- The meaning of a program whose object is outside the world, which allows every reply.
@@ -45,11 +45,11 @@ abbrev pub kind_of : CallerHandle → Kind
 kind_of h = h.kept.kind
 
 -- Between which of its calls a handle is.
-abbrev pub stage_of : CallerHandle → Stage
+abbrev pub stage_of : CallerHandle → HandleStage
 stage_of h = h.stage
 
 -- The caller of a handle in this stage.
-abbrev pub caller_in : Stage → Caller Outside
+abbrev pub caller_in : HandleStage → Caller Outside
 caller_in (Idle c) = c
 caller_in (Announced call) = caller_announced call
 caller_in (Wrong w) = w.caller
@@ -58,7 +58,7 @@ caller_in (Unjudged c) = c
 -- The caller of a handle in this stage is one of these rows and is as the stage says; between two
 -- calls, and while a call is announced, the kept book is one that this caller gathered; and the
 -- book of an error has no legal order.
-abbrev pub IsSoundAt : Rows Outside → Kind → Option Gathered → Stage → Type 0
+abbrev pub IsSoundAt : Rows Outside → Kind → Option Gathered → HandleStage → Type 0
 IsSoundAt r kind gathered (Idle c) = IsCallerOf every_reply r c × IsFree c
     × IsGatheredBy (local_with c) gathered
 IsSoundAt r kind gathered (Announced call) = IsCallerOf every_reply r (caller_announced call)
@@ -68,9 +68,9 @@ IsSoundAt r kind gathered (Wrong w) = IsCallerOf every_reply r w.caller
 IsSoundAt r kind gathered (Unjudged c) = IsCallerOf every_reply r c
 
 -- The kept order of a handle stands, for the handle's kind, in its kept book.
-abbrev pub KeepsStanding : Kept → Type 0
+abbrev pub KeepsStanding : KeptByHandle → Type 0
 KeepsStanding kept =
-    StandsIn (kind_init kept.kind) (kind_next kept.kind) kept.gathered kept.standing
+    OrderStandsIn (kind_init kept.kind) (kind_next kept.kind) kept.gathered kept.standing
 
 -- The parts of a handle belong together.
 abbrev pub IsSoundCaller : CallerHandle → Type 0
@@ -109,8 +109,8 @@ outcome_of w = outcome.Illegal w.reply w.view w.seen w.book
 -- delivered call comes with a legal order of the published records at the seen cut, and a wrong one
 -- with their book, which has no legal order. The record of a call that isn't judged is published
 -- all the same, and its caller is halted.
-abbrev pub AnswersFor : Rows Outside → Kind → announced.Announced Outside → ℕ → Stage
-    → Answer → Type 0
+abbrev pub AnswersFor : Rows Outside → Kind → announced.Announced Outside → ℕ → HandleStage
+    → CallAnswer → Type 0
 AnswersFor r kind call reply stage answer.Delivered =
     (c : Caller Outside) × (found : Outcome) × (stage ≡ Idle c) × (is_illegal found ≡ false)
     × IsJudgedAs every_reply r (kind_init kind) (kind_next kind) call reply c found
@@ -124,7 +124,7 @@ AnswersFor r kind call reply stage answer.Unjudged =
 
 -- The call that was announced at the handle h has this reply and this answer, and its caller is
 -- then as the handle k says.
-abbrev pub HasEnded : ℕ → CallerHandle → Answer → CallerHandle → Type 0
+abbrev pub HasEnded : ℕ → CallerHandle → CallAnswer → CallerHandle → Type 0
 HasEnded reply h found k =
     (call : announced.Announced Outside) × (h.stage ≡ Announced call)
     × AnswersFor (rows_of h) (kind_of h) call reply k.stage found

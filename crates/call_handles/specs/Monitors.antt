@@ -13,7 +13,7 @@ use Rattle.book_text.specs.BookRules.{IsBookText}
 use Rattle.text_fields.specs.declared.version.Version.TheVariants.{Second}
 use Rattle.row_table.specs.declared.rows.Rows.{Rows}
 use Rattle.row_table.specs.Callers.{shape_of, who_of}
-use Rattle.enforcer.specs.Lines.{StandsIn}
+use Rattle.enforcer.specs.Lines.{OrderStandsIn}
 use Rattle.monitor.specs.declared.monitor.Monitor.{Monitor}
 use Rattle.monitor.specs.declared.round.Round.{Round}
 use Rattle.monitor.specs.declared.round.Round.TheVariants as round
@@ -47,7 +47,7 @@ IsLegalFor h book = HasLegalOrder (kind_init h.kind) (kind_next h.kind) book
 pub record IsSoundMonitor (h : MonitorHandle) : Type 0 where
   pub of : IsMonitorOf every_reply (rows_watched h) h.monitor
   pub on : IsOn h.board h.monitor
-  pub stands : StandsIn (kind_init h.kind) (kind_next h.kind) (kept_by h.monitor) h.standing
+  pub stands : OrderStandsIn (kind_init h.kind) (kind_next h.kind) (kept_by h.monitor) h.standing
   pub none : IfSome (own_of h.monitor) (λ w. ¬ IsLegalFor h w.book)
 
 -- The two handles are of one table, and judge by one kind.

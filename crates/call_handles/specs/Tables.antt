@@ -11,7 +11,7 @@ use Rattle.drv_wrapper.specs.Stands.{ready}
 use Rattle.monitor.specs.Monitors.{caller_of, local_of, own_of}
 use Rattle.call_handles.specs.declared.caller_handle.CallerHandle.{CallerHandle}
 use Rattle.call_handles.specs.declared.monitor_handle.MonitorHandle.{MonitorHandle}
-use Rattle.call_handles.specs.declared.stage.Stage.TheVariants.{Idle}
+use Rattle.call_handles.specs.declared.stage.HandleStage.TheVariants.{Idle}
 use Rattle.call_handles.specs.declared.table_handle.TableHandle.{TableHandle}
 use Rattle.call_handles.specs.Callers.{every_reply, rows_of, kind_of, stage_of}
 use Rattle.call_handles.specs.Monitors.{rows_watched, kind_watched, monitor_in}

@@ -4,9 +4,9 @@ ghost use Rattle.row_table.specs.Callers.{who_of, local_with, stance_of, IsCalle
 
 use crate::announcing::announce_alone;
 use crate::judging::judge_alone;
-use crate::kept::Kept;
+use crate::kept::KeptByHandle;
 use crate::publishing::publish_alone;
-use crate::stage::{Stage, Wrong};
+use crate::stage::{HandleStage, Wrong};
 use book_base::{NoMemory, OpWord};
 use book_writer::write_book;
 use row_table::{Caller, Rows};
@@ -22,13 +22,13 @@ use std::sync::Arc;
 /// the table.
 #[derive(Drop)]
 pub struct CallerHandle {
-    pub(crate) kept: Kept,
-    pub(crate) stage: Stage,
+    pub(crate) kept: KeptByHandle,
+    pub(crate) stage: HandleStage,
 }
 
 /// What became of a call whose reply was handed in.
 #[derive(Clone, Copy, Debug, PartialEq, Eq)]
-pub enum Answer {
+pub enum CallAnswer {
     /// The reply is delivered: the published records at the seen cut have a legal order.
     Delivered,
     /// The object is wrong: the published records at the seen cut have no legal order.
@@ -52,16 +52,16 @@ impl CallerHandle {
         // The handle is of this table and this kind.
         ensures table { (rows_of result ≡ arc_value rows) × (kind_of result ≡ kind) }
         // The handle's caller is this one, between two calls.
-        ensures idle { stage_of result ≡ Stage.Idle caller }
+        ensures idle { stage_of result ≡ HandleStage.Idle caller }
     {
         CallerHandle {
-            kept: Kept {
+            kept: KeptByHandle {
                 rows,
                 kind,
                 gathered: None,
                 standing: None,
             },
-            stage: Stage::Idle(caller),
+            stage: HandleStage::Idle(caller),
         }
     }
 
@@ -84,9 +84,9 @@ impl CallerHandle {
     {
         let CallerHandle { kept: _, stage } = self;
         match stage {
-            Stage::Idle(caller) | Stage::Unjudged(caller) => caller,
-            Stage::Announced(call) => call.stop(),
-            Stage::Wrong(wrong) => {
+            HandleStage::Idle(caller) | HandleStage::Unjudged(caller) => caller,
+            HandleStage::Announced(call) => call.stop(),
+            HandleStage::Wrong(wrong) => {
                 let Wrong {
                     caller,
                     reply: _,
@@ -117,12 +117,12 @@ impl CallerHandle {
     {
         let CallerHandle { kept, stage } = self;
         match stage {
-            Stage::Idle(caller) => {
+            HandleStage::Idle(caller) => {
                 if caller.left() == 0 {
-                    let stage = Stage::Idle(caller);
+                    let stage = HandleStage::Idle(caller);
                     return (CallerHandle { kept, stage }, false);
                 }
-                let stage = Stage::Announced(announce_alone(&kept.rows, caller, op));
+                let stage = HandleStage::Announced(announce_alone(&kept.rows, caller, op));
                 (CallerHandle { kept, stage }, true)
             }
             stage => (CallerHandle { kept, stage }, false),
@@ -131,7 +131,7 @@ impl CallerHandle {
 
     /// Hands in the object's reply to the call that is announced, and judges the call. Where no
     /// call is announced there is no answer, and the handle is as it was.
-    pub fn answered(self, alloc: Global, reply: u64) -> (CallerHandle, Option<Answer>)
+    pub fn answered(self, alloc: Global, reply: u64) -> (CallerHandle, Option<CallAnswer>)
         // The parts of the handle belong together.
         requires sound { IsSoundCaller self }
         // The parts of the handle that comes back belong together.
@@ -149,7 +149,7 @@ impl CallerHandle {
     {
         let CallerHandle { mut kept, stage } = self;
         match stage {
-            Stage::Announced(call) => {
+            HandleStage::Announced(call) => {
                 let (stage, answer) = judge_alone(alloc, &mut kept, call, reply);
                 (CallerHandle { kept, stage }, Some(answer))
             }
@@ -177,8 +177,8 @@ impl CallerHandle {
     {
         let CallerHandle { kept, stage } = self;
         match stage {
-            Stage::Announced(call) => {
-                let stage = Stage::Idle(publish_alone(&kept.rows, call, reply));
+            HandleStage::Announced(call) => {
+                let stage = HandleStage::Idle(publish_alone(&kept.rows, call, reply));
                 (CallerHandle { kept, stage }, true)
             }
             stage => (CallerHandle { kept, stage }, false),
@@ -196,7 +196,7 @@ impl CallerHandle {
             (λ found. IfSome found (λ text. IsWitnessOf self.now text.items)) }
     {
         match &self.stage {
-            Stage::Wrong(wrong) => Ok(Some(write_book(alloc, self.kept.kind, &wrong.book)?)),
+            HandleStage::Wrong(wrong) => Ok(Some(write_book(alloc, self.kept.kind, &wrong.book)?)),
             _ => Ok(None),
         }
     }

@@ -5,10 +5,10 @@ ghost use Rattle.row_gather.specs.Gathered.{IsGatheredBy};
 ghost use Rattle.drv_wrapper.specs.States.{caller_announced, announced_local};
 ghost use Rattle.call_handles.specs.Callers.{every_reply, IsSoundAt, KeepsStanding, AnswersFor};
 
-use crate::caller_handle::Answer;
+use crate::caller_handle::CallAnswer;
 use crate::finishing::finish;
-use crate::kept::Kept;
-use crate::stage::{Stage, Wrong};
+use crate::kept::KeptByHandle;
+use crate::stage::{HandleStage, Wrong};
 use drv_wrapper::Announced;
 use enforcer::{Judged, Unjudged};
 use row_table::Steps;
@@ -19,11 +19,11 @@ use std::sync::ledger::{Blank, Ledger};
 // Judges a call whose reply is handed in. It makes a counter of steps for this.
 fn judge_counted<L: Ledger>(
     alloc: Global,
-    kept: &mut Kept,
+    kept: &mut KeptByHandle,
     call: Announced,
     reply: u64,
     blank: Blank,
-) -> (Stage, Answer)
+) -> (HandleStage, CallAnswer)
     requires blank { (blank.name ≡ L.name) × (blank.parts ≡ L.parts) × (0 < blank.parts) }
     requires rows { IsCallerOf every_reply (arc_value kept.old.rows) (caller_announced call) }
     requires gathered { IsGatheredBy (announced_local call) kept.old.gathered }
@@ -47,7 +47,7 @@ fn judge_counted<L: Ledger>(
     );
     match ended {
         Ok((caller, judged)) => match judged {
-            Judged::Delivered { .. } => (Stage::Idle(caller), Answer::Delivered),
+            Judged::Delivered { .. } => (HandleStage::Idle(caller), CallAnswer::Delivered),
             Judged::Illegal {
                 reply,
                 view,
@@ -61,7 +61,7 @@ fn judge_counted<L: Ledger>(
                     seen,
                     book,
                 };
-                (Stage::Wrong(wrong), Answer::Illegal)
+                (HandleStage::Wrong(wrong), CallAnswer::Illegal)
             }
         },
         Err(
@@ -71,7 +71,7 @@ fn judge_counted<L: Ledger>(
                 view: _,
                 seen: _,
             },
-        ) => (Stage::Unjudged(caller), Answer::Unjudged),
+        ) => (HandleStage::Unjudged(caller), CallAnswer::Unjudged),
     }
 }
 
@@ -79,10 +79,10 @@ fn judge_counted<L: Ledger>(
 /// the call's caller afterwards.
 pub(crate) fn judge_alone(
     alloc: Global,
-    kept: &mut Kept,
+    kept: &mut KeptByHandle,
     call: Announced,
     reply: u64,
-) -> (Stage, Answer)
+) -> (HandleStage, CallAnswer)
     requires rows { IsCallerOf every_reply (arc_value kept.old.rows) (caller_announced call) }
     requires gathered { IsGatheredBy (announced_local call) kept.old.gathered }
     requires stands { KeepsStanding kept.old }

@@ -9,7 +9,7 @@ use std::sync::Arc;
 /// judged, and for the next judgement the book that was gathered last, and what stands in it, for
 /// this kind, of the order that was found last.
 #[derive(Drop)]
-pub struct Kept {
+pub struct KeptByHandle {
     pub rows: Arc<Rows, Global>,
     pub kind: Kind,
     pub gathered: Option<Gathered>,

@@ -16,9 +16,9 @@ mod rounds;
 mod stage;
 mod table_handle;
 
-pub use caller_handle::{Answer, CallerHandle};
+pub use caller_handle::{CallAnswer, CallerHandle};
 pub use handle::Handle;
-pub use kept::Kept;
+pub use kept::KeptByHandle;
 pub use monitor_handle::{Judgement, MonitorHandle};
-pub use stage::{Stage, Wrong};
+pub use stage::{HandleStage, Wrong};
 pub use table_handle::TableHandle;

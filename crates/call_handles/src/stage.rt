@@ -4,7 +4,7 @@ use row_table::Caller;
 
 /// Between which of its calls the caller of a handle is.
 #[derive(Drop)]
-pub enum Stage {
+pub enum HandleStage {
     /// The caller is between two calls.
     Idle(Caller),
     /// A call is announced, and its reply isn't handed in yet.

@@ -10,7 +10,7 @@ use Rattle.text_fields.specs.Faults.{ALine, IsWrong}
 use Rattle.text_fields.specs.Head.{HeadDue, TitleDue, ObjectDue, CallersDue, CountsDue, HeadRead, HeadPasses, head_wanted, head_rules}
 use Rattle.text_fields.specs.Operations.{kind_operations}
 use Rattle.text_fields.proofs.Within.{AreWithin, wrong_alike}
-use Rattle.book_text.specs.CallLines.{Progress, CallPasses, call_wanted, call_rules}
+use Rattle.book_text.specs.CallLines.{BookSoFar, CallPasses, call_wanted, call_rules}
 use Rattle.book_text.specs.BookRules.{InCalls, after_head, in_calls}
 use Rattle.certificate_text.specs.CertificateRules.{CertificateDue, InBook, after_book, CertificatePasses, certificate_wanted, certificate_rules}
 
@@ -46,10 +46,10 @@ head_within = record { right = head_right; wrong = head_wrong }
 
 module _ (kind : Kind) where
   -- how far the lines of calls are read, as a state of reading the certificate
-  abbrev pub at_calls : Progress → CertificateDue
+  abbrev pub at_calls : BookSoFar → CertificateDue
   at_calls progress = InBook (InCalls kind progress.book progress.due)
 
-  calls_right : (due after : Progress) (words : List (List ℕ))
+  calls_right : (due after : BookSoFar) (words : List (List ℕ))
       → (call_rules Second (kind_operations Second kind)).Passes due words after
       → CertificatePasses (at_calls due) words (at_calls after)
   calls_right due after words h = right_here due.book due.due h where
@@ -59,7 +59,7 @@ module _ (kind : Kind) where
     right_here book [] h = absurd h
     right_here book (call ∷ calls) h = (in_calls kind after, (after, h, refl), refl)
 
-  calls_wrong : (due : Progress) (bytes : List ℕ) (what : What) → IsWrong
+  calls_wrong : (due : BookSoFar) (bytes : List ℕ) (what : What) → IsWrong
       (call_rules Second (kind_operations Second kind)) due (call_wanted due.due) bytes what
       → IsWrong certificate_rules (at_calls due) (certificate_wanted (at_calls due)) bytes what
   calls_wrong due bytes what h = wrong_here due.book due.due h where

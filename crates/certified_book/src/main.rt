@@ -9,7 +9,7 @@ ghost use Rattle.text_fields.specs.declared.version.Version.TheVariants.{Second}
 
 use book_base::ReadFault;
 use book_verdicts::certify;
-use byte_streams::{Answer, StdSink, StdSource, TextProgram, run_program};
+use byte_streams::{ProgramAnswer, StdSink, StdSource, TextProgram, run_program};
 use std::alloc::Global;
 use std::process::ExitCode;
 
@@ -24,10 +24,10 @@ impl TextProgram for Certifier {
 
     ghost is_fault = { λ _ bytes fault. IsFirstBookFault Second bytes fault };
 
-    fn answer(&self, alloc: Global, bytes: &[u8]) -> Result<Answer, ReadFault> {
+    fn answer(&self, alloc: Global, bytes: &[u8]) -> Result<ProgramAnswer, ReadFault> {
         match certify(alloc, bytes)? {
-            Some(text) => Ok(Answer::Fine(text)),
-            None => Ok(Answer::Found(b"illegal\n".to_vec(alloc)?)),
+            Some(text) => Ok(ProgramAnswer::Fine(text)),
+            None => Ok(ProgramAnswer::Found(b"illegal\n".to_vec(alloc)?)),
         }
     }
 }

@@ -14,7 +14,7 @@ use Rattle.report_lines.specs.declared.line.LineEnd.{LineEnd}
 use Rattle.report_lines.specs.declared.line.LineEnd.TheVariants.{Pending, Unchecked, Delivered, Error}
 use Rattle.report_lines.specs.Workers.{IsJudgedBy}
 use Rattle.enforcer.specs.Recorded.{is_announcing}
-use Rattle.enforcer.specs.Lines.{IsVerdictOn, stance_after}
+use Rattle.enforcer.specs.Lines.{IsVerdictOn, stance_after_line}
 use Rattle.client_calls.specs.declared.ended.Ended.{Ended}
 use Rattle.client_calls.specs.declared.ended.Ended.TheVariants.{GoesOn, Halts}
 use Rattle.client_calls.specs.Ends.{Sequential, SaysJudged}
@@ -53,7 +53,7 @@ module _ {P : Type 0} where
   caller_is c (Error r cut) e is = ap caller_ended is
 
   pub stands_after : (c : Caller P) (end : LineEnd) (e : Ended P) → IsEndedBy c end e
-      → IsIdle (local_with c) → stance_of c ≡ stance_after end → StandsAfter e
+      → IsIdle (local_with c) → stance_of c ≡ stance_after_line end → StandsAfter e
   stands_after c Pending e is idle stance =
       subst (λ (x : Ended P). StandsAfter x) (sym is) (record { idle = idle; stance = stance })
   stands_after c (Unchecked r) e is idle stance =

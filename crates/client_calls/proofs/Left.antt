@@ -17,7 +17,7 @@ use Rattle.client_calls.specs.declared.stand.CallerState.TheVariants.{Idle, Anno
 use Rattle.client_calls.specs.Stands.{local_at_stand, phases_at}
 use Rattle.client_calls.specs.Course.{EndsInError, HasCome}
 use Rattle.client_calls.specs.Finishing.{end_at, is_unjudged, IsLeftStanding, stance_left}
-use Rattle.client_calls.proofs.ReadOnly.{error_among}
+use Rattle.client_calls.proofs.LinesLeft.{error_among}
 
 -- lines that end in an error have one
 ends_with_error : (own : List Line) → EndsInError own → any_error own ≡ true

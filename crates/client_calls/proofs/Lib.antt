@@ -7,7 +7,7 @@ pub mod Judged
 pub mod Seen
 pub mod Standing
 pub mod Spending
-pub mod ReadOnly
+pub mod LinesLeft
 pub mod Worked
 pub mod Kept
 pub mod Asked

@@ -19,7 +19,7 @@ use Rattle.text_fields.specs.Head.{TitleDue, ObjectDue, CallersDue, CountsDue, H
 use Rattle.text_fields.specs.Faults.{ALine}
 use Rattle.book_text.specs.CallLines.{calls_from, all_calls}
 use Rattle.book_text.specs.Grammar.{end_words}
-use Rattle.book_text.specs.ReadOnly.{LeavesAt}
+use Rattle.book_text.specs.AnyTextBeginnings.{LeavesAt}
 use Rattle.book_text.proofs.Leavings.{Completes, one_more, leaves_texts}
 use Rattle.book_text.proofs.ReadTexts.{has_zero}
 use Rattle.client_scripts.specs.Plans.{Plan}

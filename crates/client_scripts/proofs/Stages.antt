@@ -18,34 +18,34 @@ use Rattle.client_scripts.proofs.Readings.{head_within, script_ends}
 module _ (version : Version) (bytes : List ℕ) (kind : Kind) (calls : List ℕ) (new a : Unread)
     (is : new ≡ whole_text bytes)
     (head : GoesTo (head_rules version (codes "script")) TitleDue new (HeadRead kind calls) a) where
-  pub to_calls : GoesTo (script_rules version) (InHead TitleDue) (whole_text bytes)
+  pub goes_to_calls : GoesTo (script_rules version) (InHead TitleDue) (whole_text bytes)
       (InBody kind (begin calls) (all_calls 0 calls)) a
-  to_calls =
+  goes_to_calls =
       goes_within (head_within version) TitleDue (HeadRead kind calls) (whole_text bytes) a
       (subst (λ (t : Unread). GoesTo (head_rules version (codes "script")) TitleDue t
       (HeadRead kind calls) a) is head)
 
   module _ (begun : Begun) (b : Unread) (body : GoesTo (script_rules version)
       (InBody kind (begin calls) (all_calls 0 calls)) a (InBody kind begun []) b) where
-    pub to_stops : GoesTo (script_rules version) (InHead TitleDue) (whole_text bytes)
+    pub goes_to_stops : GoesTo (script_rules version) (InHead TitleDue) (whole_text bytes)
         (InBody kind begun []) b
-    to_stops = goes_then (script_rules version) (InHead TitleDue)
+    goes_to_stops = goes_then (script_rules version) (InHead TitleDue)
         (InBody kind (begin calls) (all_calls 0 calls)) (InBody kind begun [])
-        (whole_text bytes) a b to_calls body
+        (whole_text bytes) a b goes_to_calls body
 
     module _ (plan : Plan) (d : Unread)
         (tail : GoesTo (script_rules version) (InBody kind begun []) b (Turned plan) d) where
-      pub to_end : GoesTo (script_rules version) (InHead TitleDue) (whole_text bytes)
+      pub goes_to_end_line : GoesTo (script_rules version) (InHead TitleDue) (whole_text bytes)
           (Turned plan) d
-      to_end = goes_then (script_rules version) (InHead TitleDue) (InBody kind begun [])
-          (Turned plan) (whole_text bytes) b d to_stops tail
+      goes_to_end_line = goes_then (script_rules version) (InHead TitleDue) (InBody kind begun [])
+          (Turned plan) (whole_text bytes) b d goes_to_stops tail
 
-      pub to_text : (left : Unread) → IsEnded d left → IsScriptText version bytes plan
-      to_text left end = (
+      pub is_text_read : (left : Unread) → IsEnded d left → IsScriptText version bytes plan
+      is_text_read left end = (
         left,
         record {
           goes = goes_then (script_rules version) (InHead TitleDue) (Turned plan) (AtEnd plan)
-              (whole_text bytes) d left to_end (script_ends version plan d left end);
+              (whole_text bytes) d left goes_to_end_line (script_ends version plan d left end);
           through = end.whole;
         },
       )

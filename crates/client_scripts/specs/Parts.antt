@@ -12,7 +12,7 @@ use Rattle.text_fields.specs.declared.version.Version.{Version}
 use Rattle.text_fields.specs.Lines.{Unread}
 use Rattle.text_fields.specs.Faults.{GoesTo, IsFirstFault, IsFirstTest, StopsFor}
 use Rattle.book_text.specs.CallLines.{calls_from, all_calls}
-use Rattle.client_scripts.specs.declared.script.Client.{Client}
+use Rattle.client_scripts.specs.declared.script.CallerScript.{CallerScript}
 use Rattle.client_scripts.specs.declared.tail_line.TailLine.{TailLine}
 use Rattle.client_scripts.specs.declared.tail_line.TailLine.TheVariants.{Stop, Turns}
 use Rattle.client_scripts.specs.ScriptRules.{Begun, begin, with_operation, with_operations, InBody, Turned, IsStopLine, IsTurnsLine, TailFails, script_rules}
@@ -47,7 +47,7 @@ AreCallsStopped words i count text e = (begun : Begun) (more : List Call) → St
 
 -- the next lines are those of all calls of these numbers, with the operations that these clients
 -- hold
-abbrev pub AreClientsRead : KindWords → List ℕ → Unread → List Client → Unread → Type 0
+abbrev pub AreClientsRead : KindWords → List ℕ → Unread → List CallerScript → Unread → Type 0
 AreClientsRead words calls text clients left =
     GoesTo (script_rules words.version) (InBody words.kind (begin calls) (all_calls 0 calls)) text
     (InBody words.kind (told clients 0) []) left
@@ -72,12 +72,12 @@ IsTailLineRefused begun words number e = (e ≡ NoMemory) ⊎ ((what : What)
 
 -- after the calls of the clients `before` the next lines are stops and turns: the clients `after`
 -- are these clients with the stops, and the turns are these
-abbrev pub IsTailRead : List Client → Unread → List Client → List ℕ → Unread → Type 0
+abbrev pub IsTailRead : List CallerScript → Unread → List CallerScript → List ℕ → Unread → Type 0
 IsTailRead before text after turns left =
     (version : Version) (kind : Kind) → GoesTo (script_rules version)
     (InBody kind (told before 0) []) text (Turned (plan_in kind after turns)) left
 
 -- a reader stops with this fault in the next lines, which are to be stops and turns
-abbrev pub IsTailStopped : List Client → Unread → ReadFault → Type 0
+abbrev pub IsTailStopped : List CallerScript → Unread → ReadFault → Type 0
 IsTailStopped before text e = (version : Version) (kind : Kind)
     → StopsFor (script_rules version) (InBody kind (told before 0) []) text e

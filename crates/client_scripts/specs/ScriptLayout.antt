@@ -2,20 +2,20 @@
 use Rattle.std.specs.Prelude.{ℕ, List, map, Option}
 use Rattle.std.specs.List.{concat}
 use Rattle.seq_objects.specs.declared.kind.Kind.{Kind}
-use Rattle.client_scripts.specs.declared.script.Client.{Client}
+use Rattle.client_scripts.specs.declared.script.CallerScript.{CallerScript}
 use Rattle.client_scripts.specs.Plans.{Plan, sizes}
 use Rattle.client_scripts.specs.ScriptRules.{Begun}
 
 -- the operations that each client holds
-abbrev pub operations_in : List Client → List (List ℕ)
+abbrev pub operations_in : List CallerScript → List (List ℕ)
 operations_in clients = map (λ client. client.operations.items) clients
 
 -- the stops that the clients hold
-abbrev pub stops_in : List Client → List (Option ℕ)
+abbrev pub stops_in : List CallerScript → List (Option ℕ)
 stops_in clients = map (λ client. client.stop) clients
 
 -- the plan of a script that holds these clients and turns
-abbrev pub plan_in : Kind → List Client → List ℕ → Plan
+abbrev pub plan_in : Kind → List CallerScript → List ℕ → Plan
 plan_in kind clients turns = record {
   kind = kind;
   operations = operations_in clients;
@@ -25,7 +25,7 @@ plan_in kind clients turns = record {
 
 -- what the lines say once those of all calls are read, and those of the stops of all callers before
 -- this one
-abbrev pub told : List Client → ℕ → Begun
+abbrev pub told : List CallerScript → ℕ → Begun
 told clients least = record {
   calls = sizes (operations_in clients);
   operations = concat (operations_in clients);

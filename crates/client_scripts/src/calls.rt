@@ -4,7 +4,7 @@ ghost use Rattle.std.specs.Prelude.{◌≡◌, length, IfOk, IfErr};
 ghost use Rattle.client_scripts.specs.Parts.{IsCallRead, IsCallFault, AreCallsRead, AreCallsStopped, AreClientsRead, AreClientsStopped};
 
 use crate::call_line::read_call_line;
-use crate::script::Client;
+use crate::script::CallerScript;
 use book_base::{Call, Cut, OpWord, ReadFault, TextFault};
 use std::alloc::Global;
 use text_fields::{KindWords, Lines};
@@ -16,7 +16,7 @@ pub(crate) fn read_clients(
     lines: &mut Lines,
     calls: &Cut,
     operations: &KindWords,
-) -> Result<Vec<Client>, ReadFault>
+) -> Result<Vec<CallerScript>, ReadFault>
     ensures found { IfOk result (λ clients.
         AreClientsRead operations.now calls.now lines.old clients.items lines.new) }
     ensures count { IfOk result (λ clients. length clients.items ≡ length calls.now) }
@@ -24,7 +24,7 @@ pub(crate) fn read_clients(
 {
     let mut clients = Vec::new(alloc);
     for i in 0..calls.n() {
-        clients.push(Client {
+        clients.push(CallerScript {
             operations: read_operations(alloc, lines, i, calls.get(i), operations)?,
             stop: None,
         })?;

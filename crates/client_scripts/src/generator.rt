@@ -6,7 +6,7 @@ ghost use Rattle.seq_objects.specs.Words.{word_of};
 ghost use Rattle.text_fields.specs.declared.TheConstants.{TEXT_CALLERS, TEXT_CALLS};
 ghost use Rattle.client_scripts.specs.Generator.{value_of, by_halves, by_thirds, generated_operation, generated_operations, generated};
 
-use crate::script::{Client, Script};
+use crate::script::{CallerScript, Script};
 use book_base::{NoMemory, OpWord, join};
 use seq_objects::Kind;
 use std::alloc::Global;
@@ -33,7 +33,7 @@ pub fn make_script(
 {
     let mut clients = Vec::new(alloc);
     for caller in 0..callers {
-        clients.push(Client {
+        clients.push(CallerScript {
             operations: make_operations(alloc, number, caller, calls, kind)?,
             stop: None,
         })?;

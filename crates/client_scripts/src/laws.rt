@@ -3,7 +3,7 @@
 ghost use Rattle.std.specs.Prelude.{◌≡◌, ◌↔◌, ℕ, [], ◌++◌, List};
 ghost use Rattle.book_base.specs.declared.fault.TextFault.{TextFault};
 ghost use Rattle.text_fields.specs.declared.version.Version.{Version};
-ghost use Rattle.book_text.specs.ReadOnly.{LeavesAt};
+ghost use Rattle.book_text.specs.AnyTextBeginnings.{LeavesAt};
 ghost use Rattle.client_scripts.specs.Plans.{Plan};
 ghost use Rattle.client_scripts.specs.Grammar.{IsWrittenText};
 ghost use Rattle.client_scripts.specs.ScriptRules.{IsScriptText, IsFirstScriptFault};

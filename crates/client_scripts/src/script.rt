@@ -9,7 +9,7 @@ use std::marker::Model;
 
 /// What one caller is to do.
 #[derive(Debug, Drop)]
-pub(crate) struct Client {
+pub(crate) struct CallerScript {
     pub(crate) operations: Vec<OpWord>,
     pub(crate) stop: Option<u64>,
 }
@@ -22,7 +22,7 @@ pub(crate) struct Client {
 #[derive(Debug, Drop)]
 pub struct Script {
     kind: Kind,
-    clients: Vec<Client>,
+    clients: Vec<CallerScript>,
     turns: Vec<u32>,
 }
 
@@ -41,7 +41,7 @@ impl Model for Script {
 
 impl Script {
     /// The script with these parts.
-    pub(crate) fn from_parts(kind: Kind, clients: Vec<Client>, turns: Vec<u32>) -> Script
+    pub(crate) fn from_parts(kind: Kind, clients: Vec<CallerScript>, turns: Vec<u32>) -> Script
         requires { IsPlan Second (plan_in kind clients.items turns.items) }
         ensures { result ≡ plan_in kind clients.items turns.items }
     {

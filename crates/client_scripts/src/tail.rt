@@ -4,7 +4,7 @@ ghost use Rattle.std.specs.Prelude.{◌≤◌, length, IfOk, IfErr};
 ghost use Rattle.book_base.specs.declared.TheConstants.{MAX_CALLERS};
 ghost use Rattle.client_scripts.specs.Parts.{IsTailRead, IsTailStopped};
 
-use crate::script::Client;
+use crate::script::CallerScript;
 use crate::tail_line::{TailLine, read_tail_line};
 use book_base::ReadFault;
 use std::alloc::Global;
@@ -14,7 +14,7 @@ use text_fields::Lines;
 pub(crate) fn read_tail(
     alloc: Global,
     lines: &mut Lines,
-    clients: &mut Vec<Client>,
+    clients: &mut Vec<CallerScript>,
 ) -> Result<Vec<u32>, ReadFault>
     requires { length clients.old.items ≤ MAX_CALLERS }
     ensures found { IfOk result (λ turns.

@@ -8,7 +8,7 @@ ghost use Rattle.client_scripts.specs.ScriptLayout.{told};
 ghost use Rattle.client_scripts.specs.Parts.{SaysLine, IsTailLineRefused};
 
 use crate::PHASES;
-use crate::script::Client;
+use crate::script::CallerScript;
 use book_base::{NoMemory, ReadFault, TextFault, What};
 use std::alloc::Global;
 use text_fields::{Words, next_number, number};
@@ -27,7 +27,7 @@ pub(crate) fn read_tail_line(
     alloc: Global,
     line: &[u8],
     number: u64,
-    clients: &[Client],
+    clients: &[CallerScript],
     least: u32,
 ) -> Result<TailLine, ReadFault>
     requires { length clients.now ≤ MAX_CALLERS }
@@ -61,7 +61,7 @@ fn fault(line: u64, what: What) -> ReadFault
 }
 
 /// The caller and the phases after the word `stop`, which nothing may follow.
-fn read_stop(words: &mut Words, clients: &[Client], least: u32) -> Option<(u32, u64)>
+fn read_stop(words: &mut Words, clients: &[CallerScript], least: u32) -> Option<(u32, u64)>
     requires { length clients.now ≤ MAX_CALLERS }
     ensures found { IfSome result (λ (caller, phases). IsStop (told clients.now least) caller phases
         × (words.old ≡ decimal caller ∷ decimal phases ∷ [])) }
@@ -82,7 +82,7 @@ fn read_stop(words: &mut Words, clients: &[Client], least: u32) -> Option<(u32, 
 }
 
 /// Whether this caller may stop after this many phases.
-fn may_stop(clients: &[Client], least: u32, caller: u64, phases: u64) -> bool
+fn may_stop(clients: &[CallerScript], least: u32, caller: u64, phases: u64) -> bool
     ensures { IsTrue result ↔ IsStop (told clients.now least) caller phases }
 {
     if caller < u64::from(least) || caller >= clients.len() as u64 {

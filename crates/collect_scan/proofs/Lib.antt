@@ -2,5 +2,5 @@ pub mod Going
 pub mod Seen
 pub mod Ending
 pub mod Turning
-pub mod ReadOnly
+pub mod AfterScans
 pub mod Owning

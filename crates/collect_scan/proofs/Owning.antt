@@ -19,7 +19,7 @@ use Rattle.world_laws.proofs.Ordering.{cuts_rise, cuts_hold_looked}
 use Rattle.world_laws.proofs.Owning.{AllOwned, Owns, OwnsKept, start_owned, steps_owned}
 use Rattle.collect_scan.specs.Scanned.{scan_with, HasScanned}
 use Rattle.collect_scan.specs.Given.{given_with, AddsCut, CutsAreFew, OwnEntriesAreCounts, CutsHoldGiven, CutsHoldLooks, ViewScansHavePhase}
-use Rattle.collect_scan.proofs.ReadOnly.{scans_add_their_cut, ended, purpose, after_is}
+use Rattle.collect_scan.proofs.AfterScans.{scans_add_their_cut, ended, purpose, after_is}
 
 -- What holds of the local of caller `i` in a reachable world: which entries for `i` its views, its
 -- seen cuts and the cuts of its rows have, how long its lists are in its phase, and that its scan

@@ -14,7 +14,7 @@ const MOST_VALUES: usize = 64;
 /// unanswered takes, these with the value 0, with that of the first view that holds them; and the
 /// values of some answered puts.
 #[derive(Drop)]
-struct Moments {
+struct TableMoments {
     due_puts: Vec<(u64, u64)>,
     early_puts: Vec<(u64, u64)>,
     due_takes: Vec<(u64, u64)>,
@@ -54,7 +54,7 @@ fn takes_refute(table: &Table, values: &[u64], moment: u64) -> bool
 }
 
 // Whether counts of calls show that some take finds nothing where values were left.
-fn finds_refute(alloc: Global, table: &Table, moments: &Moments) -> Result<bool, NoMemory>
+fn finds_refute(alloc: Global, table: &Table, moments: &TableMoments) -> Result<bool, NoMemory>
     ensures { IfOk result (λ refuted. IsTrue refuted → IsRefuted table.now) }
 {
     for place in 0..table.finds.len() {
@@ -88,7 +88,7 @@ fn find_refutes(table: &Table, values: &[u64], place: usize) -> bool
 
 // A value and a moment by which it has been taken out more often than it may have been put in,
 // where the lists of moments have them.
-fn overtaken(moments: &Moments) -> Option<(u64, u64)> {
+fn overtaken(moments: &TableMoments) -> Option<(u64, u64)> {
     let puts = &moments.early_puts;
     let mut next = 0;
     for place in 0..moments.due_takes.len() {
@@ -110,7 +110,7 @@ fn overtaken(moments: &Moments) -> Option<(u64, u64)> {
 // The values of which more puts have taken effect before this span than answered takes may have
 // taken out by its end. No value is answered where the unanswered takes that may have taken effect
 // by its end are enough for all that is left of these values.
-fn values_left(alloc: Global, moments: &Moments, span: Span) -> Result<Vec<u64>, NoMemory> {
+fn values_left(alloc: Global, moments: &TableMoments, span: Span) -> Result<Vec<u64>, NoMemory> {
     let mut left = Vec::new(alloc);
     let mut all: usize = 0;
     for value in &moments.values {
@@ -136,8 +136,8 @@ fn up_to(moments: &[(u64, u64)], value: u64, moment: u64) -> usize {
 }
 
 // The moments of a table's calls.
-fn moments_of(alloc: Global, table: &Table) -> Result<Moments, NoMemory> {
-    let mut moments = Moments {
+fn moments_of(alloc: Global, table: &Table) -> Result<TableMoments, NoMemory> {
+    let mut moments = TableMoments {
         due_puts: Vec::new(alloc),
         early_puts: Vec::new(alloc),
         due_takes: Vec::new(alloc),
@@ -156,7 +156,7 @@ fn moments_of(alloc: Global, table: &Table) -> Result<Moments, NoMemory> {
 }
 
 // Adds the moments of a call, if some view holds it.
-fn add(timed: TimedCall, moments: &mut Moments) -> Result<(), NoMemory> {
+fn add(timed: TimedCall, moments: &mut TableMoments) -> Result<(), NoMemory> {
     if !timed.is_held() {
         return Ok(());
     }
@@ -179,7 +179,7 @@ fn add(timed: TimedCall, moments: &mut Moments) -> Result<(), NoMemory> {
 }
 
 // Puts each list of moments in order.
-fn sort(moments: &mut Moments) -> Result<(), NoMemory> {
+fn sort(moments: &mut TableMoments) -> Result<(), NoMemory> {
     moments.due_puts.sort()?;
     moments.early_puts.sort()?;
     moments.due_takes.sort()?;
@@ -189,7 +189,7 @@ fn sort(moments: &mut Moments) -> Result<(), NoMemory> {
 }
 
 // Adds the values of the answered puts, each once, as long as there are fewer than `MOST_VALUES`.
-fn add_values(moments: &mut Moments) -> Result<(), NoMemory> {
+fn add_values(moments: &mut TableMoments) -> Result<(), NoMemory> {
     for place in 0..moments.due_puts.len() {
         let value = moments.due_puts[place].0;
         if moments.values.last() != Some(&value) && moments.values.len() < MOST_VALUES {

@@ -18,7 +18,7 @@ use Rattle.drv_wrapper.specs.declared.announced.Announced.{Announced}
 use Rattle.drv_wrapper.specs.States.{caller_announced, who_announced, number_announced, op_announced, announced_local}
 use Rattle.drv_wrapper.specs.ObjectSteps.{HasStepped}
 use Rattle.log_program.specs.LogWords.{number_of, low_place, high_place, ticket_place, ticket_of, known, is_known, placed_at, known_log, known_operation, joined_if_known, with_operation}
-use Rattle.log_program.specs.LogProgram.{log_program, log_may_step, is_low_store, is_high_store, is_exchange, is_load, list_of, reply_at, reply_after}
+use Rattle.log_program.specs.LogProgram.{log_program, log_may_step, is_low_store, is_high_store, is_exchange, is_load, list_of, known_reply, reply_after}
 use Rattle.core_objects.specs.declared.core_log.LogProgram.{LogProgram}
 use Rattle.core_objects.specs.CoreObjects.{with_steps, after_steps, HasReplied}
 use Rattle.core_objects.specs.LogCalls.{KnowsTickets, KnowsOperations, places_on, number_on, HasMade, HasStored, HasPlaced, place_on, KnowsPlaces, KnowsLog, MayLoad, KnowsOperation}
@@ -485,9 +485,9 @@ module _ {S : Type 0} (init : S → List ℕ) (next : S → List ℕ → ℕ →
         let n : ℕ = r.callers in
         let cap : ℕ = r.cap in
         let operation : operation_now l ≡ op = a.asked.operation ∙ is in
-        let found : reply_at (next object) (init object) (n * cap) (operation_now l) (all a)
+        let found : known_reply (next object) (init object) (n * cap) (operation_now l) (all a)
         (place_on r a) ≡ Some reply =
-        ap (reply_at (next object) (init object) (n * cap) (operation_now l) (all a)) placed
+        ap (known_reply (next object) (init object) (n * cap) (operation_now l) (all a)) placed
         ∙ ap (λ (k : ℕ). reply_after (next object) (init object) (operation_now l)
         (known_log (n * cap) (all a) k)) count
         ∙ ap (reply_after (next object) (init object) (operation_now l)) known
@@ -495,7 +495,7 @@ module _ {S : Type 0} (init : S → List ℕ) (next : S → List ℕ → ℕ →
         ∙ ap Some (sym reply_is) in
         let allowed : IsTrue
         ((log_program (init object) (next object) n cap).may_reply (who_of c) l reply) =
-        is_this_reply (reply_at (next object) (init object) (n * cap) (operation_now l) (all a)
+        is_this_reply (known_reply (next object) (init object) (n * cap) (operation_now l) (all a)
         (place_on r a)) reply found in
         let by_program : IsTrue ((meaning c.program n cap).may_reply (who_of c) l reply) =
         subst (λ (q : P). IsTrue ((meaning q n cap).may_reply (who_of c) l reply))

@@ -13,10 +13,10 @@ use Rattle.world_books.proofs.Validity.{books_are_valid}
 use Rattle.row_gather.specs.declared.gathered.Gathered.{Gathered}
 use Rattle.row_gather.specs.Gathered.{IsGatheredBy}
 use Rattle.row_gather.proofs.Gathering.{is_book_of_all}
-use Rattle.frontier_check.specs.declared.mark.KeptOrder.{KeptOrder}
+use Rattle.frontier_check.specs.declared.kept_order.KeptOrder.{KeptOrder}
 use Rattle.frontier_check.specs.Standing.{HasGrown, IsStandingFor}
 use Rattle.frontier_check.proofs.Resuming.{standing_stays}
-use Rattle.enforcer.specs.Lines.{StandsIn, IsHeldIn}
+use Rattle.enforcer.specs.Lines.{OrderStandsIn, IsGatheredWithin}
 
 -- Where one cut is within another, the book at the first cut has grown to the book at the second.
 grown_at : (book : List Page) (early late : List ℕ) (a b : List Page) → IsWithin early late
@@ -57,8 +57,8 @@ grown s i l early late a b (locals, together, low, is) first second within =
 pub stands_on : (init : List ℕ) (next : List ℕ → ℕ → List ℕ × ℕ) (s : Shape) (i n : ℕ) (l : Local)
     (kept : Option Gathered) (standing taken : Option KeptOrder) (cut : List ℕ) (book : List Page)
     → n ≡ s.callers → IsLocalOf s i l → IsGatheredBy l kept → IsGathered s.callers l cut book
-    → StandsIn init next kept standing → IfSome taken (λ x. standing ≡ Some x)
-    → IfSome taken (λ _. IsHeldIn n kept cut) → IfSome taken (IsStandingFor init next book)
+    → OrderStandsIn init next kept standing → IfSome taken (λ x. standing ≡ Some x)
+    → IfSome taken (λ _. IsGatheredWithin n kept cut) → IfSome taken (IsStandingFor init next book)
 stands_on init next s i n l kept standing None cut book same local by now stands is held = tt
 stands_on init next s i n l None standing (Some x) cut book same local by now stands is held =
     absurd held
@@ -67,4 +67,4 @@ stands_on init next s i n l (Some g) standing (Some x) cut book same local by no
     subst (λ (k : ℕ). IsGathered k l g.cut g.book) (held.0 ∙ same) by in
     standing_stays init next g.book book x
     (grown s i l g.cut cut g.book book local before now held.1)
-    (subst (λ (o : Option KeptOrder). StandsIn init next (Some g) o) is stands)
+    (subst (λ (o : Option KeptOrder). OrderStandsIn init next (Some g) o) is stands)

@@ -1,7 +1,7 @@
 -- What a judgement says whose order isn't part of it: that order is kept beside it, with marks.
 use Rattle.std.specs.Prelude.{◌≡◌, ◌+◌, ◌*◌, ◌≤◌, ℕ, false, List, Option, Some, None, Result, Ok, Err, IfSome, IsSomeAnd, length}
 use Rattle.book_base.specs.declared.call.Record.{Record}
-use Rattle.frontier_check.specs.declared.mark.KeptOrder.{KeptOrder}
+use Rattle.frontier_check.specs.declared.kept_order.KeptOrder.{KeptOrder}
 use Rattle.row_table.specs.declared.caller.Caller.{Caller}
 use Rattle.row_table.specs.declared.stance.Stance.{Stance}
 use Rattle.collect_scan.specs.Scanned.{most_words}

@@ -3,7 +3,7 @@
 use Rattle.std.specs.Prelude.{◌≡◌, ℕ, ◌⊎◌, false, List, Option, Some, None, IsSomeAnd, length}
 use Rattle.book_base.specs.declared.call.Record.{Record}
 use Rattle.book_base.specs.Cut.{IsWithin}
-use Rattle.frontier_check.specs.declared.mark.KeptOrder.{KeptOrder}
+use Rattle.frontier_check.specs.declared.kept_order.KeptOrder.{KeptOrder}
 use Rattle.frontier_check.specs.Standing.{IsStandingFor}
 use Rattle.report_lines.specs.declared.line.LineEnd.{LineEnd}
 use Rattle.report_lines.specs.declared.line.LineEnd.TheVariants.{Delivered, Error}
@@ -14,15 +14,15 @@ use Rattle.drv_wrapper.specs.Stands.{ready}
 -- Where a book and an order are kept, each mark of the order is a mark, for this object, in that
 -- book: the places up to the mark followed one another in the book, or in one from which the book
 -- has grown.
-abbrev pub StandsIn : (init : List ℕ) → (next : List ℕ → ℕ → List ℕ × ℕ) → Option Gathered
+abbrev pub OrderStandsIn : (init : List ℕ) → (next : List ℕ → ℕ → List ℕ × ℕ) → Option Gathered
     → Option KeptOrder → Type 0
-StandsIn init next gathered None = Unit {0}
-StandsIn init next None (Some s) = Unit {0}
-StandsIn init next (Some g) (Some s) = IsStandingFor init next g.book s
+OrderStandsIn init next gathered None = Unit {0}
+OrderStandsIn init next None (Some s) = Unit {0}
+OrderStandsIn init next (Some g) (Some s) = IsStandingFor init next g.book s
 
 -- A book is kept, it is of n callers, and the cut that is kept with it is within this cut.
-abbrev pub IsHeldIn : ℕ → Option Gathered → List ℕ → Type 0
-IsHeldIn n gathered cut = IsSomeAnd gathered (λ g. (length g.book ≡ n) × IsWithin g.cut cut)
+abbrev pub IsGatheredWithin : ℕ → Option Gathered → List ℕ → Type 0
+IsGatheredWithin n gathered cut = IsSomeAnd gathered (λ g. (length g.book ≡ n) × IsWithin g.cut cut)
 
 -- The line of a call ends with `Delivered` or with `Error`, and with this record and this seen cut.
 abbrev pub IsVerdictOn : Record → List ℕ → LineEnd → Type 0
@@ -30,9 +30,9 @@ IsVerdictOn r cut end = (end ≡ Delivered r cut) ⊎ (end ≡ Error r cut)
 
 -- The stance of a caller after the line of its call ended so: halted after `Error`, and ready for
 -- its next call after any other end.
-abbrev pub stance_after : LineEnd → Stance
-stance_after (Error r cut) = record ready { live = false }
-stance_after _ = ready
+abbrev pub stance_after_line : LineEnd → Stance
+stance_after_line (Error r cut) = record ready { live = false }
+stance_after_line _ = ready
 
 -- After `Delivered` a book of n callers is kept with the seen cut of the line; after any other end
 -- no book is kept.

@@ -9,7 +9,7 @@ ghost use Rattle.drv_wrapper.specs.Telling.{told_after};
 ghost use Rattle.enforcer.specs.Recorded.{HoldsOwn};
 ghost use Rattle.enforcer.specs.Judged.{AreWide, IsRightByPeeks, IsRightOf};
 ghost use Rattle.enforcer.specs.Enforced.{after_call, record_unjudged};
-ghost use Rattle.enforcer.specs.Lines.{StandsIn};
+ghost use Rattle.enforcer.specs.Lines.{OrderStandsIn};
 ghost use Rattle.enforcer.specs.After.{record_judged, cut_judged, stance_judged, reply_after, IsOutcome, IsKeptAfter, TicksForCallAfter};
 
 use crate::calling::call_and_see;
@@ -69,7 +69,7 @@ pub fn enforce_after<S: SeqObject, B: BlackBox, L: Ledger>(
     requires gathered { IsGatheredBy (local_with caller) gathered.old }
     // Where a book and an order are kept, each mark of the order is one, for the sequential object,
     // in that book or in one from which that book has grown.
-    requires stands { StandsIn (S.init sequential.now)
+    requires stands { OrderStandsIn (S.init sequential.now)
         (S.next sequential.now) gathered.old standing.old }
     // With a judgement the caller is still one of these rows, with the same number.
     ensures caller { IfOk result (λ r. IsStill ⟦<Outside as Program>⟧.meaning rows.now caller r.0) }
@@ -112,7 +112,7 @@ pub fn enforce_after<S: SeqObject, B: BlackBox, L: Ledger>(
     ensures kept_book { IfOk result (λ r. IsKeptAfter rows.now.callers r.1 gathered.new) }
     // Where a book and an order are now kept, each mark of the order is one, for the sequential
     // object, in that book or in one from which that book has grown.
-    ensures stands { StandsIn (S.init sequential.now)
+    ensures stands { OrderStandsIn (S.init sequential.now)
         (S.next sequential.now) gathered.new standing.new }
     // With a judgement the counter of steps has risen by at most the most words that four scans may
     // take, and then by the number of words that the judged book has and the book kept before

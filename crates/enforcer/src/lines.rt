@@ -11,7 +11,7 @@ ghost use Rattle.frontier_check.specs.Standing.{IsStandingFor};
 ghost use Rattle.drv_wrapper.specs.Stands.{ready};
 ghost use Rattle.enforcer.specs.Recorded.{HoldsOwn};
 ghost use Rattle.enforcer.specs.States.{caller_seen, reply_seen, view_seen, cut_seen};
-ghost use Rattle.enforcer.specs.Lines.{StandsIn, IsHeldIn, IsVerdictOn, stance_after, IsKeptAfterLine};
+ghost use Rattle.enforcer.specs.Lines.{OrderStandsIn, IsGatheredWithin, IsVerdictOn, stance_after_line, IsKeptAfterLine};
 
 use crate::judging::{gather, halted};
 use crate::outcome::Unjudged;
@@ -38,7 +38,7 @@ pub fn standing_in(
     ensures same { IfSome result (λ s. standing ≡ Some s) }
     // Where an order is answered, a book is kept, it is of `n` callers, and the cut that is kept
     // with it is within this cut.
-    ensures held { IfSome result (λ _. IsHeldIn n gathered.now cut.now) }
+    ensures held { IfSome result (λ _. IsGatheredWithin n gathered.now cut.now) }
 {
     let Some(kept) = gathered else {
         return None;
@@ -65,7 +65,7 @@ pub(crate) fn decide_after<P: Program, S: SeqObject, L: Ledger>(
 ) -> Result<(Gathered, Option<KeptOrder>), NoMemory>
     requires rows { IsCallerOf P.meaning rows.now (caller_seen seen.old) }
     requires gathered { IsGatheredBy (local_with (caller_seen seen.old)) gathered }
-    requires stands { StandsIn (S.init object.now) (S.next object.now) gathered standing }
+    requires stands { OrderStandsIn (S.init object.now) (S.next object.now) gathered standing }
     ensures caller { IsStill P.meaning rows.now (caller_seen seen.old) (caller_seen seen.new) }
     ensures record { (reply_seen seen.new ≡ reply_seen seen.old)
         × (view_seen seen.new ≡ view_seen seen.old) }
@@ -122,7 +122,7 @@ pub fn judge_line<P: Program, S: SeqObject, L: Ledger>(
     requires gathered { IsGatheredBy (local_with (caller_seen seen)) gathered.old }
     // Where a book and an order are kept, each mark of the order is one, for this object, in that
     // book or in one from which that book has grown.
-    requires stands { StandsIn (S.init object.now) (S.next object.now) gathered.old standing.old }
+    requires stands { OrderStandsIn (S.init object.now) (S.next object.now) gathered.old standing.old }
     // With an end of the line the caller is still one of these rows, with the same number.
     ensures caller { IfOk result (λ r. IsStill P.meaning rows.now (caller_seen seen) r.0) }
     // With an end of the line the caller has made peeks and no other event, and the counter of
@@ -131,7 +131,7 @@ pub fn judge_line<P: Program, S: SeqObject, L: Ledger>(
     // With an end of the line the caller is idle.
     ensures idle { IfOk result (λ r. IsIdle (local_with r.0)) }
     // After `Error` the caller is halted, and after any other end it is ready for its next call.
-    ensures stance { IfOk result (λ r. stance_of r.0 ≡ stance_after r.1) }
+    ensures stance { IfOk result (λ r. stance_of r.0 ≡ stance_after_line r.1) }
     // The line ends with `Delivered` or with `Error`, and with the record and the seen cut of the
     // seen call.
     ensures end { IfOk result (λ r. IsVerdictOn
@@ -151,7 +151,7 @@ pub fn judge_line<P: Program, S: SeqObject, L: Ledger>(
     ensures kept_book { IfOk result (λ r. IsKeptAfterLine rows.now.callers r.1 gathered.new) }
     // Where a book and an order are now kept, each mark of the order is one, for this object, in
     // that book or in one from which that book has grown.
-    ensures stands { StandsIn (S.init object.now) (S.next object.now) gathered.new standing.new }
+    ensures stands { OrderStandsIn (S.init object.now) (S.next object.now) gathered.new standing.new }
     // With an end of the line, where a book is now kept, the counter of steps has risen by the
     // number of words that this book has and the book kept before lacks, where that one is of as
     // many callers as the rows have and its cut is within the new one; where no book was kept

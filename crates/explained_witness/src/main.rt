@@ -7,7 +7,7 @@ ghost use Rattle.given_book.specs.Given.{IsFirstGivenFault};
 
 use book_base::ReadFault;
 use broken_rules::{broken_line, broken_rule};
-use byte_streams::{Answer, StdSink, StdSource, TextProgram, run_program};
+use byte_streams::{ProgramAnswer, StdSink, StdSource, TextProgram, run_program};
 use given_book::read_given;
 use std::alloc::Global;
 use std::process::ExitCode;
@@ -23,11 +23,11 @@ impl TextProgram for Explainer {
 
     ghost is_fault = { λ _ bytes fault. IsFirstGivenFault bytes fault };
 
-    fn answer(&self, alloc: Global, bytes: &[u8]) -> Result<Answer, ReadFault> {
+    fn answer(&self, alloc: Global, bytes: &[u8]) -> Result<ProgramAnswer, ReadFault> {
         let (kind, book) = read_given(alloc, bytes)?;
         match broken_rule(kind, &book) {
-            Some(broken) => Ok(Answer::Found(broken_line(alloc, kind, &book, broken)?)),
-            None => Ok(Answer::Fine(b"no rule of these is broken\n".to_vec(alloc)?)),
+            Some(broken) => Ok(ProgramAnswer::Found(broken_line(alloc, kind, &book, broken)?)),
+            None => Ok(ProgramAnswer::Fine(b"no rule of these is broken\n".to_vec(alloc)?)),
         }
     }
 }

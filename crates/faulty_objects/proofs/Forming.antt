@@ -9,7 +9,7 @@ use Rattle.seq_objects.specs.Replies.{reply_done, reply_none, reply_value}
 use Rattle.lawful_objects.specs.Forms.{increment, cell_may, IsTallyReply}
 use Rattle.lawful_objects.proofs.Counting.{found_last}
 use Rattle.shared_words.specs.Deeds.{Deed, Added, Stored, Loaded, Swapped, AreCalls}
-use Rattle.shared_words.specs.Histories.{Access, access, IsLawful, IsAfterAccess}
+use Rattle.shared_words.specs.Histories.{Access, access, IsLawfulHistory, IsAfterAccess}
 use Rattle.faulty_objects.specs.Forms.{IsSplit, IsTorn, SplitsAreFormed, dequeue, item_index, empty_places, IsEnqueued, IsDequeued, IsOnePass, IsQueueReply, OnePassesAreFormed, up, IsMissed, IsMeeting, IsMeetingReply, MeetingsAreFormed, other_caller, LastLoadsTellReplies}
 
 -- what follows of each call holds of each pair
@@ -42,7 +42,7 @@ loaded_and_stored op reply found word before between after is loaded stored more
 
 -- the reply to a split increment
 pub torn_reply : (who who' found word reply : ℕ) (before between after : List Access)
-    → IsLawful cell_may between → IsAfterAccess who (Loaded 0 found) before between → who' ≡ who
+    → IsLawfulHistory cell_may between → IsAfterAccess who (Loaded 0 found) before between → who' ≡ who
     → IsAfterAccess who' (Stored 0 word) between after → word ≡ (found + 1) % 2 ^ 64
     → reply ≡ reply_value found → IsTorn who reply after
 torn_reply who who' found word reply before between after lawful loaded same stored more told =

@@ -4,7 +4,7 @@ use Rattle.std.specs.List.{All}
 use Rattle.std.proofs.lemmas.Bool.{cases_eq}
 use Rattle.std.proofs.lemmas.List.Elements.{All-head, All-tail}
 use Rattle.shared_words.specs.Deeds.{Deed, Stored, Loaded, Swapped, Added, place_of, leaves}
-use Rattle.shared_words.specs.Histories.{Access, access, word_from, word_at, IsLawful, IsAfterAccess}
+use Rattle.shared_words.specs.Histories.{Access, access, word_from, word_at, IsLawfulHistory, IsAfterAccess}
 use Rattle.shared_words.proofs.Histories.{lawful_allowed, lawful_prefix, lawful_last}
 use Rattle.faulty_objects.specs.Forms.{up, meeting_may, queue_may, item_index, HasRaised, FlagsAreRaised}
 
@@ -65,11 +65,11 @@ raised_more flag xs ys zs is h =
     }
 
 -- a load that found the flag up
-pub found_up : (flag found who : ℕ) (before after : List Access) → IsLawful meeting_may after
+pub found_up : (flag found who : ℕ) (before after : List Access) → IsLawfulHistory meeting_may after
     → IsAfterAccess who (Loaded flag found) before after → found ≡ up → HasRaised flag after
 found_up flag found who before after lawful made is =
     let all = before ++ made.between in
-    let split = subst (λ (l : List Access). IsLawful meeting_may l) made.history lawful in
+    let split = subst (λ (l : List Access). IsLawfulHistory meeting_may l) made.history lawful in
     let was : found ≡ word_at flag all =
     lawful_last meeting_may all (access who (Loaded flag found)) split in
     raised_more flag all (access who (Loaded flag found) ∷ []) after made.history

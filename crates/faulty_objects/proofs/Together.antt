@@ -9,7 +9,7 @@ use Rattle.seq_objects.specs.Replies.{reply_value}
 use Rattle.lawful_objects.specs.Forms.{cell_may}
 use Rattle.lawful_objects.proofs.Together.{cells_are_read}
 use Rattle.shared_words.specs.Deeds.{Deed, Added, Stored, Loaded, Swapped, place_of, leaves}
-use Rattle.shared_words.specs.Histories.{Access, access, word_from, word_at, IsLawful, IsAfterAccess}
+use Rattle.shared_words.specs.Histories.{Access, access, word_from, word_at, IsLawfulHistory, IsAfterAccess}
 use Rattle.shared_words.specs.Transcripts.{Transcript, AreOfOneHistory}
 use Rattle.shared_words.proofs.Histories.{lawful_allowed, lawful_prefix}
 use Rattle.faulty_objects.specs.Forms.{IsSplit, queue_may, item_index, IsOnePass, up, meeting_may, IsMeeting}
@@ -21,9 +21,9 @@ abbrev AllMay : List Access → Type 0
 AllMay history = All (λ (a : Access). queue_may a.caller a.deed) history
 
 first_lawful : (may : ℕ → Deed → Type 0) (history before rest : List Access) (a : Access)
-    → IsLawful may history → history ≡ before ++ a ∷ rest → IsLawful may before
+    → IsLawfulHistory may history → history ≡ before ++ a ∷ rest → IsLawfulHistory may before
 first_lawful may history before rest a lawful is =
-    lawful_prefix may before (a ∷ rest) (subst (λ (l : List Access). IsLawful may l) is lawful)
+    lawful_prefix may before (a ∷ rest) (subst (λ (l : List Access). IsLawfulHistory may l) is lawful)
 
 -- ---- the counter
 
@@ -212,7 +212,7 @@ queues_give_what_was_put history lawful before rest who place found is some =
 
 -- the reply to a dequeue that took an item
 pub given : (who who' found place index reply : ℕ) (before after : List Access)
-    → IsLawful queue_may after → IsAfterAccess who' (Swapped index 0 found) before after
+    → IsLawfulHistory queue_may after → IsAfterAccess who' (Swapped index 0 found) before after
     → who' ≡ who → index ≡ item_index place
     → found ≢ 0 → reply ≡ reply_value (found - 1) → IsGiven who reply after
 given who who' found place index reply before after lawful made same at some told =

@@ -4,7 +4,7 @@ use Rattle.book_base.specs.declared.TheConstants.{BAD}
 use Rattle.seq_objects.specs.Replies.{reply_done, reply_none, reply_value}
 use Rattle.lawful_objects.specs.Forms.{operation, increment, IsTallyReply, IsLastStored}
 use Rattle.shared_words.specs.Deeds.{Deed, Added, Stored, Loaded, Swapped, AreCalls}
-use Rattle.shared_words.specs.Histories.{Access, access, word_at, IsLawful}
+use Rattle.shared_words.specs.Histories.{Access, access, word_at, IsLawfulHistory}
 
 -- A call of a split tally: an increment loads the word, and then stores one more than it found, in
 -- two steps; its reply is the word found. Any other operation makes no step, and its reply is bad.
@@ -120,7 +120,7 @@ pub record HasRaised (flag : ℕ) (history : List Access) : Type 0 where
 
 -- A flag is up only after its caller has raised it.
 abbrev pub FlagsAreRaised : Type 0
-FlagsAreRaised = (flag : ℕ) (history : List Access) → IsLawful meeting_may history
+FlagsAreRaised = (flag : ℕ) (history : List Access) → IsLawfulHistory meeting_may history
     → word_at flag history ≡ up → HasRaised flag history
 
 -- The other one of two callers.

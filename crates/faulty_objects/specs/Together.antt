@@ -4,7 +4,7 @@ use Rattle.seq_objects.specs.Replies.{reply_none, reply_value}
 use Rattle.lawful_objects.specs.Forms.{cell_may}
 use Rattle.lawful_objects.specs.Together.{LoadsFindTheLast}
 use Rattle.shared_words.specs.Deeds.{Deed, Added, Stored, Loaded, Swapped, place_of}
-use Rattle.shared_words.specs.Histories.{Access, access, IsLawful}
+use Rattle.shared_words.specs.Histories.{Access, access, IsLawfulHistory}
 use Rattle.shared_words.specs.Transcripts.{Transcript, AreOfOneHistory}
 use Rattle.faulty_objects.specs.Forms.{IsSplit, queue_may, item_index, IsOnePass, up, meeting_may, HasRaised, IsMeeting}
 
@@ -81,15 +81,15 @@ pub record TellOneMeeting (n : ℕ) (history : List Access)
 
 -- In the history of a one-pass queue the places are given in order.
 abbrev pub QueuesGivePlacesInOrder : Type 0
-QueuesGivePlacesInOrder = (history : List Access) → IsLawful queue_may history
+QueuesGivePlacesInOrder = (history : List Access) → IsLawfulHistory queue_may history
     → PlacesAreInOrder history
 
 -- In the history of a one-pass queue each item that is taken was put.
 abbrev pub QueuesGiveWhatWasPut : Type 0
-QueuesGiveWhatWasPut = (history : List Access) → IsLawful queue_may history
+QueuesGiveWhatWasPut = (history : List Access) → IsLawfulHistory queue_may history
     → TakesTakeWhatWasPut history
 
 -- In the history of a meeting a load finds a flag up only after its caller has raised it.
 abbrev pub MeetingsFindRaisedFlags : Type 0
-MeetingsFindRaisedFlags = (history : List Access) → IsLawful meeting_may history
+MeetingsFindRaisedFlags = (history : List Access) → IsLawfulHistory meeting_may history
     → LoadsFindRaisedFlags history

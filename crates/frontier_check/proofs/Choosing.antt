@@ -23,7 +23,7 @@ use Rattle.book_laws.proofs.Precedence.{may_come_next-from_first}
 use Rattle.history_rules.specs.Standing.{MayStandAtOnce, answered_place, word_of}
 use Rattle.history_rules.proofs.Exchange.{goes_on_with_it}
 use Rattle.frontier_check.specs.declared.choice.Choice.{Choice}
-use Rattle.book_base.specs.declared.marks.Marks.{Marks}
+use Rattle.book_base.specs.declared.marked_callers.MarkedCallers.{MarkedCallers}
 use Rattle.book_base.specs.Pruning.{ViewsAreWithin, IsLeast, IsDeadEnd, StandsAtOnce, IsReached, IsMarked, MarksAllNext, MarksSuffice}
 use Rattle.frontier_check.specs.Search.{IsAmong, places_of, AreServedBy, IsOneMore, AreChosen, IsOpen, IsServed, GoesOnBy, IsRankIn}
 
@@ -124,7 +124,7 @@ dead_end book next cut list h rest goes = absurd (h.covered rest goes).2
 
 -- No caller is below 0, and so no place is to be chosen for one.
 pub chosen-start : (book : List Page) (next : List ℕ → ℕ → List ℕ × ℕ) (cut list : List ℕ)
-    (marks : Marks) → AreChosen book next cut list marks 0 []
+    (marks : MarkedCallers) → AreChosen book next cut list marks 0 []
 chosen-start book next cut list marks = record {
   sound = tt;
   covered = λ (place : Place) (rest : List Place) (below : place.caller < 0) marked goes.
@@ -134,7 +134,7 @@ chosen-start book next cut list marks = record {
 -- Where the places are chosen for the callers below a number, and become new ones by this caller's
 -- next call, the new ones are chosen for the callers below the next number.
 pub chosen-next : (book : List Page) (next : List ℕ → ℕ → List ℕ × ℕ) (cut list : List ℕ)
-    (marks : Marks) (caller : ℕ) (old new : List Place)
+    (marks : MarkedCallers) (caller : ℕ) (old new : List Place)
     → AreChosen book next cut list marks caller old → IsOneMore book next cut list caller old new
     → AreChosen book next cut list marks (caller + 1) new
 chosen-next book next cut list marks caller old new h more = record {
@@ -224,7 +224,7 @@ unended-from_least book cut first least all = let held : get_or cut first 0 < ge
     all (next_call cut first) least.answered in absurd (omega arith)
 
 -- where no more than this many places continue an order, some that begin with a chosen place do
-goes_on-by : (book : List Page) (next : List ℕ → ℕ → List ℕ × ℕ) (cut list : List ℕ) (marks : Marks)
+goes_on-by : (book : List Page) (next : List ℕ → ℕ → List ℕ × ℕ) (cut list : List ℕ) (marks : MarkedCallers)
     (places : List Place) → MarksSuffice book next cut list marks
     → AreChosen book next cut list marks (length book) places → (few : ℕ) (rest : List Place)
     → length rest ≤ few → Continues book next cut list rest → GoesOnBy book next cut list places
@@ -241,7 +241,7 @@ goes_on-by book next cut list marks places suffice h (suc few) rest short goes =
 
 -- Where the next call of a caller has the least view, the marks suffice, and places are chosen for
 -- the marked ones of all callers of the book, these places are what is to be tried.
-pub open-from_chosen : (book : List Page) (next : List ℕ → ℕ → List ℕ × ℕ) (cut list : List ℕ) (marks : Marks) (first : ℕ) (places : List Place) → IsLeast book cut (length book) first
+pub open-from_chosen : (book : List Page) (next : List ℕ → ℕ → List ℕ × ℕ) (cut list : List ℕ) (marks : MarkedCallers) (first : ℕ) (places : List Place) → IsLeast book cut (length book) first
     → MarksSuffice book next cut list marks
     → AreChosen book next cut list marks (length book) places → IsOpen book next cut list places
 open-from_chosen book next cut list marks first places least suffice h = record {
@@ -333,7 +333,7 @@ considered-skip book next cut list places call op reply sound number known gives
 
 -- The places that are chosen stay as they are when a caller is considered that isn't marked.
 pub unmarked-skip : (book : List Page) (next : List ℕ → ℕ → List ℕ × ℕ) (cut list : List ℕ)
-    (marks : Marks) (places : List Place) (caller : ℕ)
+    (marks : MarkedCallers) (places : List Place) (caller : ℕ)
     → AreChosen book next cut list marks caller places → (IsMarked marks caller → ⊥)
     → AreChosen book next cut list marks (caller + 1) places
 unmarked-skip book next cut list marks places caller h not = record {
@@ -371,7 +371,7 @@ infeasible-ends init next book cut list place rest reached infeasible goes =
 -- The places that are chosen stay as they are when a caller is considered whose next call is
 -- infeasible, at a cut and a list that some order reaches.
 pub infeasible-skip : (init : List ℕ) (next : List ℕ → ℕ → List ℕ × ℕ) (book : List Page)
-    (cut list : List ℕ) (marks : Marks) (places : List Place) (caller : ℕ)
+    (cut list : List ℕ) (marks : MarkedCallers) (places : List Place) (caller : ℕ)
     → IsReached init next book cut list → AreChosen book next cut list marks caller places
     → IsInfeasible init next book cut list (next_call cut caller)
     → AreChosen book next cut list marks (caller + 1) places

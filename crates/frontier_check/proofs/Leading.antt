@@ -1,4 +1,4 @@
--- The levels of a walk: with one more, with one fewer, and the order that their places make.
+-- The frames of a walk: with one more, with one fewer, and the order that their places make.
 use Rattle.std.proofs.Common.{◌≡◌, ℕ, ◌+◌, ◌*◌, ◌<◌, ◌≤◌, ◌∙◌, List, [], ◌∷◌, ◌++◌, length, get_or, set, sum, Option, Some, None, Result, Ok, Err, IfOk, IfNone, refl, sym, ap, subst, inl, inr, arith}
 use Rattle.std.specs.List.{All}
 use Rattle.std.proofs.lemmas.Bool.{cases_eq}
@@ -16,65 +16,65 @@ use Rattle.book_base.proofs.ReachingLemmas.{one_more_place_reaches_on}
 use Rattle.book_base.proofs.PageLemmas.{caller_from_call}
 use Rattle.book_base.specs.Next.{raised, list_after, HoldsAnswered, MayComeNext, Continues}
 use Rattle.book_laws.proofs.LegalOrder.{raised_same, raised_other, within_cut, continues_from_legal_order}
-use Rattle.frontier_check.specs.declared.walk.WalkLevel.{WalkLevel}
+use Rattle.frontier_check.specs.declared.walk.WalkFrame.{WalkFrame}
 use Rattle.frontier_check.specs.declared.walk.TheConstants.{CAPACITY}
 use Rattle.frontier_check.specs.declared.prefix.Prefix.{Prefix}
 use Rattle.frontier_check.specs.Prefix.{no_calls, IsPrefix}
 use Rattle.book_base.specs.Pruning.{IsDeadEnd, IsReached}
-use Rattle.frontier_check.specs.Search.{places_of, IsOpen, Leads, Fits, order_of}
+use Rattle.frontier_check.specs.Search.{places_of, IsOpen, Leads, MayGrow, order_of}
 
--- Levels with one more at their end lead to the cut and the list after the call at its place.
+-- Frames with one more at their end lead to the cut and the list after the call at its place.
 pub leads-push : (book : List Page) (next : List ℕ → ℕ → List ℕ × ℕ) (cut list : List ℕ)
-    (levels : List WalkLevel) (to_cut to_list : List ℕ) (level : WalkLevel)
-    → Leads book next cut list levels to_cut to_list → level.words.items ≡ to_list
-    → IsOpen book next to_cut to_list (level.place ∷ places_of level.choices.items)
-    → Leads book next cut list (levels ++ level ∷ []) (raised to_cut level.place.caller)
-    (list_after book next to_list level.place)
-leads-push book next cut list [] to_cut to_list level (same_cut, same_list) words here = (
+    (frames : List WalkFrame) (to_cut to_list : List ℕ) (frame : WalkFrame)
+    → Leads book next cut list frames to_cut to_list → frame.words.items ≡ to_list
+    → IsOpen book next to_cut to_list (frame.place ∷ places_of frame.choices.items)
+    → Leads book next cut list (frames ++ frame ∷ []) (raised to_cut frame.place.caller)
+    (list_after book next to_list frame.place)
+leads-push book next cut list [] to_cut to_list frame (same_cut, same_list) words here = (
   words ∙ sym same_list,
-  subst (λ (c : List ℕ). IsOpen book next c list (level.place ∷ places_of level.choices.items))
+  subst (λ (c : List ℕ). IsOpen book next c list (frame.place ∷ places_of frame.choices.items))
       (sym same_cut)
       (subst
-      (λ (l : List ℕ). IsOpen book next to_cut l (level.place ∷ places_of level.choices.items))
+      (λ (l : List ℕ). IsOpen book next to_cut l (frame.place ∷ places_of frame.choices.items))
       (sym same_list) here),
   (
-    ap (λ (c : List ℕ). raised c level.place.caller) same_cut,
-    ap (λ (l : List ℕ). list_after book next l level.place) same_list,
+    ap (λ (c : List ℕ). raised c frame.place.caller) same_cut,
+    ap (λ (l : List ℕ). list_after book next l frame.place) same_list,
   ),
 )
-leads-push book next cut list (first ∷ levels) to_cut to_list level (at, way, later) words here = (
+leads-push book next cut list (first ∷ frames) to_cut to_list frame (at, way, later) words here = (
   at,
   way,
   leads-push book next (raised cut first.place.caller)
-      (list_after book next list first.place) levels to_cut to_list level later words here,
+      (list_after book next list first.place) frames to_cut to_list frame later words here,
 )
 
--- the cut and the list from which the last level of a walk leads on
+-- the cut and the list from which the last frame of a walk leads on
 pub record Back (book : List Page) (next : List ℕ → ℕ → List ℕ × ℕ) (cut list : List ℕ)
-    (levels : List WalkLevel) (level : WalkLevel) (to_cut to_list : List ℕ) : Type 0 where
+    (frames : List WalkFrame) (frame : WalkFrame) (to_cut to_list : List ℕ) : Type 0 where
   pub from : List ℕ
-  pub leads : Leads book next cut list levels from level.words.items
-  pub here : IsOpen book next from level.words.items (level.place ∷ places_of level.choices.items)
-  pub to_cut_is : to_cut ≡ raised from level.place.caller
-  pub to_list_is : to_list ≡ list_after book next level.words.items level.place
+  pub leads : Leads book next cut list frames from frame.words.items
+  pub here : IsOpen book next from frame.words.items (frame.place ∷ places_of frame.choices.items)
+  pub to_cut_is : to_cut ≡ raised from frame.place.caller
+  pub to_list_is : to_list ≡ list_after book next frame.words.items frame.place
 
--- Levels without the last one lead to the cut and the list before the call at its place.
+-- Frames without the last one lead to the cut and the list before the call at its place.
 pub leads-pop : (book : List Page) (next : List ℕ → ℕ → List ℕ × ℕ) (cut list : List ℕ)
-    (levels : List WalkLevel) (level : WalkLevel) (to_cut to_list : List ℕ)
-    → Leads book next cut list (levels ++ level ∷ []) to_cut to_list
-    → Back book next cut list levels level to_cut to_list
-leads-pop book next cut list [] level to_cut to_list (words, here, (cut_is, list_is)) = record {
+    (frames : List WalkFrame) (frame : WalkFrame) (to_cut to_list : List ℕ)
+    → Leads book next cut list (frames ++ frame ∷ []) to_cut to_list
+    → Back book next cut list frames frame to_cut to_list
+leads-pop book next cut list [] frame to_cut to_list (words, here, (cut_is, list_is)) = record {
   from = cut;
   leads = (refl, sym words);
   here =
-      subst (λ (l : List ℕ). IsOpen book next cut l (level.place ∷ places_of level.choices.items))
+      subst (λ (l : List ℕ). IsOpen book next cut l (frame.place ∷ places_of frame.choices.items))
       (sym words) here;
   to_cut_is = sym cut_is;
-  to_list_is = sym list_is ∙ ap (λ (l : List ℕ). list_after book next l level.place) (sym words);
+  to_list_is = sym list_is ∙ ap (λ (l : List ℕ). list_after book next l frame.place) (sym words);
 }
-leads-pop book next cut list (first ∷ levels) level to_cut to_list (words, here, later) =
+leads-pop book next cut list (first ∷ frames) frame to_cut to_list (words, here, later) =
     let back = leads-pop book next (raised cut first.place.caller)
-    (list_after book next list first.place) levels level to_cut to_list later in
+    (list_after book next list first.place) frames frame to_cut to_list later in
     record {
       from = back.from;
       leads = (words, here, back.leads);
@@ -83,52 +83,52 @@ leads-pop book next cut list (first ∷ levels) level to_cut to_list (words, her
       to_list_is = back.to_list_is;
     }
 
--- where levels lead to a cut that holds all answered calls, their places continue an order from
--- where the levels begin
+-- where frames lead to a cut that holds all answered calls, their places continue an order from
+-- where the frames begin
 leads-continues : (book : List Page) (next : List ℕ → ℕ → List ℕ × ℕ) (cut list : List ℕ)
-    (levels : List WalkLevel) (to_cut to_list : List ℕ)
-    → Leads book next cut list levels to_cut to_list → HoldsAnswered book to_cut
-    → Continues book next cut list (order_of levels)
+    (frames : List WalkFrame) (to_cut to_list : List ℕ)
+    → Leads book next cut list frames to_cut to_list → HoldsAnswered book to_cut
+    → Continues book next cut list (order_of frames)
 leads-continues book next cut list [] to_cut to_list (same_cut, same_list) all =
     subst (λ (c : List ℕ). HoldsAnswered book c) (sym same_cut) all
-leads-continues book next cut list (first ∷ levels) to_cut to_list (words, here, later) all = (
+leads-continues book next cut list (first ∷ frames) to_cut to_list (words, here, later) all = (
   here.sound.0,
   leads-continues book next (raised cut first.place.caller)
-      (list_after book next list first.place) levels to_cut to_list later all,
+      (list_after book next list first.place) frames to_cut to_list later all,
 )
 
 -- Each count of the cut without calls is 0.
 pub zeros : (book : List Page) (i : ℕ) → get_or (no_calls book) i 0 ≡ 0
 zeros book i = get_or-replicate_default (length book) i 0
 
--- where places continue an order from where levels lead to, the places of the levels and then these
--- continue one from where the levels begin
+-- where places continue an order from where frames lead to, the places of the frames and then these
+-- continue one from where the frames begin
 leads-more : (book : List Page) (next : List ℕ → ℕ → List ℕ × ℕ) (cut list : List ℕ)
-    (levels : List WalkLevel) (to_cut to_list : List ℕ) (rest : List Place)
-    → Leads book next cut list levels to_cut to_list → Continues book next to_cut to_list rest
-    → Continues book next cut list (order_of levels ++ rest)
+    (frames : List WalkFrame) (to_cut to_list : List ℕ) (rest : List Place)
+    → Leads book next cut list frames to_cut to_list → Continues book next to_cut to_list rest
+    → Continues book next cut list (order_of frames ++ rest)
 leads-more book next cut list [] to_cut to_list rest (same_cut, same_list) goes =
     subst (λ (c : List ℕ). Continues book next c list rest) (sym same_cut)
     (subst (λ (l : List ℕ). Continues book next to_cut l rest) (sym same_list) goes)
-leads-more book next cut list (first ∷ levels) to_cut to_list rest (words, here, later) goes = (
+leads-more book next cut list (first ∷ frames) to_cut to_list rest (words, here, later) goes = (
   here.sound.0,
   leads-more book next (raised cut first.place.caller)
-      (list_after book next list first.place) levels to_cut to_list rest later goes,
+      (list_after book next list first.place) frames to_cut to_list rest later goes,
 )
 
--- where an order reaches the cut and the list where levels begin, that order and then their places
+-- where an order reaches the cut and the list where frames begin, that order and then their places
 -- reach those to which they lead
 leads-reaches : (init : List ℕ) (next : List ℕ → ℕ → List ℕ × ℕ) (book : List Page)
-    (before : List Place) (cut list : List ℕ) (levels : List WalkLevel) (to_cut to_list : List ℕ)
+    (before : List Place) (cut list : List ℕ) (frames : List WalkFrame) (to_cut to_list : List ℕ)
     → length book ≤ length cut → Reaches init next book before cut list
-    → Leads book next cut list levels to_cut to_list
-    → Reaches init next book (before ++ order_of levels) to_cut to_list
+    → Leads book next cut list frames to_cut to_list
+    → Reaches init next book (before ++ order_of frames) to_cut to_list
 leads-reaches init next book before cut list [] to_cut to_list wide reaches (same_cut, same_list) =
     subst (λ (order : List Place). Reaches init next book order to_cut to_list)
     (sym (append-nil before))
     (subst (λ (c : List ℕ). Reaches init next book before c to_list) same_cut
     (subst (λ (l : List ℕ). Reaches init next book before cut l) same_list reaches))
-leads-reaches init next book before cut list (first ∷ levels) to_cut to_list wide reaches
+leads-reaches init next book before cut list (first ∷ frames) to_cut to_list wide reaches
     (words, here, later) =
     let may : MayComeNext book cut (call_at first.place) = here.sound.0.may_come in
     let inside : first.place.caller < length cut =
@@ -142,24 +142,24 @@ leads-reaches init next book before cut list (first ∷ levels) to_cut to_list w
     (one_more_place_reaches_on init next book before cut list first.place reaches inside
     may.next) in
     subst (λ (order : List Place). Reaches init next book order to_cut to_list)
-    (append_assoc before (first.place ∷ []) (order_of levels))
+    (append_assoc before (first.place ∷ []) (order_of frames))
     (leads-reaches init next book (before ++ first.place ∷ []) (raised cut first.place.caller)
-    (list_after book next list first.place) levels to_cut to_list (omega arith) one later)
+    (list_after book next list first.place) frames to_cut to_list (omega arith) one later)
 
--- Where levels lead from the end of a prefix to a cut and a list, some order reaches these, and
+-- Where frames lead from the end of a prefix to a cut and a list, some order reaches these, and
 -- whatever places continue it from there make a legal order with it.
 pub reached-from_leads : (init : List ℕ) (next : List ℕ → ℕ → List ℕ × ℕ) (book : List Page)
-    (prefix : Prefix) (levels : List WalkLevel) (cut list : List ℕ)
-    → IsPrefix init next book prefix → Leads book next prefix.cut prefix.here.words levels cut list
+    (prefix : Prefix) (frames : List WalkFrame) (cut list : List ℕ)
+    → IsPrefix init next book prefix → Leads book next prefix.cut prefix.here.words frames cut list
     → IsReached init next book cut list
-reached-from_leads init next book prefix levels cut list f leads = record {
-  before = prefix.places.items ++ order_of levels;
-  reaches = leads-reaches init next book prefix.places.items prefix.cut prefix.here.words levels cut
+reached-from_leads init next book prefix frames cut list f leads = record {
+  before = prefix.places.items ++ order_of frames;
+  reaches = leads-reaches init next book prefix.places.items prefix.cut prefix.here.words frames cut
       list (omega (arith, f.stands.wide)) f.stands.reaches leads;
   legal = λ rest goes. subst (λ (order : List Place). IsLegalOrder init next book order)
-      (sym (append_assoc prefix.places.items (order_of levels) rest))
-      (f.legal (order_of levels ++ rest)
-      (leads-more book next prefix.cut prefix.here.words levels cut list rest leads goes));
+      (sym (append_assoc prefix.places.items (order_of frames) rest))
+      (f.legal (order_of frames ++ rest)
+      (leads-more book next prefix.cut prefix.here.words frames cut list rest leads goes));
 }
 
 -- A cut that is raised for a caller for which it has a count counts one call more.
@@ -185,28 +185,28 @@ raised_within book cut call inside is at within i =
       | inr other ↦ omega (arith, raised_other cut call.caller i other, within i)
     ]
 
--- how far levels lead: the cut there has as many counts as the first one, counts one call more for
--- each level, and no more calls than the book has; the list has at most one word more for each
--- level
-pub record Reach (book : List Page) (cut list : List ℕ) (levels : List WalkLevel)
+-- how far frames lead: the cut there has as many counts as the first one, counts one call more for
+-- each frame, and no more calls than the book has; the list has at most one word more for each
+-- frame
+pub record Reach (book : List Page) (cut list : List ℕ) (frames : List WalkFrame)
     (to_cut to_list : List ℕ) : Type 0 where
   pub wide : length to_cut ≡ length cut
-  pub calls : sum to_cut ≡ sum cut + length levels
-  pub words : length to_list ≤ length list + length levels
+  pub calls : sum to_cut ≡ sum cut + length frames
+  pub words : length to_list ≤ length list + length frames
   pub within : (i : ℕ) → get_or to_cut i 0 ≤ calls_of book i
 
 leads-reach : (book : List Page) (next : List ℕ → ℕ → List ℕ × ℕ) (cut list : List ℕ)
-    (levels : List WalkLevel) (to_cut to_list : List ℕ)
+    (frames : List WalkFrame) (to_cut to_list : List ℕ)
     → ((list : List ℕ) (op : ℕ) → length (next list op).0 ≤ length list + 1)
     → length book ≤ length cut → ((i : ℕ) → get_or cut i 0 ≤ calls_of book i)
-    → Leads book next cut list levels to_cut to_list → Reach book cut list levels to_cut to_list
+    → Leads book next cut list frames to_cut to_list → Reach book cut list frames to_cut to_list
 leads-reach book next cut list [] to_cut to_list grows wide within (same_cut, same_list) = record {
   wide = ap (λ (c : List ℕ). length c) (sym same_cut);
   calls = omega (arith, ap (λ (c : List ℕ). sum c) same_cut);
   words = omega (arith, ap (λ (l : List ℕ). length l) same_list);
   within = λ (i : ℕ). omega (arith, within i, ap (λ (c : List ℕ). get_or c i 0) same_cut);
 }
-leads-reach book next cut list (first ∷ levels) to_cut to_list grows wide within
+leads-reach book next cut list (first ∷ frames) to_cut to_list grows wide within
     (words, here, later) =
     let may : MayComeNext book cut (call_at first.place) = here.sound.0.may_come in
     let inside : first.place.caller < length cut = (let there =
@@ -214,7 +214,7 @@ leads-reach book next cut list (first ∷ levels) to_cut to_list grows wide with
     let long : length (raised cut first.place.caller) ≡ length cut =
     length-set cut first.place.caller (get_or cut first.place.caller 0 + 1) in
     let rest = leads-reach book next (raised cut first.place.caller)
-    (list_after book next list first.place) levels to_cut to_list grows (omega arith)
+    (list_after book next list first.place) frames to_cut to_list grows (omega arith)
     (raised_within book cut (call_at first.place) inside may.is_call may.next within) later in
     record {
       wide = rest.wide ∙ long;
@@ -234,27 +234,27 @@ sum_small book counts small wide within =
     omega (arith, sum_by-le (λ (n : ℕ). n) MAX_CALLS counts few)
 
 -- Bounds at the cut and the list of a walk after which the call at a place may come next: on the
--- caller and the number of that place, on the levels, and on the words of the list.
-pub record WalkFacts (book : List Page) (levels : List WalkLevel) (cut list : List ℕ)
+-- caller and the number of that place, on the frames, and on the words of the list.
+pub record WalkFacts (book : List Page) (frames : List WalkFrame) (cut list : List ℕ)
     (place : Place) : Type 0 where
   pub wide : length cut ≡ length book
   pub caller : place.caller < length cut
   pub number : place.number < MAX_CALLS
-  pub depth : length levels < CAPACITY
-  pub fits : Fits cut list
-  pub after : length levels + 1 < CAPACITY
+  pub depth : length frames < CAPACITY
+  pub fits : MayGrow cut list
+  pub after : length frames + 1 < CAPACITY
 
--- Where levels lead from the end of a prefix to a cut and a list after which a call may come next,
+-- Where frames lead from the end of a prefix to a cut and a list after which a call may come next,
 -- these bounds hold there.
 pub standing : (book : List Page) (prefix : Prefix) (init : List ℕ) (next : List ℕ → ℕ → List ℕ × ℕ)
-    (levels : List WalkLevel) (cut list : List ℕ) (place : Place)
+    (frames : List WalkFrame) (cut list : List ℕ) (place : Place)
     → IsPrefix init next book prefix
     → ((list : List ℕ) (op : ℕ) → length (next list op).0 ≤ length list + 1)
-    → Leads book next prefix.cut prefix.here.words levels cut list
-    → MayComeNext book cut (call_at place) → WalkFacts book levels cut list place
-standing book prefix init next levels cut list place f grows leads may =
+    → Leads book next prefix.cut prefix.here.words frames cut list
+    → MayComeNext book cut (call_at place) → WalkFacts book frames cut list place
+standing book prefix init next frames cut list place f grows leads may =
     let small = f.stands.small in
-    let reach = leads-reach book next prefix.cut prefix.here.words levels cut list grows
+    let reach = leads-reach book next prefix.cut prefix.here.words frames cut list grows
     (omega (arith, f.stands.wide)) f.stands.within leads in
     let wide : length cut ≡ length book = reach.wide ∙ f.stands.wide in
     let there : place.caller < length book =
@@ -275,26 +275,26 @@ standing book prefix init next levels cut list place f grows leads may =
       after = omega (arith, reach.calls);
     }
 
--- A cut to which levels lead from the end of a prefix has one count for each caller.
+-- A cut to which frames lead from the end of a prefix has one count for each caller.
 pub leads-wide : (book : List Page) (prefix : Prefix) (init : List ℕ)
-    (next : List ℕ → ℕ → List ℕ × ℕ) (levels : List WalkLevel) (cut list : List ℕ)
+    (next : List ℕ → ℕ → List ℕ × ℕ) (frames : List WalkFrame) (cut list : List ℕ)
     → IsPrefix init next book prefix
     → ((list : List ℕ) (op : ℕ) → length (next list op).0 ≤ length list + 1)
-    → Leads book next prefix.cut prefix.here.words levels cut list → length cut ≡ length book
-leads-wide book prefix init next levels cut list f grows leads =
-    (leads-reach book next prefix.cut prefix.here.words levels cut list grows
+    → Leads book next prefix.cut prefix.here.words frames cut list → length cut ≡ length book
+leads-wide book prefix init next frames cut list f grows leads =
+    (leads-reach book next prefix.cut prefix.here.words frames cut list grows
     (omega (arith, f.stands.wide)) f.stands.within leads).wide ∙ f.stands.wide
 
--- Where levels lead from the end of a prefix to a cut with all answered calls, the places of the
--- prefix and then of the levels are a legal order.
+-- Where frames lead from the end of a prefix to a cut with all answered calls, the places of the
+-- prefix and then of the frames are a legal order.
 pub legal-from_leads : (book : List Page) (prefix : Prefix) (init : List ℕ)
-    (next : List ℕ → ℕ → List ℕ × ℕ) (levels : List WalkLevel) (cut list : List ℕ)
+    (next : List ℕ → ℕ → List ℕ × ℕ) (frames : List WalkFrame) (cut list : List ℕ)
     → IsPrefix init next book prefix
-    → Leads book next prefix.cut prefix.here.words levels cut list → HoldsAnswered book cut
-    → IsLegalOrder init next book (prefix.places.items ++ order_of levels)
-legal-from_leads book prefix init next levels cut list f leads all =
-    f.legal (order_of levels)
-    (leads-continues book next prefix.cut prefix.here.words levels cut list leads all)
+    → Leads book next prefix.cut prefix.here.words frames cut list → HoldsAnswered book cut
+    → IsLegalOrder init next book (prefix.places.items ++ order_of frames)
+legal-from_leads book prefix init next frames cut list f leads all =
+    f.legal (order_of frames)
+    (leads-continues book next prefix.cut prefix.here.words frames cut list leads all)
 
 -- Where the cut without calls and the first list are a dead end, the book has no legal order.
 pub none-from_dead : (book : List Page) (init : List ℕ) (next : List ℕ → ℕ → List ℕ × ℕ)

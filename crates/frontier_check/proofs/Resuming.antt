@@ -17,11 +17,11 @@ use Rattle.book_base.proofs.PageLemmas.{caller_from_call, caller_from_answer}
 use Rattle.book_base.proofs.ViewLemmas.{answer_stands, answered_at}
 use Rattle.book_laws.proofs.LegalOrder.{raised_same, raised_other}
 use Rattle.frontier_check.specs.declared.prefix.Prefix.{Prefix}
-use Rattle.frontier_check.specs.declared.mark.Mark.{Mark}
-use Rattle.frontier_check.specs.declared.mark.KeptOrder.{KeptOrder}
+use Rattle.frontier_check.specs.declared.kept_order.OrderMark.{OrderMark}
+use Rattle.frontier_check.specs.declared.kept_order.KeptOrder.{KeptOrder}
 use Rattle.frontier_check.specs.declared.walk.TheConstants.{CAPACITY}
 use Rattle.frontier_check.specs.Prefix.{no_calls, Follow, IsPut}
-use Rattle.frontier_check.specs.Standing.{HasGrown, IsQuiet, IsMark, AreMarks, IsStandingFor, IsAsWide, StillStands, MarksEnd, KeepsMarks}
+use Rattle.frontier_check.specs.Standing.{HasGrown, IsQuiet, IsMark, AreMarks, IsStandingFor, IsAsWide, StillStands, IsMarkAtEnd, AddsMarks}
 use Rattle.frontier_check.proofs.Following.{stands-fit}
 
 -- ---- books that grow
@@ -200,7 +200,7 @@ put_stays init next a b old new grown none valid small put places cut list =
 -- ---- marks
 
 module _ (init : List ℕ) (next : List ℕ → ℕ → List ℕ × ℕ) where
-  mark_stays : (a b : List Page) (order : List Place) (m : Mark) → HasGrown a b
+  mark_stays : (a b : List Page) (order : List Place) (m : OrderMark) → HasGrown a b
       → IsMark init next a order m → IsMark init next b order m
   mark_stays a b order m grown is = record {
     earlier = is.earlier;
@@ -215,7 +215,7 @@ module _ (init : List ℕ) (next : List ℕ → ℕ → List ℕ × ℕ) where
     put = is.put;
   }
 
-  mark_of : (book : List Page) (order other rest : List Place) (m : Mark)
+  mark_of : (book : List Page) (order other rest : List Place) (m : OrderMark)
       (is : IsMark init next book order m) → other ≡ is.prefix.places.items ++ rest
       → IsMark init next book other m
   mark_of book order other rest m is begins = record {
@@ -231,14 +231,14 @@ module _ (init : List ℕ) (next : List ℕ → ℕ → List ℕ × ℕ) where
     put = is.put;
   }
 
-  mark_longer : (book : List Page) (order more : List Place) (m : Mark)
+  mark_longer : (book : List Page) (order more : List Place) (m : OrderMark)
       → IsMark init next book order m → IsMark init next book (order ++ more) m
   mark_longer book order more m is =
       mark_of book order (order ++ more) (is.rest ++ more) m is
       (ap (λ (o : List Place). o ++ more) is.begins
       ∙ append_assoc is.prefix.places.items is.rest more)
 
-  mark_shorter : (book : List Page) (order : List Place) (n : ℕ) (m : Mark) → m.len ≤ n
+  mark_shorter : (book : List Page) (order : List Place) (n : ℕ) (m : OrderMark) → m.len ≤ n
       → IsMark init next book order m → IsMark init next book (take n order) m
   mark_shorter book order n m low is =
       let first = is.prefix.places.items in
@@ -251,7 +251,7 @@ module _ (init : List ℕ) (next : List ℕ → ℕ → List ℕ × ℕ) where
       (sym (take-append-drop len (take n order))
       ∙ ap (λ (o : List Place). o ++ drop len (take n order)) same)
 
-  mark_low : (book : List Page) (order : List Place) (m : Mark) → IsMark init next book order m
+  mark_low : (book : List Page) (order : List Place) (m : OrderMark) → IsMark init next book order m
       → m.len ≤ length order
   mark_low book order m is = omega (
     arith,
@@ -260,7 +260,7 @@ module _ (init : List ℕ) (next : List ℕ → ℕ → List ℕ × ℕ) where
     length-append is.prefix.places.items is.rest,
   )
 
-  mark_wide : (book : List Page) (order : List Place) (m : Mark) → IsMark init next book order m
+  mark_wide : (book : List Page) (order : List Place) (m : OrderMark) → IsMark init next book order m
       → IsAsWide book m
   mark_wide book order m is = (
     ap (λ (c : List ℕ). length c) (sym is.cut) ∙ (is.put.stands.wide ∙ sym is.grown.callers),
@@ -268,7 +268,7 @@ module _ (init : List ℕ) (next : List ℕ → ℕ → List ℕ × ℕ) where
         ∙ (length-map is.earlier (λ (p : Page). length p.records) ∙ sym is.grown.callers),
   )
 
-  mark_fits : (book : List Page) (order : List Place) (m : Mark) → IsMark init next book order m
+  mark_fits : (book : List Page) (order : List Place) (m : OrderMark) → IsMark init next book order m
       → length m.words.items ≤ CAPACITY
   mark_fits book order m is = omega (
     arith,
@@ -277,8 +277,8 @@ module _ (init : List ℕ) (next : List ℕ → ℕ → List ℕ × ℕ) where
   )
 
   -- a mark at the end of a prefix that is put is a mark of its places
-  mark_here : (book : List Page) (prefix : Prefix) (m : Mark) → IsPut init next book prefix
-      → MarksEnd prefix (answered book) m → IsMark init next book prefix.places.items m
+  mark_here : (book : List Page) (prefix : Prefix) (m : OrderMark) → IsPut init next book prefix
+      → IsMarkAtEnd prefix (answered book) m → IsMark init next book prefix.places.items m
   mark_here book prefix m put e = record {
     earlier = book;
     grown = grown_here book;
@@ -292,7 +292,7 @@ module _ (init : List ℕ) (next : List ℕ → ℕ → List ℕ × ℕ) where
     put = put;
   }
 
-  pub marks_stay : (a b : List Page) (order : List Place) (least : ℕ) (ms : List Mark)
+  pub marks_stay : (a b : List Page) (order : List Place) (least : ℕ) (ms : List OrderMark)
       → HasGrown a b → AreMarks init next a order least ms → AreMarks init next b order least ms
   marks_stay a b order least [] grown h = tt
   marks_stay a b order least (m ∷ ms) grown (low, is, later) =
@@ -305,13 +305,13 @@ module _ (init : List ℕ) (next : List ℕ → ℕ → List ℕ × ℕ) where
   standing_stays a b s grown h = marks_stay a b s.order.items 0 s.marks.items grown h
 
   -- The marks of an order are marks of a longer order that begins with it.
-  pub marks_longer : (book : List Page) (order more : List Place) (least : ℕ) (ms : List Mark)
+  pub marks_longer : (book : List Page) (order more : List Place) (least : ℕ) (ms : List OrderMark)
       → AreMarks init next book order least ms → AreMarks init next book (order ++ more) least ms
   marks_longer book order more least [] h = tt
   marks_longer book order more least (m ∷ ms) (low, is, later) =
       (low, mark_longer book order more m is, marks_longer book order more m.len ms later)
 
-  marks_more : (book : List Page) (order : List Place) (least : ℕ) (ms : List Mark) (m : Mark)
+  marks_more : (book : List Page) (order : List Place) (least : ℕ) (ms : List OrderMark) (m : OrderMark)
       → IsMark init next book order m → m.len ≡ length order → least ≤ length order
       → AreMarks init next book order least ms → AreMarks init next book order least (ms ++ m ∷ [])
   marks_more book order least [] m is here low h = (omega (arith, here, low), is, tt)
@@ -319,31 +319,31 @@ module _ (init : List ℕ) (next : List ℕ → ℕ → List ℕ × ℕ) where
       (le, first, marks_more book order x.len ms m is here (mark_low book order x first) later)
 
   -- The marks of a prefix that is put, and then one at its end, are marks of its places.
-  pub marks_push : (book : List Page) (prefix : Prefix) (ms : List Mark) (m : Mark)
-      → IsPut init next book prefix → MarksEnd prefix (answered book) m
+  pub marks_push : (book : List Page) (prefix : Prefix) (ms : List OrderMark) (m : OrderMark)
+      → IsPut init next book prefix → IsMarkAtEnd prefix (answered book) m
       → AreMarks init next book prefix.places.items 0 ms
       → AreMarks init next book prefix.places.items 0 (ms ++ m ∷ [])
   marks_push book prefix ms m put e h = marks_more book prefix.places.items 0 ms m
       (mark_here book prefix m put e) e.len (omega arith) h
 
-  marks_at : (book : List Page) (order : List Place) (least : ℕ) (ms : List Mark) (k : ℕ) (m : Mark)
+  marks_at : (book : List Page) (order : List Place) (least : ℕ) (ms : List OrderMark) (k : ℕ) (m : OrderMark)
       → k < length ms → m ≡ get_or ms k m → AreMarks init next book order least ms
       → (least ≤ m.len) × IsMark init next book order m
   marks_at book order least [] k m low is h = absurd (omega (arith, low))
   marks_at book order least (x ∷ ms) zero m low is (le, first, later) = (
-    omega (arith, le, ap (λ (y : Mark). y.len) is),
-    subst (λ (y : Mark). IsMark init next book order y) (sym is) first,
+    omega (arith, le, ap (λ (y : OrderMark). y.len) is),
+    subst (λ (y : OrderMark). IsMark init next book order y) (sym is) first,
   )
   marks_at book order least (x ∷ ms) (suc k) m low is (le, first, later) =
       let found = marks_at book order x.len ms k m (omega (arith, low)) is later in
       (omega (arith, le, found.0), found.1)
 
-  marks_cut : (book : List Page) (order : List Place) (least : ℕ) (ms : List Mark) (k : ℕ)
-      (m : Mark) → k < length ms → m ≡ get_or ms k m → AreMarks init next book order least ms
+  marks_cut : (book : List Page) (order : List Place) (least : ℕ) (ms : List OrderMark) (k : ℕ)
+      (m : OrderMark) → k < length ms → m ≡ get_or ms k m → AreMarks init next book order least ms
       → AreMarks init next book (take m.len order) least (take (suc k) ms)
   marks_cut book order least [] k m low is h = absurd (omega (arith, low))
   marks_cut book order least (x ∷ ms) zero m low is (le, first, later) =
-      (le, mark_shorter book order m.len x (omega (arith, ap (λ (y : Mark). y.len) is)) first, tt)
+      (le, mark_shorter book order m.len x (omega (arith, ap (λ (y : OrderMark). y.len) is)) first, tt)
   marks_cut book order least (x ∷ ms) (suc k) m low is (le, first, later) =
       let found = marks_at book order x.len ms k m (omega (arith, low)) is later in (
         le,
@@ -353,33 +353,33 @@ module _ (init : List ℕ) (next : List ℕ → ℕ → List ℕ × ℕ) where
 
   -- The cut and the numbers of records of each mark of an order have one count for each caller of
   -- the book.
-  pub marks_wide : (book : List Page) (order : List Place) (ms : List Mark)
-      → AreMarks init next book order 0 ms → (k : ℕ) (m : Mark) → k < length ms → m ≡ get_or ms k m
+  pub marks_wide : (book : List Page) (order : List Place) (ms : List OrderMark)
+      → AreMarks init next book order 0 ms → (k : ℕ) (m : OrderMark) → k < length ms → m ≡ get_or ms k m
       → IsAsWide book m
   marks_wide book order ms h k m low is =
       mark_wide book order m (marks_at book order 0 ms k m low is h).1
 
   -- Each mark of an order counts no more places than the order has, and its words fit the capacity.
-  pub marks_fit : (book : List Page) (order : List Place) (ms : List Mark)
-      → AreMarks init next book order 0 ms → (k : ℕ) (m : Mark) → k < length ms → m ≡ get_or ms k m
+  pub marks_fit : (book : List Page) (order : List Place) (ms : List OrderMark)
+      → AreMarks init next book order 0 ms → (k : ℕ) (m : OrderMark) → k < length ms → m ≡ get_or ms k m
       → (m.len ≤ length order) × (length m.words.items ≤ CAPACITY)
   marks_fit book order ms h k m low is =
       let found = (marks_at book order 0 ms k m low is h).1 in
       (mark_low book order m found, mark_fits book order m found)
 
   -- The marks up to one of them, and that one with them, are marks of the places before it.
-  pub marks_taken : (book : List Page) (order places : List Place) (ms some : List Mark) (k : ℕ)
-      (m : Mark) → k < length ms → m ≡ get_or ms k m → AreMarks init next book order 0 ms
+  pub marks_taken : (book : List Page) (order places : List Place) (ms some : List OrderMark) (k : ℕ)
+      (m : OrderMark) → k < length ms → m ≡ get_or ms k m → AreMarks init next book order 0 ms
       → places ≡ take m.len order → some ≡ take (k + 1) ms → AreMarks init next book places 0 some
   marks_taken book order places ms some k m low is h prefix fewer =
       let on : k + 1 ≡ suc k = omega arith in
       subst (λ (ps : List Place). AreMarks init next book ps 0 some) (sym prefix)
-      (subst (λ (xs : List Mark). AreMarks init next book (take m.len order) 0 xs)
+      (subst (λ (xs : List OrderMark). AreMarks init next book (take m.len order) 0 xs)
       (sym (fewer ∙ ap (λ (n : ℕ). take n ms) on)) (marks_cut book order 0 ms k m low is h))
 
   -- A prefix is put where its places are those before a mark which may still begin an order of the
   -- book, and its cut and its list are those of the mark.
-  pub mark_resumed : (book : List Page) (order : List Place) (ms : List Mark) (k : ℕ) (m : Mark)
+  pub mark_resumed : (book : List Page) (order : List Place) (ms : List OrderMark) (k : ℕ) (m : OrderMark)
       (new : Prefix) → IsValid book → IsSmall book → k < length ms → m ≡ get_or ms k m
       → AreMarks init next book order 0 ms → StillStands book m
       → new.places.items ≡ take m.len order → new.cut ≡ m.cut → new.here.words ≡ m.words.items
@@ -397,14 +397,14 @@ module _ (init : List ℕ) (next : List ℕ → ℕ → List ℕ × ℕ) where
       small is.put
       (places ∙ taken) (cut ∙ sym is.cut) (words ∙ sym is.words)
 
-  marks_lower : (book : List Page) (order : List Place) (least most : ℕ) (ms : List Mark) → least
+  marks_lower : (book : List Page) (order : List Place) (least most : ℕ) (ms : List OrderMark) → least
       ≤ most → AreMarks init next book order most ms → AreMarks init next book order least ms
   marks_lower book order least most [] low h = tt
   marks_lower book order least most (m ∷ ms) low (le, is, later) =
       (omega (arith, low, le), is, later)
 
   -- the marks of an order without one of them are marks of it
-  marks_removed : (book : List Page) (order : List Place) (least : ℕ) (ms : List Mark) (k : ℕ)
+  marks_removed : (book : List Page) (order : List Place) (least : ℕ) (ms : List OrderMark) (k : ℕ)
       → AreMarks init next book order least ms → AreMarks init next book order least (remove ms k)
   marks_removed book order least [] zero h = tt
   marks_removed book order least [] (suc k) h = tt
@@ -414,7 +414,7 @@ module _ (init : List ℕ) (next : List ℕ → ℕ → List ℕ × ℕ) where
       (le, is, marks_removed book order m.len ms k later)
 
   -- The first marks of an order, this many, are marks of it.
-  pub marks_fewer : (book : List Page) (order : List Place) (least n : ℕ) (ms : List Mark)
+  pub marks_fewer : (book : List Page) (order : List Place) (least n : ℕ) (ms : List OrderMark)
       → AreMarks init next book order least ms → AreMarks init next book order least (take n ms)
   marks_fewer book order least zero ms h = tt
   marks_fewer book order least (suc n) [] h = tt
@@ -424,9 +424,9 @@ module _ (init : List ℕ) (next : List ℕ → ℕ → List ℕ × ℕ) where
   -- Where marks become others at the end of a prefix that is put, and the old ones are marks of its
   -- places but the last, the new ones are marks of its places.
   pub marks_put : (book : List Page) (prefix : Prefix) (before : List Place) (place : Place)
-      (records : List ℕ) (marks more : List Mark) → IsPut init next book prefix
+      (records : List ℕ) (marks more : List OrderMark) → IsPut init next book prefix
       → records ≡ answered book
-      → prefix.places.items ≡ before ++ place ∷ [] → KeepsMarks prefix records marks more
+      → prefix.places.items ≡ before ++ place ∷ [] → AddsMarks prefix records marks more
       → AreMarks init next book before 0 marks → AreMarks init next book prefix.places.items 0 more
   marks_put book prefix before place records marks more put same longer keeps h =
       keeps init next book put same (subst (λ (ps : List Place). AreMarks init next book ps 0 marks)
@@ -434,24 +434,24 @@ module _ (init : List ℕ) (next : List ℕ → ℕ → List ℕ × ℕ) where
 
 -- ---- marks that become others at the end of a prefix
 
-pub keeps_same : (prefix : Prefix) (records : List ℕ) (marks more : List Mark) → more ≡ marks
-    → KeepsMarks prefix records marks more
+pub keeps_same : (prefix : Prefix) (records : List ℕ) (marks more : List OrderMark) → more ≡ marks
+    → AddsMarks prefix records marks more
 keeps_same prefix records marks more same init next book put known h =
-    subst (λ (ms : List Mark). AreMarks init next book prefix.places.items 0 ms) (sym same) h
+    subst (λ (ms : List OrderMark). AreMarks init next book prefix.places.items 0 ms) (sym same) h
 
 -- The marks of a prefix, with one more at its end, are marks of it.
-pub keeps_one : (prefix : Prefix) (records : List ℕ) (marks more : List Mark) (m : Mark)
-    → MarksEnd prefix records m → more ≡ marks ++ m ∷ [] → KeepsMarks prefix records marks more
+pub keeps_one : (prefix : Prefix) (records : List ℕ) (marks more : List OrderMark) (m : OrderMark)
+    → IsMarkAtEnd prefix records m → more ≡ marks ++ m ∷ [] → AddsMarks prefix records marks more
 keeps_one prefix records marks more m ends longer init next book put known h =
-    subst (λ (ms : List Mark). AreMarks init next book prefix.places.items 0 ms) (sym longer)
+    subst (λ (ms : List OrderMark). AreMarks init next book prefix.places.items 0 ms) (sym longer)
     (marks_push init next book prefix marks m put
-    (subst (λ (c : List ℕ). MarksEnd prefix c m) known ends) h)
+    (subst (λ (c : List ℕ). IsMarkAtEnd prefix c m) known ends) h)
 
 -- Where the marks of a prefix become other marks of it, they may become those others without one of
 -- them.
-pub keeps_removed : (prefix : Prefix) (records : List ℕ) (marks more fewer : List Mark) (k : ℕ)
-    → KeepsMarks prefix records marks more → fewer ≡ remove more k
-    → KeepsMarks prefix records marks fewer
+pub keeps_removed : (prefix : Prefix) (records : List ℕ) (marks more fewer : List OrderMark) (k : ℕ)
+    → AddsMarks prefix records marks more → fewer ≡ remove more k
+    → AddsMarks prefix records marks fewer
 keeps_removed prefix records marks more fewer k keeps one init next book put known h =
-    subst (λ (ms : List Mark). AreMarks init next book prefix.places.items 0 ms) (sym one)
+    subst (λ (ms : List OrderMark). AreMarks init next book prefix.places.items 0 ms) (sym one)
     (marks_removed init next book prefix.places.items 0 more k (keeps init next book put known h))

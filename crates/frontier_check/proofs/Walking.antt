@@ -1,4 +1,4 @@
--- A walk through the pairs of a cut and a list: one step deeper, one choice fewer, one level back.
+-- A walk through the pairs of a cut and a list: one step deeper, one choice fewer, one frame back.
 use Rattle.std.proofs.Common.{◌≡◌, ℕ, ◌+◌, ◌<◌, ◌≤◌, ◌⊎◌, ◌∙◌, List, [], ◌∷◌, ◌++◌, length, get_or, set, refl, sym, ap, subst, inl, inr, arith}
 use Rattle.std.proofs.lemmas.List.{length_push, length-set}
 use Rattle.std.proofs.lemmas.Option.{same_Some}
@@ -10,29 +10,29 @@ use Rattle.book_base.specs.Order.{IsLegalOrder}
 use Rattle.book_base.specs.Next.{next_call, raised, list_after, HoldsAnswered, MayComeNext}
 use Rattle.book_laws.proofs.LegalOrder.{answer_stands}
 use Rattle.frontier_check.specs.declared.choice.Choice.{Choice}
-use Rattle.frontier_check.specs.declared.walk.WalkLevel.{WalkLevel}
+use Rattle.frontier_check.specs.declared.walk.WalkFrame.{WalkFrame}
 use Rattle.frontier_check.specs.declared.walk.Walk.{Walk}
 use Rattle.frontier_check.specs.declared.walk.TheConstants.{CAPACITY}
 use Rattle.frontier_check.specs.Memo.{IsMemo, Remembers}
 use Rattle.frontier_check.specs.declared.prefix.Prefix.{Prefix}
 use Rattle.frontier_check.specs.Prefix.{IsPrefix}
 use Rattle.book_base.specs.Pruning.{IsLeast, IsDeadEnd, IsReached}
-use Rattle.frontier_check.specs.Search.{places_of, Fits, IsOpen, Leads, IsWalk, order_of, weigh, weight}
+use Rattle.frontier_check.specs.Search.{places_of, MayGrow, IsOpen, Leads, IsWalk, order_of, weigh, weight}
 use Rattle.next_calls.proofs.Least.{may_come-from_least}
 use Rattle.frontier_check.proofs.Choosing.{open-last, open-rest, dead_end}
 use Rattle.frontier_check.proofs.Leading.{leads-push, leads-pop, standing, reached-from_leads, legal-from_leads, lowered}
 use Rattle.frontier_check.proofs.Weighing.{weigh-push, weigh-skip, weigh-pop}
 
--- levels lead from a cut and a list to others where equal levels lead from there to equal ones
+-- frames lead from a cut and a list to others where equal frames lead from there to equal ones
 same_leads : (book : List Page) (next : List ℕ → ℕ → List ℕ × ℕ) (cut list : List ℕ)
-    (levels new_levels : List WalkLevel) (to_cut new_cut to_list new_list : List ℕ)
-    → new_levels ≡ levels → new_cut ≡ to_cut → new_list ≡ to_list
-    → Leads book next cut list levels to_cut to_list
-    → Leads book next cut list new_levels new_cut new_list
-same_leads book next cut list levels new_levels to_cut new_cut to_list new_list e f k h =
-    subst (λ (ls : List WalkLevel). Leads book next cut list ls new_cut new_list) (sym e)
-    (subst (λ (c : List ℕ). Leads book next cut list levels c new_list) (sym f)
-    (subst (λ (l : List ℕ). Leads book next cut list levels to_cut l) (sym k) h))
+    (frames new_frames : List WalkFrame) (to_cut new_cut to_list new_list : List ℕ)
+    → new_frames ≡ frames → new_cut ≡ to_cut → new_list ≡ to_list
+    → Leads book next cut list frames to_cut to_list
+    → Leads book next cut list new_frames new_cut new_list
+same_leads book next cut list frames new_frames to_cut new_cut to_list new_list e f k h =
+    subst (λ (ls : List WalkFrame). Leads book next cut list ls new_cut new_list) (sym e)
+    (subst (λ (c : List ℕ). Leads book next cut list frames c new_list) (sym f)
+    (subst (λ (l : List ℕ). Leads book next cut list frames to_cut l) (sym k) h))
 
 -- What is to be tried at a cut and a list is what is to be tried at equal ones.
 pub same_open : (book : List Page) (next : List ℕ → ℕ → List ℕ × ℕ)
@@ -50,10 +50,10 @@ pub walk-choose : (book : List Page) (prefix : Prefix) (init : List ℕ)
     (next : List ℕ → ℕ → List ℕ × ℕ) (old new : Walk) (choice : Choice)
     → IsWalk book prefix init next old (places_of old.choices.items)
     → old.choices.items ≡ new.choices.items ++ choice ∷ []
-    → new.levels ≡ old.levels → new.counts ≡ old.counts → new.here ≡ old.here → new.memo ≡ old.memo
+    → new.frames ≡ old.frames → new.counts ≡ old.counts → new.here ≡ old.here → new.memo ≡ old.memo
     → IsWalk book prefix init next new (choice.place ∷ places_of new.choices.items)
-    × (weigh CAPACITY new.levels.items (length new.choices.items + 1) ≡ weight old)
-walk-choose book prefix init next old new choice h choices levels counts here memo =
+    × (weigh CAPACITY new.frames.items (length new.choices.items + 1) ≡ weight old)
+walk-choose book prefix init next old new choice h choices frames counts here memo =
     let more : IsOpen book next old.counts.items old.here.words
     (places_of (new.choices.items ++ choice ∷ [])) =
     subst (λ (cs : List Choice). IsOpen book next old.counts.items old.here.words (places_of cs))
@@ -62,9 +62,9 @@ walk-choose book prefix init next old new choice h choices levels counts here me
     sym (ap (λ (cs : List Choice). length cs) choices ∙ length_push new.choices.items choice) in (
       record {
         begins = h.begins;
-        leads = same_leads book next prefix.cut prefix.here.words old.levels.items new.levels.items
+        leads = same_leads book next prefix.cut prefix.here.words old.frames.items new.frames.items
             old.counts.items new.counts.items old.here.words new.here.words
-            (ap (λ v. v.items) levels) (ap (λ v. v.items) counts) (ap (λ s. s.words) here) h.leads;
+            (ap (λ v. v.items) frames) (ap (λ v. v.items) counts) (ap (λ s. s.words) here) h.leads;
         here = same_open book next old.counts.items new.counts.items old.here.words new.here.words
             (choice.place ∷ places_of new.choices.items)
             (choice.place ∷ places_of new.choices.items)
@@ -75,23 +75,23 @@ walk-choose book prefix init next old new choice h choices levels counts here me
         callers = ap (λ m. m.callers) memo ∙ h.callers;
         room = ap (λ s. s.room) here ∙ h.room;
       },
-      ap (λ v. weigh CAPACITY v.items (length new.choices.items + 1)) levels
-          ∙ ap (λ (n : ℕ). weigh CAPACITY old.levels.items n) long,
+      ap (λ v. weigh CAPACITY v.items (length new.choices.items + 1)) frames
+          ∙ ap (λ (n : ℕ). weigh CAPACITY old.frames.items n) long,
     )
 
 -- A walk with nothing left to try stays right once its memo remembers its cut and its list as well.
 pub walk-remember : (book : List Page) (prefix : Prefix) (init : List ℕ)
     (next : List ℕ → ℕ → List ℕ × ℕ) (old new : Walk)
-    → IsWalk book prefix init next old [] → new.levels ≡ old.levels → new.counts ≡ old.counts
+    → IsWalk book prefix init next old [] → new.frames ≡ old.frames → new.counts ≡ old.counts
     → new.here ≡ old.here → IsMemo new.memo → new.memo.callers ≡ old.memo.callers
     → ((cut list : List ℕ) → Remembers new.memo cut list → Remembers old.memo cut list
     ⊎ ((cut ≡ old.counts.items) × (list ≡ old.here.words)))
     → IsWalk book prefix init next new []
-walk-remember book prefix init next old new h levels counts here memo callers only = record {
+walk-remember book prefix init next old new h frames counts here memo callers only = record {
   begins = h.begins;
-  leads = same_leads book next prefix.cut prefix.here.words old.levels.items new.levels.items
+  leads = same_leads book next prefix.cut prefix.here.words old.frames.items new.frames.items
       old.counts.items new.counts.items old.here.words new.here.words
-      (ap (λ v. v.items) levels) (ap (λ v. v.items) counts) (ap (λ s. s.words) here) h.leads;
+      (ap (λ v. v.items) frames) (ap (λ v. v.items) counts) (ap (λ s. s.words) here) h.leads;
   here = same_open book next old.counts.items new.counts.items old.here.words
       new.here.words [] [] (ap (λ v. v.items) counts) (ap (λ s. s.words) here) refl h.here;
   dead = λ (cut list : List ℕ) there. elim (only cut list there) [
@@ -111,21 +111,21 @@ pub walk-skip : (book : List Page) (prefix : Prefix) (init : List ℕ)
     (next : List ℕ → ℕ → List ℕ × ℕ) (old new : Walk) (place : Place)
     → IsWalk book prefix init next old (place ∷ places_of old.choices.items) → Remembers old.memo
     (raised old.counts.items place.caller) (list_after book next old.here.words place)
-    → new.levels ≡ old.levels → new.counts.items ≡ old.counts.items → new.here ≡ old.here
+    → new.frames ≡ old.frames → new.counts.items ≡ old.counts.items → new.here ≡ old.here
     → new.choices ≡ old.choices → new.memo ≡ old.memo
     → IsWalk book prefix init next new (places_of new.choices.items)
-    × (weight new < weigh CAPACITY old.levels.items (length old.choices.items + 1))
-walk-skip book prefix init next old new place h there levels counts here choices memo =
+    × (weight new < weigh CAPACITY old.frames.items (length old.choices.items + 1))
+walk-skip book prefix init next old new place h there frames counts here choices memo =
     let dead = h.dead (raised old.counts.items place.caller)
     (list_after book next old.here.words place) there in
-    let same : weight new ≡ weigh CAPACITY old.levels.items (length old.choices.items) =
-    ap (λ v. weigh CAPACITY v.items (length new.choices.items)) levels
-    ∙ ap (λ v. weigh CAPACITY old.levels.items (length v.items)) choices in (
+    let same : weight new ≡ weigh CAPACITY old.frames.items (length old.choices.items) =
+    ap (λ v. weigh CAPACITY v.items (length new.choices.items)) frames
+    ∙ ap (λ v. weigh CAPACITY old.frames.items (length v.items)) choices in (
       record {
         begins = h.begins;
-        leads = same_leads book next prefix.cut prefix.here.words old.levels.items new.levels.items
+        leads = same_leads book next prefix.cut prefix.here.words old.frames.items new.frames.items
             old.counts.items new.counts.items old.here.words new.here.words
-            (ap (λ v. v.items) levels) counts (ap (λ s. s.words) here) h.leads;
+            (ap (λ v. v.items) frames) counts (ap (λ s. s.words) here) h.leads;
         here = same_open book next old.counts.items new.counts.items old.here.words new.here.words
             (places_of old.choices.items) (places_of new.choices.items)
             counts (ap (λ s. s.words) here) (ap (λ v. places_of v.items) choices) (open-rest book
@@ -135,61 +135,61 @@ walk-skip book prefix init next old new place h there levels counts here choices
         callers = ap (λ m. m.callers) memo ∙ h.callers;
         room = ap (λ s. s.room) here ∙ h.room;
       },
-      omega (arith, same, weigh-skip CAPACITY old.levels.items (length old.choices.items)),
+      omega (arith, same, weigh-skip CAPACITY old.frames.items (length old.choices.items)),
     )
 
--- A walk is one level deeper than another: a level is put at its end that has the list and the
+-- A walk is one frame deeper than another: a frame is put at its end that has the list and the
 -- choices of the other walk, and the cut and the list become those after the call at its place.
 pub record IsDeeper (book : List Page) (next : List ℕ → ℕ → List ℕ × ℕ) (old new : Walk)
-    (level : WalkLevel) : Type 0 where
-  pub levels : new.levels.items ≡ old.levels.items ++ level ∷ []
-  pub words : level.words.items ≡ old.here.words
-  pub choices : level.choices.items ≡ old.choices.items
-  pub counts : new.counts.items ≡ raised old.counts.items level.place.caller
-  pub here : new.here.words ≡ list_after book next old.here.words level.place
+    (frame : WalkFrame) : Type 0 where
+  pub frames : new.frames.items ≡ old.frames.items ++ frame ∷ []
+  pub words : frame.words.items ≡ old.here.words
+  pub choices : frame.choices.items ≡ old.choices.items
+  pub counts : new.counts.items ≡ raised old.counts.items frame.place.caller
+  pub here : new.here.words ≡ list_after book next old.here.words frame.place
   pub room : new.here.room ≡ old.here.room
   pub memo : new.memo ≡ old.memo
 
 deeper-leads : (book : List Page) (prefix : Prefix) (init : List ℕ) (next : List ℕ → ℕ → List ℕ × ℕ)
-    (old new : Walk) (level : WalkLevel)
-    → IsWalk book prefix init next old (level.place ∷ places_of old.choices.items)
-    → IsDeeper book next old new level
-    → Leads book next prefix.cut prefix.here.words new.levels.items new.counts.items new.here.words
-deeper-leads book prefix init next old new level h d =
+    (old new : Walk) (frame : WalkFrame)
+    → IsWalk book prefix init next old (frame.place ∷ places_of old.choices.items)
+    → IsDeeper book next old new frame
+    → Leads book next prefix.cut prefix.here.words new.frames.items new.counts.items new.here.words
+deeper-leads book prefix init next old new frame h d =
     let here : IsOpen book next old.counts.items old.here.words
-    (level.place ∷ places_of level.choices.items) =
+    (frame.place ∷ places_of frame.choices.items) =
     subst (λ (cs : List Choice). IsOpen book next old.counts.items old.here.words
-    (level.place ∷ places_of cs)) (sym d.choices) h.here in
-    same_leads book next prefix.cut prefix.here.words (old.levels.items ++ level ∷ [])
-    new.levels.items (raised old.counts.items level.place.caller) new.counts.items
-    (list_after book next old.here.words level.place) new.here.words d.levels d.counts d.here
-    (leads-push book next prefix.cut prefix.here.words old.levels.items old.counts.items
-    old.here.words level h.leads d.words here)
+    (frame.place ∷ places_of cs)) (sym d.choices) h.here in
+    same_leads book next prefix.cut prefix.here.words (old.frames.items ++ frame ∷ [])
+    new.frames.items (raised old.counts.items frame.place.caller) new.counts.items
+    (list_after book next old.here.words frame.place) new.here.words d.frames d.counts d.here
+    (leads-push book next prefix.cut prefix.here.words old.frames.items old.counts.items
+    old.here.words frame h.leads d.words here)
 
--- A walk that is one level deeper is right, with less weight, where its choices are what is to be
+-- A walk that is one frame deeper is right, with less weight, where its choices are what is to be
 -- tried and are no more than the callers of the book.
 pub walk-deeper : (book : List Page) (prefix : Prefix) (init : List ℕ)
-    (next : List ℕ → ℕ → List ℕ × ℕ) (old new : Walk) (level : WalkLevel)
+    (next : List ℕ → ℕ → List ℕ × ℕ) (old new : Walk) (frame : WalkFrame)
     → ((list : List ℕ) (op : ℕ) → length (next list op).0 ≤ length list + 1)
-    → IsWalk book prefix init next old (level.place ∷ places_of old.choices.items)
-    → IsDeeper book next old new level
+    → IsWalk book prefix init next old (frame.place ∷ places_of old.choices.items)
+    → IsDeeper book next old new frame
     → IsOpen book next new.counts.items new.here.words (places_of new.choices.items)
     → length new.choices.items ≤ length book
     → IsWalk book prefix init next new (places_of new.choices.items)
-    × (weight new < weigh CAPACITY old.levels.items (length old.choices.items + 1))
-walk-deeper book prefix init next old new level grows h d here few =
-    let s = standing book prefix init next old.levels.items old.counts.items old.here.words
-    level.place h.begins grows h.leads h.here.sound.0.may_come in
+    × (weight new < weigh CAPACITY old.frames.items (length old.choices.items + 1))
+walk-deeper book prefix init next old new frame grows h d here few =
+    let s = standing book prefix init next old.frames.items old.counts.items old.here.words
+    frame.place h.begins grows h.leads h.here.sound.0.may_come in
     let callers = h.begins.stands.small.callers in
     let same : weight new
-    ≡ weigh CAPACITY (old.levels.items ++ level ∷ []) (length new.choices.items) =
-    ap (λ (ls : List WalkLevel). weigh CAPACITY ls (length new.choices.items)) d.levels in
-    let more : weigh CAPACITY old.levels.items (length level.choices.items + 1)
-    ≡ weigh CAPACITY old.levels.items (length old.choices.items + 1) =
-    ap (λ (cs : List Choice). weigh CAPACITY old.levels.items (length cs + 1)) d.choices in (
+    ≡ weigh CAPACITY (old.frames.items ++ frame ∷ []) (length new.choices.items) =
+    ap (λ (ls : List WalkFrame). weigh CAPACITY ls (length new.choices.items)) d.frames in
+    let more : weigh CAPACITY old.frames.items (length frame.choices.items + 1)
+    ≡ weigh CAPACITY old.frames.items (length old.choices.items + 1) =
+    ap (λ (cs : List Choice). weigh CAPACITY old.frames.items (length cs + 1)) d.choices in (
       record {
         begins = h.begins;
-        leads = deeper-leads book prefix init next old new level h d;
+        leads = deeper-leads book prefix init next old new frame h d;
         here = here;
         dead = λ cut list at. h.dead cut list (subst (λ m. Remembers m cut list) d.memo at);
         memo = subst (λ m. IsMemo m) (sym d.memo) h.memo;
@@ -200,56 +200,56 @@ walk-deeper book prefix init next old new level grows h d here few =
         arith,
         same,
         more,
-        weigh-push CAPACITY old.levels.items level (length new.choices.items) s.depth (omega arith),
+        weigh-push CAPACITY old.frames.items frame (length new.choices.items) s.depth (omega arith),
       ),
     )
 
--- Where the cut of a walk that is one level deeper holds all answered calls, the places of the
--- prefix and then of the levels are a legal order.
+-- Where the cut of a walk that is one frame deeper holds all answered calls, the places of the
+-- prefix and then of the frames are a legal order.
 pub walk-found : (book : List Page) (prefix : Prefix) (init : List ℕ)
-    (next : List ℕ → ℕ → List ℕ × ℕ) (old new : Walk) (level : WalkLevel)
-    → IsWalk book prefix init next old (level.place ∷ places_of old.choices.items)
-    → IsDeeper book next old new level → HoldsAnswered book new.counts.items
-    → IsLegalOrder init next book (prefix.places.items ++ order_of new.levels.items)
-walk-found book prefix init next old new level h d all =
-    legal-from_leads book prefix init next new.levels.items new.counts.items new.here.words h.begins
-    (deeper-leads book prefix init next old new level h d) all
+    (next : List ℕ → ℕ → List ℕ × ℕ) (old new : Walk) (frame : WalkFrame)
+    → IsWalk book prefix init next old (frame.place ∷ places_of old.choices.items)
+    → IsDeeper book next old new frame → HoldsAnswered book new.counts.items
+    → IsLegalOrder init next book (prefix.places.items ++ order_of new.frames.items)
+walk-found book prefix init next old new frame h d all =
+    legal-from_leads book prefix init next new.frames.items new.counts.items new.here.words h.begins
+    (deeper-leads book prefix init next old new frame h d) all
 
--- The cut and the list to which a level with the list and the choices of a walk leads from there:
+-- The cut and the list to which a frame with the list and the choices of a walk leads from there:
 -- the ones after the call at its place.
 pub record LeadsTo (book : List Page) (next : List ℕ → ℕ → List ℕ × ℕ) (old : Walk)
-    (level : WalkLevel)
+    (frame : WalkFrame)
     (cut list : List ℕ) : Type 0 where
-  pub words : level.words.items ≡ old.here.words
-  pub choices : level.choices.items ≡ old.choices.items
-  pub cut_is : cut ≡ raised old.counts.items level.place.caller
-  pub list_is : list ≡ list_after book next old.here.words level.place
+  pub words : frame.words.items ≡ old.here.words
+  pub choices : frame.choices.items ≡ old.choices.items
+  pub cut_is : cut ≡ raised old.counts.items frame.place.caller
+  pub list_is : list ≡ list_after book next old.here.words frame.place
 
 leads-to : (book : List Page) (prefix : Prefix) (init : List ℕ) (next : List ℕ → ℕ → List ℕ × ℕ)
-    (old : Walk) (level : WalkLevel) (cut list : List ℕ)
-    → IsWalk book prefix init next old (level.place ∷ places_of old.choices.items)
-    → LeadsTo book next old level cut list
-    → Leads book next prefix.cut prefix.here.words (old.levels.items ++ level ∷ []) cut list
-leads-to book prefix init next old level cut list h to =
+    (old : Walk) (frame : WalkFrame) (cut list : List ℕ)
+    → IsWalk book prefix init next old (frame.place ∷ places_of old.choices.items)
+    → LeadsTo book next old frame cut list
+    → Leads book next prefix.cut prefix.here.words (old.frames.items ++ frame ∷ []) cut list
+leads-to book prefix init next old frame cut list h to =
     let here : IsOpen book next old.counts.items old.here.words
-    (level.place ∷ places_of level.choices.items) =
+    (frame.place ∷ places_of frame.choices.items) =
     subst (λ (cs : List Choice). IsOpen book next old.counts.items old.here.words
-    (level.place ∷ places_of cs)) (sym to.choices) h.here in
-    same_leads book next prefix.cut prefix.here.words (old.levels.items ++ level ∷ [])
-    (old.levels.items ++ level ∷ []) (raised old.counts.items level.place.caller) cut
-    (list_after book next old.here.words level.place) list refl to.cut_is to.list_is
-    (leads-push book next prefix.cut prefix.here.words old.levels.items old.counts.items
-    old.here.words level h.leads to.words here)
+    (frame.place ∷ places_of cs)) (sym to.choices) h.here in
+    same_leads book next prefix.cut prefix.here.words (old.frames.items ++ frame ∷ [])
+    (old.frames.items ++ frame ∷ []) (raised old.counts.items frame.place.caller) cut
+    (list_after book next old.here.words frame.place) list refl to.cut_is to.list_is
+    (leads-push book next prefix.cut prefix.here.words old.frames.items old.counts.items
+    old.here.words frame h.leads to.words here)
 
--- Where a level leads from a walk to a cut after which an answered call is due, one more word fits
+-- Where a frame leads from a walk to a cut after which an answered call is due, one more word fits
 -- the list there.
 pub deeper-fits : (book : List Page) (prefix : Prefix) (init : List ℕ)
-    (next : List ℕ → ℕ → List ℕ × ℕ) (old : Walk) (level : WalkLevel)
+    (next : List ℕ → ℕ → List ℕ × ℕ) (old : Walk) (frame : WalkFrame)
     (cut list : List ℕ) (first : ℕ)
     → ((list : List ℕ) (op : ℕ) → length (next list op).0 ≤ length list + 1)
-    → IsWalk book prefix init next old (level.place ∷ places_of old.choices.items)
-    → LeadsTo book next old level cut list → IsLeast book cut (length book) first → Fits cut list
-deeper-fits book prefix init next old level cut list first grows h to least =
+    → IsWalk book prefix init next old (frame.place ∷ places_of old.choices.items)
+    → LeadsTo book next old frame cut list → IsLeast book cut (length book) first → MayGrow cut list
+deeper-fits book prefix init next old frame cut list first grows h to least =
     let valid = h.begins.stands.valid in
     let place : Place = record { caller = first; number = get_or cut first 0; reply = 0 } in
     let there = answer_stands book (next_call cut first) least.answered in
@@ -258,120 +258,120 @@ deeper-fits book prefix init next old level cut list first grows h to least =
     may_come-from_least book cut first first there.0.view valid least
     (λ (r : Record) at. ap (λ (x : Record). x.view) (same_Some r there.0 (sym at ∙ there.1)))
     (omega (arith, own)) in
-    (standing book prefix init next (old.levels.items ++ level ∷ []) cut list place h.begins grows
-    (leads-to book prefix init next old level cut list h to) may).fits
+    (standing book prefix init next (old.frames.items ++ frame ∷ []) cut list place h.begins grows
+    (leads-to book prefix init next old frame cut list h to) may).fits
 
--- Some order reaches the cut and the list to which a level leads from a walk, and whatever places
+-- Some order reaches the cut and the list to which a frame leads from a walk, and whatever places
 -- continue it from there make a legal order with it.
 pub deeper-reached : (book : List Page) (prefix : Prefix) (init : List ℕ)
-    (next : List ℕ → ℕ → List ℕ × ℕ) (old : Walk) (level : WalkLevel) (cut list : List ℕ)
-    → IsWalk book prefix init next old (level.place ∷ places_of old.choices.items)
-    → LeadsTo book next old level cut list → IsReached init next book cut list
-deeper-reached book prefix init next old level cut list h to =
-    reached-from_leads init next book prefix (old.levels.items ++ level ∷ []) cut list h.begins
-    (leads-to book prefix init next old level cut list h to)
+    (next : List ℕ → ℕ → List ℕ × ℕ) (old : Walk) (frame : WalkFrame) (cut list : List ℕ)
+    → IsWalk book prefix init next old (frame.place ∷ places_of old.choices.items)
+    → LeadsTo book next old frame cut list → IsReached init next book cut list
+deeper-reached book prefix init next old frame cut list h to =
+    reached-from_leads init next book prefix (old.frames.items ++ frame ∷ []) cut list h.begins
+    (leads-to book prefix init next old frame cut list h to)
 
--- A walk that goes back by one level from a dead end is right, with less weight.
+-- A walk that goes back by one frame from a dead end is right, with less weight.
 pub walk-back : (book : List Page) (prefix : Prefix) (init : List ℕ)
-    (next : List ℕ → ℕ → List ℕ × ℕ) (old new : Walk) (level : WalkLevel)
-    → IsWalk book prefix init next old [] → old.levels.items ≡ new.levels.items ++ level ∷ []
-    → new.counts.items ≡ set old.counts.items level.place.caller level.place.number
-    → new.here.words ≡ level.words.items → new.here.room ≡ old.here.room
-    → new.choices ≡ level.choices → new.memo ≡ old.memo
+    (next : List ℕ → ℕ → List ℕ × ℕ) (old new : Walk) (frame : WalkFrame)
+    → IsWalk book prefix init next old [] → old.frames.items ≡ new.frames.items ++ frame ∷ []
+    → new.counts.items ≡ set old.counts.items frame.place.caller frame.place.number
+    → new.here.words ≡ frame.words.items → new.here.room ≡ old.here.room
+    → new.choices ≡ frame.choices → new.memo ≡ old.memo
     → IsWalk book prefix init next new (places_of new.choices.items)
-    × (weight new < weigh CAPACITY old.levels.items 0)
-walk-back book prefix init next old new level h levels counts here room choices memo =
-    let back = leads-pop book next prefix.cut prefix.here.words new.levels.items level
+    × (weight new < weigh CAPACITY old.frames.items 0)
+walk-back book prefix init next old new frame h frames counts here room choices memo =
+    let back = leads-pop book next prefix.cut prefix.here.words new.frames.items frame
     old.counts.items old.here.words
     (subst
-    (λ (ls : List WalkLevel). Leads book next prefix.cut prefix.here.words ls old.counts.items
-    old.here.words) levels h.leads) in
+    (λ (ls : List WalkFrame). Leads book next prefix.cut prefix.here.words ls old.counts.items
+    old.here.words) frames h.leads) in
     let cut : new.counts.items ≡ back.from =
-    counts ∙ (ap (λ (c : List ℕ). set c level.place.caller level.place.number) back.to_cut_is
-    ∙ lowered back.from level.place.caller level.place.number back.here.sound.0.may_come.next) in
-    let dead : IsDeadEnd book next (raised back.from level.place.caller)
-    (list_after book next level.words.items level.place) =
+    counts ∙ (ap (λ (c : List ℕ). set c frame.place.caller frame.place.number) back.to_cut_is
+    ∙ lowered back.from frame.place.caller frame.place.number back.here.sound.0.may_come.next) in
+    let dead : IsDeadEnd book next (raised back.from frame.place.caller)
+    (list_after book next frame.words.items frame.place) =
     subst
-    (λ (c : List ℕ). IsDeadEnd book next c (list_after book next level.words.items level.place))
+    (λ (c : List ℕ). IsDeadEnd book next c (list_after book next frame.words.items frame.place))
     back.to_cut_is
     (subst (λ (l : List ℕ). IsDeadEnd book next old.counts.items l) back.to_list_is
     (dead_end book next old.counts.items old.here.words h.here)) in
-    let same : weight new ≡ weigh CAPACITY new.levels.items (length level.choices.items) =
-    ap (λ v. weigh CAPACITY new.levels.items (length v.items)) choices in
-    let old_is : weigh CAPACITY old.levels.items 0
-    ≡ weigh CAPACITY (new.levels.items ++ level ∷ []) 0 =
-    ap (λ (ls : List WalkLevel). weigh CAPACITY ls 0) levels in (
+    let same : weight new ≡ weigh CAPACITY new.frames.items (length frame.choices.items) =
+    ap (λ v. weigh CAPACITY new.frames.items (length v.items)) choices in
+    let old_is : weigh CAPACITY old.frames.items 0
+    ≡ weigh CAPACITY (new.frames.items ++ frame ∷ []) 0 =
+    ap (λ (ls : List WalkFrame). weigh CAPACITY ls 0) frames in (
       record {
         begins = h.begins;
-        leads = same_leads book next prefix.cut prefix.here.words new.levels.items new.levels.items
-            back.from new.counts.items level.words.items new.here.words refl cut here back.leads;
-        here = same_open book next back.from new.counts.items level.words.items new.here.words
-            (places_of level.choices.items) (places_of new.choices.items) cut here
-            (ap (λ v. places_of v.items) choices) (open-rest book next back.from level.words.items
-            level.place (places_of level.choices.items) dead back.here);
+        leads = same_leads book next prefix.cut prefix.here.words new.frames.items new.frames.items
+            back.from new.counts.items frame.words.items new.here.words refl cut here back.leads;
+        here = same_open book next back.from new.counts.items frame.words.items new.here.words
+            (places_of frame.choices.items) (places_of new.choices.items) cut here
+            (ap (λ v. places_of v.items) choices) (open-rest book next back.from frame.words.items
+            frame.place (places_of frame.choices.items) dead back.here);
         dead = λ c l at. h.dead c l (subst (λ m. Remembers m c l) memo at);
         memo = subst (λ m. IsMemo m) (sym memo) h.memo;
         callers = ap (λ m. m.callers) memo ∙ h.callers;
         room = room ∙ h.room;
       },
-      omega (arith, same, old_is, weigh-pop CAPACITY new.levels.items level),
+      omega (arith, same, old_is, weigh-pop CAPACITY new.frames.items frame),
     )
 
--- bounds on the last level of a walk: on the caller and the number of its place, and on its words
-pub record LastLevel (old : Walk) (level : WalkLevel) : Type 0 where
-  pub caller : level.place.caller < length old.counts.items
-  pub number : level.place.number ≤ MAX_CALLS
-  pub words : length level.words.items ≤ CAPACITY
+-- bounds on the last frame of a walk: on the caller and the number of its place, and on its words
+pub record LastLevel (old : Walk) (frame : WalkFrame) : Type 0 where
+  pub caller : frame.place.caller < length old.counts.items
+  pub number : frame.place.number ≤ MAX_CALLS
+  pub words : length frame.words.items ≤ CAPACITY
 
--- The bounds hold for the last level of each walk with nothing left to try.
+-- The bounds hold for the last frame of each walk with nothing left to try.
 pub last_level : (book : List Page) (prefix : Prefix) (init : List ℕ)
-    (next : List ℕ → ℕ → List ℕ × ℕ) (old : Walk) (levels : List WalkLevel) (level : WalkLevel)
+    (next : List ℕ → ℕ → List ℕ × ℕ) (old : Walk) (frames : List WalkFrame) (frame : WalkFrame)
     → ((list : List ℕ) (op : ℕ) → length (next list op).0 ≤ length list + 1)
-    → IsWalk book prefix init next old [] → old.levels.items
-    ≡ levels ++ level ∷ [] → LastLevel old level
-last_level book prefix init next old levels level grows h is =
+    → IsWalk book prefix init next old [] → old.frames.items
+    ≡ frames ++ frame ∷ [] → LastLevel old frame
+last_level book prefix init next old frames frame grows h is =
     let back =
-    leads-pop book next prefix.cut prefix.here.words levels level old.counts.items old.here.words
-    (subst (λ (ls : List WalkLevel).
+    leads-pop book next prefix.cut prefix.here.words frames frame old.counts.items old.here.words
+    (subst (λ (ls : List WalkFrame).
     Leads book next prefix.cut prefix.here.words ls old.counts.items old.here.words) is h.leads) in
-    let s = standing book prefix init next levels back.from level.words.items level.place h.begins
+    let s = standing book prefix init next frames back.from frame.words.items frame.place h.begins
     grows back.leads back.here.sound.0.may_come in
     let long : length old.counts.items ≡ length back.from =
     ap (λ (c : List ℕ). length c) back.to_cut_is
-    ∙ length-set back.from level.place.caller (get_or back.from level.place.caller 0 + 1) in
+    ∙ length-set back.from frame.place.caller (get_or back.from frame.place.caller 0 + 1) in
     record {
       caller = omega (arith, s.caller);
       number = omega (arith, s.number);
       words = omega (arith, s.fits);
     }
 
--- Where a walk without levels has nothing left to try, the end of the prefix is a dead end.
+-- Where a walk without frames has nothing left to try, the end of the prefix is a dead end.
 pub walk-none : (book : List Page) (prefix : Prefix) (init : List ℕ)
     (next : List ℕ → ℕ → List ℕ × ℕ) (walk : Walk)
-    → IsWalk book prefix init next walk [] → walk.levels.items ≡ []
+    → IsWalk book prefix init next walk [] → walk.frames.items ≡ []
     → IsDeadEnd book next prefix.cut prefix.here.words
 walk-none book prefix init next walk h none =
     let leads : Leads book next prefix.cut prefix.here.words [] walk.counts.items walk.here.words =
     subst
-    (λ (ls : List WalkLevel). Leads book next prefix.cut prefix.here.words ls walk.counts.items
+    (λ (ls : List WalkFrame). Leads book next prefix.cut prefix.here.words ls walk.counts.items
     walk.here.words) none h.leads in
     subst (λ (c : List ℕ). IsDeadEnd book next c prefix.here.words) (sym leads.0)
     (subst (λ (l : List ℕ). IsDeadEnd book next walk.counts.items l) (sym leads.1)
     (dead_end book next walk.counts.items walk.here.words h.here))
 
--- A walk without levels, at the cut and the list of a prefix and with an empty memo, is right with
+-- A walk without frames, at the cut and the list of a prefix and with an empty memo, is right with
 -- what is to be tried there.
 pub walk-start : (book : List Page) (prefix : Prefix) (init : List ℕ)
     (next : List ℕ → ℕ → List ℕ × ℕ) (walk : Walk) → IsPrefix init next book prefix
-    → walk.levels.items ≡ [] → walk.counts.items ≡ prefix.cut → walk.here.words ≡ prefix.here.words
+    → walk.frames.items ≡ [] → walk.counts.items ≡ prefix.cut → walk.here.words ≡ prefix.here.words
     → walk.here.room ≡ CAPACITY → IsMemo walk.memo → walk.memo.callers ≡ length book
     → ((cut list : List ℕ) → Remembers walk.memo cut list → ⊥)
     → IsOpen book next walk.counts.items walk.here.words (places_of walk.choices.items)
     → IsWalk book prefix init next walk (places_of walk.choices.items)
-walk-start book prefix init next walk f levels counts here room memo callers none start = record {
+walk-start book prefix init next walk f frames counts here room memo callers none start = record {
   begins = f;
-  leads = subst (λ (ls : List WalkLevel). Leads book next prefix.cut prefix.here.words ls
-      walk.counts.items walk.here.words) (sym levels) (sym counts, sym here);
+  leads = subst (λ (ls : List WalkFrame). Leads book next prefix.cut prefix.here.words ls
+      walk.counts.items walk.here.words) (sym frames) (sym counts, sym here);
   here = start;
   dead = λ cut list there. absurd (none cut list there);
   memo = memo;
@@ -384,7 +384,7 @@ pub prefix-fits : (book : List Page) (prefix : Prefix) (init : List ℕ)
     (next : List ℕ → ℕ → List ℕ × ℕ) (cut list : List ℕ) (first : ℕ)
     → ((list : List ℕ) (op : ℕ) → length (next list op).0 ≤ length list + 1)
     → IsPrefix init next book prefix → cut ≡ prefix.cut → list ≡ prefix.here.words
-    → IsLeast book cut (length book) first → Fits cut list
+    → IsLeast book cut (length book) first → MayGrow cut list
 prefix-fits book prefix init next cut list first grows f same_cut same_list least =
     let valid = f.stands.valid in
     let place : Place = record { caller = first; number = get_or cut first 0; reply = 0 } in

@@ -2,7 +2,7 @@
 use Rattle.std.proofs.Common.{◌≡◌, ℕ, zero, suc, ◌+◌, ◌-◌, ◌*◌, ◌<◌, ◌≤◌, List, [], ◌∷◌, ◌++◌, length, sym, ap, arith}
 use Rattle.std.proofs.Math.Nat.{mul-le-mul_right}
 use Rattle.book_base.specs.declared.TheConstants.{MAX_CALLERS}
-use Rattle.frontier_check.specs.declared.walk.WalkLevel.{WalkLevel}
+use Rattle.frontier_check.specs.declared.walk.WalkFrame.{WalkFrame}
 use Rattle.frontier_check.specs.Search.{ways, weigh}
 
 ways_positive : (depth : ℕ) → 1 ≤ ways depth
@@ -23,28 +23,28 @@ lighter choices fresh above below e positive few =
     let le : fresh * below ≤ MAX_CALLERS * below = mul-le-mul_right below few in
     omega arith
 
--- Levels with a further one at their end, and at most as many fresh choices as there may be
--- callers, weigh less than those levels with the choices of the further one and one more.
-pub weigh-push : (depth : ℕ) (levels : List WalkLevel) (level : WalkLevel) (fresh : ℕ)
-    → length levels < depth → fresh ≤ MAX_CALLERS
-    → weigh depth (levels ++ level ∷ []) fresh < weigh depth levels (length level.choices.items + 1)
+-- Frames with a further one at their end, and at most as many fresh choices as there may be
+-- callers, weigh less than those frames with the choices of the further one and one more.
+pub weigh-push : (depth : ℕ) (frames : List WalkFrame) (frame : WalkFrame) (fresh : ℕ)
+    → length frames < depth → fresh ≤ MAX_CALLERS
+    → weigh depth (frames ++ frame ∷ []) fresh < weigh depth frames (length frame.choices.items + 1)
 unfolding weigh
-weigh-push depth [] level fresh h few = lighter (length level.choices.items) fresh (ways depth)
+weigh-push depth [] frame fresh h few = lighter (length frame.choices.items) fresh (ways depth)
     (ways (depth - 1)) (ways_down depth (omega arith)) (ways_positive (depth - 1)) few
-weigh-push depth (first ∷ levels) level fresh h few =
-    omega (arith, weigh-push (depth - 1) levels level fresh (omega arith) few)
+weigh-push depth (first ∷ frames) frame fresh h few =
+    omega (arith, weigh-push (depth - 1) frames frame fresh (omega arith) few)
 
--- Levels weigh less with one choice fewer after them.
-pub weigh-skip : (depth : ℕ) (levels : List WalkLevel) (choices : ℕ)
-    → weigh depth levels choices < weigh depth levels (choices + 1)
+-- Frames weigh less with one choice fewer after them.
+pub weigh-skip : (depth : ℕ) (frames : List WalkFrame) (choices : ℕ)
+    → weigh depth frames choices < weigh depth frames (choices + 1)
 unfolding weigh
 weigh-skip depth [] choices = omega (arith, ways_positive depth)
-weigh-skip depth (first ∷ levels) choices = omega (arith, weigh-skip (depth - 1) levels choices)
+weigh-skip depth (first ∷ frames) choices = omega (arith, weigh-skip (depth - 1) frames choices)
 
--- Levels with the choices of a further level after them weigh less than those levels and the
+-- Frames with the choices of a further frame after them weigh less than those frames and the
 -- further one with no choice after them.
-pub weigh-pop : (depth : ℕ) (levels : List WalkLevel) (level : WalkLevel)
-    → weigh depth levels (length level.choices.items) < weigh depth (levels ++ level ∷ []) 0
+pub weigh-pop : (depth : ℕ) (frames : List WalkFrame) (frame : WalkFrame)
+    → weigh depth frames (length frame.choices.items) < weigh depth (frames ++ frame ∷ []) 0
 unfolding weigh
-weigh-pop depth [] level = omega (arith, ways_positive (depth - 1))
-weigh-pop depth (first ∷ levels) level = omega (arith, weigh-pop (depth - 1) levels level)
+weigh-pop depth [] frame = omega (arith, ways_positive (depth - 1))
+weigh-pop depth (first ∷ frames) frame = omega (arith, weigh-pop (depth - 1) frames frame)

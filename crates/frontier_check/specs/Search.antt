@@ -6,12 +6,12 @@ use Rattle.book_base.specs.declared.TheConstants.{MAX_CALLERS}
 use Rattle.book_base.specs.Order.{IsLegalOrder}
 use Rattle.book_base.specs.Book.{Page}
 use Rattle.book_base.specs.PruningRules.{HasEarly}
-use Rattle.book_base.specs.declared.marks.Marks.{Marks}
+use Rattle.book_base.specs.declared.marked_callers.MarkedCallers.{MarkedCallers}
 use Rattle.book_base.specs.Pruning.{IsDeadEnd, IsMarked, MarksSuffice}
 use Rattle.book_base.specs.Next.{next_call, raised, list_after, HoldsAnswered, MayComeNext, MayStandNext, Continues}
 use Rattle.frontier_check.specs.declared.choice.Choice.{Choice}
 use Rattle.frontier_check.specs.declared.prefix.Prefix.{Prefix}
-use Rattle.frontier_check.specs.declared.walk.WalkLevel.{WalkLevel}
+use Rattle.frontier_check.specs.declared.walk.WalkFrame.{WalkFrame}
 use Rattle.frontier_check.specs.declared.walk.Walk.{Walk}
 use Rattle.frontier_check.specs.declared.walk.StepOutcome.{StepOutcome}
 use Rattle.frontier_check.specs.declared.walk.StepOutcome.TheVariants.{Found, NoneLeft, GoesOn}
@@ -21,8 +21,8 @@ use Rattle.frontier_check.specs.Prefix.{IsPrefix}
 
 -- One more word fits a list of the object: the list has fewer words than the capacity. The cut
 -- plays no part.
-abbrev pub Fits : List ℕ → List ℕ → Type 0
-Fits cut list = length list + 1 ≤ CAPACITY
+abbrev pub MayGrow : List ℕ → List ℕ → Type 0
+MayGrow cut list = length list + 1 ≤ CAPACITY
 
 -- a place is among the places of a list
 abbrev pub IsAmong : Place → List Place → Type 0
@@ -86,7 +86,7 @@ pub record IsOneMore (book : List Page) (next : List ℕ → ℕ → List ℕ ×
 -- where places that begin with a call of one of these callers continue an order, some that begin
 -- with one of the chosen places do, or fewer places do.
 pub record AreChosen (book : List Page) (next : List ℕ → ℕ → List ℕ × ℕ) (cut list : List ℕ)
-    (marks : Marks) (below : ℕ) (places : List Place) : Type 0 where
+    (marks : MarkedCallers) (below : ℕ) (places : List Place) : Type 0 where
   pub sound : AllByRecursion (MayStandNext book next cut list) places
   pub covered : (place : Place) (rest : List Place) → place.caller < below
       → IsMarked marks place.caller → Continues book next cut list (place ∷ rest)
@@ -95,34 +95,34 @@ pub record AreChosen (book : List Page) (next : List ℕ → ℕ → List ℕ ×
 -- The marked callers are the ones to try at a cut and a list: the next call of each may come next,
 -- and the marks suffice.
 pub record AreToTry (book : List Page) (next : List ℕ → ℕ → List ℕ × ℕ) (cut list : List ℕ)
-    (marks : Marks) : Type 0 where
+    (marks : MarkedCallers) : Type 0 where
   pub may : (i : ℕ) → IsMarked marks i → MayComeNext book cut (next_call cut i)
   pub suffice : MarksSuffice book next cut list marks
 
--- Levels lead from a cut and a list to another cut and list, each by the call at its place: the
--- words of each level are the list before that call, and its place and those of its choices are
+-- Frames lead from a cut and a list to another cut and list, each by the call at its place: the
+-- words of each frame are the list before that call, and its place and those of its choices are
 -- what is still to be tried at the cut and the list before that call.
-abbrev pub Leads : List Page → (List ℕ → ℕ → List ℕ × ℕ) → List ℕ → List ℕ → List WalkLevel → List ℕ
+abbrev pub Leads : List Page → (List ℕ → ℕ → List ℕ × ℕ) → List ℕ → List ℕ → List WalkFrame → List ℕ
     → List ℕ → Type 0
 Leads book next cut list [] to_cut to_list = (cut ≡ to_cut) × (list ≡ to_list)
-Leads book next cut list (level ∷ levels) to_cut to_list =
-    (level.words.items ≡ list)
-    × IsOpen book next cut list (level.place ∷ places_of level.choices.items)
-    × Leads book next (raised cut level.place.caller)
-    (list_after book next list level.place) levels to_cut to_list
+Leads book next cut list (frame ∷ frames) to_cut to_list =
+    (frame.words.items ≡ list)
+    × IsOpen book next cut list (frame.place ∷ places_of frame.choices.items)
+    × Leads book next (raised cut frame.place.caller)
+    (list_after book next list frame.place) frames to_cut to_list
 
 -- Each pair of a cut and a list that the memo of a walk remembers is a dead end.
 abbrev pub AllDead : List Page → (List ℕ → ℕ → List ℕ × ℕ) → Walk → Type 0
 AllDead book next walk = (cut list : List ℕ) → Remembers walk.memo cut list
     → IsDeadEnd book next cut list
 
--- What holds of a walk of a search after a prefix: its levels lead from the cut and the list of the
+-- What holds of a walk of a search after a prefix: its frames lead from the cut and the list of the
 -- prefix to those of the walk, where these places are still to be tried; its memo remembers dead
 -- ends alone, and is for as many callers as the book has; and its state has the whole capacity.
 pub record IsWalk (book : List Page) (prefix : Prefix) (init : List ℕ)
     (next : List ℕ → ℕ → List ℕ × ℕ) (walk : Walk) (places : List Place) : Type 0 where
   pub begins : IsPrefix init next book prefix
-  pub leads : Leads book next prefix.cut prefix.here.words walk.levels.items walk.counts.items
+  pub leads : Leads book next prefix.cut prefix.here.words walk.frames.items walk.counts.items
       walk.here.words
   pub here : IsOpen book next walk.counts.items walk.here.words places
   pub dead : AllDead book next walk
@@ -130,9 +130,9 @@ pub record IsWalk (book : List Page) (prefix : Prefix) (init : List ℕ)
   pub callers : walk.memo.callers ≡ length book
   pub room : walk.here.room ≡ CAPACITY
 
--- the places of some levels, in their order
-abbrev pub order_of : List WalkLevel → List Place
-order_of levels = map (λ level. level.place) levels
+-- the places of some frames, in their order
+abbrev pub order_of : List WalkFrame → List Place
+order_of frames = map (λ frame. frame.place) frames
 
 -- A bound on the ways to put this many places, where at each of them no more may be tried than
 -- there are callers: two more than the most callers that a book may have, to the power of this
@@ -142,26 +142,26 @@ ways zero = 1
 ways (suc depth) = (MAX_CALLERS + 2) * ways depth
 
 -- A number for how much is left to try, where at most this many places follow the first cut: for
--- each level one more than its choices, and in the end one more than these choices, each times the
--- ways of as many places as may still follow there. One choice of a level weighs more than all
--- levels after it, where these have no more choices than there are callers.
-unfoldable pub weigh : ℕ → List WalkLevel → ℕ → ℕ
+-- each frame one more than its choices, and in the end one more than these choices, each times the
+-- ways of as many places as may still follow there. One choice of a frame weighs more than all
+-- frames after it, where these have no more choices than there are callers.
+unfoldable pub weigh : ℕ → List WalkFrame → ℕ → ℕ
 weigh depth [] choices = (choices + 1) * ways depth
-weigh depth (level ∷ levels) choices =
-    (length level.choices.items + 1) * ways depth + weigh (depth - 1) levels choices
+weigh depth (frame ∷ frames) choices =
+    (length frame.choices.items + 1) * ways depth + weigh (depth - 1) frames choices
 
 -- the number for how much is left to try in a walk
 abbrev pub weight : Walk → ℕ
-weight walk = weigh CAPACITY walk.levels.items (length walk.choices.items)
+weight walk = weigh CAPACITY walk.frames.items (length walk.choices.items)
 
 -- The outcome of a step of the search is right: with `Found` the places of the prefix and then of
--- the levels are a legal order; with `NoneLeft` the cut and the list of the prefix are a dead end;
+-- the frames are a legal order; with `NoneLeft` the cut and the list of the prefix are a dead end;
 -- and with `GoesOn` the walk is a right one, with the places of its choices still to be tried, and
 -- weighs less than the number before.
 abbrev pub IsRightOutcome : List Page → Prefix → List ℕ → (List ℕ → ℕ → List ℕ × ℕ) → ℕ → Walk
     → StepOutcome → Type 0
 IsRightOutcome book prefix init next before walk Found =
-    IsLegalOrder init next book (prefix.places.items ++ order_of walk.levels.items)
+    IsLegalOrder init next book (prefix.places.items ++ order_of walk.frames.items)
 IsRightOutcome book prefix init next before walk NoneLeft =
     IsDeadEnd book next prefix.cut prefix.here.words
 IsRightOutcome book prefix init next before walk GoesOn =

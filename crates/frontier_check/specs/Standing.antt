@@ -5,8 +5,8 @@ use Rattle.book_base.specs.declared.call.Place.{Place}
 use Rattle.book_base.specs.declared.call.Record.{Record}
 use Rattle.book_base.specs.Book.{Page, answers_of, answered, operation_of, record_of}
 use Rattle.frontier_check.specs.declared.prefix.Prefix.{Prefix}
-use Rattle.frontier_check.specs.declared.mark.Mark.{Mark}
-use Rattle.frontier_check.specs.declared.mark.KeptOrder.{KeptOrder}
+use Rattle.frontier_check.specs.declared.kept_order.OrderMark.{OrderMark}
+use Rattle.frontier_check.specs.declared.kept_order.KeptOrder.{KeptOrder}
 use Rattle.frontier_check.specs.Prefix.{LeavesOpen, IsPut}
 
 -- A new book has grown from an old one: they have equally many callers, and each operation and each
@@ -28,7 +28,7 @@ IsQuiet cut before book = (i : ℕ) → i < length book → (slice_index cut i �
 -- its cut and its words. These places were put in this book or in one from which it has grown, and
 -- the mark has how many records of each caller that book had.
 pub record IsMark (init : List ℕ) (next : List ℕ → ℕ → List ℕ × ℕ) (book : List Page)
-    (order : List Place) (mark : Mark) : Type 0 where
+    (order : List Place) (mark : OrderMark) : Type 0 where
   pub earlier : List Page
   pub grown : HasGrown earlier book
   pub records : mark.answered ≡ answered earlier
@@ -43,7 +43,7 @@ pub record IsMark (init : List ℕ) (next : List ℕ → ℕ → List ℕ × ℕ
 -- These are marks of an order; the first of them counts no fewer places than the least number, and
 -- each other one no fewer than the mark before it.
 abbrev pub AreMarks : (init : List ℕ) → (next : List ℕ → ℕ → List ℕ × ℕ) → List Page → List Place
-    → ℕ → List Mark → Type 0
+    → ℕ → List OrderMark → Type 0
 AreMarks init next book order least [] = Unit {0}
 AreMarks init next book order least (mark ∷ marks) =
     (least ≤ mark.len) × IsMark init next book order mark
@@ -57,18 +57,18 @@ IsStandingFor init next book standing =
     AreMarks init next book standing.order.items 0 standing.marks.items
 
 -- The cut of a mark and its numbers of records have one count for each caller of a book.
-abbrev pub IsAsWide : List Page → Mark → Type 0
+abbrev pub IsAsWide : List Page → OrderMark → Type 0
 IsAsWide book mark = (length mark.cut ≡ length book) × (length mark.answered ≡ length book)
 
 -- No call of the cut of a mark was answered in a book since the mark was left, and where the next
 -- call of a caller after that cut is answered, its view holds the cut. Then the places before the
 -- mark may still begin an order of the book.
-abbrev pub StillStands : List Page → Mark → Type 0
+abbrev pub StillStands : List Page → OrderMark → Type 0
 StillStands book mark = IsQuiet mark.cut mark.answered book × LeavesOpen book mark.cut
 
 -- A mark is at the end of a prefix: it has the number of its places, its cut and its words, and
 -- these numbers of records.
-pub record MarksEnd (prefix : Prefix) (records : List ℕ) (mark : Mark) : Type 0 where
+pub record IsMarkAtEnd (prefix : Prefix) (records : List ℕ) (mark : OrderMark) : Type 0 where
   pub len : mark.len ≡ length prefix.places.items
   pub cut : mark.cut ≡ prefix.cut
   pub words : mark.words.items ≡ prefix.here.words
@@ -76,8 +76,8 @@ pub record MarksEnd (prefix : Prefix) (records : List ℕ) (mark : Mark) : Type 
 
 -- In each book with these numbers of records in which a prefix is put, whatever the object is:
 -- where the old marks are marks of the places of the prefix, so are the new ones.
-abbrev pub KeepsMarks : Prefix → List ℕ → List Mark → List Mark → Type 0
-KeepsMarks prefix records marks more =
+abbrev pub AddsMarks : Prefix → List ℕ → List OrderMark → List OrderMark → Type 0
+AddsMarks prefix records marks more =
     (init : List ℕ) (next : List ℕ → ℕ → List ℕ × ℕ) (book : List Page)
     → IsPut init next book prefix → records ≡ answered book
     → AreMarks init next book prefix.places.items 0 marks

@@ -14,6 +14,6 @@ IsRight init next book Illegal = HasLegalOrder init next book → ⊥
 
 -- A guide has the places of the legal order that a verdict carries, and with `Illegal` those that
 -- it had before.
-abbrev pub IsKept : List Place → List Place → Verdict → Type 0
-IsKept old new (Legal order) = new ≡ order.items
-IsKept old new Illegal = new ≡ old
+abbrev pub KeepsLastOrder : List Place → List Place → Verdict → Type 0
+KeepsLastOrder old new (Legal order) = new ≡ order.items
+KeepsLastOrder old new Illegal = new ≡ old

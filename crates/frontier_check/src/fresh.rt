@@ -5,9 +5,9 @@ ghost use Rattle.frontier_check.specs.Standing.{AreMarks};
 
 use crate::choice::Choice;
 use crate::guess::Guess;
-use crate::mark::Mark;
+use crate::kept_order::OrderMark;
 use crate::prefix::{Prefix, answers_in};
-use crate::takes::reply_at;
+use crate::takes::checked_step;
 use crate::walk::CAPACITY;
 use book_base::{Book, Call, Cut, NoMemory, Place, SeqObject, State};
 use std::alloc::Global;
@@ -48,7 +48,7 @@ fn next_place<S: SeqObject>(
         return None;
     }
     spare.copy_from(&prefix.here);
-    let reply = reply_at(object, spare, book.op(Call { caller, number }))?;
+    let reply = checked_step(object, spare, book.op(Call { caller, number }))?;
     let place = Place {
         caller,
         number,
@@ -89,7 +89,7 @@ fn turn_of(prefix: &Prefix, after: &State, guess: &Guess, caller: u32) -> Option
         Some(PUT.saturating_add(taken))
     } else if count == u64::MAX {
         None
-    } else if puts && guess.knows_takes() {
+    } else if puts && guess.guesses_by_takes() {
         Some(KEPT.saturating_add(count))
     } else if after.words() == prefix.here.words() {
         Some(0)
@@ -189,7 +189,7 @@ fn better_of(
 // The place of some caller's next call after a prefix, which is unanswered and held by `view`, if
 // after it the object gives the recorded reply of another caller's next call. `None` comes where no
 // caller has such a call.
-fn opening_place<S: SeqObject>(
+fn enabling_place<S: SeqObject>(
     object: &S,
     book: &Book,
     prefix: &Prefix,
@@ -205,7 +205,7 @@ fn opening_place<S: SeqObject>(
     for caller in 0..book.callers() {
         if prefix.cut.get(caller) >= book.answers(caller)
             && let Some(place) = next_place(object, book, prefix, spare, view, caller)
-            && opens(object, book, prefix, spare, view, place)
+            && enables_recorded_reply(object, book, prefix, spare, view, place)
         {
             return Some(place);
         }
@@ -215,7 +215,7 @@ fn opening_place<S: SeqObject>(
 
 // Whether, once a place is put after a prefix, the object gives the recorded reply of the next call
 // of some caller, which is answered and held by `view`.
-fn opens<S: SeqObject>(
+fn enables_recorded_reply<S: SeqObject>(
     object: &S,
     book: &Book,
     prefix: &Prefix,
@@ -241,8 +241,8 @@ fn opens<S: SeqObject>(
                 number,
             };
             spare.copy_from(&prefix.here);
-            let opened = reply_at(object, spare, op).is_some();
-            if opened && reply_at(object, spare, book.op(call)) == Some(book.reply(call)) {
+            let opened = checked_step(object, spare, op).is_some();
+            if opened && checked_step(object, spare, book.op(call)) == Some(book.reply(call)) {
                 return true;
             }
         }
@@ -280,7 +280,7 @@ fn place_after<S: SeqObject>(
     match best_choice(object, book, prefix, spare, guess, view) {
         Some(choice) if choice.turn < UNSURE => Some(choice.place),
         Some(_) => None,
-        None => opening_place(object, book, prefix, spare, view),
+        None => enabling_place(object, book, prefix, spare, view),
     }
 }
 
@@ -303,7 +303,7 @@ pub fn put_fresh<S: SeqObject>(
     object: &S,
     book: &Book,
     prefix: &mut Prefix,
-    marks: &mut Vec<Mark>,
+    marks: &mut Vec<OrderMark>,
 ) -> Result<bool, NoMemory>
     requires put { IsPut (S.init object.now) (S.next object.now) book.now prefix.old }
     requires room { prefix.old.here.room ≡ CAPACITY }

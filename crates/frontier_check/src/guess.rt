@@ -1,6 +1,6 @@
 ghost use Rattle.std.specs.Prelude.{◌≡◌, ◌<◌, length, IfOk};
 
-use crate::plan::total;
+use crate::call_turns::total;
 use crate::takes::Takes;
 use crate::walk::CAPACITY;
 use book_base::{Book, Call, Cut, NoMemory, SeqObject, State};
@@ -77,7 +77,7 @@ impl Guess {
 
     /// Whether a call that puts a word in is guessed by the view of the call that takes this word
     /// out.
-    pub fn knows_takes(&self) -> bool {
+    pub fn guesses_by_takes(&self) -> bool {
         !self.takes.differ
     }
 

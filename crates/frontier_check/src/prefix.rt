@@ -5,9 +5,9 @@ ghost use Rattle.book_base.specs.Book.{answered, record_of};
 ghost use Rattle.book_base.specs.Order.{call_at};
 ghost use Rattle.book_base.specs.Next.{next_call};
 ghost use Rattle.frontier_check.specs.Prefix.{no_calls, IsNext, IsPut, IsPrefix, LeavesOpen};
-ghost use Rattle.frontier_check.specs.Standing.{AreMarks, MarksEnd, KeepsMarks};
+ghost use Rattle.frontier_check.specs.Standing.{AreMarks, IsMarkAtEnd, AddsMarks};
 
-use crate::mark::Mark;
+use crate::kept_order::OrderMark;
 use crate::walk::CAPACITY;
 use book_base::{Book, Call, Cut, NoMemory, Place, SeqObject, State};
 use std::alloc::Global;
@@ -100,7 +100,7 @@ impl Prefix {
         book: &Book,
         limit: &Cut,
         places: &[Place],
-        marks: &mut Vec<Mark>,
+        marks: &mut Vec<OrderMark>,
     ) -> Result<bool, NoMemory>
         requires limit { length limit.now ≡ length book.now }
         requires put { IsPut (S.init object.now) (S.next object.now) book.now self.old }
@@ -135,9 +135,9 @@ impl Prefix {
         &self,
         alloc: Global,
         records: &Cut,
-        marks: &mut Vec<Mark>,
+        marks: &mut Vec<OrderMark>,
     ) -> Result<(), NoMemory>
-        ensures { OnOk result (KeepsMarks self.now records.now marks.old.items marks.new.items) }
+        ensures { OnOk result (AddsMarks self.now records.now marks.old.items marks.new.items) }
     {
         if self.places.len() % INTERVAL == 0 {
             self.leave_mark(alloc, records, marks)?;
@@ -151,9 +151,9 @@ impl Prefix {
         &self,
         alloc: Global,
         records: &Cut,
-        marks: &mut Vec<Mark>,
+        marks: &mut Vec<OrderMark>,
     ) -> Result<(), NoMemory>
-        ensures { OnOk result (KeepsMarks self.now records.now marks.old.items marks.new.items) }
+        ensures { OnOk result (AddsMarks self.now records.now marks.old.items marks.new.items) }
     {
         let mark = self.mark(alloc, records)?;
         marks.push(mark)?;
@@ -170,9 +170,9 @@ impl Prefix {
         &self,
         alloc: Global,
         records: &Cut,
-        marks: &mut Vec<Mark>,
+        marks: &mut Vec<OrderMark>,
     ) -> Result<(), NoMemory>
-        ensures { OnOk result (KeepsMarks self.now records.now marks.old.items marks.new.items) }
+        ensures { OnOk result (AddsMarks self.now records.now marks.old.items marks.new.items) }
     {
         if self.places.len() % INTERVAL != 0 {
             let mark = self.mark(alloc, records)?;
@@ -182,10 +182,10 @@ impl Prefix {
     }
 
     // A mark at the end of the prefix, with these numbers of records.
-    fn mark(&self, alloc: Global, records: &Cut) -> Result<Mark, NoMemory>
-        ensures { IfOk result (MarksEnd self.now records.now) }
+    fn mark(&self, alloc: Global, records: &Cut) -> Result<OrderMark, NoMemory>
+        ensures { IfOk result (IsMarkAtEnd self.now records.now) }
     {
-        Ok(Mark {
+        Ok(OrderMark {
             len: self.places.len(),
             cut: self.cut,
             words: Vec::from_slice(alloc, self.here.words())?,

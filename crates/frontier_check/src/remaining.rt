@@ -3,7 +3,7 @@
 ghost use Rattle.std.specs.Prelude.{◌≡◌, length};
 
 use crate::prefix::Prefix;
-use crate::takes::reply_at;
+use crate::takes::checked_step;
 use crate::walk::CAPACITY;
 use book_base::{Book, BookFault, Call, Cut, Decision, NoMemory, OpWord, Place, SeqObject, State};
 use std::alloc::Global;
@@ -93,7 +93,7 @@ fn put_at<S: SeqObject>(
 {
     let op = operation_at(book, place)?;
     object.reset(spare);
-    let _reply = reply_at(object, spare, op)?;
+    let _reply = checked_step(object, spare, op)?;
     if spare.len() == 1 && spare.get(0) == word {
         Some(op)
     } else {
@@ -115,7 +115,7 @@ fn add_puts<S: SeqObject>(
     object.reset(&mut here);
     for back in 0..puts.len() {
         let op = puts[puts.len() - 1 - back];
-        let Some(reply) = reply_at(object, &mut here, op) else {
+        let Some(reply) = checked_step(object, &mut here, op) else {
             return Ok(false);
         };
         let view = view_of_first(left, back as u64);

@@ -1,9 +1,9 @@
 ghost use Rattle.std.specs.Prelude.{◌≡◌, ℕ, ◌+◌, ◌<◌, ◌≤◌, ◌⊎◌, length, slice_index_or, take, IfOk, IfSome, IsTrue, OnOk};
-ghost use Rattle.frontier_check.specs.declared.mark.Mark.{Mark};
+ghost use Rattle.frontier_check.specs.declared.kept_order.OrderMark.{OrderMark};
 ghost use Rattle.frontier_check.specs.Prefix.{IsPut};
 ghost use Rattle.frontier_check.specs.Standing.{IsQuiet, IsAsWide, StillStands, AreMarks};
 
-use crate::mark::Mark;
+use crate::kept_order::OrderMark;
 use crate::prefix::{INTERVAL, Prefix, leaves_open};
 use crate::walk::{CAPACITY, load};
 use book_base::{Book, Cut, NoMemory, Place, SeqObject, State};
@@ -29,7 +29,7 @@ fn is_quiet(book: &Book, cut: &Cut, before: &Cut) -> bool
 // Whether the places before a mark may still begin an order of a book: no call of the mark's cut
 // was answered since the mark was left, and each answered call that is its caller's next after that
 // cut has a view that holds it.
-fn still_stands(book: &Book, mark: &Mark) -> bool
+fn still_stands(book: &Book, mark: &OrderMark) -> bool
     requires { IsAsWide book.now mark.now }
     ensures { IsTrue result → StillStands book.now mark.now }
 {
@@ -38,11 +38,11 @@ fn still_stands(book: &Book, mark: &Mark) -> bool
 
 // The index of the last mark for which the places before it may still begin an order of a book, if
 // there is such a mark.
-fn last_standing(book: &Book, marks: &[Mark]) -> Option<usize>
-    requires { (k : ℕ) (mark : Mark) → k < length marks.now → mark ≡ slice_index_or marks.now k mark
+fn last_standing(book: &Book, marks: &[OrderMark]) -> Option<usize>
+    requires { (k : ℕ) (mark : OrderMark) → k < length marks.now → mark ≡ slice_index_or marks.now k mark
         → IsAsWide book.now mark }
     ensures within { IfSome result (λ k. k < length marks.now) }
-    ensures stands { IfSome result (λ k. (mark : Mark) → mark ≡ slice_index_or marks.now k mark
+    ensures stands { IfSome result (λ k. (mark : OrderMark) → mark ≡ slice_index_or marks.now k mark
         → StillStands book.now mark) }
 {
     for back in 0..marks.len() {
@@ -59,7 +59,7 @@ fn last_standing(book: &Book, marks: &[Mark]) -> Option<usize>
 fn prefix_at(
     alloc: Global,
     order: Vec<Place>,
-    mark: &Mark,
+    mark: &OrderMark,
 ) -> Result<(Prefix, Vec<Place>), NoMemory>
     requires len { mark.now.len ≤ length order.items }
     requires words { length mark.now.words.items ≤ CAPACITY }
@@ -104,7 +104,7 @@ pub fn resume<S: SeqObject>(
     object: &S,
     book: &Book,
     order: Vec<Place>,
-    marks: &mut Vec<Mark>,
+    marks: &mut Vec<OrderMark>,
 ) -> Result<(Prefix, Vec<Place>), NoMemory>
     requires marks { AreMarks (S.init object.now)
         (S.next object.now) book.now order.items 0 marks.old.items }

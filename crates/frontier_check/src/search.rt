@@ -9,15 +9,15 @@ ghost use Rattle.book_base.specs.declared.TheConstants.{MAX_CALLERS, MAX_CALLS};
 ghost use Rattle.book_base.specs.Next.{next_call, raised, list_after, HoldsAnswered, MayComeNext, MayStandNext};
 ghost use Rattle.frontier_check.specs.Prefix.{IsPrefix};
 ghost use Rattle.book_base.specs.Pruning.{HasOneOpen, IsLeast, IsDeadEnd, MarksAllNext, ViewsAreWithin, IsReached, StandsAtOnce};
-ghost use Rattle.frontier_check.specs.Search.{places_of, AreToTry, IsOneMore, IsOpen, IsWalk, IsRightOutcome, IsRankIn, Fits, weigh, weight};
+ghost use Rattle.frontier_check.specs.Search.{places_of, AreToTry, IsOneMore, IsOpen, IsWalk, IsRightOutcome, IsRankIn, MayGrow, weigh, weight};
 
 use crate::choice::Choice;
 use crate::memo::Memo;
-use crate::plan::Plan;
+use crate::call_turns::CallTurns;
 use crate::prefix::Prefix;
 use crate::twins::choose;
-use crate::walk::{CAPACITY, StepOutcome, Walk, WalkLevel, load, places, set_count};
-use book_base::{Book, Call, Cut, Marks, NoMemory, Place, PruningRules, SeqObject, Sight, State};
+use crate::walk::{CAPACITY, StepOutcome, Walk, WalkFrame, load, places, set_count};
+use book_base::{Book, Call, Cut, MarkedCallers, NoMemory, Place, PruningRules, SeqObject, Sight, State};
 use next_calls::{all_next, cut_of, first_view, least_open};
 use std::alloc::Global;
 use std::mem;
@@ -32,7 +32,7 @@ pub struct Search<'a, S> {
     pub limited: bool,
     pub one_open: bool,
     pub sight: &'a Option<Sight>,
-    pub plan: &'a Plan,
+    pub call_turns: &'a CallTurns,
     pub prefix: &'a Prefix,
 }
 
@@ -46,7 +46,7 @@ impl<S> Drop for Search<'_, S> {
             limited: _,
             one_open: _,
             sight: _,
-            plan: _,
+            call_turns: _,
             prefix: _,
         } = self;
     }
@@ -97,7 +97,7 @@ impl<S: SeqObject> Search<'_, S> {
         }
     }
 
-    // The walk without levels, at the cut and the list of the prefix. `None` comes where that cut
+    // The walk without frames, at the cut and the list of the prefix. `None` comes where that cut
     // holds all answered calls.
     fn begin(&self, spare: &mut State) -> Result<Option<Walk>, NoMemory>
         requires pruning_rules { ArePruningRules (S.init self.now.object.now)
@@ -124,7 +124,7 @@ impl<S: SeqObject> Search<'_, S> {
         let choices = self.choices(&counts, &here, spare, first)?;
         let memo = Memo::new(self.alloc, counts.len());
         Ok(Some(Walk {
-            levels: Vec::new(self.alloc),
+            frames: Vec::new(self.alloc),
             counts,
             here,
             choices,
@@ -151,7 +151,7 @@ impl<S: SeqObject> Search<'_, S> {
     {
         'steps: loop {
             match self.advance(walk, spare)? {
-                StepOutcome::Found => return Ok(Some(places(self.alloc, &walk.levels)?)),
+                StepOutcome::Found => return Ok(Some(places(self.alloc, &walk.frames)?)),
                 StepOutcome::NoneLeft => return Ok(None),
                 StepOutcome::GoesOn => {}
             }
@@ -180,7 +180,7 @@ impl<S: SeqObject> Search<'_, S> {
     {
         for _ in 0..steps {
             match self.advance(walk, spare)? {
-                StepOutcome::Found => return Ok(Some(places(self.alloc, &walk.levels)?)),
+                StepOutcome::Found => return Ok(Some(places(self.alloc, &walk.frames)?)),
                 StepOutcome::NoneLeft => return Ok(None),
                 StepOutcome::GoesOn => {}
             }
@@ -189,7 +189,7 @@ impl<S: SeqObject> Search<'_, S> {
     }
 
     // Makes one step of a walk: it tries the last choice, which is the best one; where no choice is
-    // left, it remembers the cut and the list as a dead end and goes back by one level.
+    // left, it remembers the cut and the list as a dead end and goes back by one frame.
     fn advance(&self, walk: &mut Walk, spare: &mut State) -> Result<StepOutcome, NoMemory>
         requires pruning_rules { ArePruningRules (S.init self.now.object.now)
             (S.next self.now.object.now) self.now.book.now self.now.known.now }
@@ -232,7 +232,7 @@ impl<S: SeqObject> Search<'_, S> {
         ensures room { spare.new.room ≡ CAPACITY }
         ensures outcome { IfOk result (IsRightOutcome self.now.book.now self.now.prefix.now
             (S.init self.now.object.now) (S.next self.now.object.now)
-            (weigh CAPACITY walk.old.levels.items (length walk.old.choices.items + 1)) walk.new) }
+            (weigh CAPACITY walk.old.frames.items (length walk.old.choices.items + 1)) walk.new) }
     {
         self.step(walk, spare, place);
         if walk.memo.remembers(&walk.counts, walk.here.words()) {
@@ -244,7 +244,7 @@ impl<S: SeqObject> Search<'_, S> {
         match least_open(self.book, &walk.counts) {
             None => {
                 let choices = mem::replace(&mut walk.choices, Vec::new(self.alloc));
-                walk.levels.push(WalkLevel {
+                walk.frames.push(WalkFrame {
                     place,
                     words,
                     choices,
@@ -254,7 +254,7 @@ impl<S: SeqObject> Search<'_, S> {
             Some(first) => {
                 let fresh = self.choices(&walk.counts, &walk.here, spare, first)?;
                 let choices = mem::replace(&mut walk.choices, fresh);
-                walk.levels.push(WalkLevel {
+                walk.frames.push(WalkFrame {
                     place,
                     words,
                     choices,
@@ -276,7 +276,7 @@ impl<S: SeqObject> Search<'_, S> {
               list_after self.now.book.now (S.next self.now.object.now) walk.old.here.words place;
         } }
         ensures counts { walk.new.counts.items ≡ raised walk.old.counts.items place.caller }
-        ensures levels { walk.new.levels ≡ walk.old.levels }
+        ensures frames { walk.new.frames ≡ walk.old.frames }
         ensures choices { walk.new.choices ≡ walk.old.choices }
         ensures memo { walk.new.memo ≡ walk.old.memo }
     {
@@ -289,22 +289,22 @@ impl<S: SeqObject> Search<'_, S> {
         set_count(&mut walk.counts, place.caller, place.number + 1);
     }
 
-    // Goes back by one level from a dead end: the walk has the cut, the list and the choices of its
-    // last level again. `NoneLeft` comes where the walk has no level.
+    // Goes back by one frame from a dead end: the walk has the cut, the list and the choices of its
+    // last frame again. `NoneLeft` comes where the walk has no frame.
     fn retreat(&self, walk: &mut Walk) -> StepOutcome
         requires walk { IsWalk self.now.book.now self.now.prefix.now (S.init self.now.object.now)
             (S.next self.now.object.now) walk.old [] }
         ensures { IsRightOutcome self.now.book.now self.now.prefix.now (S.init self.now.object.now)
-            (S.next self.now.object.now) (weigh CAPACITY walk.old.levels.items 0) walk.new result }
+            (S.next self.now.object.now) (weigh CAPACITY walk.old.frames.items 0) walk.new result }
     {
-        let Some(level) = walk.levels.pop() else {
+        let Some(frame) = walk.frames.pop() else {
             return StepOutcome::NoneLeft;
         };
-        let WalkLevel {
+        let WalkFrame {
             place,
             words,
             choices,
-        } = level;
+        } = frame;
         set_count(&mut walk.counts, place.caller, place.number);
         load(&mut walk.here, &words);
         walk.choices = choices;
@@ -335,7 +335,7 @@ impl<S: SeqObject> Search<'_, S> {
             (S.next self.now.object.now) self.now.book.now counts.now here.now.words }
         requires wide { length counts.now ≡ length self.now.book.now }
         requires first { IsLeast self.now.book.now counts.now (length self.now.book.now) first }
-        requires fits { Fits counts.now here.now.words }
+        requires fits { MayGrow counts.now here.now.words }
         requires room { spare.old.room ≡ CAPACITY }
         ensures room { spare.new.room ≡ CAPACITY }
         ensures open { IfOk result (λ choices. IsOpen self.now.book.now
@@ -362,7 +362,7 @@ impl<S: SeqObject> Search<'_, S> {
 
     // Marks on the callers that are to be tried after a cut and at a list: all whose next calls may
     // come next, or fewer that suffice, where the object narrows them.
-    fn to_try(&self, cut: &Cut, view: &Cut, here: &State, first: u32) -> Marks
+    fn to_try(&self, cut: &Cut, view: &Cut, here: &State, first: u32) -> MarkedCallers
         requires sight { IfSome self.now.sight.now (λ sight. HasOneOpen self.now.book.now
             × S.sees self.now.object.now self.now.book.now sight) }
         requires reached { IsReached (S.init self.now.object.now)
@@ -399,7 +399,7 @@ impl<S: SeqObject> Search<'_, S> {
         requires view { (r : Record) → record_of self.now.book.now (next_call counts.now first)
             ≡ Some r → r.view ≡ view.now }
         requires views { length view.now ≡ length self.now.book.now }
-        requires fits { Fits counts.now here.now.words }
+        requires fits { MayGrow counts.now here.now.words }
         requires room { spare.old.room ≡ CAPACITY }
         ensures room { spare.new.room ≡ CAPACITY }
         ensures some { IfSome result (StandsAtOnce self.now.book.now
@@ -429,7 +429,7 @@ impl<S: SeqObject> Search<'_, S> {
         requires wide { length counts.now ≡ length self.now.book.now }
         requires caller { caller < length counts.now }
         requires may { MayComeNext self.now.book.now counts.now (next_call counts.now caller) }
-        requires fits { Fits counts.now here.now.words }
+        requires fits { MayGrow counts.now here.now.words }
         requires room { spare.old.room ≡ CAPACITY }
         ensures room { spare.new.room ≡ CAPACITY }
         ensures some { IfSome result (StandsAtOnce self.now.book.now
@@ -518,7 +518,7 @@ impl<S: SeqObject> Search<'_, S> {
         requires wide { length counts.now ≡ length self.now.book.now }
         requires caller { caller < length counts.now }
         requires may { MayComeNext self.now.book.now counts.now (next_call counts.now caller) }
-        requires fits { Fits counts.now here.now.words }
+        requires fits { MayGrow counts.now here.now.words }
         requires room { spare.old.room ≡ CAPACITY }
         requires sound { AllByRecursion
             (MayStandNext self.now.book.now (S.next self.now.object.now) counts.now here.now.words)
@@ -541,7 +541,7 @@ impl<S: SeqObject> Search<'_, S> {
         if self.one_open && leaves && !answered {
             return Ok(());
         }
-        let turn = self.plan.turn(caller, number, leaves && answered);
+        let turn = self.call_turns.turn(caller, number, leaves && answered);
         let place = Place {
             caller,
             number,

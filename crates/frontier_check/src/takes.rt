@@ -1,7 +1,7 @@
 ghost use Rattle.std.specs.Prelude.{◌≡◌, ◌<◌, length};
 ghost use Rattle.book_base.specs.Book.{IsCall};
 
-use crate::plan::total;
+use crate::call_turns::total;
 use crate::walk::CAPACITY;
 use book_base::{Book, Call, Cut, NoMemory, OpWord, SeqObject, State};
 use std::alloc::Global;
@@ -175,7 +175,7 @@ fn is_in(cut: &Cut, call: Call) -> bool {
 
 /// The object's reply to an operation at the list of a state, which has the list after the
 /// operation then. `None` comes where the list fills the capacity, and the state stays as it is.
-pub fn reply_at<S: SeqObject>(object: &S, state: &mut State, op: OpWord) -> Option<u64>
+pub fn checked_step<S: SeqObject>(object: &S, state: &mut State, op: OpWord) -> Option<u64>
     ensures { state.new.room ≡ state.old.room }
 {
     if state.len() >= state.room() {
@@ -191,7 +191,7 @@ fn may_take<S: SeqObject>(object: &S, spare: &mut State, op: OpWord) -> bool
 {
     object.reset(spare);
     let before = spare.len();
-    reply_at(object, spare, op).is_some() && spare.len() <= before
+    checked_step(object, spare, op).is_some() && spare.len() <= before
 }
 
 // The reply of `take` at the list that `put` makes of the object's first list; `None` unless that
@@ -206,11 +206,11 @@ fn reply_of_take<S: SeqObject>(
     ensures { spare.new.room ≡ CAPACITY }
 {
     object.reset(spare);
-    let _reply = reply_at(object, spare, put)?;
+    let _reply = checked_step(object, spare, put)?;
     if spare.len() != 1 {
         return None;
     }
-    let reply = reply_at(object, spare, take)?;
+    let reply = checked_step(object, spare, take)?;
     if spare.is_empty() { Some(reply) } else { None }
 }
 
@@ -230,6 +230,6 @@ fn is_first_out<S: SeqObject>(
         return false;
     };
     object.reset(spare);
-    let put = reply_at(object, spare, first).is_some() && reply_at(object, spare, second).is_some();
-    put && reply_at(object, spare, take) == Some(shown)
+    let put = checked_step(object, spare, first).is_some() && checked_step(object, spare, second).is_some();
+    put && checked_step(object, spare, take) == Some(shown)
 }

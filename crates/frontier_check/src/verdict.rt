@@ -4,13 +4,13 @@ ghost use Rattle.book_base.specs.Order.{IsLegalOrder, HasLegalOrder};
 ghost use Rattle.book_base.specs.Pruning.{HasOneOpen};
 ghost use Rattle.frontier_check.specs.Prefix.{IsPut, IsPrefix};
 ghost use Rattle.frontier_check.specs.Standing.{AreMarks, IsStandingFor};
-ghost use Rattle.frontier_check.specs.Verdict.{IsRight, IsKept};
+ghost use Rattle.frontier_check.specs.Verdict.{IsRight, KeepsLastOrder};
 ghost use Rattle.frontier_check.specs.declared.walk.TheConstants.{CAPACITY};
 
 use crate::fresh::{calls_after, holds_answered, put_fresh};
 use crate::guide::Guide;
-use crate::mark::{KeptOrder, Mark};
-use crate::plan::Plan;
+use crate::kept_order::{KeptOrder, OrderMark};
+use crate::call_turns::CallTurns;
 use crate::prefix::{Prefix, answers_in, leaves_open, limit_of};
 use crate::remaining::decided_after;
 use crate::resume::resume;
@@ -61,7 +61,7 @@ pub fn check_from<S: SeqObject>(
         (λ verdict. IsRight (S.init object.now) (S.next object.now) book.now verdict) }
     // With `Legal` the guide keeps the order that was found, and with `Illegal` the one that it
     // had.
-    ensures guide { IfOk result (IsKept guide.old guide.new) }
+    ensures guide { IfOk result (KeepsLastOrder guide.old guide.new) }
 {
     let order = match order_near(alloc, object, book, guide.places())? {
         Some(order) => Some(order),
@@ -176,7 +176,7 @@ fn check_before<S: SeqObject>(
     object: &S,
     book: &Book,
     order: Vec<Place>,
-    marks: Vec<Mark>,
+    marks: Vec<OrderMark>,
 ) -> Result<Option<KeptOrder>, NoMemory>
     requires marks { AreMarks (S.init object.now)
         (S.next object.now) book.now order.items 0 marks.items }
@@ -215,7 +215,7 @@ fn order_put<S: SeqObject>(
     object: &S,
     book: &Book,
     order: Vec<Place>,
-    marks: &mut Vec<Mark>,
+    marks: &mut Vec<OrderMark>,
 ) -> Result<(Vec<Place>, bool), NoMemory>
     requires marks { AreMarks (S.init object.now)
         (S.next object.now) book.now order.items 0 marks.old.items }
@@ -248,7 +248,7 @@ fn check_at_marks<S: SeqObject>(
     object: &S,
     book: &Book,
     order: Vec<Place>,
-    marks: Vec<Mark>,
+    marks: Vec<OrderMark>,
 ) -> Result<Option<KeptOrder>, NoMemory>
     requires marks { AreMarks (S.init object.now)
         (S.next object.now) book.now order.items 0 marks.items }
@@ -287,7 +287,7 @@ fn order_after_mark<S: SeqObject>(
     object: &S,
     book: &Book,
     order: Vec<Place>,
-    marks: &mut Vec<Mark>,
+    marks: &mut Vec<OrderMark>,
 ) -> Result<(Vec<Place>, bool), NoMemory>
     requires marks { AreMarks (S.init object.now)
         (S.next object.now) book.now order.items 0 marks.old.items }
@@ -312,7 +312,7 @@ fn order_by<S: SeqObject>(
     book: &Book,
     places: &[Place],
     mut prefix: Prefix,
-    marks: &mut Vec<Mark>,
+    marks: &mut Vec<OrderMark>,
 ) -> Result<(Vec<Place>, bool), NoMemory>
     requires put { IsPut (S.init object.now) (S.next object.now) book.now prefix }
     requires room { prefix.here.room ≡ CAPACITY }
@@ -352,7 +352,7 @@ fn order_on<S: SeqObject>(
     book: &Book,
     later: &[Place],
     prefix: Prefix,
-    _marks: &[Mark],
+    _marks: &[OrderMark],
     more: u64,
 ) -> Result<(Vec<Place>, bool), NoMemory>
     requires put { IsPut (S.init object.now) (S.next object.now) book.now prefix }
@@ -522,7 +522,7 @@ fn places_after<S: SeqObject>(
     ensures { IfOk result (λ found. IfSome found (λ rest. IsLegalOrder (S.init object.now)
         (S.next object.now) book.now (prefix.now.places.items ++ rest.items))) }
 {
-    let plan = Plan::new(alloc, book, later, prefix)?;
+    let call_turns = CallTurns::new(alloc, book, later, prefix)?;
     let sight: Option<Sight> = None;
     let search = Search {
         alloc,
@@ -532,7 +532,7 @@ fn places_after<S: SeqObject>(
         limited: false,
         one_open: has_one_open(book),
         sight: &sight,
-        plan: &plan,
+        call_turns: &call_turns,
         prefix,
     };
     search.run_few(calls_after(book, &prefix.cut).saturating_add(more))
@@ -575,7 +575,7 @@ fn order_searched<S: SeqObject>(
     let sight = sight_of(alloc, object, book, one_open)?;
     let known = object.find_pruning_rules(alloc, book)?;
     let prefix = Prefix::new(alloc, object, book)?;
-    let plan = Plan::new(alloc, book, guide, &prefix)?;
+    let call_turns = CallTurns::new(alloc, book, guide, &prefix)?;
     let search = Search {
         alloc,
         object,
@@ -584,7 +584,7 @@ fn order_searched<S: SeqObject>(
         limited: has_limits(book, &known),
         one_open,
         sight: &sight,
-        plan: &plan,
+        call_turns: &call_turns,
         prefix: &prefix,
     };
     search.run()

@@ -11,24 +11,24 @@ use std::alloc::Global;
 /// more.
 pub const CAPACITY: u64 = MAX_CALLERS as u64 * MAX_CALLS + 1;
 
-/// A level of a walk: the place that was put there, the words of the object's list before it, and
+/// A frame of a walk: the place that was put there, the words of the object's list before it, and
 /// the choices besides it that are still to be tried there.
 #[derive(Drop)]
-pub struct WalkLevel {
+pub struct WalkFrame {
     pub place: Place,
     pub words: Vec<u64>,
     pub choices: Vec<Choice>,
 }
 
-/// A walk, which is where a search is: the levels that lead there from the prefix, the counts of
+/// A walk, which is where a search is: the frames that lead there from the prefix, the counts of
 /// the cut, the object's list, the choices that are still to be tried there with the best one last,
 /// and a memo of the dead ends that were found.
 ///
 /// Only `here` is a state of the object. A step changes it, and a retreat loads it with the words
-/// of the last level.
+/// of the last frame.
 #[derive(Drop)]
 pub struct Walk {
-    pub levels: Vec<WalkLevel>,
+    pub frames: Vec<WalkFrame>,
     pub counts: Vec<u16>,
     pub here: State,
     pub choices: Vec<Choice>,
@@ -38,7 +38,7 @@ pub struct Walk {
 /// The outcome of one step of a search.
 #[derive(Drop)]
 pub enum StepOutcome {
-    /// The places of the prefix and then those of the levels are a legal order.
+    /// The places of the prefix and then those of the frames are a legal order.
     Found,
     /// No places continue an order from the end of the prefix.
     NoneLeft,
@@ -46,13 +46,13 @@ pub enum StepOutcome {
     GoesOn,
 }
 
-/// The places of some levels, in their order.
-pub fn places(alloc: Global, levels: &[WalkLevel]) -> Result<Vec<Place>, NoMemory>
-    ensures { IfOk result (λ order. order.items ≡ order_of levels.now) }
+/// The places of some frames, in their order.
+pub fn places(alloc: Global, frames: &[WalkFrame]) -> Result<Vec<Place>, NoMemory>
+    ensures { IfOk result (λ order. order.items ≡ order_of frames.now) }
 {
-    let mut order = Vec::with_capacity(alloc, levels.len())?;
-    for level in levels {
-        order.push(level.place)?;
+    let mut order = Vec::with_capacity(alloc, frames.len())?;
+    for frame in frames {
+        order.push(frame.place)?;
     }
     Ok(order)
 }

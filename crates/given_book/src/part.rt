@@ -8,32 +8,32 @@ use text_fields::Version;
 
 /// The part of an input that is read as a book's text.
 #[derive(Clone, Copy)]
-pub(crate) struct Part<'a> {
+pub(crate) struct BookPart<'a> {
     pub(crate) version: Version,
     pub(crate) bytes: &'a [u8],
 }
 
 /// The part of the bytes that is read as a book's text, and the version that it is read in.
-pub(crate) fn book_part(bytes: &[u8]) -> Part
+pub(crate) fn book_part(bytes: &[u8]) -> BookPart
     ensures { IsBookPart bytes.now result.version result.bytes.now }
 {
     if begins_as_report(bytes) {
-        Part {
+        BookPart {
             version: Version::Second,
             bytes: after_end(bytes),
         }
     } else if let Some(rest) = after_verdict(bytes) {
-        Part {
+        BookPart {
             version: Version::Second,
             bytes: rest,
         }
     } else if begins_as_old_book(bytes) {
-        Part {
+        BookPart {
             version: Version::First,
             bytes,
         }
     } else {
-        Part {
+        BookPart {
             version: Version::Second,
             bytes,
         }

@@ -4,7 +4,7 @@ use Rattle.std.specs.Prelude.{◌≡◌, ℕ, ◌≤◌, ◌+◌, List, Option, 
 use Rattle.book_base.specs.declared.TheConstants.{MAX_CALLERS, MAX_CALLS}
 use Rattle.seq_objects.specs.declared.kind.Kind.{Kind}
 use Rattle.seq_objects.specs.Words.{kind_name}
-use Rattle.call_handles.specs.declared.caller_handle.Answer.{Answer}
+use Rattle.call_handles.specs.declared.caller_handle.CallAnswer.{CallAnswer}
 use Rattle.call_handles.specs.declared.caller_handle.CallerHandle.{CallerHandle}
 use Rattle.call_handles.specs.declared.monitor_handle.Judgement.{Judgement}
 use Rattle.call_handles.specs.declared.monitor_handle.MonitorHandle.{MonitorHandle}
@@ -14,8 +14,8 @@ use Rattle.call_handles.specs.declared.handle.Handle.TheVariants.{Spare, Table, 
 use Rattle.call_handles.specs.Callers.{IsOfSameTable, IsInError, HasBegun, HasEnded, HasPublished, IsWitnessOf}
 use Rattle.call_handles.specs.Monitors.{IsOfSameWatch, HasFoundWrong, HasJudged, IsFoundWitness}
 use Rattle.call_handles.specs.Tables.{rows_in, kind_in, next_of, GivesNext, IsFreshOf, IsFreshMonitorOf}
-use Rattle.handle_slots.specs.declared.role.Role.{Role}
-use Rattle.handle_slots.specs.declared.role.Role.TheVariants as role
+use Rattle.handle_slots.specs.declared.role.CallerRole.{CallerRole}
+use Rattle.handle_slots.specs.declared.role.CallerRole.TheVariants as role
 use Rattle.handle_slots.specs.declared.slot.Slot.{Slot}
 
 -- The handle of a slot, where it has one.
@@ -45,13 +45,13 @@ abbrev pub MayGive : Option Handle → Type 0
 MayGive found = (t : TableHandle) × (found ≡ Some (Table t)) × ¬ (next_of t ≡ (rows_in t).callers)
 
 -- The handle is that of this caller of the table, fresh, in this role.
-abbrev pub IsFreshAs : Role → TableHandle → ℕ → Handle → Type 0
+abbrev pub IsFreshAs : CallerRole → TableHandle → ℕ → Handle → Type 0
 IsFreshAs role.Caller t who given = (h : CallerHandle) × (given ≡ Caller h) × IsFreshOf t who h
 IsFreshAs role.Monitor t who given = (m : MonitorHandle) × (given ≡ Monitor m)
     × IsFreshMonitorOf t who m
 
 -- The table has given its next caller, whose handle this is, in this role.
-abbrev pub HasGiven : Role → Option Handle → Option Handle → Option Handle → Type 0
+abbrev pub HasGiven : CallerRole → Option Handle → Option Handle → Option Handle → Type 0
 HasGiven part before after given =
     (t u : TableHandle) × (h : Handle) × (before ≡ Some (Table t)) × (after ≡ Some (Table u))
     × (given ≡ Some h)
@@ -73,7 +73,7 @@ abbrev pub Begins : ℕ → Option Handle → Option Handle → Type 0
 Begins op before after = AreCallers (HasBegun op) before after
 
 -- The call that the caller has announced has this reply, and this answer.
-abbrev pub Ends : ℕ → Answer → Option Handle → Option Handle → Type 0
+abbrev pub Ends : ℕ → CallAnswer → Option Handle → Option Handle → Type 0
 Ends reply answer before after = AreCallers (λ h k. HasEnded reply h answer k) before after
 
 -- The call that the caller has announced is published with this reply, and nobody has judged it.

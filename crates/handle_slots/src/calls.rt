@@ -6,7 +6,7 @@ ghost use Rattle.handle_slots.specs.Slots.{handle_in, IsCallers, Begins, Ends, P
 
 use crate::slot::Slot;
 use book_base::{NoMemory, OpWord};
-use call_handles::{Answer, Handle, Judgement};
+use call_handles::{CallAnswer, Handle, Judgement};
 use core::mem::replace_with;
 use std::alloc::Global;
 
@@ -59,7 +59,7 @@ pub fn announce(alloc: Global, slot: &mut Slot, op: OpWord) -> bool
 
 // The handle after the reply to its announced call is handed in, where one is announced, and the
 // answer.
-fn answered_by(handle: Handle, given: (Global, u64)) -> (Handle, Option<Answer>)
+fn answered_by(handle: Handle, given: (Global, u64)) -> (Handle, Option<CallAnswer>)
     requires sound { IsSound handle }
     ensures sound { IsSound result.0 }
     ensures when { IsSome result.1 ↔ IsCallers HasAnnounced (Some handle) }
@@ -77,7 +77,7 @@ fn answered_by(handle: Handle, given: (Global, u64)) -> (Handle, Option<Answer>)
     }
 }
 
-fn answered_in(slot: Slot, given: (Global, u64)) -> (Slot, Option<Answer>)
+fn answered_in(slot: Slot, given: (Global, u64)) -> (Slot, Option<CallAnswer>)
     requires taken { IsTrue (is_some (handle_in slot)) }
     ensures when { IsSome result.1 ↔ IsCallers HasAnnounced (handle_in slot) }
     ensures ended { IfSome result.1 (λ answer.
@@ -91,7 +91,7 @@ fn answered_in(slot: Slot, given: (Global, u64)) -> (Slot, Option<Answer>)
 
 /// Hands in the reply to the call announced by the caller whose handle is in the slot, and judges
 /// the call. Where this caller has announced none there is no answer, and the handle is as it was.
-pub fn answered(alloc: Global, slot: &mut Slot, reply: u64) -> Option<Answer>
+pub fn answered(alloc: Global, slot: &mut Slot, reply: u64) -> Option<CallAnswer>
     // There is an answer exactly where the slot has a caller that has announced a call.
     ensures when { IsSome result ↔ IsCallers HasAnnounced (handle_in slot.old) }
     // With an answer the call has this reply, and the answer is right: delivered where the book at

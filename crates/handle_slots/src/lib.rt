@@ -12,5 +12,5 @@ mod slot;
 pub use calls::{announce, answered, close, judge, publish, witness};
 pub use held::Held;
 pub use opening::{give, open};
-pub use role::Role;
+pub use role::CallerRole;
 pub use slot::Slot;

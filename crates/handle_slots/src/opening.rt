@@ -3,7 +3,7 @@ ghost use Rattle.call_handles.specs.Handles.{IsSound};
 ghost use Rattle.call_handles.specs.Tables.{rows_in, next_of, IsSoundTable, GivesNext};
 ghost use Rattle.handle_slots.specs.Slots.{handle_in, IsSized, IsOpened, MayGive, IsFreshAs, HasGiven};
 
-use crate::role::Role;
+use crate::role::CallerRole;
 use crate::slot::Slot;
 use book_base::{MAX_CALLERS, MAX_CALLS, NoMemory};
 use call_handles::{Handle, TableHandle};
@@ -52,7 +52,7 @@ pub fn open(
 }
 
 // The handle in this role of the next caller of a table, while there is one.
-fn next_in(table: &mut TableHandle, given: (Global, Role)) -> Result<Option<Handle>, NoMemory>
+fn next_in(table: &mut TableHandle, given: (Global, CallerRole)) -> Result<Option<Handle>, NoMemory>
     requires sound { IsSoundTable table.old }
     ensures sound { IsSoundTable table.new }
     ensures when { IfOk result (λ found.
@@ -67,11 +67,11 @@ fn next_in(table: &mut TableHandle, given: (Global, Role)) -> Result<Option<Hand
 {
     let (alloc, role) = given;
     match role {
-        Role::Caller => match table.caller()? {
+        CallerRole::Caller => match table.caller()? {
             Some(caller) => Ok(Some(Handle::Caller(caller))),
             None => Ok(None),
         },
-        Role::Monitor => match table.monitor(alloc)? {
+        CallerRole::Monitor => match table.monitor(alloc)? {
             Some(monitor) => Ok(Some(Handle::Monitor(monitor))),
             None => Ok(None),
         },
@@ -80,7 +80,7 @@ fn next_in(table: &mut TableHandle, given: (Global, Role)) -> Result<Option<Hand
 
 // The handle, and what it gives where it is a table's: the handle in this role of the table's next
 // caller, where one is left.
-fn given_by(handle: Handle, given: (Global, Role)) -> (Handle, Result<Option<Handle>, NoMemory>)
+fn given_by(handle: Handle, given: (Global, CallerRole)) -> (Handle, Result<Option<Handle>, NoMemory>)
     requires sound { IsSound handle }
     ensures sound { IsSound result.0 }
     ensures when { IfOk result.1 (λ found. IsSome found ↔ MayGive (Some handle)) }
@@ -99,7 +99,7 @@ fn given_by(handle: Handle, given: (Global, Role)) -> (Handle, Result<Option<Han
     }
 }
 
-fn given_in(slot: Slot, given: (Global, Role)) -> (Slot, Result<Option<Handle>, NoMemory>)
+fn given_in(slot: Slot, given: (Global, CallerRole)) -> (Slot, Result<Option<Handle>, NoMemory>)
     requires taken { IsTrue (is_some (handle_in slot)) }
     ensures when { IfOk result.1 (λ found. IsSome found ↔ MayGive (handle_in slot)) }
     ensures given { IfOk result.1 (λ found. IfSome found (λ next.
@@ -125,7 +125,7 @@ fn filled(mut place: Box<Handle>, handle: Handle) -> Box<Handle>
 /// Puts the handle in this role of the next caller of a table into the slot. The answer is whether
 /// it does; it doesn't where the first slot has no table, where this table has given all its
 /// callers, or where the second slot has a handle.
-pub fn give(alloc: Global, role: Role, table: &mut Slot, slot: &mut Slot) -> Result<bool, NoMemory>
+pub fn give(alloc: Global, role: CallerRole, table: &mut Slot, slot: &mut Slot) -> Result<bool, NoMemory>
     // The answer is true exactly where the first slot has a table with a caller left to give, and
     // the second slot had no handle.
     ensures when { IfOk result (λ done. IsTrue done ↔

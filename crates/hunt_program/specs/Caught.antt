@@ -12,7 +12,7 @@ use Rattle.smaller_book.specs.Keys.{IsEvidence}
 use Rattle.smaller_book.specs.Minimal.{IsMinimal}
 use Rattle.book_picture.specs.Elements.{ShowsEachCall}
 use Rattle.book_picture.specs.Titles.{first_lines, SaysFirst}
-use Rattle.book_picture.specs.declared.marks.Marks.TheVariants.{Unasked}
+use Rattle.book_picture.specs.declared.marked_calls.MarkedCalls.TheVariants.{Unasked}
 use Rattle.byte_streams.specs.declared.status.Status.{Status}
 use Rattle.byte_streams.specs.declared.status.Status.TheVariants.{Fine, Found, NoMemory}
 use Rattle.byte_streams.specs.Writing.{EndsWriting}

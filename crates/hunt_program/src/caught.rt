@@ -8,7 +8,7 @@ ghost use Rattle.hunt_program.specs.Caught.{IsSmallerPicture, IsReportShown, IsS
 
 use crate::shown::Shown;
 use book_base::{Book, NoMemory};
-use book_picture::{Marks, draw_book};
+use book_picture::{MarkedCalls, draw_book};
 use book_writer::write_book;
 use frontier_check::Verdict;
 use hunts::Catch;
@@ -71,6 +71,6 @@ fn picture(alloc: Global, kind: Kind, witness: &Book) -> Result<Vec<u8>, NoMemor
     ensures { IfOk result (λ text. IsSmallerPicture kind witness.now text.items) }
 {
     let book = smaller(alloc, kind, witness)?;
-    let text = draw_book(alloc, kind, &book, &Verdict::Illegal, &Marks::Unasked, None)?;
+    let text = draw_book(alloc, kind, &book, &Verdict::Illegal, &MarkedCalls::Unasked, None)?;
     Ok(text.into_bytes())
 }

@@ -7,7 +7,7 @@ use crate::hunting::hunt_and_write;
 use crate::shown::Shown;
 use byte_streams::{Status, StdSink, write_text};
 use drv_wrapper::{BlackBox, ObjectPass};
-use hunts::{Maker, Settings, Watch};
+use hunts::{Maker, Settings, Onlooker};
 use reports::Counts;
 use std::env;
 use std::io::ErrorKind;
@@ -28,7 +28,7 @@ struct RunCount {
     seed: u64,
 }
 
-impl Watch for RunCount {
+impl Onlooker for RunCount {
     ghost heard = { λ _. None };
 
     fn ran(&mut self, seed: u64, _counts: Counts) {

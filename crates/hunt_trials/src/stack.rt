@@ -16,7 +16,7 @@ const TRIES: u32 = 4096;
 
 /// A place of a stack: a value, and the number of the place below it.
 #[derive(Default, Drop)]
-struct Place {
+struct StackPlace {
     value: AtomicCell<u32>,
     below: AtomicCell<u32>,
 }
@@ -27,7 +27,7 @@ struct Place {
 #[derive(Drop)]
 pub(crate) struct Stack {
     checks: bool,
-    places: Vec<Place>,
+    places: Vec<StackPlace>,
     used: AtomicCell<u32>,
     top: AtomicCell<u32>,
     noise: Noise,
@@ -35,7 +35,7 @@ pub(crate) struct Stack {
 
 impl Stack {
     // The place of a number above 0.
-    fn place(&self, number: u32) -> Option<&Place> {
+    fn place(&self, number: u32) -> Option<&StackPlace> {
         self.places.get(number.wrapping_sub(1) as usize)
     }
 
@@ -114,7 +114,7 @@ impl Maker<Stack> for Stacks {
     ) -> Result<(Stack, Vec<CountingPass>), NoMemory> {
         let mut places = Vec::new(alloc);
         for _ in 0..calls_of_all(script) {
-            places.push(Place::default())?;
+            places.push(StackPlace::default())?;
         }
         let stack = Stack {
             checks: self.checks,

@@ -8,11 +8,11 @@ mod noisy;
 mod once;
 mod runs;
 mod trial;
-mod watch;
+mod onlooker;
 
 pub use maker::Maker;
 pub use noise::{Loudness, Noise};
 pub use noisy::Noisy;
 pub use runs::{Hunted, Settings, hunt};
 pub use trial::Catch;
-pub use watch::{Unwatched, Watch};
+pub use onlooker::{Unwatched, Onlooker};

@@ -8,7 +8,7 @@ ghost use Rattle.hunts.specs.Watching.{Hears};
 use crate::maker::Maker;
 use crate::noise::Loudness;
 use crate::trial::{Catch, run_seed};
-use crate::watch::Watch;
+use crate::onlooker::Onlooker;
 use book_base::NoMemory;
 use drv_wrapper::{BlackBox, ObjectPass};
 use random_scripts::Workload;
@@ -44,7 +44,7 @@ pub struct Hunted {
 /// A catch is a fact about the object, and no matter of chance: the witness has no legal order.
 /// That there is none says no more than that no run had an error. A second hunt with the same seed
 /// makes the same scripts, in another interleaving.
-pub fn hunt<R: Threads + Sync, B: BlackBox + Sync + Drop, M: Maker<B>, W: Watch>(
+pub fn hunt<R: Threads + Sync, B: BlackBox + Sync + Drop, M: Maker<B>, W: Onlooker>(
     rt: &R,
     alloc: Global,
     maker: &M,

@@ -8,7 +8,7 @@ ghost use Rattle.hunts.specs.Watching.{Hears};
 use crate::maker::Maker;
 use crate::noise::{Loudness, Noise};
 use crate::once::run_once;
-use crate::watch::Watch;
+use crate::onlooker::Onlooker;
 use book_base::{Book, NoMemory};
 use client_scripts::Script;
 use drv_wrapper::{BlackBox, ObjectPass};
@@ -31,7 +31,7 @@ pub struct Catch {
 }
 
 /// Runs the script of a seed over an object made for it, which is dropped after the run.
-pub(crate) fn run_seed<R: Threads + Sync, B: BlackBox + Sync + Drop, M: Maker<B>, W: Watch>(
+pub(crate) fn run_seed<R: Threads + Sync, B: BlackBox + Sync + Drop, M: Maker<B>, W: Onlooker>(
     rt: &R,
     alloc: Global,
     maker: &M,

@@ -5,7 +5,7 @@ use Rattle.std.proofs.Math.Nat.{mod-add-mod}
 use Rattle.std.proofs.lemmas.List.Elements.{All-nil, All-cons, All-head, All-tail}
 use Rattle.seq_objects.specs.Replies.{reply_value}
 use Rattle.shared_words.specs.Deeds.{Deed, Added, Stored, Loaded, place_of, leaves}
-use Rattle.shared_words.specs.Histories.{Access, access, word_from, word_at, IsLawful, IsAfterAccess}
+use Rattle.shared_words.specs.Histories.{Access, access, word_from, word_at, IsLawfulHistory, IsAfterAccess}
 use Rattle.shared_words.proofs.Histories.{lawful_allowed, lawful_prefix, lawful_last}
 use Rattle.lawful_objects.specs.Forms.{tally_may, cell_may, IsCounted, IsLoad, IsLastStored, IsLastRead, TalliesCount, CellsHoldTheLast}
 
@@ -79,15 +79,15 @@ cells_hold_the_last history lawful =
     holds_from 0 history (lawful_allowed cell_may [] history lawful)
 
 -- the reply to an increment, and that to a read
-pub counted_reply : (who found reply : ℕ) (before after : List Access) → IsLawful tally_may after
+pub counted_reply : (who found reply : ℕ) (before after : List Access) → IsLawfulHistory tally_may after
     → IsAfterAccess who (Added 0 1 found) before after → reply ≡ reply_value found
     → IsCounted who reply after
 counted_reply who found reply before after lawful made told =
     let all = before ++ made.between in
     let is : found ≡ length all % 2 ^ 64 = lawful_last tally_may all (access who (Added 0 1 found))
-    (subst (λ (l : List Access). IsLawful tally_may l) made.history lawful)
+    (subst (λ (l : List Access). IsLawfulHistory tally_may l) made.history lawful)
     ∙ tallies_count all (lawful_prefix tally_may all (access who (Added 0 1 found) ∷ [])
-    (subst (λ (l : List Access). IsLawful tally_may l) made.history lawful)) in
+    (subst (λ (l : List Access). IsLawfulHistory tally_may l) made.history lawful)) in
     record {
       before = all;
       ends = made.history ∙ ap (λ (k : ℕ). all ++ access who (Added 0 1 k) ∷ []) is;
@@ -95,17 +95,17 @@ counted_reply who found reply before after lawful made told =
     }
 
 -- a load found the last word that was stored before it
-pub found_last : (who found : ℕ) (before after : List Access) → IsLawful cell_may after
+pub found_last : (who found : ℕ) (before after : List Access) → IsLawfulHistory cell_may after
     → (made : IsAfterAccess who (Loaded 0 found) before after)
     → IsLastStored found (before ++ made.between)
 found_last who found before after lawful made =
     let all = before ++ made.between in
-    let split = subst (λ (l : List Access). IsLawful cell_may l) made.history lawful in
+    let split = subst (λ (l : List Access). IsLawfulHistory cell_may l) made.history lawful in
     let is : found ≡ word_at 0 all = lawful_last cell_may all (access who (Loaded 0 found)) split in
     subst (λ (w : ℕ). IsLastStored w all) (sym is)
     (cells_hold_the_last all (lawful_prefix cell_may all (access who (Loaded 0 found) ∷ []) split))
 
-pub read_reply : (who found reply : ℕ) (before after : List Access) → IsLawful cell_may after
+pub read_reply : (who found reply : ℕ) (before after : List Access) → IsLawfulHistory cell_may after
     → IsAfterAccess who (Loaded 0 found) before after → reply ≡ reply_value found
     → IsLastRead who reply after
 read_reply who found reply before after lawful made told =

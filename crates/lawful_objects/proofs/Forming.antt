@@ -4,7 +4,7 @@ use Rattle.std.specs.List.{All}
 use Rattle.std.proofs.lemmas.List.Elements.{All-nil, All-cons}
 use Rattle.seq_objects.specs.Replies.{reply_done}
 use Rattle.shared_words.specs.Deeds.{Deed, Stored, AreCalls}
-use Rattle.lawful_objects.specs.Forms.{read, IsTallied, IsKept, IsTallyReply, IsCellReply, TalliesAreFormed, CellsAreFormed}
+use Rattle.lawful_objects.specs.Forms.{read, IsTallied, IsCellCall, IsTallyReply, IsCellReply, TalliesAreFormed, CellsAreFormed}
 
 -- the reply to a tallied call has the form of a tally's reply
 pub tally_form : (op reply : ℕ) (before after : List Deed) → IsTallied op reply before after
@@ -15,7 +15,7 @@ tally_form op reply before after call =
       other = λ isnt. (call.other isnt).1;
     }
 
-pub cell_form : (op reply : ℕ) (before after : List Deed) → IsKept op reply before after
+pub cell_form : (op reply : ℕ) (before after : List Deed) → IsCellCall op reply before after
     → IsCellReply op reply
 cell_form op reply before after call =
     record {
@@ -27,7 +27,7 @@ cell_form op reply before after call =
 -- a store of what a write asks for is its call
 pub stored_is_kept : (op word : ℕ) (before after : List Deed) → 2 ^ 32 ≤ op → op ≢ read
     → op ≤ 2 ^ 33 → word ≡ op - 2 ^ 32
-    → after ≡ before ++ Stored 0 word ∷ [] → IsKept op reply_done before after
+    → after ≡ before ++ Stored 0 word ∷ [] → IsCellCall op reply_done before after
 stored_is_kept op word before after from no_read to is step =
     record {
       writes = λ value low same. let value_is : word ≡ value = omega arith in
@@ -50,4 +50,4 @@ pub tallies_are_formed : TalliesAreFormed
 tallies_are_formed = formed IsTallied IsTallyReply tally_form
 
 pub cells_are_formed : CellsAreFormed
-cells_are_formed = formed IsKept IsCellReply cell_form
+cells_are_formed = formed IsCellCall IsCellReply cell_form

@@ -5,10 +5,10 @@ use Rattle.std.proofs.lemmas.Bool.{cases_Bool, cases_eq, cond-true, cond-false}
 use Rattle.std.proofs.lemmas.List.Elements.{All-head, All-tail}
 use Rattle.std.proofs.lemmas.List.Sums.{sum_by-cons}
 use Rattle.shared_words.specs.Deeds.{Deed, Added, Loaded, place_of, HasFound, AreCalls}
-use Rattle.shared_words.specs.Histories.{Access, access, deeds_by, word_at, IsLawful}
+use Rattle.shared_words.specs.Histories.{Access, access, deeds_by, word_at, IsLawfulHistory}
 use Rattle.shared_words.specs.Transcripts.{Transcript, AreOfOneHistory}
 use Rattle.shared_words.proofs.Histories.{deeds_by-append, lawful_prefix}
-use Rattle.lawful_objects.specs.Forms.{increment, tally_may, cell_may, IsTallied, IsKept, IsLastStored}
+use Rattle.lawful_objects.specs.Forms.{increment, tally_may, cell_may, IsTallied, IsCellCall, IsLastStored}
 use Rattle.lawful_objects.specs.Together.{increments_in, TellOneTally, TellOneCell, TalliesAreCounted, CellsAreRead}
 use Rattle.lawful_objects.proofs.Counting.{tallies_count, cells_hold_the_last}
 
@@ -19,8 +19,8 @@ tallies_are_counted history lawful before rest a is =
     let deed = right.allowed.1 in
     let found : right.allowed.0 ≡ word_at 0 before =
     subst (λ (d : Deed). HasFound d (word_at (place_of d) before)) deed right.found in
-    let first : IsLawful tally_may before = lawful_prefix tally_may before (a ∷ rest)
-    (subst (λ (l : List Access). IsLawful tally_may l) is lawful) in
+    let first : IsLawfulHistory tally_may before = lawful_prefix tally_may before (a ∷ rest)
+    (subst (λ (l : List Access). IsLawfulHistory tally_may l) is lawful) in
     deed ∙ ap (Added 0 1) (found ∙ tallies_count before first)
 
 -- each load found the last word stored before it
@@ -28,8 +28,8 @@ pub cells_are_read : CellsAreRead
 cells_are_read history lawful before rest who found is =
     let load = access who (Loaded 0 found) in
     let was : found ≡ word_at 0 before = (lawful before rest load is).found in
-    let first : IsLawful cell_may before = lawful_prefix cell_may before (load ∷ rest)
-    (subst (λ (l : List Access). IsLawful cell_may l) is lawful) in
+    let first : IsLawfulHistory cell_may before = lawful_prefix cell_may before (load ∷ rest)
+    (subst (λ (l : List Access). IsLawfulHistory cell_may l) is lawful) in
     subst (λ (w : ℕ). IsLastStored w before) (sym was) (cells_hold_the_last before first)
 
 -- ---- each access is one caller's
@@ -183,7 +183,7 @@ one_tally n history transcripts one =
     }
 
 pub one_cell : (n : ℕ) (history : List Access) (transcripts : List Transcript)
-    → AreOfOneHistory cell_may (λ _. IsKept) n history transcripts
+    → AreOfOneHistory cell_may (λ _. IsCellCall) n history transcripts
     → TellOneCell n history transcripts
 one_cell n history transcripts one =
     record {

@@ -11,7 +11,7 @@ use Rattle.shared_words.specs.Transcripts.{Transcript, AreOfOneHistory}
 use Rattle.shared_words.specs.Cases.{adds, three_additions}
 use Rattle.shared_words.proofs.Worked.{kind_of, told_word, first_word, last_word, last_of, lawful_by_steps, zero_of_2, one_of_2, three_are_of_2}
 use Rattle.shared_words.proofs.Histories.{deeds_by-own}
-use Rattle.lawful_objects.specs.Forms.{increment, write, read, tally_may, cell_may, IsTallied, IsKept}
+use Rattle.lawful_objects.specs.Forms.{increment, write, read, tally_may, cell_may, IsTallied, IsCellCall}
 use Rattle.lawful_objects.specs.Together.{TellOneTally, TellOneCell}
 use Rattle.lawful_objects.specs.Cases.{counts_0_and_2, counts_once, writes_7, reads_value, stored_then_loaded, loaded_then_stored}
 use Rattle.lawful_objects.proofs.Together.{one_tally, one_cell}
@@ -160,7 +160,7 @@ adds_2 one =
 -- ---- a cell
 
 abbrev Kept : List Access → Transcript → Type 0
-Kept history t = AreCalls IsKept t.pairs [] (deeds_by t.caller history)
+Kept history t = AreCalls IsCellCall t.pairs [] (deeds_by t.caller history)
 
 same_7 : (value : ℕ) → write 7 ≡ write value → 7 ≡ value
 same_7 value is = omega (arith, is)
@@ -171,7 +171,7 @@ write_7_is_no_read is = omega (arith, is)
 read_is_no_write : (value : ℕ) → value < 2 ^ 32 → read ≡ write value → ⊥
 read_is_no_write value low is = omega (arith, is, low)
 
-written : IsKept (write 7) reply_done [] (Stored 0 7 ∷ [])
+written : IsCellCall (write 7) reply_done [] (Stored 0 7 ∷ [])
 written =
     record {
       writes = λ value low is. (ap (λ (k : ℕ). Stored 0 k ∷ []) (same_7 value is), refl);
@@ -179,7 +179,7 @@ written =
       other = λ none isnt. absurd (none 7 (omega arith) refl);
     }
 
-read_as : (found : ℕ) → IsKept read (reply_value found) [] (Loaded 0 found ∷ [])
+read_as : (found : ℕ) → IsCellCall read (reply_value found) [] (Loaded 0 found ∷ [])
 read_as found =
     record {
       writes = λ value low is. absurd (read_is_no_write value low is);

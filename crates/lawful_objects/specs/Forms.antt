@@ -3,7 +3,7 @@ use Rattle.std.specs.Prelude.{◌≡◌, ◌≢◌, ℕ, ◌+◌, ◌*◌, ◌%�
 use Rattle.book_base.specs.declared.TheConstants.{BAD}
 use Rattle.seq_objects.specs.Replies.{reply_done, reply_value}
 use Rattle.shared_words.specs.Deeds.{Deed, Added, Stored, Loaded, AreCalls}
-use Rattle.shared_words.specs.Histories.{Access, access, word_at, IsLawful}
+use Rattle.shared_words.specs.Histories.{Access, access, word_at, IsLawfulHistory}
 
 -- The operation word of a code and an argument.
 abbrev pub operation : ℕ → ℕ → ℕ
@@ -34,7 +34,7 @@ pub record IsTallied (op reply : ℕ) (before after : List Deed) : Type 0 where
 
 -- A call of a cell: a write stores its value in one step; a read loads the word in one step, and
 -- its reply is the word found; any other operation makes no step, and its reply is bad.
-pub record IsKept (op reply : ℕ) (before after : List Deed) : Type 0 where
+pub record IsCellCall (op reply : ℕ) (before after : List Deed) : Type 0 where
   pub writes : (value : ℕ) → value < 2 ^ 32 → op ≡ write value
       → (after ≡ before ++ Stored 0 value ∷ []) × (reply ≡ reply_done)
   pub reads : op ≡ read → (found : ℕ) × (after ≡ before ++ Loaded 0 found ∷ [])
@@ -60,7 +60,7 @@ TalliesAreFormed = (pairs : List (ℕ × ℕ)) (before after : List Deed)
 -- Each pair of a cell's calls has the form of a cell's replies.
 abbrev pub CellsAreFormed : Type 0
 CellsAreFormed = (pairs : List (ℕ × ℕ)) (before after : List Deed)
-    → AreCalls IsKept pairs before after → All (λ pair. IsCellReply pair.0 pair.1) pairs
+    → AreCalls IsCellCall pairs before after → All (λ pair. IsCellReply pair.0 pair.1) pairs
 
 -- The callers of a tally make additions of 1 alone.
 abbrev pub tally_may : ℕ → Deed → Type 0
@@ -99,10 +99,10 @@ pub record IsLastRead (who reply : ℕ) (history : List Access) : Type 0 where
 
 -- The word of a tally is the number of its increments modulo 2^64.
 abbrev pub TalliesCount : Type 0
-TalliesCount = (history : List Access) → IsLawful tally_may history
+TalliesCount = (history : List Access) → IsLawfulHistory tally_may history
     → word_at 0 history ≡ length history % 2 ^ 64
 
 -- The word of a cell is the last one stored, or 0 where none was.
 abbrev pub CellsHoldTheLast : Type 0
-CellsHoldTheLast = (history : List Access) → IsLawful cell_may history
+CellsHoldTheLast = (history : List Access) → IsLawfulHistory cell_may history
     → IsLastStored (word_at 0 history) history

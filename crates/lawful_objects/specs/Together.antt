@@ -1,9 +1,9 @@
 -- The transcripts of all callers of a tally, and of a cell, and the one history of their accesses.
 use Rattle.std.specs.Prelude.{◌≡◌, ℕ, ◌%◌, ◌^◌, ◌==◌, List, ◌∷◌, ◌++◌, length, count_by, sum_by}
 use Rattle.shared_words.specs.Deeds.{Added, Loaded}
-use Rattle.shared_words.specs.Histories.{Access, access, word_at, IsLawful}
+use Rattle.shared_words.specs.Histories.{Access, access, word_at, IsLawfulHistory}
 use Rattle.shared_words.specs.Transcripts.{Transcript, AreOfOneHistory}
-use Rattle.lawful_objects.specs.Forms.{increment, tally_may, cell_may, IsTallied, IsKept, IsLastStored}
+use Rattle.lawful_objects.specs.Forms.{increment, tally_may, cell_may, IsTallied, IsCellCall, IsLastStored}
 
 -- Each access of a history is an increment that found the number of accesses before it, modulo
 -- 2^64.
@@ -36,15 +36,15 @@ pub record TellOneTally (n : ℕ) (history : List Access)
 -- where no store comes before.
 pub record TellOneCell (n : ℕ) (history : List Access)
     (transcripts : List Transcript) : Type 0 where
-  pub told : AreOfOneHistory cell_may (λ _. IsKept) n history transcripts
+  pub told : AreOfOneHistory cell_may (λ _. IsCellCall) n history transcripts
   pub found : LoadsFindTheLast history
   pub word : IsLastStored (word_at 0 history) history
 
 -- In the history of a tally each increment found the number of those before it.
 abbrev pub TalliesAreCounted : Type 0
-TalliesAreCounted = (history : List Access) → IsLawful tally_may history → AreCounted history
+TalliesAreCounted = (history : List Access) → IsLawfulHistory tally_may history → AreCounted history
 
 -- In the history of a cell each load found the last word stored before it, or 0 where there is
 -- none.
 abbrev pub CellsAreRead : Type 0
-CellsAreRead = (history : List Access) → IsLawful cell_may history → LoadsFindTheLast history
+CellsAreRead = (history : List Access) → IsLawfulHistory cell_may history → LoadsFindTheLast history

@@ -4,7 +4,7 @@ ghost use Rattle.book_base.specs.declared.TheConstants.{MAX_CALLERS, MAX_CALLS};
 ghost use mathlib.Core.List.{IsPrefix};
 ghost use Rattle.shared_words.specs.Histories.{Access};
 ghost use Rattle.shared_words.specs.Passes.{count_of};
-ghost use Rattle.lawful_objects.specs.Forms.{read, IsLastRead, cell_may, IsKept, IsCellReply};
+ghost use Rattle.lawful_objects.specs.Forms.{read, IsLastRead, cell_may, IsCellCall, IsCellReply};
 ghost use Rattle.lawful_objects.specs.Together.{TellOneCell};
 
 use book_base::{BAD, MAX_CALLERS, MAX_CALLS, NoMemory, OpWord};
@@ -69,7 +69,7 @@ impl WordCell {
         requires { IsSeatOf cell_may self.now.word seat.old }
         ensures seat { IsSeatOf cell_may self.now.word seat.new }
         ensures caller { caller_of_seat seat.new ≡ caller_of_seat seat.old }
-        ensures call { IsKept op result (deeds_of seat.old) (deeds_of seat.new) }
+        ensures call { IsCellCall op result (deeds_of seat.old) (deeds_of seat.new) }
         ensures history { IsPrefix (history_of seat.old) (history_of seat.new) }
         ensures last { op ≡ read
             → IsLastRead (caller_of_seat seat.old) result (history_of seat.new) }

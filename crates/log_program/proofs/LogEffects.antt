@@ -21,7 +21,7 @@ use Rattle.object_orders.proofs.AskedCalls.{reachable_kept, return}
 use Rattle.object_orders.proofs.EffectOrders.{effects_linearize}
 use Rattle.object_orders.proofs.OneWords.{reply_is}
 use Rattle.log_program.specs.LogWords.{number_of, low_place, high_place, ticket_place, ticket_of, known, are_filled_below, placed_at, joined_if_known, known_operation, with_operation, known_log}
-use Rattle.log_program.specs.LogProgram.{list_of, reply_after, reply_at, log_shape}
+use Rattle.log_program.specs.LogProgram.{list_of, reply_after, known_reply, log_shape}
 use Rattle.log_program.specs.LogEffects.{operation_at, operations_below, place_with, reply_there, reply_of_number, log_effects, LogsLinearize}
 use Rattle.log_program.specs.LogRules.{IsCallOf, HoldsOperation, IsLasting, IsLog}
 use Rattle.log_program.proofs.LogWords.{known_step, placed_step, operations_same, operations_end, place_found, no_place, place_is, place_same, each_of_all}
@@ -388,7 +388,7 @@ module _ (init : List ℕ) (next : List ℕ → ℕ → List ℕ × ℕ) (n cap 
 
   -- What an allowed reply says: the own place in the log is known, and the operations below it.
   reply_at_is : (op reply : ℕ) (steps : List Object_step) (o : Option ℕ)
-      → reply_at next init total op steps o ≡ Some reply
+      → known_reply next init total op steps o ≡ Some reply
       → (p : ℕ) × (operations : List ℕ) × (o ≡ Some p) × (known_log total steps p ≡ Some operations)
       × ((next (list_of next init operations) op).1 ≡ reply)
   reply_at_is op reply steps None e = absurd (none-some reply e)
@@ -460,7 +460,7 @@ module _ (init : List ℕ) (next : List ℕ → ℕ → List ℕ × ℕ) (n cap 
       let lasting = log.lasting i r.caller in
       let place : Option ℕ = placed_at total (ticket_of (number_of cap i k)) (steps_now me) in
       let parts = reply_at_is op reply (all_steps_of me) place
-      (reply_is (reply_at next init total op (all_steps_of me) place) reply r.allowed) in
+      (reply_is (known_reply next init total op (all_steps_of me) place) reply r.allowed) in
       let at =
       placed_stands w (ticket_of (number_of cap i k)) parts.0 (steps_now me)
       (each_at (Each (IsLasting s w)) me.object_steps k [] lasting r.call.has_steps) parts.2 in

@@ -19,7 +19,7 @@ use Rattle.object_orders.proofs.EffectOrders.{the_order_is_of_effects}
 use Rattle.object_orders.proofs.Linearizations.{contained}
 use Rattle.object_orders.proofs.OneWords.{reply_is}
 use Rattle.log_program.specs.LogWords.{number_of, low_place, high_place, ticket_place, ticket_of, placed_at}
-use Rattle.log_program.specs.LogProgram.{list_of, reply_at, log_may_reply, log_shape}
+use Rattle.log_program.specs.LogProgram.{list_of, known_reply, log_may_reply, log_shape}
 use Rattle.log_program.specs.LogEffects.{operations_below, place_with, reply_there, reply_of_number, log_effects, HasPlace, LogOrdersAreOfTickets}
 use Rattle.log_program.specs.LogRules.{IsLasting, IsLog}
 use Rattle.log_program.proofs.LogWords.{place_is, no_place_is}
@@ -123,12 +123,12 @@ module _ (init : List ℕ) (next : List ℕ → ℕ → List ℕ × ℕ) (n cap 
       let lasting = each_at (Each (IsLasting s w)) me.object_steps
       k [] ((rules_hold init next n cap w reach).lasting i caller) has_steps in
       let place : Option ℕ = placed_at total (ticket_of number) (steps_now me) in
-      let allowed : reply_at next init total (operation_now me) (all_steps_of me) place
+      let allowed : known_reply next init total (operation_now me) (all_steps_of me) place
       ≡ Some answer =
-      reply_is (reply_at next init total (operation_now me) (all_steps_of me) place) answer may in
+      reply_is (known_reply next init total (operation_now me) (all_steps_of me) place) answer may in
       elim (cases_Option place) [
         | inl none ↦ absurd (none-some answer (sym
-            (ap (reply_at next init total (operation_now me) (all_steps_of me)) none) ∙ allowed))
+            (ap (known_reply next init total (operation_now me) (all_steps_of me)) none) ∙ allowed))
         | inr some ↦
             let at = placed_stands init next n cap w (ticket_of number) some.0
             (steps_now me) lasting some.1 in

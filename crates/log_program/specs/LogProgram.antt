@@ -59,10 +59,10 @@ reply_after next init operation (Some operations) =
     Some (next (list_of next init operations) operation).1
 
 -- The reply to an operation whose ticket is at place p of the log, as far as some steps show.
-abbrev pub reply_at : (List ℕ → ℕ → List ℕ × ℕ) → List ℕ → ℕ → ℕ → List Object_step
+abbrev pub known_reply : (List ℕ → ℕ → List ℕ × ℕ) → List ℕ → ℕ → ℕ → List Object_step
     → Option ℕ → Option ℕ
-reply_at next init total operation steps None = None
-reply_at next init total operation steps (Some p) =
+known_reply next init total operation steps None = None
+known_reply next init total operation steps (Some p) =
     reply_after next init operation (known_log total steps p)
 
 -- The steps that a call of a caller may make.
@@ -78,7 +78,7 @@ log_may_step n cap i l step =
 abbrev pub log_may_reply : (List ℕ → ℕ → List ℕ × ℕ) → List ℕ → ℕ → ℕ → ℕ → Local → ℕ → Bool
 log_may_reply next init n cap i l reply =
     is_reply
-    (reply_at next init (n * cap) (operation_now l) (all_steps_of l)
+    (known_reply next init (n * cap) (operation_now l) (all_steps_of l)
     (placed_at (n * cap) (ticket_of (number_of cap i l.published)) (steps_now l)))
     reply
 

@@ -11,7 +11,7 @@ use Rattle.book_base.specs.declared.call.Record.{Record}
 use Rattle.world_core.specs.Local.{Local}
 use Rattle.world_core.specs.Calls.{Reached, Is_announced, Has_record, Has_seen, Made, record_in, reached_in, call_in, calls_in, records_of}
 use Rattle.world_books.proofs.Pages.{HasLengths, slice_get-made, operations_with}
-use Rattle.report_lines.specs.Phases.{Mark, Announced, Recorded, Seen, begun, answered, judged, mark_of, mark_under_way, marks_after, progress_of, HasMade, answers_in}
+use Rattle.report_lines.specs.Phases.{CallMark, Announced, Recorded, Seen, begun, answered, judged, mark_of, mark_under_way, marks_after, progress_of, HasMade, answers_in}
 use Rattle.report_laws.proofs.Telling.{as_many_calls}
 
 -- ---- answers, call by call
@@ -67,12 +67,12 @@ announced_by false false r cut none = refl
 
 -- ---- the marks after this many phases, by place
 
-replicate_at : (n k : ℕ) (m : Mark) → k < n → slice_get (replicate n m) k ≡ Some m
+replicate_at : (n k : ℕ) (m : CallMark) → k < n → slice_get (replicate n m) k ≡ Some m
 replicate_at n k m low =
     slice_get-get_or (replicate n m) k m (omega (arith, low, length-replicate n m))
     ∙ ap Some (get_or-replicate n k m m low)
 
-abbrev under_way : Bool → Bool → List Mark
+abbrev under_way : Bool → Bool → List CallMark
 under_way none early = cond none [] (cond early (Announced ∷ []) (Recorded ∷ []))
 
 started : (n : ℕ) → 0 < n → (n == 0) ≡ false
@@ -87,10 +87,10 @@ recorded_under_way n late =
     ap (λ none. under_way none (nat_lt n 3)) (started n (omega (arith, late)))
     ∙ ap (λ early. under_way false early) (le-ltb n 3 late)
 
-last_mark : (p k : ℕ) (m : Mark) → k ≡ judged p
+last_mark : (p k : ℕ) (m : CallMark) → k ≡ judged p
     → mark_under_way (p % 5) ≡ m ∷ [] → slice_get (marks_after p) k ≡ Some m
 last_mark p k m at is =
-    ap (λ (ms : List Mark). slice_get (replicate (judged p) Seen ++ ms) k) is
+    ap (λ (ms : List CallMark). slice_get (replicate (judged p) Seen ++ ms) k) is
     ∙ ap (slice_get (replicate (judged p) Seen ++ m ∷ []))
     (at ∙ sym (length-replicate (judged p) Seen))
     ∙ slice_get-push_last (replicate (judged p) Seen) m
@@ -132,7 +132,7 @@ module _ (operations : List ℕ) (p : ℕ) (l : Local) (made : HasMade operation
 
   mark_at : (k : ℕ) → k < begun p → slice_get (marks_after p) k ≡ Some (mark_of (reached_in l k))
   mark_at k low =
-      ap (λ (ms : List Mark). slice_get ms k) (sym made.marks)
+      ap (λ (ms : List CallMark). slice_get ms k) (sym made.marks)
       ∙ slice_get-map (λ (c : Made). mark_of c.reached) (calls_in l) k
       ∙ ap (option_map (λ (c : Made). mark_of c.reached)) (call_at k low)
 

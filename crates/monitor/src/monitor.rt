@@ -32,7 +32,7 @@ impl<P: Program> Monitor<P> {
     ghost use Rattle.row_table.specs.Callers.{who_of, local_with, stance_of};
     ghost use Rattle.drv_wrapper.specs.Stands.{ready};
     ghost use Rattle.frontier_check.specs.Standing.{IsStandingFor};
-    ghost use Rattle.enforcer.specs.Lines.{StandsIn};
+    ghost use Rattle.enforcer.specs.Lines.{OrderStandsIn};
     ghost use Rattle.monitor.specs.Claims.{Knows, Agree};
     ghost use Rattle.monitor.specs.Monitors.{caller_of, local_of, own_of, placed_by, known_by, kept_by, IsOn, AreOfOne, IsMonitorOf, Becomes, IsLater, HasFound, HasScannedSome, HasGathered, IsKeptAfter, TicksForBook, TicksForRound};
 
@@ -80,7 +80,7 @@ impl<P: Program> Monitor<P> {
         ensures gathered { IfOk result
             (λ r. HasGathered rows.now.callers (local_of self.old) (local_of self.new) r.0) }
         ensures stands { IfOk result (λ r. (init : List ℕ) (next : List ℕ → ℕ → List ℕ × ℕ)
-            → StandsIn init next (kept_by self.old) standing
+            → OrderStandsIn init next (kept_by self.old) standing
             → IfSome r.1 (IsStandingFor init next r.0.book)) }
         ensures ticks { IfOk result
             (λ r. TicksForBook rows.now.callers (kept_by self.old) r.0 steps.old steps.new) }
@@ -164,7 +164,7 @@ impl<P: Program> Monitor<P> {
         // The monitor has no own witness.
         requires none { own_of self.old ≡ None }
         // The kept order stands in the book that the monitor keeps, for this object.
-        requires stands { StandsIn (S.init object.now) (S.next object.now)
+        requires stands { OrderStandsIn (S.init object.now) (S.next object.now)
             (kept_by self.old) standing.old }
         // The monitor is still one of these rows and of this board, with the same number.
         ensures later { IsLater P.meaning rows.now board.now self.old self.new }
@@ -185,7 +185,7 @@ impl<P: Program> Monitor<P> {
         ensures kept { IfOk result (λ r. IsKeptAfter rows.now.callers r (kept_by self.new)) }
         // The order that is kept afterwards stands in the book that the monitor keeps then, for
         // this object.
-        ensures stands { StandsIn (S.init object.now) (S.next object.now)
+        ensures stands { OrderStandsIn (S.init object.now) (S.next object.now)
             (kept_by self.new) standing.new }
         // Without an own witness the monitor knows what it knew of the board.
         ensures unfound { own_of self.new ≡ None → (known_by self.new ≡ known_by self.old)

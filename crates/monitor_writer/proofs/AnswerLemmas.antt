@@ -11,7 +11,7 @@ use Rattle.byte_streams.specs.declared.status.Status.TheVariants.{Fine, Found, W
 use Rattle.byte_streams.specs.Writing.{EndsWriting}
 use Rattle.byte_streams.proofs.WritingLemmas.{EndsWriting-weaker}
 use Rattle.monitored_runs.specs.Published.{IsExactAnswer}
-use Rattle.monitor_writer.specs.MonitorTexts.{IsAnswerOutput, IsLegalRun, IsMonitorText, status_of}
+use Rattle.monitor_writer.specs.MonitorTexts.{IsAnswerOutput, HasLegalRecords, IsMonitorText, status_of}
 
 -- An answer that is exact for the object of this kind.
 abbrev IsExactFor : Kind → List Local → Option Witness → Type 0
@@ -38,12 +38,12 @@ ends_of_run kind named locals answer result taken taken' same exact ends =
     (IsMonitorText named locals) result taken taken' (text_of_run named locals answer exact) ends)
 
 found_status : (kind : Kind) (locals : List Local) (answer : Option Witness)
-    → IsExactFor kind locals answer → ¬ IsLegalRun kind locals → status_of answer ≡ Found
+    → IsExactFor kind locals answer → ¬ HasLegalRecords kind locals → status_of answer ≡ Found
 found_status kind locals None exact illegal = absurd (illegal exact.is)
 found_status kind locals (Some w) exact illegal = refl
 
 fine_status : (kind : Kind) (locals : List Local) (answer : Option Witness)
-    → IsExactFor kind locals answer → IsLegalRun kind locals → status_of answer ≡ Fine
+    → IsExactFor kind locals answer → HasLegalRecords kind locals → status_of answer ≡ Fine
 fine_status kind locals None exact legal = refl
 fine_status kind locals (Some w) exact legal = absurd (none-some w (sym (exact.exact.1 legal)))
 
@@ -56,14 +56,14 @@ ended_as result a b same h = subst (λ (s : Status). Ended result s) same h
 
 pub found_of_run : (kind named : Kind) (locals : List Local) (answer : Option Witness)
     (result : Status) → named ≡ kind → IsExactFor named locals answer
-    → Ended result (status_of answer) → ¬ IsLegalRun kind locals → Ended result Found
+    → Ended result (status_of answer) → ¬ HasLegalRecords kind locals → Ended result Found
 found_of_run kind named locals answer result same exact ended illegal =
     ended_as result (status_of answer) Found (found_status kind locals answer
     (subst (λ (k : Kind). IsExactFor k locals answer) same exact) illegal) ended
 
 pub fine_of_run : (kind named : Kind) (locals : List Local) (answer : Option Witness)
     (result : Status) → named ≡ kind → IsExactFor named locals answer
-    → Ended result (status_of answer) → IsLegalRun kind locals → Ended result Fine
+    → Ended result (status_of answer) → HasLegalRecords kind locals → Ended result Fine
 fine_of_run kind named locals answer result same exact ended legal =
     ended_as result (status_of answer) Fine (fine_status kind locals answer
     (subst (λ (k : Kind). IsExactFor k locals answer) same exact) legal) ended

@@ -28,15 +28,15 @@ abbrev pub IsAnswerOutput : Kind → Option Witness → Status → List ℕ → 
 IsAnswerOutput kind answer status text = IsAnswerText kind answer text × (status ≡ status_of answer)
 
 -- The book of all records that these callers have published has a legal order, for this kind.
-abbrev pub IsLegalRun : Kind → List Local → Type 0
-IsLegalRun kind locals = HasLegalOrder (kind_init kind) (kind_next kind) (published_book locals)
+abbrev pub HasLegalRecords : Kind → List Local → Type 0
+HasLegalRecords kind locals = HasLegalOrder (kind_init kind) (kind_next kind) (published_book locals)
 
 -- The text and the status that are written of these callers' calls: that the book of all published
 -- records has a legal order; or that it has none, and after that the text of the book of a witness.
 abbrev pub IsMonitorText : Kind → List Local → Status → List ℕ → Type 0
-IsMonitorText kind locals Fine text = IsLegalRun kind locals × (text ≡ codes "legal\n")
+IsMonitorText kind locals Fine text = HasLegalRecords kind locals × (text ≡ codes "legal\n")
 IsMonitorText kind locals Found text =
-    (¬ IsLegalRun kind locals)
+    (¬ HasLegalRecords kind locals)
     × (w : Witness) × IsWitnessOf (kind_init kind) (kind_next kind) locals w × (shown : List ℕ)
     × IsWrittenText Second shown kind w.book × (text ≡ codes "illegal\n" ++ shown)
 IsMonitorText kind locals _ text = ⊥

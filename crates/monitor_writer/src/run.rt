@@ -12,7 +12,7 @@ ghost use Rattle.run_report.specs.Passes.{IsOwnPass, AreUnusedPasses};
 ghost use Rattle.byte_streams.specs.Fault.{LeavesSink};
 ghost use Rattle.byte_streams.specs.Writing.{EndsWriting};
 ghost use Rattle.monitored_runs.specs.Monitoring.{IsMonitor, HaveMadeAll, AreFreeAgain, IsToldAll, HasMonitored};
-ghost use Rattle.monitor_writer.specs.MonitorTexts.{IsLegalRun, IsMonitorText};
+ghost use Rattle.monitor_writer.specs.MonitorTexts.{HasLegalRecords, IsMonitorText};
 
 use crate::answer_output::write_answer;
 use book_base::NoMemory;
@@ -101,11 +101,11 @@ where
 
     // Where the book of all published records has no legal order, the status is `Found`, failed
     // writes and want of memory aside.
-    ensures found { ¬ IsLegalRun script.now.kind (locals_on bench.new)
+    ensures found { ¬ HasLegalRecords script.now.kind (locals_on bench.new)
         → (result ≡ Status.Found) ⊎ (result ≡ Status.WriteFault) ⊎ (result ≡ Status.NoMemory) }
     // Where the book of all published records has a legal order, the status is `Fine`, failed
     // writes and want of memory aside.
-    ensures fine { IsLegalRun script.now.kind (locals_on bench.new)
+    ensures fine { HasLegalRecords script.now.kind (locals_on bench.new)
         → (result ≡ Status.Fine) ⊎ (result ≡ Status.WriteFault) ⊎ (result ≡ Status.NoMemory) }
 
     // The status is `WriteFault` only where the sink's count of faults rose in this call, and

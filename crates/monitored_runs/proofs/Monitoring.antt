@@ -17,7 +17,7 @@ use Rattle.world_books.proofs.Validity.{books_are_valid}
 use Rattle.report_lines.specs.declared.line.LineEnd.{LineEnd}
 use Rattle.report_lines.specs.declared.line.Line.{Line}
 use Rattle.report_lines.specs.Lines.{any_error, book_of_lines, lines_at}
-use Rattle.report_lines.specs.Phases.{Mark, Seen, Progress, HasMade, mark_of, mark_under_way, marks_of, marks_after, published_by, progress_of}
+use Rattle.report_lines.specs.Phases.{CallMark, Seen, Progress, HasMade, mark_of, mark_under_way, marks_of, marks_after, published_by, progress_of}
 use Rattle.report_lines.specs.Allotments.{operations_at, stop_at, phases_for}
 use Rattle.report_laws.proofs.Stepping.{length-marks_after}
 use Rattle.row_table.specs.declared.rows.Rows.{Rows}
@@ -71,7 +71,7 @@ recorded object n l (Has_seen r cut) end h e =
 
 -- the lines of the first calls have their records
 answered_to : (object : Sequential) (n : ℕ) (l : Local) (calls : List Made) (own : List Line)
-    (m : ℕ) (rest : List Mark) → AreLinesOfCalls (SaysDeferred object n l) calls own
+    (m : ℕ) (rest : List CallMark) → AreLinesOfCalls (SaysDeferred object n l) calls own
     → marks_of calls ≡ replicate m Seen ++ rest → (k : ℕ) (line : Line)
     → slice_get own k ≡ Some line → k < m → IsSome (answer_in line.end)
 answered_to object n l calls [] m rest h e k line there low = absurd (none-some line there)
@@ -81,9 +81,9 @@ answered_to object n l (c ∷ calls) (x ∷ own) zero rest h e k line there low 
 answered_to object n l (c ∷ calls) (x ∷ own) (suc m) rest h e zero line there low =
     subst (λ (y : Line). IsSome (answer_in y.end)) (same_Some x line there)
     (recorded object n l c.reached x.end h.0.end
-    (same_Some (mark_of c.reached) Seen (ap (λ (ms : List Mark). slice_get ms 0) e)))
+    (same_Some (mark_of c.reached) Seen (ap (λ (ms : List CallMark). slice_get ms 0) e)))
 answered_to object n l (c ∷ calls) (x ∷ own) (suc m) rest h e (suc k) line there low =
-    answered_to object n l calls own m rest h.1 (ap (λ (ms : List Mark). drop 1 ms) e) k line there
+    answered_to object n l calls own m rest h.1 (ap (λ (ms : List CallMark). drop 1 ms) e) k line there
     (omega (arith, low))
 
 -- each line but the last has its record
@@ -96,7 +96,7 @@ all_but_last object n operations p l own lines made k line there low =
     let long : length own ≡ length (marks_after p) =
     AllZip-long _ (calls_in l) own lines
     ∙ sym (length-map (calls_in l) (λ (c : Made). mark_of c.reached))
-    ∙ ap (λ (ms : List Mark). length ms) made.marks in
+    ∙ ap (λ (ms : List CallMark). length ms) made.marks in
     answered_to object n l (calls_in l) own (p / 5) (mark_under_way (p % 5)) lines made.marks k line
     there (omega (arith, low, long, length-marks_after p))
 

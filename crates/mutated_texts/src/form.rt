@@ -22,7 +22,7 @@ pub enum TextForm {
 
 /// The answer of a reader to bytes.
 #[derive(Drop)]
-pub enum Answer {
+pub enum ReaderAnswer {
     /// The bytes are a text, and this is written of what was read.
     Written(Vec<u8>),
     /// The bytes are no text of the form.
@@ -55,10 +55,10 @@ impl TextForm {
     }
 
     /// Reads bytes as a text of the form, and writes what was read.
-    pub fn answer(self, alloc: Global, bytes: &[u8]) -> Result<Answer> {
+    pub fn answer(self, alloc: Global, bytes: &[u8]) -> Result<ReaderAnswer> {
         match self.rewrite(alloc, bytes) {
-            Ok(text) => Ok(Answer::Written(text)),
-            Err(ReadFault::Text(fault)) => Ok(Answer::Refused(fault.what)),
+            Ok(text) => Ok(ReaderAnswer::Written(text)),
+            Err(ReadFault::Text(fault)) => Ok(ReaderAnswer::Refused(fault.what)),
             Err(ReadFault::NoMemory) => Err(anyhow!("no memory for a text")),
         }
     }

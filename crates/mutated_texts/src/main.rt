@@ -11,7 +11,7 @@ mod mutate;
 mod older;
 mod pieces;
 mod samples;
-mod tally;
+mod reading_counts;
 mod words;
 
 use anyhow::{Context, Result};
@@ -24,7 +24,7 @@ use std::alloc::Global;
 use std::env;
 use std::process::ExitCode;
 use std::rt::Env;
-use tally::ReadingCounts;
+use reading_counts::ReadingCounts;
 
 /// What the command words say.
 #[derive(Drop)]
@@ -46,26 +46,26 @@ fn read_words<R: Env + AllocGlobal>(rt: &R) -> Result<Wish> {
 }
 
 fn no_texts(alloc: Global) -> Result<Vec<ReadingCounts>> {
-    let mut tallies = Vec::new(alloc);
+    let mut all_counts = Vec::new(alloc);
     for form in TextForm::ALL {
-        tallies.push(ReadingCounts::new(alloc, form))?;
+        all_counts.push(ReadingCounts::new(alloc, form))?;
     }
-    Ok(tallies)
+    Ok(all_counts)
 }
 
 // Lets each reader read a text, and prints the text where a reader doesn't write it back.
 fn try_text<R: Print + AllocGlobal>(
     rt: &R,
-    tallies: &mut Vec<ReadingCounts>,
+    all_counts: &mut Vec<ReadingCounts>,
     text: &[u8],
 ) -> Result<bool> {
     let mut all = true;
-    for tally in tallies.iter_mut() {
-        if !tally.take(rt.alloc(), text)? {
+    for counts in all_counts.iter_mut() {
+        if !counts.count_reading(rt.alloc(), text)? {
             let shown = String::from_utf8_lossy(rt.alloc(), text)?;
             println!(rt;
                 "another text is written of this {}: {shown:?}",
-                tally.form.name()
+                counts.form.name()
             )?;
             all = false;
         }
@@ -73,10 +73,10 @@ fn try_text<R: Print + AllocGlobal>(
     Ok(all)
 }
 
-fn print_figures<R: Print + AllocGlobal>(rt: &R, tallies: &[ReadingCounts]) -> Result<()> {
-    for tally in tallies {
-        print!(rt; "{}: {} accepted", tally.form.name(), tally.kept)?;
-        for (what, count) in &tally.refused {
+fn print_figures<R: Print + AllocGlobal>(rt: &R, all_counts: &[ReadingCounts]) -> Result<()> {
+    for counts in all_counts {
+        print!(rt; "{}: {} accepted", counts.form.name(), counts.kept)?;
+        for (what, count) in &counts.refused {
             print!(rt; ", {what:?} {count}")?;
         }
         println!(rt)?;
@@ -88,15 +88,15 @@ fn run<R: Env + Print + AllocGlobal>(rt: &R) -> Result<bool> {
     let alloc = rt.alloc();
     let wish = read_words(rt)?;
     let mut rng = Xoshiro256PlusPlus::seed_from_u64(wish.seed);
-    let mut tallies = no_texts(alloc)?;
+    let mut all_counts = no_texts(alloc)?;
     let mut all = true;
     for _ in 0..wish.texts {
         let sample = SAMPLES[pick(&mut rng, SAMPLES.len())];
         let text = mutate(alloc, &mut rng, sample)?;
-        all &= try_text(rt, &mut tallies, &text)?;
+        all &= try_text(rt, &mut all_counts, &text)?;
     }
     if wish.figures {
-        print_figures(rt, &tallies)?;
+        print_figures(rt, &all_counts)?;
     }
     Ok(all)
 }

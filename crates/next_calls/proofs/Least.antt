@@ -7,7 +7,7 @@ use Rattle.std.proofs.lemmas.Option.{same_Some, slice_get_within}
 use Rattle.list_laws.proofs.Options.{some_from_is_some_and}
 use Rattle.book_base.specs.declared.call.Call.{Call}
 use Rattle.book_base.specs.declared.call.Record.{Record}
-use Rattle.book_base.specs.declared.marks.Marks.{Marks}
+use Rattle.book_base.specs.declared.marked_callers.MarkedCallers.{MarkedCallers}
 use Rattle.book_base.specs.Cut.{Holds, IsWithin}
 use Rattle.book_base.specs.Book.{Page, IsValid, IsCall, IsAnswered, record_of, Precedes}
 use Rattle.book_base.specs.Next.{next_call, HoldsAnswered, MayComeNext}
@@ -259,11 +259,11 @@ so_far-none book cut below None e h = λ (call : Call) (answered : IsAnswered bo
 so_far-none book cut below (Some old) e h = tt
 
 -- Marks on the callers below a number whose next calls may come next.
-abbrev pub MarksNextBelow : List Page → List ℕ → ℕ → Marks → Type 0
+abbrev pub MarksNextBelow : List Page → List ℕ → ℕ → MarkedCallers → Type 0
 MarksNextBelow book cut below marks = (i : ℕ) → IsMarked marks i
     ↔ ((i < below) × MayComeNext book cut (next_call cut i))
 
-pub marked-more : (book : List Page) (cut : List ℕ) (caller : ℕ) (old new : Marks)
+pub marked-more : (book : List Page) (cut : List ℕ) (caller : ℕ) (old new : MarkedCallers)
     → MarksNextBelow book cut caller old → MayComeNext book cut (next_call cut caller)
     → ((i : ℕ) → IsMarked new i ↔ ((i ≡ caller) ⊎ IsMarked old i))
     → MarksNextBelow book cut (caller + 1) new
@@ -281,7 +281,7 @@ marked-more book cut caller old new h may is i = (
   ],
 )
 
-pub marked-skip : (book : List Page) (cut : List ℕ) (caller : ℕ) (marks : Marks)
+pub marked-skip : (book : List Page) (cut : List ℕ) (caller : ℕ) (marks : MarkedCallers)
     → MarksNextBelow book cut caller marks → (MayComeNext book cut (next_call cut caller) → ⊥)
     → MarksNextBelow book cut (caller + 1) marks
 marked-skip book cut caller marks h not i = (
@@ -293,7 +293,7 @@ marked-skip book cut caller marks h not i = (
   ],
 )
 
-pub marked-all : (book : List Page) (cut : List ℕ) (below : ℕ) (marks : Marks) → below ≡ length book
+pub marked-all : (book : List Page) (cut : List ℕ) (below : ℕ) (marks : MarkedCallers) → below ≡ length book
     → MarksNextBelow book cut below marks → MarksAllNext book cut marks
 marked-all book cut below marks is h i = (
   λ marked. ((h i).0 marked).1,

@@ -5,7 +5,7 @@ ghost use Rattle.book_base.specs.Book.{IsAnswered, record_of};
 ghost use Rattle.book_base.specs.Next.{next_call, HoldsAnswered};
 ghost use Rattle.book_base.specs.Pruning.{IsLeast, MarksAllNext, ViewsAreWithin};
 
-use book_base::{Book, Call, Cut, Marks};
+use book_base::{Book, Call, Cut, MarkedCallers};
 
 /// The caller whose first call outside a cut has the least view of all answered calls outside it;
 /// there is none where the cut holds all answered calls.
@@ -65,7 +65,7 @@ pub fn first_view<'b>(book: &'b Book, counts: &[u16], caller: u32) -> &'b Cut
 
 /// The callers whose next calls may come next after a cut, where `first` is the caller whose first
 /// call outside the cut has the least view of all answered calls outside it.
-pub fn all_next(book: &Book, cut: &Cut, view: &Cut, first: u32) -> Marks
+pub fn all_next(book: &Book, cut: &Cut, view: &Cut, first: u32) -> MarkedCallers
     // The cut has a count for each caller of the book.
     requires wide { length cut.now ≡ length book.now }
     // Of all answered calls outside the cut, the first one of the caller `first` has the least
@@ -79,7 +79,7 @@ pub fn all_next(book: &Book, cut: &Cut, view: &Cut, first: u32) -> Marks
     // The answer marks exactly the callers whose next calls may come next.
     ensures { MarksAllNext book.now cut.now result }
 {
-    let mut marks = Marks::none();
+    let mut marks = MarkedCallers::none();
     for caller in 0..book.callers() {
         if cut.get(caller) < view.get(caller) {
             marks = marks.with(caller);

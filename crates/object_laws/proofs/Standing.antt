@@ -16,7 +16,7 @@ use Rattle.seq_objects.specs.Items.{place_of, place_for, inserted}
 use Rattle.seq_objects.specs.IntSetSteps.{added, taken_out, removed, set_operation, set_after}
 use Rattle.seq_objects.specs.Objects.{kind_next}
 use Rattle.object_laws.specs.Runs.{NonePass, does, does_with}
-use Rattle.object_laws.specs.SetRuns.{AddStands, Tells, HasTells, AddTells, RemoveTells}
+use Rattle.object_laws.specs.SetRuns.{AddStands, SaysWhether, HasTells, AddTells, RemoveTells}
 use Rattle.object_laws.proofs.Stepping.{replied, apart}
 
 abbrev next : List ℕ → ℕ → List ℕ × ℕ
@@ -355,12 +355,12 @@ place_tells v before =
     ]
 
 yes_tells : (reply : ℕ) (test : Bool) (P : Type 0) → reply ≡ (if test then reply_yes else reply_no)
-    → ((test ≡ true) × P) ⊎ ((test ≡ false) × (P → ⊥)) → Tells reply P
+    → ((test ≡ true) × P) ⊎ ((test ≡ false) × (P → ⊥)) → SaysWhether reply P
 yes_tells reply test P e (inl on) = inl (e ∙ cond-true test reply_yes reply_no on.0, on.1)
 yes_tells reply test P e (inr off) = inr (e ∙ cond-false test reply_yes reply_no off.0, off.1)
 
 no_tells : (reply : ℕ) (test : Bool) (P : Type 0) → reply ≡ (if test then reply_no else reply_yes)
-    → ((test ≡ true) × P) ⊎ ((test ≡ false) × (P → ⊥)) → Tells reply (P → ⊥)
+    → ((test ≡ true) × P) ⊎ ((test ≡ false) × (P → ⊥)) → SaysWhether reply (P → ⊥)
 no_tells reply test P e (inl on) =
     inr (e ∙ cond-true test reply_no reply_yes on.0, λ none. none on.1)
 no_tells reply test P e (inr off) = inl (e ∙ cond-false test reply_no reply_yes off.0, off.1)

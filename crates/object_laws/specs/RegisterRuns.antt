@@ -4,17 +4,17 @@ use Rattle.seq_objects.specs.declared.kind.Kind.TheVariants.{Register}
 use Rattle.seq_objects.specs.Words as words
 use Rattle.seq_objects.specs.Words.{argument_of}
 use Rattle.seq_objects.specs.Replies.{reply_value}
-use Rattle.object_laws.specs.Runs.{IsRunOf, does, NonePass}
+use Rattle.object_laws.specs.Runs.{IsRunOfKind, does, NonePass}
 
 -- The reply to a read is the value of the last write before it.
 abbrev pub ReadsGiveTheLastWrite : Type 0
 ReadsGiveTheLastWrite = (before between rest : List (ℕ × ℕ)) (write read : ℕ × ℕ)
-    → IsRunOf Register (before ++ write ∷ (between ++ read ∷ rest))
+    → IsRunOfKind Register (before ++ write ∷ (between ++ read ∷ rest))
     → does words.write write ≡ true → NonePass (does words.write) between
     → does words.read read ≡ true → read.1 ≡ reply_value (argument_of write.0)
 
 -- The reply to a read before each write is 0.
 abbrev pub ReadsGiveZeroAtFirst : Type 0
 ReadsGiveZeroAtFirst = (before rest : List (ℕ × ℕ)) (read : ℕ × ℕ)
-    → IsRunOf Register (before ++ read ∷ rest)
+    → IsRunOfKind Register (before ++ read ∷ rest)
     → NonePass (does words.write) before → does words.read read ≡ true → read.1 ≡ reply_value 0

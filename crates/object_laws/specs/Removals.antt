@@ -7,7 +7,7 @@ use Rattle.seq_objects.specs.declared.kind.Kind.TheVariants.{Queue, Stack, Pqueu
 use Rattle.seq_objects.specs.Words.{insert, deq, pop, min, is_operation_of, argument_of}
 use Rattle.seq_objects.specs.Replies.{reply_none, reply_value}
 use Rattle.seq_objects.specs.Readings.{value_of, shown_value, queue_reading, stack_reading}
-use Rattle.object_laws.specs.Runs.{IsRunOf, does}
+use Rattle.object_laws.specs.Runs.{IsRunOfKind, does}
 
 -- The values that the steps put in, and those that they give out, each in order.
 abbrev pub put_in : Reading → List (ℕ × ℕ) → List ℕ
@@ -20,7 +20,7 @@ given_out reading steps = filter_map (taken_by reading) steps
 -- value comes out at most as often as it was put in.
 abbrev pub TakesTakeWhatWasPut : Kind → Reading → Type 0
 TakesTakeWhatWasPut kind reading = (before rest : List (ℕ × ℕ)) (step : ℕ × ℕ) (value : ℕ)
-    → IsRunOf kind (before ++ step ∷ rest)
+    → IsRunOfKind kind (before ++ step ∷ rest)
     → taken_by reading step ≡ Some value
     → times value (given_out reading before) < times value (put_in reading before)
 
@@ -33,7 +33,7 @@ reply_with None = reply_none
 -- those put in before it, or none where there is no such value.
 abbrev pub DequeuesGiveTheOldest : Type 0
 DequeuesGiveTheOldest = (before rest : List (ℕ × ℕ)) (step : ℕ × ℕ)
-    → IsRunOf Queue (before ++ step ∷ rest) → does deq step ≡ true
+    → IsRunOfKind Queue (before ++ step ∷ rest) → does deq step ≡ true
     → step.1
     ≡ reply_with (slice_get (put_in queue_reading before) (length (given_out queue_reading before)))
 
@@ -61,7 +61,7 @@ GivesTheNewest before reply = ((reply ≡ reply_none) × AreEven before)
 
 abbrev pub PopsGiveTheNewest : Type 0
 PopsGiveTheNewest = (before rest : List (ℕ × ℕ)) (step : ℕ × ℕ)
-    → IsRunOf Stack (before ++ step ∷ rest) → does pop step ≡ true
+    → IsRunOfKind Stack (before ++ step ∷ rest) → does pop step ≡ true
     → GivesTheNewest before step.1
 
 -- How priority queues are read: an insert puts in, a min takes.
@@ -91,10 +91,10 @@ GivesTheLeast before reply = ((reply ≡ reply_none) × ((value : ℕ) → IsIn 
 
 abbrev pub MinsGiveTheLeast : Type 0
 MinsGiveTheLeast = (before rest : List (ℕ × ℕ)) (step : ℕ × ℕ)
-    → IsRunOf Pqueue (before ++ step ∷ rest) → does min step ≡ true
+    → IsRunOfKind Pqueue (before ++ step ∷ rest) → does min step ≡ true
     → GivesTheLeast before step.1
 
 -- Each value comes out of a priority queue at most as often as it was put in.
 abbrev pub ComesOutAtMostAsOften : Type 0
-ComesOutAtMostAsOften = (steps : List (ℕ × ℕ)) (value : ℕ) → IsRunOf Pqueue steps
+ComesOutAtMostAsOften = (steps : List (ℕ × ℕ)) (value : ℕ) → IsRunOfKind Pqueue steps
     → times value (given_out pqueue_reading steps) ≤ times value (put_in pqueue_reading steps)

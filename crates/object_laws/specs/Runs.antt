@@ -9,8 +9,8 @@ use Rattle.seq_objects.specs.Replies.{reply_done}
 use Rattle.seq_objects.specs.Objects.{kind_init, kind_next}
 
 -- The steps are a run of an object of this kind.
-abbrev pub IsRunOf : Kind → List (ℕ × ℕ) → Type 0
-IsRunOf kind steps = IsLegalRun (kind_init kind) (kind_next kind) steps
+abbrev pub IsRunOfKind : Kind → List (ℕ × ℕ) → Type 0
+IsRunOfKind kind steps = IsLegalRun (kind_init kind) (kind_next kind) steps
 
 -- Whether a step has an operation of this entry.
 abbrev pub does : OperationEntry → ℕ × ℕ → Bool
@@ -27,5 +27,5 @@ NonePass test steps = AllByRecursion (λ step. test step ≡ false) steps
 -- In each run of this kind the reply to an operation of this entry is `done`.
 abbrev pub AreDone : Kind → OperationEntry → Type 0
 AreDone kind entry = (before rest : List (ℕ × ℕ)) (step : ℕ × ℕ)
-    → IsRunOf kind (before ++ step ∷ rest) → does entry step ≡ true
+    → IsRunOfKind kind (before ++ step ∷ rest) → does entry step ≡ true
     → step.1 ≡ reply_done

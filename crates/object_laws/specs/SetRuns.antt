@@ -3,7 +3,7 @@ use Rattle.std.specs.Prelude.{◌≡◌, ◌⊎◌, ℕ, true, List, ◌∷◌, 
 use Rattle.seq_objects.specs.declared.kind.Kind.TheVariants.{IntSet}
 use Rattle.seq_objects.specs.Words as words
 use Rattle.seq_objects.specs.Replies.{reply_no, reply_yes}
-use Rattle.object_laws.specs.Runs.{IsRunOf, does_with, NonePass}
+use Rattle.object_laws.specs.Runs.{IsRunOfKind, does_with, NonePass}
 
 -- An add of a value stands after these steps: none of the steps after it removes the value.
 pub record AddStands (value : ℕ) (steps : List (ℕ × ℕ)) : Type 0 where
@@ -15,23 +15,23 @@ pub record AddStands (value : ℕ) (steps : List (ℕ × ℕ)) : Type 0 where
   pub stays : NonePass (does_with words.remove value) later
 
 -- A reply says whether a fact holds: it is `yes` where the fact holds, and `no` where it doesn't.
-abbrev pub Tells : ℕ → Type 0 → Type 0
-Tells reply P = ((reply ≡ reply_yes) × P) ⊎ ((reply ≡ reply_no) × (P → ⊥))
+abbrev pub SaysWhether : ℕ → Type 0 → Type 0
+SaysWhether reply P = ((reply ≡ reply_yes) × P) ⊎ ((reply ≡ reply_no) × (P → ⊥))
 
 -- The reply to `has` says whether an add of the value stands.
 abbrev pub HasTells : Type 0
 HasTells = (before rest : List (ℕ × ℕ)) (step : ℕ × ℕ) (value : ℕ)
-    → IsRunOf IntSet (before ++ step ∷ rest)
-    → does_with words.has value step ≡ true → Tells step.1 (AddStands value before)
+    → IsRunOfKind IntSet (before ++ step ∷ rest)
+    → does_with words.has value step ≡ true → SaysWhether step.1 (AddStands value before)
 
 -- The reply to `remove` says whether an add of the value stands before it.
 abbrev pub RemoveTells : Type 0
 RemoveTells = (before rest : List (ℕ × ℕ)) (step : ℕ × ℕ) (value : ℕ)
-    → IsRunOf IntSet (before ++ step ∷ rest)
-    → does_with words.remove value step ≡ true → Tells step.1 (AddStands value before)
+    → IsRunOfKind IntSet (before ++ step ∷ rest)
+    → does_with words.remove value step ≡ true → SaysWhether step.1 (AddStands value before)
 
 -- The reply to `add` says whether no add of the value stands before it.
 abbrev pub AddTells : Type 0
 AddTells = (before rest : List (ℕ × ℕ)) (step : ℕ × ℕ) (value : ℕ)
-    → IsRunOf IntSet (before ++ step ∷ rest)
-    → does_with words.add value step ≡ true → Tells step.1 (AddStands value before → ⊥)
+    → IsRunOfKind IntSet (before ++ step ∷ rest)
+    → does_with words.add value step ≡ true → SaysWhether step.1 (AddStands value before → ⊥)

@@ -12,14 +12,14 @@ use Rattle.book_base.specs.Next.{list_after}
 use Rattle.book_laws.proofs.LegalOrder.{answer_stands}
 use Rattle.order_check.specs.declared.fault.OrderFault.{OrderFault}
 use Rattle.order_check.specs.declared.fault.OrderFault.TheVariants.{Unknown, Twice, Skipped, Late, Record, Run, Missing}
-use Rattle.order_check.specs.Fault.{reply_at, FailsTest, place_of, turn_of, step_of}
+use Rattle.order_check.specs.Fault.{reply_after_places, FailsTest, place_of, turn_of, step_of}
 use Rattle.order_check.specs.Laws.{LegalOrdersFailNoTest, FirstFaultsAreOne}
 
 -- in a run the reply of each step is the one that the object gives after the operations before it
 pub reply_in_run : (next : List ℕ → ℕ → List ℕ × ℕ) (book : List Page) (list : List ℕ)
     (order : List Place) → IsRunFrom next list (map (step_at book) order)
     → (k : ℕ) (place : Place) → slice_get order k ≡ Some place
-    → reply_at list next book order k place ≡ place.reply
+    → reply_after_places list next book order k place ≡ place.reply
 reply_in_run next book list [] run k place at = absurd (none-some place at)
 reply_in_run next book list (x ∷ xs) run zero place at =
     subst (λ (y : Place). (next list (step_at book y).0).1 ≡ y.reply) (same_Some x place at) run.0
@@ -30,7 +30,7 @@ reply_in_run next book list (x ∷ xs) run (suc k) place at =
 pub run_from_replies : (next : List ℕ → ℕ → List ℕ × ℕ) (book : List Page) (list : List ℕ)
     (order : List Place)
     → ((k : ℕ) (place : Place) → slice_get order k ≡ Some place
-    → reply_at list next book order k place ≡ place.reply)
+    → reply_after_places list next book order k place ≡ place.reply)
     → IsRunFrom next list (map (step_at book) order)
 run_from_replies next book list [] given = tt
 run_from_replies next book list (x ∷ xs) given = (
@@ -84,10 +84,10 @@ legal_orders_fail_no_test init next book order h (Missing caller number) f =
 -- the object gives equal places at one index the same reply
 same_run : (init : List ℕ) (next : List ℕ → ℕ → List ℕ × ℕ) (book : List Page) (order : List Place)
     (p q : ℕ) (a b : Place) → p ≡ q → a ≡ b
-    → reply_at init next book order p a ≡ reply_at init next book order q b
+    → reply_after_places init next book order p a ≡ reply_after_places init next book order q b
 same_run init next book order p q a b place same =
-    ap (λ (k : ℕ). reply_at init next book order k a) place
-    ∙ ap (λ (x : Place). reply_at init next book order q x) same
+    ap (λ (k : ℕ). reply_after_places init next book order k a) place
+    ∙ ap (λ (x : Place). reply_after_places init next book order q x) same
 
 -- an order has one place at an index
 same_place_at : (order : List Place) (p q : ℕ) (a b : Place) → p ≡ q → slice_get order p ≡ Some a

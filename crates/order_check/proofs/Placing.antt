@@ -19,14 +19,14 @@ use Rattle.book_base.specs.Next.{raised, list_after, HoldsAnswered}
 use Rattle.book_laws.proofs.LegalOrder.{same_call, raised_same, raised_other, raised_more, raised_cases}
 use Rattle.order_check.specs.declared.fault.OrderFault.{OrderFault}
 use Rattle.order_check.specs.declared.fault.OrderFault.TheVariants.{Unknown, Twice, Skipped, Late, Record, Run, Missing}
-use Rattle.order_check.specs.Fault.{FailsTest, list_before, reply_at, place_of, turn_of, step_of, HasTurnBefore, IsTriedBefore, IsFirstFault}
+use Rattle.order_check.specs.Fault.{FailsTest, list_before, reply_after_places, place_of, turn_of, step_of, HasTurnBefore, IsTriedBefore, IsFirstFault}
 use Rattle.order_check.specs.Standing.{IsStanding, IsInPlace, IsFirstAt}
 use Rattle.order_check.proofs.Faults.{no_place, run_from_replies, stands_here, same_stands}
 
 -- the reply at place p is the one that the object gives there
 abbrev pub IsGiven : List ℕ → (List ℕ → ℕ → List ℕ × ℕ) → List Page → List Place → ℕ → Type 0
 IsGiven init next book order p = (place : Place) → slice_get order p ≡ Some place
-    → reply_at init next book order p place ≡ place.reply
+    → reply_after_places init next book order p place ≡ place.reply
 
 -- place p passes the test of this turn
 abbrev pub PassesTest : List ℕ → (List ℕ → ℕ → List ℕ × ℕ) → List Page → List Place → ℕ → ℕ → Type 0
@@ -153,7 +153,7 @@ first_fault init next book order p fault inside in_place given h = record {
 -- another reply than the object's is the first fault of a place whose call is in place
 pub run_first : (init : List ℕ) (next : List ℕ → ℕ → List ℕ × ℕ) (book : List Page)
     (order : List Place) (p : ℕ) (place : Place) (wanted : ℕ) → slice_get order p ≡ Some place
-    → IsInPlace book order p → wanted ≡ reply_at init next book order p place → wanted ≢ place.reply
+    → IsInPlace book order p → wanted ≡ reply_after_places init next book order p place → wanted ≢ place.reply
     → IsFirstAt init next book order p (Run p wanted place.reply)
 run_first init next book order p place wanted at in_place is other =
     first_at init next book order p (Run p wanted place.reply) (slice_get_within order p place at)
@@ -498,7 +498,7 @@ list_more init next book order p op words inside at is =
 pub reply_more : (init : List ℕ) (next : List ℕ → ℕ → List ℕ × ℕ) (book : List Page)
     (order : List Place) (p op : ℕ) (words : List ℕ) (place : Place)
     → operation_of book (call_at place) ≡ Some op → words ≡ list_before init next book order p
-    → (next words op).1 ≡ reply_at init next book order p place
+    → (next words op).1 ≡ reply_after_places init next book order p place
 reply_more init next book order p op words place at is =
     ap (λ (w : List ℕ). (next w op).1) is ∙ ap
     (λ (o : ℕ). (next (list_before init next book order p) o).1) (sym (step_is book place op at))
@@ -506,7 +506,7 @@ reply_more init next book order p op words place at is =
 -- the reply at an index is the object's where the place there has the object's reply
 pub given_here : (init : List ℕ) (next : List ℕ → ℕ → List ℕ × ℕ) (book : List Page)
     (order : List Place) (p : ℕ) (place : Place) → slice_get order p ≡ Some place
-    → reply_at init next book order p place ≡ place.reply → IsGiven init next book order p
+    → reply_after_places init next book order p place ≡ place.reply → IsGiven init next book order p
 given_here init next book order p place at is other there =
-    subst (λ (x : Place). reply_at init next book order p x ≡ x.reply)
+    subst (λ (x : Place). reply_after_places init next book order p x ≡ x.reply)
     (same_Some place other (sym at ∙ there)) is

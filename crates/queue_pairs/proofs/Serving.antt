@@ -12,7 +12,7 @@ use Rattle.history_rules.specs.Container.{Reading}
 use Rattle.container_pruning.specs.declared.deal.Deal.TheVariants as deals
 use Rattle.container_pruning.specs.Deals.{deal_of}
 use Rattle.queue_pairs.specs.Moments.{moment_of, IsHeldBy}
-use Rattle.queue_pairs.specs.Pairs.{Paired, Pair, Step, Pairs, FindNothing, IsPut, IsTake, IsNext, MayPair, MayFind, MayStep, after, AreSteps}
+use Rattle.queue_pairs.specs.Pairs.{Paired, Pair, PairStep, Pairs, FindNothing, IsPut, IsTake, IsNext, MayPair, MayFind, MayStep, after, AreSteps}
 
 -- two lists of numbers with the same number for each caller
 pub record IsSame (one other : List ℕ) : Type 0 where
@@ -100,7 +100,7 @@ find-at reading book t s m found moment may = record {
 }
 
 -- a step that may come next at a standing may come next at an earlier one
-earlier-step : (reading : Reading) (book : List Page) (t s : Paired) (step : Step)
+earlier-step : (reading : Reading) (book : List Page) (t s : Paired) (step : PairStep)
     → IsEarlier reading book t s → MayStep reading book s step
     → MayStep reading book t step × IsEarlier reading book (after t step) (after s step)
 earlier-step reading book t s (Pairs pair) h may = (
@@ -125,7 +125,7 @@ earlier-step reading book t s (FindNothing m) h may = (
   },
 )
 
-pub steps-earlier : (reading : Reading) (book : List Page) (t s : Paired) (steps : List Step)
+pub steps-earlier : (reading : Reading) (book : List Page) (t s : Paired) (steps : List PairStep)
     → IsEarlier reading book t s → AreSteps reading book s steps → AreSteps reading book t steps
 steps-earlier reading book t s [] h whole = record {
   taken = λ x v took. omega (arith, whole.taken x v took, h.takes.numbers x.caller);
@@ -138,7 +138,7 @@ steps-earlier reading book t s (step ∷ steps) h are =
     (first.0, steps-earlier reading book (after t step) (after s step) steps first.1 are.1)
 
 -- A step of takes that find nothing may be left out where it covers no more of them.
-pub find-idle : (reading : Reading) (book : List Page) (s : Paired) (m : ℕ) (steps : List Step)
+pub find-idle : (reading : Reading) (book : List Page) (s : Paired) (m : ℕ) (steps : List PairStep)
     → s.put_moment ≤ s.take_moment
     → ((e : Call) → deal_of reading book e ≡ deals.FoundNothing → IsHeldBy book e m
     → IsHeldBy book e s.found)
@@ -155,7 +155,7 @@ find-idle reading book s m steps turn none are =
 
 -- Steps that begin with takes that find nothing lead to a whole standing also from where some of
 -- these takes, those of an earlier moment, are covered.
-pub find-earlier : (reading : Reading) (book : List Page) (s : Paired) (g m : ℕ) (steps : List Step)
+pub find-earlier : (reading : Reading) (book : List Page) (s : Paired) (g m : ℕ) (steps : List PairStep)
     → s.found ≤ g → g ≤ m
     → AreSteps reading book s (FindNothing m ∷ steps)
     → AreSteps reading book (after s (FindNothing g)) (FindNothing m ∷ steps)
@@ -249,7 +249,7 @@ outside-before numbers call other was inside out =
     ]
 
 -- An answered put that isn't covered isn't overdue, where steps lead to a whole standing.
-pub put-due : (reading : Reading) (book : List Page) (s : Paired) (steps : List Step) (p : Call)
+pub put-due : (reading : Reading) (book : List Page) (s : Paired) (steps : List PairStep) (p : Call)
     (r : Record) → s.put_moment ≤ s.take_moment → AreSteps reading book s steps
     → IsPut reading book p → record_of book p ≡ Some r → get_or s.puts p.caller 0 ≤ p.number
     → s.put_moment ≤ moment_of r
@@ -277,7 +277,7 @@ put-due reading book s (FindNothing m ∷ steps) p r turn are put known out =
 
 -- An answered take that shows a value and isn't covered isn't overdue, where steps lead to a whole
 -- standing.
-pub take-due : (reading : Reading) (book : List Page) (s : Paired) (steps : List Step) (t : Call)
+pub take-due : (reading : Reading) (book : List Page) (s : Paired) (steps : List PairStep) (t : Call)
     (v : ℕ) (r : Record) → AreSteps reading book s steps
     → deal_of reading book t ≡ deals.Took v → record_of book t ≡ Some r
     → get_or s.takes t.caller 0 ≤ t.number → s.take_moment ≤ moment_of r
@@ -304,7 +304,7 @@ take-due reading book s (FindNothing m ∷ steps) t v r are took known out =
     )
 
 -- A take that finds nothing and isn't covered isn't overdue, where steps lead to a whole standing.
-pub find-due : (reading : Reading) (book : List Page) (s : Paired) (steps : List Step) (e : Call)
+pub find-due : (reading : Reading) (book : List Page) (s : Paired) (steps : List PairStep) (e : Call)
     (r : Record) → IsValid book → AreSteps reading book s steps
     → deal_of reading book e ≡ deals.FoundNothing → record_of book e ≡ Some r
     → (IsHeldBy book e s.found → ⊥) → s.take_moment ≤ moment_of r

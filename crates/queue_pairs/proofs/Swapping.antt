@@ -11,7 +11,7 @@ use Rattle.history_rules.specs.Container.{Reading}
 use Rattle.container_pruning.specs.declared.deal.Deal.TheVariants as deals
 use Rattle.container_pruning.specs.Deals.{deal_of}
 use Rattle.queue_pairs.specs.Moments.{moment_of, IsHeldBy}
-use Rattle.queue_pairs.specs.Pairs.{Paired, Pair, Step, Pairs, FindNothing, IsPutOf, IsPut, MayTakeOut, IsTake, MayPair, MayFind, after, IsWhole, AreSteps}
+use Rattle.queue_pairs.specs.Pairs.{Paired, Pair, PairStep, Pairs, FindNothing, IsPutOf, IsPut, MayTakeOut, IsTake, MayPair, MayFind, after, IsWhole, AreSteps}
 use Rattle.queue_pairs.proofs.Walking.{open_is_unanswered}
 use Rattle.queue_pairs.specs.Serving.{IsDueNoLater, EarlierPutServes, EarlierTakeServes}
 use Rattle.book_base.proofs.PageLemmas.{caller_from_call}
@@ -21,7 +21,7 @@ use Rattle.queue_pairs.proofs.Swapped.{AreSwapped, both-stand, swapped-first, sw
 
 -- steps lead from a standing to one that is whole, and there are this many of them
 abbrev pub GoesOnAsLong : Reading → List Page → Paired → ℕ → Type 0
-GoesOnAsLong reading book t n = (other : List Step) × AreSteps reading book t other
+GoesOnAsLong reading book t n = (other : List PairStep) × AreSteps reading book t other
     × (length other ≡ n)
 
 -- ---- puts
@@ -150,7 +150,7 @@ swapped-here reading book s t p w pair h may is =
     )
 
 puts-swapped : (reading : Reading) (book : List Page) (s t : Paired) (p w : Call)
-    (steps : List Step) → IsValid book → HasOneOpen book → PutsSwapped reading book s t p w
+    (steps : List PairStep) → IsValid book → HasOneOpen book → PutsSwapped reading book s t p w
     → AreSteps reading book s steps → GoesOnAsLong reading book t (length steps)
 puts-swapped reading book s t p w [] valid one h are =
     ([], swapped-end reading book s t p w h are, refl)
@@ -261,7 +261,7 @@ takes-end reading book s t p w h whole = let k = h.places in record {
 
 -- An answered take that isn't covered is due no earlier than the last take so far, where steps lead
 -- to a whole standing.
-take-in-time : (reading : Reading) (book : List Page) (s : Paired) (steps : List Step) (p : Call)
+take-in-time : (reading : Reading) (book : List Page) (s : Paired) (steps : List PairStep) (p : Call)
     (o : Record) → AreSteps reading book s steps → IsTake reading book p
     → record_of book p ≡ Some o → get_or s.takes p.caller 0 ≤ p.number
     → s.take_moment ≤ moment_of o
@@ -332,7 +332,7 @@ takes-here reading book s t p w pair h may is =
     )
 
 takes-swapped : (reading : Reading) (book : List Page) (s t : Paired) (p w : Call)
-    (steps : List Step) → IsValid book → HasOneOpen book → TakesSwapped reading book s t p w
+    (steps : List PairStep) → IsValid book → HasOneOpen book → TakesSwapped reading book s t p w
     → AreSteps reading book s steps → GoesOnAsLong reading book t (length steps)
 takes-swapped reading book s t p w [] valid one h are =
     ([], takes-end reading book s t p w h are, refl)

@@ -23,7 +23,7 @@ use Rattle.container_pruning.specs.declared.deal.Deal.TheVariants as deals
 use Rattle.container_pruning.specs.Deals.{shown_deal, recorded_deal, deal_by_deed, deal_by_operation, deal_of}
 use Rattle.container_pruning.proofs.Dealing.{takes_by_deal, nothing_by_deal}
 use Rattle.queue_pairs.specs.Moments.{moment_of, IsHeldBy, MayTakeEffect, HaveMoments, KeepPrecedence, AreHeld}
-use Rattle.queue_pairs.specs.Pairs.{Paired, Pair, Step, Pairs, FindNothing, IsPutOf, IsPut, MayTakeOut, IsTake, MayPair, MayFind, after, IsWhole, AreSteps, none_paired}
+use Rattle.queue_pairs.specs.Pairs.{Paired, Pair, PairStep, Pairs, FindNothing, IsPutOf, IsPut, MayTakeOut, IsTake, MayPair, MayFind, after, IsWhole, AreSteps, none_paired}
 use Rattle.queue_pairs.specs.PairLaws.{LegalOrdersHavePairs}
 use Rattle.queue_pairs.proofs.Moments.{held_unless_preceded, moments_keep_precedence}
 
@@ -294,7 +294,7 @@ record Walked (reading : Reading) (book : List Page) (cut list : List ℕ) (s : 
 
 -- some steps lead from a standing to one that is whole
 abbrev pub GoesOn : Reading → List Page → Paired → Type 0
-GoesOn reading book s = (steps : List Step) × AreSteps reading book s steps
+GoesOn reading book s = (steps : List PairStep) × AreSteps reading book s steps
 
 -- All that is known at a place of a walk: it may come next, its call may take effect at a moment no
 -- earlier than the walk's, and the cut has a count for its caller.

@@ -28,9 +28,9 @@ pub record Pair : Type 0 where
 
 -- A step from one standing to the next: a pair, or all takes that find nothing and that some view
 -- holds at a moment.
-pub data Step : Type 0 where
-  Pairs : Pair → Step
-  FindNothing : ℕ → Step
+pub data PairStep : Type 0 where
+  Pairs : Pair → PairStep
+  FindNothing : ℕ → PairStep
 
 -- the call puts in a value
 abbrev pub IsPutOf : Reading → List Page → ℕ → Call → Type 0
@@ -78,13 +78,13 @@ pub record MayFind (reading : Reading) (book : List Page) (s : Paired) (m : ℕ)
       → record_of book e ≡ Some r → IsHeldBy book e m
       → (IsHeldBy book e s.found → ⊥) → m ≤ moment_of r
 
-abbrev pub MayStep : Reading → List Page → Paired → Step → Type 0
+abbrev pub MayStep : Reading → List Page → Paired → PairStep → Type 0
 MayStep reading book s (Pairs pair) = MayPair reading book s pair
 MayStep reading book s (FindNothing m) = MayFind reading book s m
 
 -- the standing after a step; after takes that find nothing the next put has no earlier moment than
 -- they
-abbrev pub after : Paired → Step → Paired
+abbrev pub after : Paired → PairStep → Paired
 after s (Pairs pair) = record s {
   puts = slice_set s.puts pair.put.caller (pair.put.number + 1);
   takes = slice_set s.takes pair.take.caller (pair.take.number + 1);
@@ -104,7 +104,7 @@ pub record IsWhole (reading : Reading) (book : List Page) (s : Paired) : Type 0 
       → s.put_moment ≤ moment_of r
 
 -- The steps lead from a standing, one after another, to one that is whole.
-abbrev pub AreSteps : Reading → List Page → Paired → List Step → Type 0
+abbrev pub AreSteps : Reading → List Page → Paired → List PairStep → Type 0
 AreSteps reading book s [] = IsWhole reading book s
 AreSteps reading book s (step ∷ steps) = MayStep reading book s step
     × AreSteps reading book (after s step) steps
@@ -122,5 +122,5 @@ none_paired callers = record {
 -- A queue's book has pairs: some steps lead from the standing that covers no call to one that is
 -- whole.
 abbrev pub HasPairs : Reading → List Page → Type 0
-HasPairs reading book = (steps : List Step)
+HasPairs reading book = (steps : List PairStep)
     × AreSteps reading book (none_paired (length book)) steps

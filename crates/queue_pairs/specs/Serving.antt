@@ -8,7 +8,7 @@ use Rattle.book_base.specs.Pruning.{HasOneOpen}
 use Rattle.history_rules.specs.Container.{Reading}
 use Rattle.container_pruning.specs.Deals.{deal_of}
 use Rattle.queue_pairs.specs.Moments.{moment_of, MayTakeEffect}
-use Rattle.queue_pairs.specs.Pairs.{Paired, Pair, Step, Pairs, IsPutOf, IsPut, IsTake, IsNext, AreSteps}
+use Rattle.queue_pairs.specs.Pairs.{Paired, Pair, PairStep, Pairs, IsPutOf, IsPut, IsTake, IsNext, AreSteps}
 
 -- The other call is due no later than the call: where the call is answered, the other one is too,
 -- with no later moment.
@@ -18,15 +18,15 @@ IsDueNoLater book other call = (r : Record) → record_of book call ≡ Some r �
 
 -- Some steps lead from a standing to one that is whole: this pair, and after it as many steps as
 -- these.
-abbrev pub GoesOnWith : Reading → List Page → Paired → Pair → List Step → Type 0
-GoesOnWith reading book s pair steps = (other : List Step)
+abbrev pub GoesOnWith : Reading → List Page → Paired → Pair → List PairStep → Type 0
+GoesOnWith reading book s pair steps = (other : List PairStep)
     × AreSteps reading book s (Pairs pair ∷ other) × (length other ≡ length steps)
 
 -- Where steps from a standing begin with a pair, as many begin with another caller's next put of
 -- the same value in the place of its put, if that put may take effect no later and is due no later.
 abbrev pub EarlierPutServes : Type 0
 EarlierPutServes = (reading : Reading) (book : List Page) (s : Paired) (pair : Pair) (p : Call)
-    (m : ℕ) (steps : List Step) → IsValid book → HasOneOpen book
+    (m : ℕ) (steps : List PairStep) → IsValid book → HasOneOpen book
     → length book ≤ length s.puts → AreSteps reading book s (Pairs pair ∷ steps)
     → ((v : ℕ) → IsPutOf reading book v pair.put → IsPutOf reading book v p)
     → IsNext (IsPut reading book) s.puts p → s.put_moment ≤ m → p.caller ≢ pair.put.caller
@@ -38,7 +38,7 @@ EarlierPutServes = (reading : Reading) (book : List Page) (s : Paired) (pair : P
 -- later.
 abbrev pub EarlierTakeServes : Type 0
 EarlierTakeServes = (reading : Reading) (book : List Page) (s : Paired) (pair : Pair) (p : Call)
-    (m : ℕ) (steps : List Step) → IsValid book → HasOneOpen book
+    (m : ℕ) (steps : List PairStep) → IsValid book → HasOneOpen book
     → length book ≤ length s.takes → AreSteps reading book s (Pairs pair ∷ steps)
     → deal_of reading book p ≡ deal_of reading book pair.take
     → IsNext (IsTake reading book) s.takes p → (s.take_moment ≤ m) × (pair.put_moment ≤ m)

@@ -2,7 +2,7 @@ ghost use Rattle.std.specs.Prelude.{◌↔◌, IsTrue};
 ghost use Rattle.book_base.specs.Book.{IsCall};
 
 use crate::table::{QueueDeal, Table, TimedCall};
-use crate::walk::{Choice, PairWalk, Step};
+use crate::walk::{StepChoice, PairWalk, PairStep};
 use book_base::{Book, Call, MAX_CALLERS, MAX_CALLS, NoMemory, Place, SeqObject, State};
 use std::alloc::Global;
 
@@ -11,7 +11,7 @@ const CAPACITY: u64 = MAX_CALLERS as u64 * MAX_CALLS + 1;
 
 /// A call, and the moment at which it takes effect.
 #[derive(Clone, Copy)]
-struct Event {
+struct CallAtMoment {
     moment: u64,
     call: Call,
 }
@@ -24,14 +24,14 @@ pub fn calls_in_order(
     walk: &PairWalk,
 ) -> Result<Vec<Call>, NoMemory> {
     let mut events = Vec::new(alloc);
-    for level in &walk.levels {
-        add_step(table, level.choice, &mut events)?;
+    for frame in &walk.frames {
+        add_step(table, frame.choice, &mut events)?;
     }
     for caller in 0..MAX_CALLERS {
         if let Some(row) = table.rows.get(caller) {
             for timed in row {
                 if let Some(moment) = left_moment(walk, caller, *timed) {
-                    events.push(Event {
+                    events.push(CallAtMoment {
                         moment,
                         call: timed.call,
                     })?;
@@ -48,22 +48,22 @@ pub fn calls_in_order(
 }
 
 // Adds the calls of a step.
-fn add_step(table: &Table, choice: Choice, events: &mut Vec<Event>) -> Result<(), NoMemory> {
+fn add_step(table: &Table, choice: StepChoice, events: &mut Vec<CallAtMoment>) -> Result<(), NoMemory> {
     match choice.step {
-        Step::Pair(pair) => {
-            events.push(Event {
+        PairStep::Pair(pair) => {
+            events.push(CallAtMoment {
                 moment: pair.put_moment,
                 call: pair.put.call,
             })?;
-            events.push(Event {
+            events.push(CallAtMoment {
                 moment: pair.take_moment,
                 call: pair.take.call,
             })?;
         }
-        Step::Finds(after, upto) => {
+        PairStep::Finds(after, upto) => {
             for find in &table.finds {
                 if find.span.first > after && find.span.first <= upto {
-                    events.push(Event {
+                    events.push(CallAtMoment {
                         moment: upto,
                         call: find.call,
                     })?;

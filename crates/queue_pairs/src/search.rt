@@ -3,7 +3,7 @@ use crate::next_entries::{NextEntries, TimedPair};
 use crate::standing::PairState;
 use crate::surplus::Surplus;
 use crate::table::{QueueDeal, Table, TimedCall};
-use crate::walk::{Choice, PairWalk, Step};
+use crate::walk::{StepChoice, PairWalk, PairStep};
 use book_base::{MAX_CALLERS, NoMemory};
 use indexmap::IndexSet;
 use std::alloc::Global;
@@ -13,7 +13,7 @@ use std::mem;
 /// What a search for pairs answers.
 #[derive(Drop)]
 pub enum PairsFound {
-    /// A walk whose levels have pairs for all answered takes.
+    /// A walk whose frames have pairs for all answered takes.
     Pairs(PairWalk),
     /// All was tried, and no pairs were found: the standings that the search entered.
     DeadEnds(IndexSet<PairState>),
@@ -46,7 +46,7 @@ impl Drop for PairSearch<'_> {
 }
 
 impl PairSearch<'_> {
-    /// Looks for a walk whose levels have pairs for all answered takes.
+    /// Looks for a walk whose frames have pairs for all answered takes.
     pub fn run(&self) -> Result<PairsFound, NoMemory> {
         let mut walk = PairWalk::new(self.alloc);
         let _is_new = walk.entered.insert(walk.here)?;
@@ -75,11 +75,11 @@ impl PairSearch<'_> {
 
     // Goes on to the standing of a choice, unless the walk was there before, and answers whether
     // that standing is whole.
-    fn enter(&self, walk: &mut PairWalk, choice: Choice) -> Result<bool, NoMemory> {
+    fn enter(&self, walk: &mut PairWalk, choice: StepChoice) -> Result<bool, NoMemory> {
         if !walk.entered.insert(choice.to)? {
             return Ok(false);
         }
-        if let Step::Pair(pair) = choice.step
+        if let PairStep::Pair(pair) = choice.step
             && !pair.take.is_answered()
             && let QueueDeal::Put(value) = pair.put.deal
         {
@@ -97,7 +97,7 @@ impl PairSearch<'_> {
         walk: &PairWalk,
         standing: &PairState,
         next_entries: &NextEntries,
-    ) -> Result<Vec<Choice>, NoMemory> {
+    ) -> Result<Vec<StepChoice>, NoMemory> {
         let mut choices = Vec::new(self.alloc);
         if let Some(choice) = finds_next(standing, next_entries) {
             choices.push(choice)?;
@@ -132,7 +132,7 @@ impl PairSearch<'_> {
         standing: &PairState,
         next_entries: &NextEntries,
         take: TimedCall,
-        choices: &mut Vec<Choice>,
+        choices: &mut Vec<StepChoice>,
     ) -> Result<(), NoMemory> {
         for caller in 0..MAX_CALLERS {
             if let Some(put) = next_entries.puts[caller]
@@ -165,7 +165,7 @@ impl PairSearch<'_> {
 }
 
 // The takes that find nothing and may come next at a standing, at the earliest moment.
-fn finds_next(standing: &PairState, next_entries: &NextEntries) -> Option<Choice> {
+fn finds_next(standing: &PairState, next_entries: &NextEntries) -> Option<StepChoice> {
     if next_entries.find_first == NEVER {
         return None;
     }
@@ -173,9 +173,9 @@ fn finds_next(standing: &PairState, next_entries: &NextEntries) -> Option<Choice
     if next_entries.is_past(moment, moment) {
         return None;
     }
-    Some(Choice {
+    Some(StepChoice {
         turn: next_entries.find_limit,
-        step: Step::Finds(standing.found, moment),
+        step: PairStep::Finds(standing.found, moment),
         to: standing.with_finds(moment),
     })
 }
@@ -186,14 +186,14 @@ fn pair_next(
     next_entries: &NextEntries,
     put: TimedCall,
     take: TimedCall,
-) -> Option<Choice> {
+) -> Option<StepChoice> {
     let pair = TimedPair::earliest(standing, put, take);
     if next_entries.is_past(pair.put_moment, pair.take_moment) {
         return None;
     }
-    Some(Choice {
+    Some(StepChoice {
         turn: take.span.last,
-        step: Step::Pair(pair),
+        step: PairStep::Pair(pair),
         to: standing.with_pair(&pair),
     })
 }
@@ -207,9 +207,9 @@ fn earlier_of(one: Option<TimedCall>, other: TimedCall) -> Option<TimedCall> {
 }
 
 // Whether one choice serves for another one, so that the other needn't be tried.
-fn serves(one: &Choice, other: &Choice) -> bool {
+fn serves(one: &StepChoice, other: &StepChoice) -> bool {
     match (one.step, other.step) {
-        (Step::Pair(pair), Step::Pair(others)) => pair.serves(&others),
+        (PairStep::Pair(pair), PairStep::Pair(others)) => pair.serves(&others),
         _ => false,
     }
 }

@@ -7,7 +7,7 @@ use std::mem;
 
 /// A step of a search of pairs.
 #[derive(Clone, Copy)]
-pub enum Step {
+pub enum PairStep {
     /// A put, and the take that takes its value out.
     Pair(TimedPair),
     /// The takes that find nothing and that some view holds up to the second moment, and none up to
@@ -17,29 +17,29 @@ pub enum Step {
 
 /// A step that may be tried, where it leads, and its turn: the least is tried first.
 #[derive(Clone, Copy)]
-pub struct Choice {
+pub struct StepChoice {
     pub turn: u64,
-    pub step: Step,
+    pub step: PairStep,
     pub to: PairState,
 }
 
 /// A standing on the way to the present one of a walk: the step that was taken there, and what is
 /// still to be tried there besides it.
 #[derive(Drop)]
-pub struct PairLevel {
+pub struct PairFrame {
     pub from: PairState,
-    pub choice: Choice,
-    pub choices: Vec<Choice>,
+    pub choice: StepChoice,
+    pub choices: Vec<StepChoice>,
 }
 
-/// How far a search has come: the levels that lead to its present standing, this standing, what is
+/// How far a search has come: the frames that lead to its present standing, this standing, what is
 /// still to be tried there with the best choice last, the values that unanswered takes took on the
 /// way, and all standings that were entered.
 #[derive(Drop)]
 pub struct PairWalk {
-    pub levels: Vec<PairLevel>,
+    pub frames: Vec<PairFrame>,
     pub here: PairState,
-    pub choices: Vec<Choice>,
+    pub choices: Vec<StepChoice>,
     pub spent: Vec<u64>,
     pub entered: IndexSet<PairState>,
 }
@@ -48,7 +48,7 @@ impl PairWalk {
     /// A walk at the standing that covers no call.
     pub fn new(alloc: Global) -> PairWalk {
         PairWalk {
-            levels: Vec::new(alloc),
+            frames: Vec::new(alloc),
             here: PairState::start(),
             choices: Vec::new(alloc),
             spent: Vec::new(alloc),
@@ -57,27 +57,27 @@ impl PairWalk {
     }
 
     /// Goes on to the standing of a choice, at which these choices may be tried.
-    pub fn enter(&mut self, choice: Choice, choices: Vec<Choice>) -> Result<(), NoMemory> {
-        let level = PairLevel {
+    pub fn enter(&mut self, choice: StepChoice, choices: Vec<StepChoice>) -> Result<(), NoMemory> {
+        let frame = PairFrame {
             from: self.here,
             choice,
             choices: mem::replace(&mut self.choices, choices),
         };
         self.here = choice.to;
-        self.levels.push(level)?;
+        self.frames.push(frame)?;
         Ok(())
     }
 
     /// Goes back by a step, if there is one.
     pub fn retreat(&mut self) -> bool {
-        match self.levels.pop() {
-            Some(level) => {
-                let PairLevel {
+        match self.frames.pop() {
+            Some(frame) => {
+                let PairFrame {
                     from,
                     choice,
                     choices,
-                } = level;
-                if let Step::Pair(pair) = choice.step
+                } = frame;
+                if let PairStep::Pair(pair) = choice.step
                     && !pair.take.is_answered()
                 {
                     let _value = self.spent.pop();

@@ -17,7 +17,7 @@ use Rattle.queue_pairs.specs.declared.table.QueueDeal.TheVariants as did
 use Rattle.queue_pairs.specs.declared.table.Table.{Table}
 use Rattle.queue_pairs.specs.declared.table.TimedCall.{TimedCall}
 use Rattle.queue_pairs.specs.Moments.{moment_of}
-use Rattle.queue_pairs.specs.Pairs.{Paired, Pair, Step, Pairs, FindNothing, IsPut, IsTake, IsNext, MayPair, after, AreSteps, none_paired}
+use Rattle.queue_pairs.specs.Pairs.{Paired, Pair, PairStep, Pairs, FindNothing, IsPut, IsTake, IsNext, MayPair, after, AreSteps, none_paired}
 use Rattle.queue_pairs.specs.Tables.{known_deal, is_put, is_take, rows_of, timed_at, IsTimed, IsTable}
 use Rattle.queue_pairs.proofs.Walking.{legal_orders_have_pairs}
 use Rattle.container_counts.specs.declared.counts.Counted.TheVariants as counted
@@ -280,7 +280,7 @@ take-needs reading book table s pair v m n may e late told =
 
 -- no take of a pair takes effect after a moment by which a remaining take is due
 take-in-time : (reading : Reading) (book : List Page) (table : Table) (v n : ℕ) (s : Paired)
-    (pair : Pair) (steps : List Step) → IsTable reading book table → n < NEVER
+    (pair : Pair) (steps : List PairStep) → IsTable reading book table → n < NEVER
     → AreSteps reading book s (Pairs pair ∷ steps)
     → 0 < left_in (is_counted counted.DueTakes (v ∷ []) n) table s.takes → n < pair.take_moment → ⊥
 take-in-time reading book table v n s pair steps is few are more later =
@@ -295,7 +295,7 @@ take-in-time reading book table v n s pair steps is few are more later =
 
 -- no put of a pair takes effect after a moment by which a remaining put is due
 put-in-time : (reading : Reading) (book : List Page) (table : Table) (u m : ℕ) (s : Paired)
-    (pair : Pair) (steps : List Step) → IsTable reading book table → m < NEVER
+    (pair : Pair) (steps : List PairStep) → IsTable reading book table → m < NEVER
     → AreSteps reading book s (Pairs pair ∷ steps)
     → 0 < left_in (is_counted counted.DuePuts (u ∷ []) m) table s.puts → m < pair.put_moment → ⊥
 put-in-time reading book table u m s pair steps is few are more later =
@@ -311,7 +311,7 @@ put-in-time reading book table u m s pair steps is few are more later =
 -- Where steps lead to a whole standing, the remaining takes of a value aren't ahead while the
 -- remaining puts of some value are, nor where the takes' moment is no later than the puts'.
 takes-clash : (reading : Reading) (book : List Page) (table : Table) (v u m n : ℕ)
-    → IsTable reading book table → m < NEVER → n < NEVER → (s : Paired) (steps : List Step)
+    → IsTable reading book table → m < NEVER → n < NEVER → (s : Paired) (steps : List PairStep)
     → length book ≤ length s.puts → length book ≤ length s.takes → AreSteps reading book s steps
     → left_in (is_counted counted.EarlyPuts (v ∷ []) m) table s.puts
     < left_in (is_counted counted.DueTakes (v ∷ []) n) table s.takes

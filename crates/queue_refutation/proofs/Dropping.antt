@@ -15,7 +15,7 @@ use Rattle.container_pruning.specs.Deals.{deal_of}
 use Rattle.container_pruning.proofs.Dealing.{takes_by_deal, call_by_deal}
 use Rattle.book_base.proofs.PageLemmas.{caller_from_call}
 use Rattle.queue_pairs.specs.Moments.{IsHeldBy, MayTakeEffect}
-use Rattle.queue_pairs.specs.Pairs.{Paired, Step, Pairs, FindNothing, IsPut, IsTake, IsNext, after, AreSteps}
+use Rattle.queue_pairs.specs.Pairs.{Paired, PairStep, Pairs, FindNothing, IsPut, IsTake, IsNext, after, AreSteps}
 use Rattle.queue_pairs.proofs.Serving.{next-at}
 use Rattle.queue_refutation.specs.RefutationLaws.{UnansweredPairsAreIdle}
 
@@ -110,7 +110,7 @@ record Dropped (reading : Reading) (book : List Page) (t s : Paired) (p q : Call
   long_takes : length s.takes ≡ length t.takes
 
 dropped-steps : (reading : Reading) (book : List Page) (t s : Paired) (p q : Call)
-    (steps : List Step) → HasOneOpen book → Dropped reading book t s p q
+    (steps : List PairStep) → HasOneOpen book → Dropped reading book t s p q
     → AreSteps reading book s steps → AreSteps reading book t steps
 dropped-steps reading book t s p q [] one h whole = record {
   taken = λ x v took.

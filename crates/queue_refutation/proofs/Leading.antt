@@ -14,7 +14,7 @@ use Rattle.container_pruning.specs.declared.deal.Deal.TheVariants as deals
 use Rattle.container_pruning.specs.Deals.{deal_of}
 use Rattle.container_pruning.proofs.Dealing.{call_by_deal}
 use Rattle.queue_pairs.specs.Moments.{moment_of, IsHeldBy}
-use Rattle.queue_pairs.specs.Pairs.{Paired, Pair, Step, Pairs, FindNothing, IsPutOf, IsPut, IsTake, IsNext, after, AreSteps}
+use Rattle.queue_pairs.specs.Pairs.{Paired, Pair, PairStep, Pairs, FindNothing, IsPutOf, IsPut, IsTake, IsNext, after, AreSteps}
 use Rattle.queue_pairs.specs.Serving.{IsDueNoLater, GoesOnWith}
 use Rattle.queue_pairs.proofs.Walking.{open_is_unanswered}
 use Rattle.queue_pairs.proofs.Serving.{IsSame, same-refl, same-set, next-at, next-same, held_later, steps-earlier, find-idle, find-earlier, still-outside, outside-before, put-due, take-due, find-due}
@@ -26,7 +26,7 @@ use Rattle.queue_refutation.proofs.Dropping.{unanswered_pairs_are_idle}
 
 -- no remaining put is due before the pair's put
 pub pair-puts-due : (reading : Reading) (book : List Page) (s : Paired) (pair : Pair)
-    (steps : List Step) (p : Call) (r : Record) → AreSteps reading book s (Pairs pair ∷ steps)
+    (steps : List PairStep) (p : Call) (r : Record) → AreSteps reading book s (Pairs pair ∷ steps)
     → IsPut reading book p → record_of book p ≡ Some r → get_or s.puts p.caller 0 ≤ p.number
     → pair.put_moment ≤ moment_of r
 pair-puts-due reading book s pair steps p r are put known out =
@@ -38,7 +38,7 @@ pair-puts-due reading book s pair steps p r are put known out =
 
 -- no remaining take that shows a value is due before the pair's take
 pub pair-takes-due : (reading : Reading) (book : List Page) (s : Paired) (pair : Pair)
-    (steps : List Step) (t : Call) (v : ℕ) (r : Record)
+    (steps : List PairStep) (t : Call) (v : ℕ) (r : Record)
     → AreSteps reading book s (Pairs pair ∷ steps)
     → deal_of reading book t ≡ deals.Took v → record_of book t ≡ Some r
     → get_or s.takes t.caller 0 ≤ t.number → pair.take_moment ≤ moment_of r
@@ -50,7 +50,7 @@ pair-takes-due reading book s pair steps t v r are took known out =
 
 -- no call is overdue with a pair that steps begin with
 pair-not-overdue : (reading : Reading) (book : List Page) (s : Paired) (pair : Pair)
-    (steps : List Step) → IsValid book → AreSteps reading book s (Pairs pair ∷ steps)
+    (steps : List PairStep) → IsValid book → AreSteps reading book s (Pairs pair ∷ steps)
     → IsOverdue reading book s pair.put_moment pair.take_moment → ⊥
 pair-not-overdue reading book s pair steps valid are overdue =
     elim overdue [
@@ -69,7 +69,7 @@ pair-not-overdue reading book s pair steps valid are overdue =
 
 -- a pair may come next with earlier moments
 pair-earlier : (reading : Reading) (book : List Page) (s : Paired) (pair : Pair) (m n : ℕ)
-    (steps : List Step) → AreSteps reading book s (Pairs pair ∷ steps)
+    (steps : List PairStep) → AreSteps reading book s (Pairs pair ∷ steps)
     → s.put_moment ≤ m → m ≤ pair.put_moment → s.take_moment ≤ n → n ≤ pair.take_moment → m ≤ n
     → IsHeldBy book pair.put m → IsHeldBy book pair.take n
     → AreSteps reading book s (Pairs (record pair { put_moment = m; take_moment = n }) ∷ steps)
@@ -112,7 +112,7 @@ pair-earlier reading book s pair m n steps are low_m high_m low_n high_n turn he
 -- Where steps begin with a pair, as many begin with one that has a put which serves for the pair's
 -- own.
 serve-put : (reading : Reading) (book : List Page) (s : Paired) (pair : Pair) (p : Call) (m : ℕ)
-    (steps : List Step) → IsValid book → HasOneOpen book
+    (steps : List PairStep) → IsValid book → HasOneOpen book
     → length book ≤ length s.puts → AreSteps reading book s (Pairs pair ∷ steps)
     → ((v : ℕ) → IsPutOf reading book v pair.put → IsPutOf reading book v p)
     → IsNext (IsPut reading book) s.puts p → s.put_moment ≤ m → m ≤ pair.put_moment
@@ -151,7 +151,7 @@ serve-put reading book s pair p m steps valid one wide are puts next low early h
 -- Where steps begin with a pair, as many begin with one that has a take which serves for the pair's
 -- own.
 serve-take : (reading : Reading) (book : List Page) (s : Paired) (pair : Pair) (p : Call) (m : ℕ)
-    (steps : List Step) → IsValid book → HasOneOpen book
+    (steps : List PairStep) → IsValid book → HasOneOpen book
     → length book ≤ length s.takes → AreSteps reading book s (Pairs pair ∷ steps)
     → deal_of reading book p ≡ deal_of reading book pair.take
     → IsNext (IsTake reading book) s.takes p → s.take_moment ≤ m → pair.put_moment ≤ m
@@ -200,7 +200,7 @@ serve-take reading book s pair p m steps valid one wide are deal next low turn e
     ]
 
 -- Where steps begin with a pair, as many begin with one that serves for it.
-served : (reading : Reading) (book : List Page) (s : Paired) (pair other : Pair) (steps : List Step)
+served : (reading : Reading) (book : List Page) (s : Paired) (pair other : Pair) (steps : List PairStep)
     → IsValid book → HasOneOpen book
     → length book ≤ length s.puts → length book ≤ length s.takes
     → PairServesFor reading book s other pair → AreSteps reading book s (Pairs pair ∷ steps)
@@ -233,9 +233,9 @@ record IsRaised (reading : Reading) (book : List Page) (t s : Paired) (m : ℕ) 
   wide : length book ≤ length s.puts
 
 -- as many steps lead from this standing to a whole one as from the other one
-raised-steps : (reading : Reading) (book : List Page) (t s : Paired) (m : ℕ) (steps : List Step)
+raised-steps : (reading : Reading) (book : List Page) (t s : Paired) (m : ℕ) (steps : List PairStep)
     → IsRaised reading book t s m → AreSteps reading book s steps
-    → (other : List Step) × AreSteps reading book t other × (length other ≡ length steps)
+    → (other : List PairStep) × AreSteps reading book t other × (length other ≡ length steps)
 raised-steps reading book t s m [] h whole = (
   [],
   record {
@@ -326,10 +326,10 @@ raised-steps reading book t s m (FindNothing n ∷ steps) h are =
 
 -- where takes that find nothing may be covered at once, as many steps lead to a whole standing
 -- after them
-at-once : (reading : Reading) (book : List Page) (s : Paired) (steps : List Step)
+at-once : (reading : Reading) (book : List Page) (s : Paired) (steps : List PairStep)
     → length book ≤ length s.puts → s.found < s.take_moment
     → (HasPutBefore reading book s s.take_moment → ⊥) → AreSteps reading book s steps
-    → (other : List Step) × AreSteps reading book (after s (FindNothing s.take_moment)) other
+    → (other : List PairStep) × AreSteps reading book (after s (FindNothing s.take_moment)) other
     × (length other ≡ length steps)
 at-once reading book s steps wide more in_time are =
     raised-steps reading book (after s (FindNothing s.take_moment)) s s.take_moment steps
@@ -348,7 +348,7 @@ at-once reading book s steps wide more in_time are =
     }) are
 
 -- no take that finds nothing is due before the moment of a step
-find-step-due : (reading : Reading) (book : List Page) (s : Paired) (m : ℕ) (steps : List Step)
+find-step-due : (reading : Reading) (book : List Page) (s : Paired) (m : ℕ) (steps : List PairStep)
     (e : Call) (r : Record) → IsValid book → AreSteps reading book s (FindNothing m ∷ steps)
     → deal_of reading book e ≡ deals.FoundNothing → record_of book e ≡ Some r
     → (IsHeldBy book e s.found → ⊥) → m ≤ moment_of r
@@ -361,7 +361,7 @@ find-step-due reading book s m steps e r valid are nothing known out =
     ]
 
 -- no call is overdue at the moment of a step of takes that find nothing, or before
-find-not-overdue : (reading : Reading) (book : List Page) (s : Paired) (m g : ℕ) (steps : List Step)
+find-not-overdue : (reading : Reading) (book : List Page) (s : Paired) (m g : ℕ) (steps : List PairStep)
     → IsValid book → g ≤ m → AreSteps reading book s (FindNothing m ∷ steps)
     → IsOverdue reading book s g g → ⊥
 find-not-overdue reading book s m g steps valid low are overdue =
@@ -390,14 +390,14 @@ find-not-overdue reading book s m g steps valid low are overdue =
 
 -- From one of these standings fewer steps lead to a whole one; or as many do, and takes that find
 -- nothing are covered up to a later moment.
-abbrev pub LeadsOn : Reading → List Page → List Paired → Paired → List Step → Type 0
+abbrev pub LeadsOn : Reading → List Page → List Paired → Paired → List PairStep → Type 0
 LeadsOn reading book standings s steps =
-    (next : Paired) × (other : List Step) × IsOnePaired standings next
+    (next : Paired) × (other : List PairStep) × IsOnePaired standings next
     × AreSteps reading book next other
     × ((length other < length steps) ⊎ ((length other ≡ length steps) × (s.found < next.found)))
 
 pair-leads : (reading : Reading) (book : List Page) (standings : List Paired) (s : Paired)
-    (pair : Pair) (steps : List Step) → IsValid book → HasOneOpen book
+    (pair : Pair) (steps : List PairStep) → IsValid book → HasOneOpen book
     → IsOnePaired standings s → length book ≤ length s.puts → length book ≤ length s.takes
     → PairLeads reading book standings s pair
     → AreSteps reading book s (Pairs pair ∷ steps)
@@ -422,7 +422,7 @@ pair-leads reading book standings s pair steps valid one is wide_puts wide_takes
     ]
 
 finds-lead : (reading : Reading) (book : List Page) (standings : List Paired) (s : Paired) (m : ℕ)
-    (steps : List Step) → IsValid book → IsOnePaired standings s
+    (steps : List PairStep) → IsValid book → IsOnePaired standings s
     → s.put_moment ≤ s.take_moment → FindsLead reading book standings s m
     → AreSteps reading book s (FindNothing m ∷ steps)
     → LeadsOn reading book standings s (FindNothing m ∷ steps)
@@ -444,7 +444,7 @@ finds-lead reading book standings s m steps valid is turn leads are =
     ]
 
 all-lead : (reading : Reading) (book : List Page) (standings : List Paired) (s : Paired)
-    (steps : List Step) → IsValid book → HasOneOpen book → IsOnePaired standings s
+    (steps : List PairStep) → IsValid book → HasOneOpen book → IsOnePaired standings s
     → length book ≤ length s.puts → length book ≤ length s.takes → AllLead reading book standings s
     → AreSteps reading book s steps → LeadsOn reading book standings s steps
 all-lead reading book standings s [] valid one is wide_puts wide_takes h are
@@ -458,7 +458,7 @@ all-lead reading book standings s (FindNothing m ∷ steps) valid one is wide_pu
 -- Where steps lead from a standing of a closed list to a whole one, they do from another one of the
 -- list, with less left to do.
 pub leads-on : (reading : Reading) (book : List Page) (standings : List Paired) (s : Paired)
-    (steps : List Step) → IsValid book → HasOneOpen book → IsOnePaired standings s
+    (steps : List PairStep) → IsValid book → HasOneOpen book → IsOnePaired standings s
     → IsClosedAt reading book standings s → AreSteps reading book s steps
     → LeadsOn reading book standings s steps
 leads-on reading book standings s steps valid one is h are =

@@ -7,7 +7,7 @@ use Rattle.std.proofs.lemmas.Option.{same_Some, none-some}
 use Rattle.book_base.specs.Book.{Page, IsValid}
 use Rattle.book_base.specs.Pruning.{HasOneOpen}
 use Rattle.history_rules.specs.Container.{Reading}
-use Rattle.queue_pairs.specs.Pairs.{Paired, Step, AreSteps, none_paired}
+use Rattle.queue_pairs.specs.Pairs.{Paired, PairStep, AreSteps, none_paired}
 use Rattle.queue_pairs.proofs.Walking.{steps_from_order}
 use Rattle.queue_refutation.specs.Closed.{IsOnePaired, AreClosed}
 use Rattle.queue_refutation.specs.RefutationLaws.{ClosedStandingsAreDead, ClosedStartsHaveNoOrder}
@@ -30,9 +30,9 @@ latest-bounds (t ∷ standings) (suc k) s at = omega (arith, latest-bounds stand
 -- fewer do, by induction on the moments that are left for takes that find nothing
 dead-within : (reading : Reading) (book : List Page) (standings : List Paired) (few more : ℕ)
     → IsValid book → HasOneOpen book → AreClosed reading book standings
-    → ((s : Paired) (steps : List Step) → IsOnePaired standings s → AreSteps reading book s steps
+    → ((s : Paired) (steps : List PairStep) → IsOnePaired standings s → AreSteps reading book s steps
     → length steps < few → ⊥)
-    → (s : Paired) (steps : List Step) → IsOnePaired standings s → AreSteps reading book s steps
+    → (s : Paired) (steps : List PairStep) → IsOnePaired standings s → AreSteps reading book s steps
     → length steps ≤ few → latest standings ≤ s.found + more → ⊥
 dead-within reading book standings few zero valid one closed fewer s steps is are long found =
     let on = leads-on reading book standings s steps valid one is (closed s is) are in
@@ -51,7 +51,7 @@ dead-within reading book standings few (suc more) valid one closed fewer s steps
 
 dead-below : (reading : Reading) (book : List Page) (standings : List Paired) (few : ℕ)
     → IsValid book → HasOneOpen book → AreClosed reading book standings
-    → (s : Paired) (steps : List Step) → IsOnePaired standings s → AreSteps reading book s steps
+    → (s : Paired) (steps : List PairStep) → IsOnePaired standings s → AreSteps reading book s steps
     → length steps < few → ⊥
 dead-below reading book standings zero valid one closed s steps is are long = omega (arith, long)
 dead-below reading book standings (suc few) valid one closed s steps is are long =

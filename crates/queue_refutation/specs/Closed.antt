@@ -7,7 +7,7 @@ use Rattle.history_rules.specs.Container.{Reading}
 use Rattle.container_pruning.specs.declared.deal.Deal.TheVariants as deals
 use Rattle.container_pruning.specs.Deals.{deal_of}
 use Rattle.queue_pairs.specs.Moments.{moment_of, IsHeldBy}
-use Rattle.queue_pairs.specs.Pairs.{Paired, Pair, Step, Pairs, FindNothing, IsPutOf, IsPut, IsTake, IsNext, MayPair, MayFind, MayStep, after, IsWhole}
+use Rattle.queue_pairs.specs.Pairs.{Paired, Pair, PairStep, Pairs, FindNothing, IsPutOf, IsPut, IsTake, IsNext, MayPair, MayFind, MayStep, after, IsWhole}
 use Rattle.queue_pairs.specs.Serving.{IsDueNoLater}
 
 -- the standing is one of these
@@ -122,5 +122,5 @@ pub record HasSuccessors (reading : Reading) (book : List Page) (standings : Lis
   pub wide_takes : length book ≤ length s.takes
   pub in_turn : s.put_moment ≤ s.take_moment
   pub unfinished : IsWhole reading book s → ⊥
-  pub successors : (step : Step) → MayStep reading book s step
+  pub successors : (step : PairStep) → MayStep reading book s step
       → IsOnePaired standings (after s step)

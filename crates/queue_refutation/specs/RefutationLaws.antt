@@ -4,14 +4,14 @@ use Rattle.book_base.specs.Book.{Page, IsValid}
 use Rattle.book_base.specs.Order.{HasLegalOrder}
 use Rattle.book_base.specs.Pruning.{HasOneOpen}
 use Rattle.history_rules.specs.Container.{Reading, IsQueue}
-use Rattle.queue_pairs.specs.Pairs.{Paired, Pair, Step, Pairs, MayPair, AreSteps, none_paired}
+use Rattle.queue_pairs.specs.Pairs.{Paired, Pair, PairStep, Pairs, MayPair, AreSteps, none_paired}
 use Rattle.queue_refutation.specs.Closed.{IsOnePaired, PairServesFor, IsUnanswered, AreClosed, HasSuccessors}
 
 -- In a valid book with one open, no steps lead from a standing of a closed list to one that is
 -- whole.
 abbrev pub ClosedStandingsAreDead : Type 0
 ClosedStandingsAreDead = (reading : Reading) (book : List Page) (standings : List Paired)
-    (s : Paired) (steps : List Step) → IsValid book → HasOneOpen book
+    (s : Paired) (steps : List PairStep) → IsValid book → HasOneOpen book
     → AreClosed reading book standings → IsOnePaired standings s → AreSteps reading book s steps → ⊥
 
 -- A queue's valid book with one open has no legal order where a closed list of standings has the
@@ -27,7 +27,7 @@ ClosedStartsHaveNoOrder = (reading : Reading) (init : List ℕ) (next : List ℕ
 -- steps without this pair do too.
 abbrev pub UnansweredPairsAreIdle : Type 0
 UnansweredPairsAreIdle = (reading : Reading) (book : List Page) (s : Paired) (pair : Pair)
-    (steps : List Step) → HasOneOpen book → length book ≤ length s.puts
+    (steps : List PairStep) → HasOneOpen book → length book ≤ length s.puts
     → length book ≤ length s.takes → IsUnanswered book pair
     → AreSteps reading book s (Pairs pair ∷ steps) → AreSteps reading book s steps
 

@@ -17,7 +17,7 @@ const MOST_VALUES: usize = 64;
 /// views, of its puts those of the first views that hold them, and both likewise of the takes that
 /// show it; unanswered takes are in the last list too.
 #[derive(Drop)]
-struct Moments {
+struct ValueMoments {
     value: u64,
     due_puts: Vec<u64>,
     early_puts: Vec<u64>,
@@ -43,7 +43,7 @@ pub fn refute_by_counts(alloc: Global, table: &Table, book: &Book) -> Result<boo
 }
 
 // Whether counts show that a table's book has no pairs.
-fn refute(table: &Table, moments: &[Moments]) -> bool
+fn refute(table: &Table, moments: &[ValueMoments]) -> bool
     ensures { IsTrue result → HasNoPairs table.now }
 {
     for place in 0..moments.len() {
@@ -56,7 +56,7 @@ fn refute(table: &Table, moments: &[Moments]) -> bool
 
 // Whether more of the one value has been taken out than put in, while more of another one has been
 // put in than taken out.
-fn takes_refute(table: &Table, moments: &[Moments], ahead: &Moments) -> bool
+fn takes_refute(table: &Table, moments: &[ValueMoments], ahead: &ValueMoments) -> bool
     ensures { IsTrue result → HasNoPairs table.now }
 {
     for place in 0..moments.len() {
@@ -108,7 +108,7 @@ fn puts_of_are_ahead(table: &Table, value: u64, put_moment: u64, take_moment: u6
 
 // The moments up to which to count puts and takes so that the first value's puts are ahead, and the
 // second value's takes.
-fn clash_of(other: &Moments, ahead: &Moments) -> Option<(u64, u64)> {
+fn clash_of(other: &ValueMoments, ahead: &ValueMoments) -> Option<(u64, u64)> {
     for place in 0..other.due_puts.len() {
         let put_moment = other.due_puts[place];
         let early = up_to(&ahead.early_puts, put_moment);
@@ -134,7 +134,7 @@ fn moment_at(moments: &[u64], place: usize) -> u64 {
 }
 
 // The moments of each value, unless there are too many values.
-fn moments_of(alloc: Global, table: &Table) -> Result<Option<Vec<Moments>>, NoMemory> {
+fn moments_of(alloc: Global, table: &Table) -> Result<Option<Vec<ValueMoments>>, NoMemory> {
     let mut moments = Vec::new(alloc);
     for row in &table.rows {
         for timed in row {
@@ -156,7 +156,7 @@ fn moments_of(alloc: Global, table: &Table) -> Result<Option<Vec<Moments>>, NoMe
 
 // Adds the moments of a call that some view holds, and answers whether its value is among the
 // counted ones.
-fn add(alloc: Global, timed: TimedCall, moments: &mut Vec<Moments>) -> Result<bool, NoMemory> {
+fn add(alloc: Global, timed: TimedCall, moments: &mut Vec<ValueMoments>) -> Result<bool, NoMemory> {
     if !timed.is_held() {
         return Ok(true);
     }
@@ -186,7 +186,7 @@ fn add(alloc: Global, timed: TimedCall, moments: &mut Vec<Moments>) -> Result<bo
 }
 
 // Adds the moment of an unanswered take to those of each value.
-fn add_open(timed: TimedCall, moments: &mut Vec<Moments>) -> Result<(), NoMemory> {
+fn add_open(timed: TimedCall, moments: &mut Vec<ValueMoments>) -> Result<(), NoMemory> {
     if let QueueDeal::OpenTake = timed.deal
         && timed.is_held()
     {
@@ -201,7 +201,7 @@ fn add_open(timed: TimedCall, moments: &mut Vec<Moments>) -> Result<(), NoMemory
 fn place_of(
     alloc: Global,
     value: u64,
-    moments: &mut Vec<Moments>,
+    moments: &mut Vec<ValueMoments>,
 ) -> Result<Option<usize>, NoMemory>
     ensures { IfOk result (λ place. IfSome place (λ k. k < length moments.new.items)) }
 {
@@ -214,7 +214,7 @@ fn place_of(
     if place >= MOST_VALUES {
         return Ok(None);
     }
-    moments.push(Moments {
+    moments.push(ValueMoments {
         value,
         due_puts: Vec::new(alloc),
         early_puts: Vec::new(alloc),
@@ -225,7 +225,7 @@ fn place_of(
 }
 
 // Puts each list of moments in order.
-fn sort(moments: &mut Moments) -> Result<(), NoMemory> {
+fn sort(moments: &mut ValueMoments) -> Result<(), NoMemory> {
     moments.due_puts.sort()?;
     moments.early_puts.sort()?;
     moments.due_takes.sort()?;

@@ -7,8 +7,8 @@ use Rattle.seq_objects.specs.declared.kind.Kind.TheVariants.{Queue, Stack, Regis
 use Rattle.seq_objects.specs.Words as words
 use Rattle.client_scripts.specs.Plans.{Plan}
 use Rattle.client_scripts.specs.Generator.{operation}
-use Rattle.random_scripts.specs.declared.workload.Choice.{Choice}
-use Rattle.random_scripts.specs.declared.workload.Choice.TheVariants.{First, Second, Third}
+use Rattle.random_scripts.specs.declared.workload.OperationChoice.{OperationChoice}
+use Rattle.random_scripts.specs.declared.workload.OperationChoice.TheVariants.{First, Second, Third}
 use Rattle.random_scripts.specs.declared.workload.Weights.{Weights}
 use Rattle.random_scripts.specs.declared.workload.Workload.{Workload}
 use Rattle.random_scripts.specs.Draws.{key_of, drawn}
@@ -22,14 +22,14 @@ pub record IsWorkload (w : Workload) : Type 0 where
   pub weights : 1 ≤ w.weights.first + w.weights.second + w.weights.third
 
 -- The operation that a draw chooses: each has its share of the draws.
-abbrev pub chosen : Weights → ℕ → Choice
+abbrev pub chosen : Weights → ℕ → OperationChoice
 chosen w draw =
     let share = draw % (w.first + w.second + w.third) in
     if nat_lt share w.first then First
     else (if nat_lt share (w.first + w.second) then Second else Third)
 
 -- The operation of a kind that is chosen, with those of these arguments that it takes.
-abbrev pub operation_of : Kind → Choice → ℕ → ℕ → ℕ
+abbrev pub operation_of : Kind → OperationChoice → ℕ → ℕ → ℕ
 operation_of Queue First value further = operation words.enq value 0
 operation_of Queue _ value further = operation words.deq 0 0
 operation_of Stack First value further = operation words.push value 0

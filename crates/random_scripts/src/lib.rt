@@ -10,4 +10,4 @@ mod workload;
 
 pub use draws::{draw, key_of};
 pub use script::random_script;
-pub use workload::{Choice, Weights, Workload};
+pub use workload::{OperationChoice, Weights, Workload};

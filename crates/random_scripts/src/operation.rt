@@ -6,7 +6,7 @@ ghost use Rattle.seq_objects.specs.Words.{word_of};
 ghost use Rattle.random_scripts.specs.Drawn.{IsWorkload, operation_of, drawn_operation};
 
 use crate::draws::draw;
-use crate::workload::{Choice, Workload, choose};
+use crate::workload::{OperationChoice, Workload, choose};
 use book_base::{Call, OpWord, join};
 use seq_objects::Kind;
 
@@ -25,20 +25,20 @@ pub(crate) fn draw_operation(workload: &Workload, key: u64, call: Call) -> OpWor
 }
 
 /// The operation of a kind that is chosen, with those of these arguments that it takes.
-fn operation(kind: Kind, choice: Choice, value: u64, further: u64) -> OpWord
+fn operation(kind: Kind, choice: OperationChoice, value: u64, further: u64) -> OpWord
     requires value { value < 2 ^ 32 }
     requires further { further < 2 ^ 32 }
     ensures { result ≡ operation_of kind choice value further }
 {
     match (kind, choice) {
         (Kind::Counter, _) => word(1, 0, 0),
-        (Kind::Map, Choice::First) => word(1, value, further),
-        (_, Choice::First) => word(1, value, 0),
-        (Kind::IntSet | Kind::Map, Choice::Second) => word(2, value, 0),
-        (_, Choice::Second) => word(2, 0, 0),
-        (Kind::IntSet | Kind::Map, Choice::Third) => word(3, value, 0),
-        (Kind::CasRegister, Choice::Third) => word(3, value, further),
-        (_, Choice::Third) => word(2, 0, 0),
+        (Kind::Map, OperationChoice::First) => word(1, value, further),
+        (_, OperationChoice::First) => word(1, value, 0),
+        (Kind::IntSet | Kind::Map, OperationChoice::Second) => word(2, value, 0),
+        (_, OperationChoice::Second) => word(2, 0, 0),
+        (Kind::IntSet | Kind::Map, OperationChoice::Third) => word(3, value, 0),
+        (Kind::CasRegister, OperationChoice::Third) => word(3, value, further),
+        (_, OperationChoice::Third) => word(2, 0, 0),
     }
 }
 

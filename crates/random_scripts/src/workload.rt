@@ -5,7 +5,7 @@ use seq_objects::Kind;
 
 /// Which of a kind's operations a call makes, in the order of the operations' codes.
 #[derive(Clone, Copy, Debug, PartialEq, Eq)]
-pub enum Choice {
+pub enum OperationChoice {
     First,
     Second,
     Third,
@@ -36,7 +36,7 @@ pub struct Workload {
 }
 
 /// The operation that a draw chooses.
-pub(crate) fn choose(workload: &Workload, draw: u32) -> Choice
+pub(crate) fn choose(workload: &Workload, draw: u32) -> OperationChoice
     requires { IsWorkload workload.now }
     ensures { result ≡ chosen workload.now.weights draw }
 {
@@ -48,10 +48,10 @@ pub(crate) fn choose(workload: &Workload, draw: u32) -> Choice
     let both = u64::from(first) + u64::from(second);
     let share = u64::from(draw) % (both + u64::from(third));
     if share < u64::from(first) {
-        Choice::First
+        OperationChoice::First
     } else if share < both {
-        Choice::Second
+        OperationChoice::Second
     } else {
-        Choice::Third
+        OperationChoice::Third
     }
 }

@@ -15,7 +15,7 @@ use Rattle.report_lines.specs.declared.line.LineEnd.{LineEnd}
 use Rattle.report_lines.specs.declared.line.LineEnd.TheVariants.{Pending, Unchecked, Delivered, Error}
 use Rattle.report_lines.specs.declared.line.Line.{Line}
 use Rattle.report_lines.specs.Lines.{reached_of, made_of, is_error}
-use Rattle.report_lines.specs.Phases.{Mark, Seen, mark_of, mark_under_way, marks_after, marks_of}
+use Rattle.report_lines.specs.Phases.{CallMark, Seen, mark_of, mark_under_way, marks_after, marks_of}
 use Rattle.report_lines.specs.Allotments.{phases_of}
 use Rattle.report_laws.specs.Reporting.{SeenCutsAreInTheBook, LinesBeforeTheLastAreDelivered}
 use Rattle.report_laws.proofs.Stepping.{length-marks_after}
@@ -41,11 +41,11 @@ pub lines_before_the_last_are_delivered : LinesBeforeTheLastAreDelivered
 lines_before_the_last_are_delivered operations allotment own k line h there low =
     let p : ℕ = phases_of allotment own in
     let q : ℕ = p / 5 in
-    let mark : Made → Mark = λ c. mark_of c.reached in
+    let mark : Made → CallMark = λ c. mark_of c.reached in
     let long : length own ≡ length (marks_after p) =
     omega (
       arith,
-      ap (λ (ms : List Mark). length ms) h.marks,
+      ap (λ (ms : List CallMark). length ms) h.marks,
       length-map (map made_of own) mark,
       length-map own made_of,
     ) in
@@ -58,10 +58,10 @@ lines_before_the_last_are_delivered operations allotment own k line h there low 
     slice_get-append_within (replicate q Seen) (mark_under_way (p % 5)) k
     (omega (arith, below, length-replicate q Seen))
     ∙ slice_get-get_or (replicate q Seen) k Seen (omega (arith, below, length-replicate q Seen))
-    ∙ ap (λ (m : Mark). Some m) (get_or-replicate q k Seen Seen below) in
+    ∙ ap (λ (m : CallMark). Some m) (get_or-replicate q k Seen Seen below) in
     let seen : mark_of (reached_of line.end) ≡ Seen =
     same_Some (mark_of (reached_of line.end)) Seen
-    (sym is ∙ ap (λ (ms : List Mark). slice_get ms k) h.marks ∙ should) in
+    (sym is ∙ ap (λ (ms : List CallMark). slice_get ms k) h.marks ∙ should) in
     delivered_end line.end seen (λ r cut e.
     let last : k + 1 ≡ length own = h.keeps.last k line there
     (ap (λ (end : LineEnd). is_error (record { op = line.op; end = end })) e) in

@@ -3,7 +3,7 @@ use Rattle.std.proofs.Common.{◌≡◌, ℕ, zero, suc, ◌+◌, ◌*◌, ◌/�
 use Rattle.std.proofs.lemmas.Bool.{ne_eqb}
 use Rattle.std.proofs.lemmas.List.{length-append, length-replicate, append-nil, replicate-append-replicate}
 use Rattle.world_core.specs.Calls.{Reached, Is_announced, Has_record, Has_seen, Made}
-use Rattle.report_lines.specs.Phases.{Mark, Announced, Recorded, Seen, begun, mark_of, mark_under_way, marks_after, operations_of, marks_of}
+use Rattle.report_lines.specs.Phases.{CallMark, Announced, Recorded, Seen, begun, mark_of, mark_under_way, marks_after, operations_of, marks_of}
 use Rattle.report_lines.specs.Progress.{with_last, with_seen}
 use Rattle.report_laws.specs.Steps.{ViewingIsAPhase, SeeingIsAPhase}
 
@@ -17,19 +17,19 @@ operations_of-with_last further (c ∷ d ∷ calls) =
 
 -- where a change of the last call changes its mark, it changes the last of all marks, and the
 -- others stay
-marks_of-with_last : (further : Reached → Reached) (before after : Mark)
+marks_of-with_last : (further : Reached → Reached) (before after : CallMark)
     → ((reached : Reached) → mark_of reached ≡ before → mark_of (further reached) ≡ after)
-    → (prefix : List Mark) (calls : List Made) → marks_of calls
+    → (prefix : List CallMark) (calls : List Made) → marks_of calls
     ≡ prefix ++ before ∷ [] → marks_of (with_last further calls) ≡ prefix ++ after ∷ []
 marks_of-with_last further before after turns prefix [] e =
-    absurd (omega (arith, ap (λ (ms : List Mark). length ms) e, length-append prefix (before ∷ [])))
+    absurd (omega (arith, ap (λ (ms : List CallMark). length ms) e, length-append prefix (before ∷ [])))
 marks_of-with_last further before after turns [] (c ∷ []) e =
     let own : mark_of c.reached ≡ before = cc in
-    ap (λ (m : Mark). m ∷ []) (turns c.reached own)
+    ap (λ (m : CallMark). m ∷ []) (turns c.reached own)
 marks_of-with_last further before after turns [] (c ∷ d ∷ calls) e =
-    absurd (omega (arith, ap (λ (ms : List Mark). length ms) e))
+    absurd (omega (arith, ap (λ (ms : List CallMark). length ms) e))
 marks_of-with_last further before after turns (m ∷ prefix) (c ∷ []) e =
-    absurd (omega (arith, ap (λ (ms : List Mark). length ms) e, length-append prefix (before ∷ [])))
+    absurd (omega (arith, ap (λ (ms : List CallMark). length ms) e, length-append prefix (before ∷ [])))
 marks_of-with_last further before after turns (m ∷ prefix) (c ∷ d ∷ calls) e =
     let own : mark_of c.reached ≡ m = cc in
     let rest : marks_of (d ∷ calls) ≡ prefix ++ before ∷ [] = cc in
@@ -44,11 +44,11 @@ seen_turns cut (Has_record r) e = refl
 seen_turns cut (Has_seen r earlier) e = refl
 
 -- There are as many marks as calls that have begun.
-one_mark : (early : Bool) (a b : Mark) → length (cond early (a ∷ []) (b ∷ [])) ≡ 1
+one_mark : (early : Bool) (a b : CallMark) → length (cond early (a ∷ []) (b ∷ [])) ≡ 1
 one_mark true a b = refl
 one_mark false a b = refl
 
-abbrev under_way : Bool → Bool → List Mark
+abbrev under_way : Bool → Bool → List CallMark
 under_way none early = cond none [] (cond early (Announced ∷ []) (Recorded ∷ []))
 
 as_many_marks : (p place : ℕ) → p % 5 ≡ place
@@ -83,7 +83,7 @@ marks_with k p judged place under_way =
     ap (λ (n : ℕ). replicate n Seen ++ mark_under_way (p % 5)) judged
     ∙ ap (λ (n : ℕ). replicate k Seen ++ mark_under_way n) under_way
 
-push-replicate : (k : ℕ) (m : Mark) → replicate k m ++ m ∷ [] ≡ replicate (k + 1) m
+push-replicate : (k : ℕ) (m : CallMark) → replicate k m ++ m ∷ [] ≡ replicate (k + 1) m
 push-replicate k m = replicate-append-replicate k 1 m
 
 pub viewing_is_a_phase : ViewingIsAPhase

@@ -4,7 +4,7 @@ use Rattle.std.proofs.lemmas.List.{length-append, length-map, length-take, lengt
 use Rattle.std.proofs.lemmas.List.Concat.{flat_map-append}
 use Rattle.book_base.specs.declared.call.Record.{Record}
 use Rattle.world_core.specs.Calls.{Reached, Is_announced, Has_record, Has_seen, Made, records_of}
-use Rattle.report_lines.specs.Phases.{Mark, Announced, Seen, begun, asked, answered, mark_of, operations_of, marks_of, Progress, IsProgressAfter, answers_in, IsTold}
+use Rattle.report_lines.specs.Phases.{CallMark, Announced, Seen, begun, asked, answered, mark_of, operations_of, marks_of, Progress, IsProgressAfter, answers_in, IsTold}
 use Rattle.report_lines.specs.Progress.{with_last, with_seen}
 use Rattle.report_lines.proofs.Accounts.{the_last_call_goes_on}
 use Rattle.report_laws.specs.Telling.{ToldAsAnnounced, ToldAsAsked, ToldAsViewed, ToldAsPublished, ToldAsSeen}
@@ -18,7 +18,7 @@ as_many_calls operations p progress h =
       arith,
       length-map progress.calls (λ (c : Made). c.operation),
       length-map progress.calls (λ (c : Made). mark_of c.reached),
-      ap (λ (ms : List Mark). length ms) h.marks,
+      ap (λ (ms : List CallMark). length ms) h.marks,
       length-marks_after p,
     )
 
@@ -99,21 +99,21 @@ told_as_asked operations k progress reply pairs h told =
     }
 
 -- The last of some calls, which has this mark.
-record EndsWith (calls : List Made) (m : Mark) : Type 0 where
+record EndsWith (calls : List Made) (m : CallMark) : Type 0 where
   before : List Made
   last : Made
   are : calls ≡ before ++ last ∷ []
   mark : mark_of last.reached ≡ m
 
-ends_with : (calls : List Made) (prefix : List Mark) (m : Mark)
+ends_with : (calls : List Made) (prefix : List CallMark) (m : CallMark)
     → marks_of calls ≡ prefix ++ m ∷ [] → EndsWith calls m
 ends_with [] prefix m e =
-    absurd (omega (arith, ap (λ (ms : List Mark). length ms) e, length-append prefix (m ∷ [])))
+    absurd (omega (arith, ap (λ (ms : List CallMark). length ms) e, length-append prefix (m ∷ [])))
 ends_with (c ∷ []) [] m e = let own : mark_of c.reached ≡ m = cc in
     record { before = []; last = c; are = refl; mark = own }
-ends_with (c ∷ d ∷ calls) [] m e = absurd (omega (arith, ap (λ (ms : List Mark). length ms) e))
+ends_with (c ∷ d ∷ calls) [] m e = absurd (omega (arith, ap (λ (ms : List CallMark). length ms) e))
 ends_with (c ∷ []) (x ∷ prefix) m e =
-    absurd (omega (arith, ap (λ (ms : List Mark). length ms) e, length-append prefix (m ∷ [])))
+    absurd (omega (arith, ap (λ (ms : List CallMark). length ms) e, length-append prefix (m ∷ [])))
 ends_with (c ∷ d ∷ calls) (x ∷ prefix) m e =
     let rest : marks_of (d ∷ calls) ≡ prefix ++ m ∷ [] = cc in
     let found = ends_with (d ∷ calls) prefix m rest in

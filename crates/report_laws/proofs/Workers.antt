@@ -15,7 +15,7 @@ use Rattle.report_lines.specs.declared.line.LineEnd.{LineEnd}
 use Rattle.report_lines.specs.declared.line.LineEnd.TheVariants.{Pending, Unchecked, Delivered, Error}
 use Rattle.report_lines.specs.declared.line.Line.{Line}
 use Rattle.report_lines.specs.Lines.{made_of, calls_of, lines_at, is_error, any_error, IsJudged}
-use Rattle.report_lines.specs.Phases.{Mark, begun, mark_of, marks_after, operations_of, marks_of, HasMade}
+use Rattle.report_lines.specs.Phases.{CallMark, begun, mark_of, marks_after, operations_of, marks_of, HasMade}
 use Rattle.report_lines.specs.Allotments.{phases_of}
 use Rattle.report_lines.specs.Workers.{IsJudgedBy}
 use Rattle.report_laws.specs.Working.{VerdictsStay, WorkersGoThrough, WorkersHalt, WorkersKeepToTheirAllotments, WorkersLeaveTheLines, WorkersAreLawful}
@@ -97,7 +97,7 @@ workers_keep_to_their_allotments init next n operations allotment l own h =
     let long : begun p ≡ length own =
     omega (
       arith,
-      ap (λ (ms : List Mark). length ms) marks,
+      ap (λ (ms : List CallMark). length ms) marks,
       length-marks_after p,
       length-map (map made_of own) (λ (c : Made). mark_of c.reached),
       length-map own made_of,

@@ -29,25 +29,25 @@ judged p = p / 5
 
 -- How far a call has come, without its reply and its cuts: it is announced, has its record, or has
 -- its seen cut too.
-pub data Mark : Type 0 where
-  Announced : Mark
-  Recorded : Mark
-  Seen : Mark
+pub data CallMark : Type 0 where
+  Announced : CallMark
+  Recorded : CallMark
+  Seen : CallMark
 
 -- The mark of a call that has come this far.
-abbrev pub mark_of : Reached → Mark
+abbrev pub mark_of : Reached → CallMark
 mark_of Is_announced = Announced
 mark_of (Has_record r) = Recorded
 mark_of (Has_seen r cut) = Seen
 
 -- The mark of the call that is under way, this many phases after the calls before it were judged:
 -- none where it isn't announced.
-abbrev pub mark_under_way : ℕ → List Mark
+abbrev pub mark_under_way : ℕ → List CallMark
 mark_under_way phases =
     if phases == 0 then [] else (if nat_lt phases 3 then Announced ∷ [] else Recorded ∷ [])
 
 -- The marks of a caller's calls after p phases: the judged ones, and that of the call under way.
-abbrev pub marks_after : ℕ → List Mark
+abbrev pub marks_after : ℕ → List CallMark
 marks_after p = replicate (judged p) Seen ++ mark_under_way (p % 5)
 
 -- The operations of some calls.
@@ -55,7 +55,7 @@ abbrev pub operations_of : List Made → List ℕ
 operations_of calls = map (λ (c : Made). c.operation) calls
 
 -- The marks of some calls.
-abbrev pub marks_of : List Made → List Mark
+abbrev pub marks_of : List Made → List CallMark
 marks_of calls = map (λ (c : Made). mark_of c.reached) calls
 
 -- How far a caller has come: its calls, how many records it has published, and the object steps of

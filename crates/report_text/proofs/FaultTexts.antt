@@ -25,7 +25,7 @@ use Rattle.text_fields.specs.Faults.{ALine}
 use Rattle.text_fields.specs.Head.{TitleDue, ObjectDue, CallersDue, CountsDue, HeadRead, title_words, object_words, callers_words, calls_words}
 use Rattle.book_text.specs.CallLines.{calls_from, all_calls, view_test}
 use Rattle.book_text.specs.Grammar.{end_words}
-use Rattle.book_text.specs.ReadOnly.{LeavesAt}
+use Rattle.book_text.specs.AnyTextBeginnings.{LeavesAt}
 use Rattle.book_text.proofs.Leavings.{Completes, one_more, leaves_texts}
 use Rattle.book_text.proofs.WrittenTexts.{numbers_from_places}
 use Rattle.report_lines.specs.declared.line.LineEnd.{LineEnd}
@@ -35,7 +35,7 @@ use Rattle.report_lines.specs.Lines.{delivered_in}
 use Rattle.client_scripts.specs.ScriptRules.{grouped}
 use Rattle.reports.specs.Findings.{Findings}
 use Rattle.reports.specs.Grammar.{line_words}
-use Rattle.report_text.specs.ReportRules.{book_so_far, IsCut, SaysLine, IsWrongCut, Fits, LineFails, ReportDue, InHead, InLines, AtEnd, after_head, ReportPasses, ReportFails, report_wanted, report_rules, IsReportText, IsFirstReportFault}
+use Rattle.report_text.specs.ReportRules.{book_so_far, IsCut, SaysLine, IsWrongCut, FitsEarlier, LineFails, ReportDue, InHead, InLines, AtEnd, after_head, ReportPasses, ReportFails, report_wanted, report_rules, IsReportText, IsFirstReportFault}
 use Rattle.report_text.specs.Drafts.{StandBefore}
 use Rattle.report_text.proofs.Groups.{before, before-more, length-own}
 use Rattle.report_text.proofs.Pushing.{calls_of-so_far, length-book_so_far, inside}
@@ -166,7 +166,7 @@ module _ (kind : Kind) (counts : List ℕ) (told : List Line) (call : Call)
             absurd (cc (none, h))
   cut_right (inr (inr low)) = omega (arith, own_cut, low)
 
-  pub fresh-fits : Fits counts told call fresh
+  pub fresh-fits : FitsEarlier counts told call fresh
   fresh-fits = record {
     view = λ r e. let same : record { reply = 0; view = view } ≡ r = cc in
         subst (λ (x : Record). MayAnswer book i x.view) same
@@ -234,7 +234,7 @@ CanCome (AtEnd findings) = Unit {0}
 
 under-way-next : (kind : Kind) (counts : List ℕ) (told : List Line) (call : Call)
     (calls : List Call) (words : List (List ℕ)) (line : Line)
-    → SaysLine kind (length counts) call words line → Fits counts told call line
+    → SaysLine kind (length counts) call words line → FitsEarlier counts told call line
     → IsUnderWay counts told (call ∷ calls) → IsUnderWay counts (told ++ line ∷ []) calls
 under-way-next kind counts told call calls words line says fits h = record {
   few = h.few;

@@ -18,7 +18,7 @@ use Rattle.report_lines.specs.declared.line.Line.{Line}
 use Rattle.report_lines.specs.Lines.{reached_of}
 use Rattle.client_scripts.specs.ScriptRules.{grouped}
 use Rattle.report_text.specs.declared.draft.Draft.{Draft}
-use Rattle.report_text.specs.ReportRules.{book_so_far, SaysLine, Fits, InLines, report_rules}
+use Rattle.report_text.specs.ReportRules.{book_so_far, SaysLine, FitsEarlier, InLines, report_rules}
 use Rattle.report_text.specs.Drafts.{StandBefore, IsDraft, limits_with, AreSeenWith}
 use Rattle.report_text.specs.Parts.{answer_in, MayTell, with_told, AreWordsRefused, FitsOthers, AlwaysFits, IsAlwaysMisfit, IsLineRead}
 use Rattle.report_text.proofs.Pushing.{calls_of-so_far}
@@ -38,7 +38,7 @@ may_answer book call (Error s cut) r may e = let same : s ≡ r = cc in
 
 pub line_fits : (counts : List ℕ) (told : List Line) (call : Call) (line : Line)
     → MayTell (book_so_far counts told) call (answer_in line.end)
-    → FitsOthers counts (grouped counts told) call line → Fits counts told call line
+    → FitsOthers counts (grouped counts told) call line → FitsEarlier counts told call line
 line_fits counts told call line may fits = record {
   view = λ r e. may_answer (book_so_far counts told) call line.end r may e;
   seen = fits.cuts.seen;

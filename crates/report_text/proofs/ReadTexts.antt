@@ -26,7 +26,7 @@ use Rattle.report_lines.specs.declared.line.Line.{Line}
 use Rattle.report_lines.specs.Lines.{made_of, book_of_lines, lines_at, line_at, seen_at, delivered_in}
 use Rattle.reports.specs.Findings.{Findings, sizes, IsReport}
 use Rattle.reports.specs.Grammar.{line_words, call_line, caller_lines, report_lines, IsWrittenText}
-use Rattle.report_text.specs.ReportRules.{book_so_far, EndsTooEarly, ReportDue, InHead, InLines, AtEnd, after_head, SaysLine, Fits, ReportPasses, report_rules, IsReportText}
+use Rattle.report_text.specs.ReportRules.{book_so_far, EndsTooEarly, ReportDue, InHead, InLines, AtEnd, after_head, SaysLine, FitsEarlier, ReportPasses, report_rules, IsReportText}
 use Rattle.report_text.specs.Drafts.{StandBefore}
 use Rattle.report_text.specs.Parts.{joined}
 use Rattle.report_text.proofs.Groups.{before, before-more}
@@ -76,7 +76,7 @@ module _ (findings : Findings) where
         (λ e. absurd cc) h in
         let line : Line = first.right.0 in
         let says : SaysLine kind (length counts) call first.words line = first.right.1 in
-        let fits : Fits counts told call line = first.right.2 in
+        let fits : FitsEarlier counts told call line = first.right.2 in
         let lt : k < get_or counts i 0 = omega arith in
         let next : List Line = told ++ line ∷ [] in
         let rest = read_caller next i (k + 1) more due first.others

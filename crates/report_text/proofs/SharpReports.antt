@@ -30,7 +30,7 @@ use Rattle.report_lines.specs.declared.line.Line.{Line}
 use Rattle.report_lines.specs.Lines.{reached_of}
 use Rattle.book_base.specs.Book.{Page}
 use Rattle.reports.specs.Grammar.{ending_words, seen_words}
-use Rattle.report_text.specs.ReportRules.{book_so_far, IsCut, IsAnswer, IsFormed, SaysLine, Fits, LineFails, ReportDue, InHead, InLines, AtEnd, after_head, ReportPasses, ReportFails, report_wanted, report_rules}
+use Rattle.report_text.specs.ReportRules.{book_so_far, IsCut, IsAnswer, IsFormed, SaysLine, FitsEarlier, LineFails, ReportDue, InHead, InLines, AtEnd, after_head, ReportPasses, ReportFails, report_wanted, report_rules}
 use Rattle.world_core.specs.Calls.{records_of}
 use Rattle.report_text.specs.Parts.{answer_in, MayTell}
 use Rattle.report_text.proofs.RightLines.{one_line, said_place, said_op, said_reply, said_view, said_tests, said_mark, said_seen, said_last}
@@ -48,7 +48,7 @@ may_tell book call (Error r cut) h = h r refl
 
 line_apart : (kind : Kind) (counts : List ℕ) (told : List Line) (call : Call)
     (words : List (List ℕ)) (line : Line) (name : What)
-    → SaysLine kind (length counts) call words line → Fits counts told call line
+    → SaysLine kind (length counts) call words line → FitsEarlier counts told call line
     → LineFails kind counts told call words name → ⊥
 line_apart kind counts told call words line what.Place h f k =
     said_place kind counts told call words line h k

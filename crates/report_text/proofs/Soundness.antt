@@ -24,7 +24,7 @@ use Rattle.report_lines.specs.declared.line.Line.{Line}
 use Rattle.report_lines.specs.Lines.{made_of, book_of_lines, reached_of, line_at, seen_in, seen_at, delivered_in}
 use Rattle.client_scripts.specs.ScriptRules.{grouped}
 use Rattle.reports.specs.Findings.{sizes}
-use Rattle.report_text.specs.ReportRules.{part_page, book_so_far, IsCut, IsAnswer, IsFormed, SaysLine, IsPendingAt, EndsTooEarly, Fits}
+use Rattle.report_text.specs.ReportRules.{part_page, book_so_far, IsCut, IsAnswer, IsFormed, SaysLine, IsPendingAt, EndsTooEarly, FitsEarlier}
 use Rattle.report_text.specs.Drafts.{StandBefore}
 use Rattle.report_text.specs.Parts.{answer_in, MayTell, joined}
 use Rattle.report_text.proofs.Pushing.{op_of, records_in, length-book_so_far, inside, book-push, line-cases, pending-cases, seen-cases}
@@ -123,7 +123,7 @@ sound-none counts =
 module _ (kind : Kind) (counts : List ℕ) (told : List Line) (line : Line) (call : Call)
     (words : List (List ℕ)) (stand : StandBefore counts told call.caller call.number)
     (lt : call.number < get_or counts call.caller 0)
-    (says : SaysLine kind (length counts) call words line) (fits : Fits counts told call line)
+    (says : SaysLine kind (length counts) call words line) (fits : FitsEarlier counts told call line)
     (s : IsSound counts told) where
   abbrev lines : List (List Line)
   lines = grouped counts told

@@ -22,25 +22,25 @@ use Rattle.report_text.proofs.Soundness.{grouped-joined}
 module _ (bytes : List ℕ) (kind : Kind) (calls : List ℕ) (new a : Unread)
     (is : new ≡ whole_text bytes)
     (head : GoesTo (head_rules Second (codes "report")) TitleDue new (HeadRead kind calls) a) where
-  pub to_lines : GoesTo report_rules (InHead TitleDue) (whole_text bytes)
+  pub goes_to_lines : GoesTo report_rules (InHead TitleDue) (whole_text bytes)
       (InLines kind calls [] (all_calls 0 calls)) a
-  to_lines = goes_within head_within TitleDue (HeadRead kind calls) (whole_text bytes) a
+  goes_to_lines = goes_within head_within TitleDue (HeadRead kind calls) (whole_text bytes) a
       (subst (λ (t : Unread). GoesTo (head_rules Second (codes "report")) TitleDue t
       (HeadRead kind calls) a) is head)
 
   module _ (lines : List (List Line)) (b : Unread) (body : AreAllRead kind calls a lines b) where
-    pub to_end : GoesTo report_rules (InHead TitleDue) (whole_text bytes)
+    pub goes_to_end_line : GoesTo report_rules (InHead TitleDue) (whole_text bytes)
         (InLines kind calls (joined lines) []) b
-    to_end = goes_then report_rules (InHead TitleDue) (InLines kind calls [] (all_calls 0 calls))
-        (InLines kind calls (joined lines) []) (whole_text bytes) a b to_lines body
+    goes_to_end_line = goes_then report_rules (InHead TitleDue) (InLines kind calls [] (all_calls 0 calls))
+        (InLines kind calls (joined lines) []) (whole_text bytes) a b goes_to_lines body
 
-    pub to_text : (left : Unread) → sizes lines ≡ calls → IsEnded b left
+    pub is_text_read : (left : Unread) → sizes lines ≡ calls → IsEnded b left
         → IsReportText bytes (record { kind = kind; lines = lines })
-    to_text left size end =
+    is_text_read left size end =
         let groups : grouped calls (joined lines) ≡ lines =
         ap (λ (ns : List ℕ). grouped ns (joined lines)) (sym size) ∙ grouped-joined lines in
         let goes = goes_then report_rules (InHead TitleDue) (InLines kind calls (joined lines) [])
         (AtEnd (record { kind = kind; lines = grouped calls (joined lines) }))
-        (whole_text bytes) b left to_end (report_ends kind calls (joined lines) b left end) in
+        (whole_text bytes) b left goes_to_end_line (report_ends kind calls (joined lines) b left end) in
         subst (λ (ls : List (List Line)). IsReportText bytes (record { kind = kind; lines = ls }))
         groups (left, record { goes = goes; through = end.whole })

@@ -31,7 +31,7 @@ use Rattle.report_lines.specs.Lines.{book_of_lines, lines_at, line_at, reached_o
 use Rattle.world_core.specs.Calls.{records_of}
 use Rattle.reports.specs.Findings.{Findings, sizes, IsReport}
 use Rattle.reports.specs.Grammar.{line_words, call_line, caller_lines, report_lines, IsWrittenText}
-use Rattle.report_text.specs.ReportRules.{book_so_far, IsCut, IsAnswer, IsFormed, SaysLine, IsPendingAt, IsWrongCut, Fits, InHead, InLines, AtEnd, ReportPasses, report_rules, IsReportText}
+use Rattle.report_text.specs.ReportRules.{book_so_far, IsCut, IsAnswer, IsFormed, SaysLine, IsPendingAt, IsWrongCut, FitsEarlier, InHead, InLines, AtEnd, ReportPasses, report_rules, IsReportText}
 use Rattle.report_text.specs.Drafts.{StandBefore}
 use Rattle.report_text.specs.Parts.{answer_in, joined}
 use Rattle.report_text.proofs.Groups.{before, length-own}
@@ -379,7 +379,7 @@ module _ (findings : Findings) (w : IsReport findings) where
         )
     right_cut cut at (inr (inr low)) = omega (arith, w.seen.own call cut at, low)
 
-    pub line_fits : Fits counts told call line
+    pub line_fits : FitsEarlier counts told call line
     line_fits = record {
       view = λ r e. may r (answer_of line.end r e);
       seen = λ cut e wrong. let at : seen_at lines call ≡ Some cut = let there = here in

@@ -115,7 +115,7 @@ EndsTooEarly counts call line = (delivered_in line.end ≡ None)
     × (call.number + 1 < slice_index counts call.caller)
 
 -- A line fits the lines before it.
-pub record Fits (counts : List ℕ) (told : List Line) (call : Call) (line : Line) : Type 0 where
+pub record FitsEarlier (counts : List ℕ) (told : List Line) (call : Call) (line : Line) : Type 0 where
   pub view : (r : Record) → records_of (reached_of line.end)
       ≡ r ∷ [] → MayAnswer (book_so_far counts told) call.caller r.view
   pub seen : (cut : List ℕ) → seen_in line.end ≡ Some cut
@@ -194,7 +194,7 @@ ReportPasses (InHead due) words after = (next : HeadDue)
 ReportPasses (InLines kind counts told []) words after = (words ≡ end_words)
     × (after ≡ AtEnd (record { kind = kind; lines = grouped counts told }))
 ReportPasses (InLines kind counts told (call ∷ calls)) words after = (line : Line)
-    × SaysLine kind (length counts) call words line × Fits counts told call line
+    × SaysLine kind (length counts) call words line × FitsEarlier counts told call line
     × (after ≡ InLines kind counts (told ++ line ∷ []) calls)
 ReportPasses (AtEnd findings) words after = ⊥
 

@@ -2,7 +2,7 @@
 
 ghost use Rattle.std.specs.Prelude.{◌≡◌, ◌↔◌, ℕ, [], ◌++◌, List};
 ghost use Rattle.book_base.specs.declared.fault.TextFault.{TextFault};
-ghost use Rattle.book_text.specs.ReadOnly.{LeavesAt};
+ghost use Rattle.book_text.specs.AnyTextBeginnings.{LeavesAt};
 ghost use Rattle.reports.specs.Findings.{Findings};
 ghost use Rattle.reports.specs.Grammar.{IsWrittenText};
 ghost use Rattle.report_text.specs.ReportRules.{IsReportText, IsFirstReportFault};

@@ -328,9 +328,9 @@ fresh_is (suc n) zero l e = same_Some fresh l e
 fresh_is (suc n) (suc i) l e = fresh_is n i l e
 
 -- The rule holds at the start: all words are 0, and one seat has the locals of all callers.
-pub opens : (s : Shape) (n : ℕ) (words : List ℕ) → n ≡ s.program.objects
+pub ruled_at_opening : (s : Shape) (n : ℕ) (words : List ℕ) → n ≡ s.program.objects
     → words ≡ replicate (words_of s) 0 → Ruled s n (opening words [] (whole s.callers))
-opens s n words counted is =
+ruled_at_opening s n words counted is =
     record {
       counted = counted;
       world = start s;

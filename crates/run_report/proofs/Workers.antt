@@ -25,7 +25,7 @@ use Rattle.client_calls.proofs.Told.{if_some_as}
 use Rattle.client_calls.proofs.Worked.{judging_clients_have_worked}
 use Rattle.run_report.specs.Reporting.{IsFreeAgain, IsToldIn, IsCountIn, IsCountedIn}
 use Rattle.script_workers.specs.Places.{AreInOrder}
-use Rattle.script_workers.specs.Starts.{Course, MayBegin, AreFreshPasses}
+use Rattle.script_workers.specs.Starts.{RunCourse, MayBegin, AreFreshPasses}
 use Rattle.client_scripts.specs.Plans.{Plan}
 use Rattle.run_report.specs.Passes.{IsOwnPass, IsUnusedPass, AreUnusedPasses}
 use Rattle.script_workers.specs.Returns.{IsCountOf, IsBack, AreBack, IsBackOn}
@@ -43,7 +43,7 @@ pub lines_here : (lines : List (List Line)) (i : ℕ) (own : List Line) → slic
 lines_here lines i own here = get_or_from_slice_get lines i own [] here
 
 module _ {P T : Type 0} (meaning : P → ℕ → ℕ → Meaning) (r : Rows P) (fit : Fits T)
-    (count : T → Option PassCount) (course : Course) (b : Bench P) (passes : List T)
+    (count : T → Option PassCount) (course : RunCourse) (b : Bench P) (passes : List T)
     (lines : List (List Line)) where
   -- each caller has worked
   has_worked : (i : ℕ) → IsBack meaning r SaysJudged fit count course b passes lines false i

@@ -25,7 +25,7 @@ use Rattle.row_table.specs.declared.caller.Caller.{Caller}
 use Rattle.row_table.specs.Callers.{who_of, local_with, on_bench, stance_on, IsCallerOf}
 use Rattle.script_workers.specs.Work.{Says, IsReady, HasRun}
 use Rattle.client_scripts.specs.Plans.{Plan}
-use Rattle.script_workers.specs.Starts.{Course, MayStart, IsNewCount, AreFreshPasses, IsClientOf, IsStart}
+use Rattle.script_workers.specs.Starts.{RunCourse, MayStart, IsNewCount, AreFreshPasses, IsClientOf, IsStart}
 use Rattle.script_workers.proofs.Places.{still_at, item_at}
 use Rattle.script_workers.proofs.Starts.{no_phase}
 use Rattle.script_workers.specs.Returns.{IsSpent, IsCountOf, IsBackOn, IsBack, AreBack}
@@ -43,7 +43,7 @@ spent_within allotment lines (Halted c) is = omega (arith, is)
 spent_within allotment lines (Unjudged u) is = omega (arith, is)
 
 module _ {P T : Type 0} (meaning : P → ℕ → ℕ → Meaning) (r : Rows P) (says : Says) (fits : Fits T)
-    (count : T → Option PassCount) (n : ℕ) (course : Course) where
+    (count : T → Option PassCount) (n : ℕ) (course : RunCourse) where
   abbrev Are : ℕ → Bench P → List T → List (List Line) → Bool → Type 0
   Are k b passes lines wanted = AreBack meaning r says fits count n k course b passes lines wanted
 
@@ -113,7 +113,7 @@ fits_back meaning r fits c l pass pass' who caller number same is h =
     rw (← caller.callers, ← caller.cap, ← number, same, is) h
 
 module _ {P T E : Type 0} (meaning : P → ℕ → ℕ → Meaning) (r : Rows P) (says : Says)
-    (object : E → Sequential) (fits : Fits T) (count : T → Option PassCount) (course : Course) where
+    (object : E → Sequential) (fits : Fits T) (count : T → Option PassCount) (course : RunCourse) where
   -- the client of a worker that has spent its phases
   pub spent_client : (i : ℕ) (w : Worker P T E) (c : Client P T E)
       → IsSpent meaning r says object fits count course i w → w.client ≡ Some c

@@ -20,7 +20,7 @@ use Rattle.client_calls.specs.Stands.{GoesOnFrom}
 use Rattle.client_calls.specs.Clients.{phases_by, HasSpent, IsSameClient}
 use Rattle.client_calls.proofs.Spending.{spent_by, spent_exact, spent_more}
 use Rattle.script_workers.specs.Work.{Says, IsAtWork}
-use Rattle.script_workers.specs.Starts.{run_allotments, replay_allotments, Course, course_of, IsStart}
+use Rattle.script_workers.specs.Starts.{run_allotments, replay_allotments, RunCourse, course_of, IsStart}
 use Rattle.script_workers.specs.Returns.{IsSpent}
 use Rattle.script_workers.specs.Turns.{IsTurned, IsTurning}
 use Rattle.script_workers.specs.declared.worker.Worker.{Worker}
@@ -36,7 +36,7 @@ goes_or_not (Halted c) = inr (λ goes. goes)
 goes_or_not (Unjudged u) = inr (λ goes. goes)
 
 module _ {P T E : Type 0} (meaning : P → ℕ → ℕ → Meaning) (r : Rows P) (says : Says)
-    (object : E → Sequential) (fits : Fits T) (count : T → Option PassCount) (course : Course) where
+    (object : E → Sequential) (fits : Fits T) (count : T → Option PassCount) (course : RunCourse) where
   abbrev Turned : ℕ → ℕ → Worker P T E → Type 0
   Turned i turns w = IsTurned meaning r says object fits count course i turns w
 
@@ -160,7 +160,7 @@ set_cases (z ∷ xs) (suc p) (suc j) y x there =
     ]
 
 module _ {P T E : Type 0} (meaning : P → ℕ → ℕ → Meaning) (r : Rows P) (says : Says)
-    (object : E → Sequential) (fits : Fits T) (count : T → Option PassCount) (course : Course) where
+    (object : E → Sequential) (fits : Fits T) (count : T → Option PassCount) (course : RunCourse) where
   abbrev Are : ℕ → List ℕ → List (Worker P T E) → Type 0
   Are n turns ws = AreDownFrom n
       (λ i w. IsTurned meaning r says object fits count course i (turns_of turns i) w) ws

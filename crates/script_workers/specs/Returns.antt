@@ -19,13 +19,13 @@ use Rattle.client_calls.specs.Finishing.{KeepsAsked, IsLeftStanding}
 use Rattle.client_calls.specs.Clients.{HasSpent}
 use Rattle.client_calls.specs.declared.client.Client.{Client}
 use Rattle.script_workers.specs.Work.{Says}
-use Rattle.script_workers.specs.Starts.{Course, IsClientOf}
+use Rattle.script_workers.specs.Starts.{RunCourse, IsClientOf}
 use Rattle.script_workers.specs.declared.worker.Worker.{Worker}
 
 module _ {P T E : Type 0} where
   -- The worker of caller i, whose client has spent all its phases.
   pub record IsSpent (meaning : P → ℕ → ℕ → Meaning) (r : Rows P) (says : Says)
-      (object : E → Sequential) (fits : Fits T) (count : T → Option PassCount) (course : Course)
+      (object : E → Sequential) (fits : Fits T) (count : T → Option PassCount) (course : RunCourse)
       (i : ℕ) (w : Worker P T E) : Type 0 where
     pub client : Client P T E
     pub here : w.client ≡ Some client
@@ -52,7 +52,7 @@ pub record IsBackWith {T : Type 0} (s : Shape) (fits : Fits T) (count : T → Op
 
 -- Caller i of this course left these lines: those of its allotment, and it made exactly the phases
 -- that they determine.
-abbrev pub HasLeftLines : Says → ℕ → Course → ℕ → ℕ → Local → List Line → Type 0
+abbrev pub HasLeftLines : Says → ℕ → RunCourse → ℕ → ℕ → Local → List Line → Type 0
 HasLeftLines says n course i p l own =
     HasLeftAt (says course.object) n (operations_at course.operations i)
     (slice_index course.allotments i) p l own
@@ -81,7 +81,7 @@ module _ {P T : Type 0} where
   -- error and it stopped between two calls, or made all of them, it is free for its next call.
   -- Where memory was wanted, of whichever caller, nothing is said of lines.
   pub record IsBack (meaning : P → ℕ → ℕ → Meaning) (r : Rows P) (says : Says) (fits : Fits T)
-      (count : T → Option PassCount) (course : Course) (b : Bench P) (passes : List T)
+      (count : T → Option PassCount) (course : RunCourse) (b : Bench P) (passes : List T)
       (lines : List (List Line)) (wanted : Bool) (i : ℕ) : Type 0 where
     pub on : IsBackOn meaning r fits count course.operations course.allotments b passes i
     pub own : List Line
@@ -92,7 +92,7 @@ module _ {P T : Type 0} where
 
   -- Of the first n callers those below k are back, and no other.
   pub record AreBack (meaning : P → ℕ → ℕ → Meaning) (r : Rows P) (says : Says) (fits : Fits T)
-      (count : T → Option PassCount) (n k : ℕ) (course : Course) (b : Bench P) (passes : List T)
+      (count : T → Option PassCount) (n k : ℕ) (course : RunCourse) (b : Bench P) (passes : List T)
       (lines : List (List Line)) (wanted : Bool) : Type 0 where
     pub back : (i : ℕ) → i < k → IsBack meaning r says fits count course b passes lines wanted i
     pub gone : (i : ℕ) → k ≤ i → i < n → on_bench b i ≡ None

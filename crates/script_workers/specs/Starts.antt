@@ -41,13 +41,13 @@ allotments_by ByTurns plan = replay_allotments plan
 
 -- What all callers are given: each its operations and how many phases it may make, and the
 -- sequential object that calls are judged by.
-pub record Course : Type 0 where
+pub record RunCourse : Type 0 where
   pub operations : List (List ℕ)
   pub allotments : List ℕ
   pub object : Sequential
 
 -- The course of a plan, with these allotments.
-abbrev pub course_of : Plan → List ℕ → Sequential → Course
+abbrev pub course_of : Plan → List ℕ → Sequential → RunCourse
 course_of plan allotments object =
     record { operations = plan.operations; allotments = allotments; object = object }
 
@@ -127,7 +127,7 @@ pub record AreFreshPasses {P T : Type 0} (r : Rows P) (fits : Fits T) (count : T
 
 module _ {P T E : Type 0} (meaning : P → ℕ → ℕ → Meaning) (r : Rows P) (says : Says)
     (object : E → Sequential) (fits : Fits T) (count : T → Option PassCount)
-    (course : Course) (i : ℕ) where
+    (course : RunCourse) (i : ℕ) where
   -- The client of caller i, which is at work on this course.
   pub record IsClientOf (c : Client P T E) : Type 0 where
     pub work : IsAtWork meaning r says object fits count c

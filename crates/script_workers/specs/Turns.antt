@@ -8,7 +8,7 @@ use Rattle.client_calls.specs.Stands.{GoesOnFrom}
 use Rattle.client_calls.specs.Clients.{phases_by, HasSpent}
 use Rattle.client_calls.specs.declared.client.Client.{Client}
 use Rattle.script_workers.specs.Work.{Says, IsAtWork}
-use Rattle.script_workers.specs.Starts.{Course, IsClientOf}
+use Rattle.script_workers.specs.Starts.{RunCourse, IsClientOf}
 use Rattle.script_workers.specs.declared.worker.Worker.{Worker}
 
 module _ {P T E : Type 0} (meaning : P → ℕ → ℕ → Meaning) (r : Rows P) (says : Says)
@@ -16,7 +16,7 @@ module _ {P T E : Type 0} (meaning : P → ℕ → ℕ → Meaning) (r : Rows P)
   -- The worker of caller i, after this many turns that named it: its client has spent a phase at
   -- each, but none beyond its allotment, and where it isn't halted it has the other phases of its
   -- allotment left.
-  pub record IsTurned (course : Course) (i turns : ℕ) (w : Worker P T E) : Type 0 where
+  pub record IsTurned (course : RunCourse) (i turns : ℕ) (w : Worker P T E) : Type 0 where
     pub client : Client P T E
     pub here : w.client ≡ Some client
     pub of : IsClientOf meaning r says object fits count course i client

@@ -1,6 +1,6 @@
 ghost use Rattle.std.specs.Prelude.{◌≡◌, ◌+◌, ℕ, ◌<◌, length};
 ghost use Rattle.script_workers.specs.Places.{AreDownFrom};
-ghost use Rattle.script_workers.specs.Starts.{run_allotments, replay_allotments, Course, course_of, IsStart};
+ghost use Rattle.script_workers.specs.Starts.{run_allotments, replay_allotments, RunCourse, course_of, IsStart};
 ghost use Rattle.script_workers.specs.Returns.{IsSpent};
 ghost use Rattle.script_workers.specs.Turns.{IsTurned, IsTurning};
 
@@ -21,7 +21,7 @@ impl<'a, P: Program, T, E: Ending> Worker<'a, P, T, E> {
         requires serves { A.serves shared.now.asks.now shared.now.rows.now }
         requires turning { IsTurning P.meaning shared.now.rows.now E.says E.object
             (A.fits shared.now.asks.now) A.count self.old }
-        ensures { (course : Course) (i turns : ℕ)
+        ensures { (course : RunCourse) (i turns : ℕ)
             → IsTurned P.meaning shared.now.rows.now E.says E.object (A.fits shared.now.asks.now)
             A.count course i turns self.old
             → IsTurned P.meaning shared.now.rows.now E.says E.object (A.fits shared.now.asks.now)

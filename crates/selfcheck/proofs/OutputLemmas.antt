@@ -25,7 +25,7 @@ use Rattle.run_writer.specs.Runs.{counts_text, object_of_kind}
 use Rattle.named_runs.specs.BehaviourRuns.{IsNamedRunReport, IsNamedReplayReport}
 use Rattle.selfcheck.specs.ScriptInput.{soak_plan}
 use Rattle.text_fields.specs.Refusal.{refusal_text}
-use Rattle.selfcheck.specs.Output.{InputForm, BookForm, CertificateForm, OldForm, SetForm, ScriptForm, MonitorForm, NoForm, form_of, IsTextOf, IsFirstFaultOf, IsTaken, IsVerdict, IsSketchText, IsDrawn, IsJudgement, IsRewritten, IsSetVerdict, IsAnswerOf, IsRefusal, IsOutputOf, HasOneStatus, RunsInside, SoaksDeliverAll, IsDetermined, RefuseWhatIsNotTaken, IsOutput, ReadsFor, Reads, Ends, IsUnfinished, input_of}
+use Rattle.selfcheck.specs.Output.{InputForm, BookForm, CertificateForm, OldForm, SetForm, ScriptForm, MonitorForm, NoForm, form_of, IsTextOf, IsFirstFaultOf, IsTaken, IsVerdict, IsSketchText, IsSketchOutput, IsJudgement, IsRewritten, IsSetVerdict, IsAnswerOf, IsRefusal, IsOutputOf, HasOneStatus, RunsInside, SoaksDeliverAll, IsDetermined, RefuseWhatIsNotTaken, IsOutput, ReadsFor, Reads, Ends, IsUnfinished, input_of}
 use Rattle.selfcheck.specs.Orders.{order_fault_text}
 use Rattle.byte_streams.specs.Told.{AppendsPart}
 use Rattle.byte_streams.specs.Writing.{EndsWriting}
@@ -238,7 +238,7 @@ one_sketch_text bytes text text' a b =
     ∙ ap (written b.kind b.book) events ∙ sym b.text_is
 
 one_drawing : (bytes : List ℕ) (status other : Status) (text text' : List ℕ)
-    → IsDrawn bytes status text → IsDrawn bytes other text' → (status ≡ other) × (text ≡ text')
+    → IsSketchOutput bytes status text → IsSketchOutput bytes other text' → (status ≡ other) × (text ≡ text')
 one_drawing bytes Fine Fine text text' a b = (refl, one_sketch_text bytes text text' a b)
 one_drawing bytes Fine _ text text' a b = absurd b
 one_drawing bytes _ other text text' a b = absurd a

@@ -95,9 +95,9 @@ pub record IsSketchText (bytes text : List ℕ) : Type 0 where
   pub text_is : text ≡ text_of (sketch_lines kind book events)
 
 -- What `sketch` says of the text of a book: a status and a text.
-abbrev pub IsDrawn : List ℕ → Status → List ℕ → Type 0
-IsDrawn bytes Fine text = IsSketchText bytes text
-IsDrawn bytes _ text = ⊥
+abbrev pub IsSketchOutput : List ℕ → Status → List ℕ → Type 0
+IsSketchOutput bytes Fine text = IsSketchText bytes text
+IsSketchOutput bytes _ text = ⊥
 
 -- What `order` says of the text of a certificate: a status and a text.
 abbrev pub IsJudgement : List ℕ → Status → List ℕ → Type 0
@@ -121,7 +121,7 @@ IsSetVerdict bytes _ text = ⊥
 -- than one.
 abbrev pub IsAnswerOf : Command → List ℕ → Status → List ℕ → Type 0
 IsAnswerOf Verify bytes status text = IsVerdict bytes status text
-IsAnswerOf Sketch bytes status text = IsDrawn bytes status text
+IsAnswerOf Sketch bytes status text = IsSketchOutput bytes status text
 IsAnswerOf Order bytes status text = IsJudgement bytes status text
 IsAnswerOf Upgrade bytes status text = IsRewritten bytes status text
 IsAnswerOf Sets bytes status text = IsSetVerdict bytes status text

@@ -8,8 +8,8 @@ ghost use Rattle.selfcheck_c.specs.declared.TheConstants.{LEGAL, ILLEGAL, NO_MEM
 use crate::buffer::put;
 use crate::{ILLEGAL, LEGAL, NO_MEMORY, NO_ROOM};
 use book_base::{NoMemory, join};
-use call_handles::{Answer, Judgement};
-use handle_slots::{Role, Slot, announce, answered, close, give, judge, open, publish, witness};
+use call_handles::{CallAnswer, Judgement};
+use handle_slots::{CallerRole, Slot, announce, answered, close, give, judge, open, publish, witness};
 use std::alloc::Global;
 
 /// The call did what it is for; where a reply was handed in and its call judged, the reply is
@@ -59,7 +59,7 @@ pub extern "C" fn selfcheck_caller(alloc: Global, table: &mut Slot, slot: &mut S
     // With `DONE` the slot has the handle of the table's next caller, which has made no call, and
     // the table gives the caller after it next.
     ensures given { result ≡ DONE →
-        HasGiven Role.Caller (handle_in table.old) (handle_in table.new) (handle_in slot.new) }
+        HasGiven CallerRole.Caller (handle_in table.old) (handle_in table.new) (handle_in slot.new) }
     // With `UNFIT` there is no table with a caller left to give, or the slot had a handle.
     ensures unfit { result ≡ UNFIT
         → ¬ (MayGive (handle_in table.old) × (handle_in slot.old ≡ None)) }
@@ -69,7 +69,7 @@ pub extern "C" fn selfcheck_caller(alloc: Global, table: &mut Slot, slot: &mut S
     // The status is `DONE`, `NO_MEMORY` or `UNFIT`.
     ensures ends { (result ≡ DONE) ⊎ (result ≡ NO_MEMORY) ⊎ (result ≡ UNFIT) }
 {
-    match give(alloc, Role::Caller, table, slot) {
+    match give(alloc, CallerRole::Caller, table, slot) {
         Ok(true) => DONE,
         Ok(false) => UNFIT,
         Err(NoMemory) => NO_MEMORY,
@@ -85,7 +85,7 @@ pub extern "C" fn selfcheck_monitor(alloc: Global, table: &mut Slot, slot: &mut 
     // With `DONE` the slot has the handle of the table's next caller, as a monitor that has made no
     // round, and the table gives the caller after it next.
     ensures given { result ≡ DONE →
-        HasGiven Role.Monitor (handle_in table.old) (handle_in table.new) (handle_in slot.new) }
+        HasGiven CallerRole.Monitor (handle_in table.old) (handle_in table.new) (handle_in slot.new) }
     // With `UNFIT` there is no table with a caller left to give, or the slot had a handle.
     ensures unfit { result ≡ UNFIT
         → ¬ (MayGive (handle_in table.old) × (handle_in slot.old ≡ None)) }
@@ -95,7 +95,7 @@ pub extern "C" fn selfcheck_monitor(alloc: Global, table: &mut Slot, slot: &mut 
     // The status is `DONE`, `NO_MEMORY` or `UNFIT`.
     ensures ends { (result ≡ DONE) ⊎ (result ≡ NO_MEMORY) ⊎ (result ≡ UNFIT) }
 {
-    match give(alloc, Role::Monitor, table, slot) {
+    match give(alloc, CallerRole::Monitor, table, slot) {
         Ok(true) => DONE,
         Ok(false) => UNFIT,
         Err(NoMemory) => NO_MEMORY,
@@ -131,15 +131,15 @@ pub extern "C" fn selfcheck_answered(alloc: Global, slot: &mut Slot, reply: u64)
     // With `DONE` the call has this reply and is judged: the book at the cut that its caller has
     // seen has a legal order.
     ensures delivered { result ≡ DONE →
-        Ends reply Answer.Delivered (handle_in slot.old) (handle_in slot.new) }
+        Ends reply CallAnswer.Delivered (handle_in slot.old) (handle_in slot.new) }
     // With `ILLEGAL` the call has this reply and is judged: the book at the cut that its caller has
     // seen has no legal order.
     ensures illegal { result ≡ ILLEGAL →
-        Ends reply Answer.Illegal (handle_in slot.old) (handle_in slot.new) }
+        Ends reply CallAnswer.Illegal (handle_in slot.old) (handle_in slot.new) }
     // With `NO_MEMORY` the call is published with this reply, nobody has judged it, and its caller
     // makes no further call.
     ensures unjudged { result ≡ NO_MEMORY →
-        Ends reply Answer.Unjudged (handle_in slot.old) (handle_in slot.new) }
+        Ends reply CallAnswer.Unjudged (handle_in slot.old) (handle_in slot.new) }
     // The status is `UNFIT` exactly where the slot has no caller that has announced a call.
     ensures unfit { (result ≡ UNFIT) ↔ ¬ IsCallers HasAnnounced (handle_in slot.old) }
     // With `UNFIT` the handle is as it was.
@@ -148,9 +148,9 @@ pub extern "C" fn selfcheck_answered(alloc: Global, slot: &mut Slot, reply: u64)
     ensures ends { (result ≡ DONE) ⊎ (result ≡ ILLEGAL) ⊎ (result ≡ NO_MEMORY) ⊎ (result ≡ UNFIT) }
 {
     match answered(alloc, slot, reply) {
-        Some(Answer::Delivered) => DONE,
-        Some(Answer::Illegal) => ILLEGAL,
-        Some(Answer::Unjudged) => NO_MEMORY,
+        Some(CallAnswer::Delivered) => DONE,
+        Some(CallAnswer::Illegal) => ILLEGAL,
+        Some(CallAnswer::Unjudged) => NO_MEMORY,
         None => UNFIT,
     }
 }

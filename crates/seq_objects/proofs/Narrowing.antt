@@ -4,7 +4,7 @@ use Rattle.std.proofs.Common.{◌≡◌, ◌⊎◌, ◌↔◌, ℕ, ◌+◌, ◌
 use Rattle.std.proofs.lemmas.Bool.{cases_eq}
 use Rattle.book_base.specs.declared.call.Call.{Call}
 use Rattle.book_base.specs.declared.call.Place.{Place}
-use Rattle.book_base.specs.declared.marks.Marks.{Marks}
+use Rattle.book_base.specs.declared.marked_callers.MarkedCallers.{MarkedCallers}
 use Rattle.book_base.specs.Book.{Page, IsValid, IsCall, operation_of}
 use Rattle.book_base.specs.Order.{call_at}
 use Rattle.book_base.specs.Next.{next_call, MayComeNext}
@@ -16,15 +16,15 @@ use Rattle.pruning_laws.proofs.Bringing.{forced_key_goes_first}
 use Rattle.seq_objects.specs.Keys.{next_word}
 
 -- Of the marked callers below a number exactly those keep their marks that have a property.
-abbrev pub KeptBelow : (ℕ → Type 0) → Marks → ℕ → Marks → Type 0
+abbrev pub KeptBelow : (ℕ → Type 0) → MarkedCallers → ℕ → MarkedCallers → Type 0
 KeptBelow holds old below new = (i : ℕ) → IsMarked new i ↔ ((i < below) × IsMarked old i × holds i)
 
-pub kept-none : (holds : ℕ → Type 0) (old new : Marks) → ((i : ℕ) → IsMarked new i → ⊥)
+pub kept-none : (holds : ℕ → Type 0) (old new : MarkedCallers) → ((i : ℕ) → IsMarked new i → ⊥)
     → KeptBelow holds old 0 new
 kept-none holds old new none i =
     (λ marked. absurd (none i marked), λ kept. absurd (omega (arith, kept.0)))
 
-pub kept-more : (holds : ℕ → Type 0) (old kept new : Marks) (caller : ℕ)
+pub kept-more : (holds : ℕ → Type 0) (old kept new : MarkedCallers) (caller : ℕ)
     → KeptBelow holds old caller kept → IsMarked old caller → holds caller
     → ((i : ℕ) → IsMarked new i ↔ ((i ≡ caller) ⊎ IsMarked kept i))
     → KeptBelow holds old (caller + 1) new
@@ -43,7 +43,7 @@ kept-more holds old kept new caller h marked here more i = (
   ],
 )
 
-pub kept-skip : (holds : ℕ → Type 0) (old kept : Marks) (caller : ℕ)
+pub kept-skip : (holds : ℕ → Type 0) (old kept : MarkedCallers) (caller : ℕ)
     → KeptBelow holds old caller kept → (IsMarked old caller → holds caller → ⊥)
     → KeptBelow holds old (caller + 1) kept
 kept-skip holds old kept caller h not i = (
@@ -56,11 +56,11 @@ kept-skip holds old kept caller h not i = (
 )
 
 -- a marked caller's next call is a call of the book
-pub marked_is_call : (book : List Page) (cut : List ℕ) (marks : Marks) (i : ℕ)
+pub marked_is_call : (book : List Page) (cut : List ℕ) (marks : MarkedCallers) (i : ℕ)
     → MarksAllNext book cut marks → IsMarked marks i → IsCall book (next_call cut i)
 marked_is_call book cut marks i all marked = ((all i).0 marked).is_call
 
-pub kept-all : (book : List Page) (cut : List ℕ) (holds : ℕ → Type 0) (old new : Marks) (below : ℕ)
+pub kept-all : (book : List Page) (cut : List ℕ) (holds : ℕ → Type 0) (old new : MarkedCallers) (below : ℕ)
     → MarksAllNext book cut old → length book ≤ below → KeptBelow holds old below new
     → (i : ℕ) → IsMarked new i ↔ (IsMarked old i × holds i)
 kept-all book cut holds old new below all wide h i = (
@@ -76,7 +76,7 @@ pub forced_is_call : (book : List Page) (cut : List ℕ) (forced : ℕ) → IsVa
 forced_is_call book cut forced valid is = omega (arith, is.answered, valid.answers forced)
 
 -- a place that may come next is of a marked caller, and has its next call
-pub next_is_marked : (book : List Page) (cut : List ℕ) (marks : Marks) (place : Place)
+pub next_is_marked : (book : List Page) (cut : List ℕ) (marks : MarkedCallers) (place : Place)
     → MarksAllNext book cut marks → MayComeNext book cut (call_at place)
     → (call_at place ≡ next_call cut place.caller) × IsMarked marks place.caller
 next_is_marked book cut marks place all may =
@@ -87,7 +87,7 @@ next_is_marked book cut marks place all may =
 -- The marks of those marked callers suffice whose next calls have the forced call's key.
 pub keyed_suffice : (key : ℕ → Option ℕ) (part : ℕ → List ℕ → List ℕ)
     (next : List ℕ → ℕ → List ℕ × ℕ) → IsKeyed key part next
-    → (book : List Page) (cut list : List ℕ) (forced k : ℕ) (old new : Marks)
+    → (book : List Page) (cut list : List ℕ) (forced k : ℕ) (old new : MarkedCallers)
     → length cut ≡ length book → IsValid book → HasOneOpen book
     → IsForced book cut forced → MarksAllNext book cut old
     → key (next_word book cut forced) ≡ Some k

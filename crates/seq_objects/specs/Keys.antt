@@ -1,7 +1,7 @@
 -- Keys of operations: a set and a map do what an operation asks with the items of its key alone.
 use Rattle.std.specs.Prelude.{◌≡◌, ℕ, ◌==◌, ◌↔◌, List, Option, None, Some, unwrap_or}
 use Rattle.std.specs.List.{filter}
-use Rattle.book_base.specs.declared.marks.Marks.{Marks}
+use Rattle.book_base.specs.declared.marked_callers.MarkedCallers.{MarkedCallers}
 use Rattle.book_base.specs.Book.{Page, operation_of}
 use Rattle.book_base.specs.Next.{next_call}
 use Rattle.book_base.specs.Pruning.{IsMarked}
@@ -19,7 +19,7 @@ next_word book cut caller = unwrap_or (operation_of book (next_call cut caller))
 -- Where the forced call has a key, exactly those marked callers keep their marks whose next calls
 -- have this key; where it has none, all marked callers do.
 pub record IsNarrowedToKey (key : ℕ → Option ℕ) (book : List Page) (cut : List ℕ) (forced : ℕ)
-    (old new : Marks) : Type 0 where
+    (old new : MarkedCallers) : Type 0 where
   pub keyed : (k : ℕ) → key (next_word book cut forced) ≡ Some k
       → (i : ℕ) → IsMarked new i ↔ (IsMarked old i × (key (next_word book cut i) ≡ Some k))
   pub unkeyed : key (next_word book cut forced) ≡ None → new ≡ old

@@ -12,7 +12,7 @@ use crate::items::{insert_in_order, place_of};
 use crate::keyed::{Keyed, empty_sight, narrow_to_key};
 use crate::kind::Kind;
 use crate::reply::{NO, YES};
-use book_base::{BAD, Book, Cut, Marks, NoMemory, OpWord, SeqObject, Sight, State};
+use book_base::{BAD, Book, Cut, MarkedCallers, NoMemory, OpWord, SeqObject, Sight, State};
 use std::alloc::Global;
 
 /// A set of numbers below 2^32.
@@ -144,8 +144,8 @@ impl SeqObject for IntSet {
         cut: &Cut,
         words: &[u64],
         forced: u32,
-        marks: Marks,
-    ) -> Marks
+        marks: MarkedCallers,
+    ) -> MarkedCallers
         // Each view of the book holds at most one unanswered call of each caller.
         requires open { HasOneOpen book.now }
         // The cut has a count for each caller of the book.

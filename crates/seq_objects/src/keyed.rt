@@ -5,7 +5,7 @@ ghost use Rattle.book_base.specs.Pruning.{HasOneOpen, IsForced, MarksAllNext, Ma
 ghost use Rattle.pruning_laws.specs.Keys.{IsKeyed};
 ghost use Rattle.seq_objects.specs.Keys.{next_word, IsNarrowedToKey};
 
-use book_base::{Book, Call, Cut, Marks, OpWord, Sight};
+use book_base::{Book, Call, Cut, MarkedCallers, OpWord, Sight};
 use std::alloc::Global;
 use std::collections::BTreeMap;
 
@@ -38,8 +38,8 @@ pub fn narrow_to_key<K: Keyed>(
     book: &Book,
     cut: &Cut,
     forced: u32,
-    marks: Marks,
-) -> Marks
+    marks: MarkedCallers,
+) -> MarkedCallers
     requires open { HasOneOpen book.now }
     requires wide { length cut.now ≡ length book.now }
     requires forced { IsForced book.now cut.now forced }
@@ -53,7 +53,7 @@ pub fn narrow_to_key<K: Keyed>(
     let Some(key) = next_key(object, book, cut, forced) else {
         return marks;
     };
-    let mut kept = Marks::none();
+    let mut kept = MarkedCallers::none();
     for caller in 0..callers {
         if marks.has(caller) && is_next_on(object, book, cut, caller, key) {
             kept = kept.with(caller);

@@ -18,7 +18,7 @@ use crate::register::Register;
 use crate::stack::Stack;
 use crate::whole::{put_whole, whole};
 use book_base::{
-    Book, Cut, Decision, Marks, NoMemory, OpWord, PruningRules, SeqObject, Sight, State,
+    Book, Cut, Decision, MarkedCallers, NoMemory, OpWord, PruningRules, SeqObject, Sight, State,
 };
 use queue_refutation::decide_queue;
 use stack_levels::decide_stack;
@@ -254,8 +254,8 @@ impl SeqObject for Kind {
         cut: &Cut,
         words: &[u64],
         forced: u32,
-        marks: Marks,
-    ) -> Marks {
+        marks: MarkedCallers,
+    ) -> MarkedCallers {
         match self {
             Kind::Queue => Queue.narrow(sight, book, cut, words, forced, marks),
             Kind::Stack => Stack.narrow(sight, book, cut, words, forced, marks),

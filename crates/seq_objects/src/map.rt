@@ -13,7 +13,7 @@ use crate::items::insert_in_order;
 use crate::keyed::{Keyed, empty_sight, narrow_to_key};
 use crate::kind::Kind;
 use crate::reply::{NONE, is_value, value_reply};
-use book_base::{BAD, Book, Cut, Marks, NoMemory, OpWord, SeqObject, Sight, State};
+use book_base::{BAD, Book, Cut, MarkedCallers, NoMemory, OpWord, SeqObject, Sight, State};
 use std::alloc::Global;
 
 /// How many values a key can have.
@@ -176,8 +176,8 @@ impl SeqObject for Map {
         cut: &Cut,
         words: &[u64],
         forced: u32,
-        marks: Marks,
-    ) -> Marks
+        marks: MarkedCallers,
+    ) -> MarkedCallers
         // Each view of the book holds at most one unanswered call of each caller.
         requires open { HasOneOpen book.now }
         // The cut has a count for each caller of the book.

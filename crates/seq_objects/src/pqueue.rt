@@ -11,7 +11,7 @@ use crate::entry::{INSERT, MIN, argument_of};
 use crate::items::{insert_in_order, take_first};
 use crate::kind::Kind;
 use crate::reply::{DONE, is_value, shown_value};
-use book_base::{BAD, Book, Cut, Marks, NoMemory, OpWord, SeqObject, Sight, State};
+use book_base::{BAD, Book, Cut, MarkedCallers, NoMemory, OpWord, SeqObject, Sight, State};
 use container_pruning::{Reader, Role};
 use std::alloc::Global;
 use value_pruning::{narrow_least_first, sight_of_values};
@@ -116,8 +116,8 @@ impl SeqObject for Pqueue {
         cut: &Cut,
         words: &[u64],
         forced: u32,
-        marks: Marks,
-    ) -> Marks {
+        marks: MarkedCallers,
+    ) -> MarkedCallers {
         narrow_least_first(self, sight, book, cut, words, forced, marks)
     }
 }

@@ -11,7 +11,7 @@ use crate::entry::{READ, WRITE, argument_of};
 use crate::items::{first_or_zero, set_only};
 use crate::kind::Kind;
 use crate::reply::{DONE, shown_value, value_reply};
-use book_base::{BAD, Book, Cut, Marks, NoMemory, OpWord, SeqObject, Sight, State};
+use book_base::{BAD, Book, Cut, MarkedCallers, NoMemory, OpWord, SeqObject, Sight, State};
 use container_pruning::{Reader, Role};
 use std::alloc::Global;
 use value_pruning::{narrow_holds_last, sight_of_values};
@@ -130,8 +130,8 @@ impl SeqObject for Register {
         cut: &Cut,
         words: &[u64],
         forced: u32,
-        marks: Marks,
-    ) -> Marks {
+        marks: MarkedCallers,
+    ) -> MarkedCallers {
         narrow_holds_last(self, sight, book, cut, held_in(words), forced, marks)
     }
 }

@@ -11,7 +11,7 @@ use crate::entry::{POP, PUSH, argument_of};
 use crate::items::take_last;
 use crate::kind::Kind;
 use crate::reply::{DONE, is_value, shown_value};
-use book_base::{BAD, Book, Cut, Marks, NoMemory, OpWord, PruningRules, SeqObject, Sight, State};
+use book_base::{BAD, Book, Cut, MarkedCallers, NoMemory, OpWord, PruningRules, SeqObject, Sight, State};
 use container_pruning::{Reader, Role, stack_pruning_rules};
 use stack_pruning::narrow_last_first;
 use std::alloc::Global;
@@ -121,8 +121,8 @@ impl SeqObject for Stack {
         cut: &Cut,
         words: &[u64],
         forced: u32,
-        marks: Marks,
-    ) -> Marks {
+        marks: MarkedCallers,
+    ) -> MarkedCallers {
         narrow_last_first(self, sight, book, cut, words, forced, marks)
     }
 }

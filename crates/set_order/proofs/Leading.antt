@@ -1,4 +1,4 @@
--- The levels of a walk: one more, one fewer, the order that they make, and the cut and list that
+-- The frames of a walk: one more, one fewer, the order that they make, and the cut and list that
 -- they lead to.
 use Rattle.std.proofs.Common.{◌≡◌, ℕ, ◌+◌, ◌*◌, ◌<◌, ◌≤◌, ◌∙◌, List, [], ◌∷◌, ◌++◌, length, get_or, sum, replicate, Option, Some, refl, sym, ap, subst, arith}
 use Rattle.std.specs.List.{All}
@@ -12,9 +12,9 @@ use Rattle.book_base.specs.Book.{Page, calls_of, IsSmall, IsCall}
 use Rattle.book_base.specs.Order.{call_at, step_at}
 use Rattle.book_base.specs.Next.{HoldsAnswered}
 use Rattle.frontier_check.proofs.Leading.{sum_small}
-use Rattle.set_order.specs.declared.walk.SetLevel.{SetLevel}
+use Rattle.set_order.specs.declared.walk.SetFrame.{SetFrame}
 use Rattle.set_order.specs.SetOrder.{operations_of, IsLegalSetOrder, HasLegalSetOrder}
-use Rattle.set_order.specs.Search.{no_calls, raised_by, MayStandIn, MayStandTogether, SetsContinue, IsDeadEnd, IsLevel, Leads, order_of}
+use Rattle.set_order.specs.Search.{no_calls, raised_by, MayStandIn, MayStandTogether, SetsContinue, IsDeadEnd, IsFrame, Leads, order_of}
 use Rattle.set_order.proofs.Raising.{all_so, raised-length, raised-sum, raised-within}
 use Rattle.set_order.proofs.SetOrders.{next-from_each, legal_order_from_continue, continue_from_legal_order}
 
@@ -28,83 +28,83 @@ sum-zeros n = let all : All (λ (m : ℕ). m ≤ 0) (replicate n 0) = All-from_g
 pub zeros : (book : List Page) (i : ℕ) → get_or (no_calls book) i 0 ≡ 0
 zeros book i = get_or-replicate_default (length book) i 0
 
--- a level belongs to a cut and a list also by other names for these
-moved_level : (served : List ℕ → List ℕ → Option (List ℕ × List ℕ)) (book : List Page)
-    (cut new_cut list new_list : List ℕ) (level : SetLevel) (after : List ℕ)
-    → cut ≡ new_cut → list ≡ new_list → IsLevel served book new_cut new_list level after
-    → IsLevel served book cut list level after
-moved_level served book cut new_cut list new_list level after e f h =
-    subst (λ (c : List ℕ). IsLevel served book c list level after) (sym e)
-    (subst (λ (l : List ℕ). IsLevel served book new_cut l level after) (sym f) h)
+-- a frame belongs to a cut and a list also by other names for these
+moved_frame : (served : List ℕ → List ℕ → Option (List ℕ × List ℕ)) (book : List Page)
+    (cut new_cut list new_list : List ℕ) (frame : SetFrame) (after : List ℕ)
+    → cut ≡ new_cut → list ≡ new_list → IsFrame served book new_cut new_list frame after
+    → IsFrame served book cut list frame after
+moved_frame served book cut new_cut list new_list frame after e f h =
+    subst (λ (c : List ℕ). IsFrame served book c list frame after) (sym e)
+    (subst (λ (l : List ℕ). IsFrame served book new_cut l frame after) (sym f) h)
 
--- the levels of a walk with one more
+-- the frames of a walk with one more
 pub leads-push : (served : List ℕ → List ℕ → Option (List ℕ × List ℕ)) (book : List Page)
-    (cut list : List ℕ) (levels : List SetLevel) (to_cut to_list : List ℕ) (level : SetLevel)
+    (cut list : List ℕ) (frames : List SetFrame) (to_cut to_list : List ℕ) (frame : SetFrame)
     (after : List ℕ)
-    → Leads served book cut list levels to_cut to_list
-    → IsLevel served book to_cut to_list level after
-    → Leads served book cut list (levels ++ level ∷ []) (raised_by to_cut level.set) after
-leads-push served book cut list [] to_cut to_list level after (same_cut, same_list) here = (
+    → Leads served book cut list frames to_cut to_list
+    → IsFrame served book to_cut to_list frame after
+    → Leads served book cut list (frames ++ frame ∷ []) (raised_by to_cut frame.set) after
+leads-push served book cut list [] to_cut to_list frame after (same_cut, same_list) here = (
   after,
-  moved_level served book cut to_cut list to_list level after same_cut same_list here,
-  (ap (λ (c : List ℕ). raised_by c level.set) same_cut, refl),
+  moved_frame served book cut to_cut list to_list frame after same_cut same_list here,
+  (ap (λ (c : List ℕ). raised_by c frame.set) same_cut, refl),
 )
-leads-push served book cut list (first ∷ levels) to_cut to_list level after
+leads-push served book cut list (first ∷ frames) to_cut to_list frame after
     (between, at, later) here = (
       between,
       at,
       leads-push served book
-          (raised_by cut first.set) between levels to_cut to_list level after later here,
+          (raised_by cut first.set) between frames to_cut to_list frame after later here,
     )
 
--- the cut and list that a walk had before its last level
+-- the cut and list that a walk had before its last frame
 pub record Back (served : List ℕ → List ℕ → Option (List ℕ × List ℕ)) (book : List Page)
-    (cut list : List ℕ) (levels : List SetLevel) (level : SetLevel)
+    (cut list : List ℕ) (frames : List SetFrame) (frame : SetFrame)
     (to_cut to_list : List ℕ) : Type 0 where
-  pub leads : Leads served book cut list levels level.counts.items level.words.items
-  pub here : IsLevel served book level.counts.items level.words.items level to_list
-  pub to_cut_is : to_cut ≡ raised_by level.counts.items level.set
+  pub leads : Leads served book cut list frames frame.counts.items frame.words.items
+  pub here : IsFrame served book frame.counts.items frame.words.items frame to_list
+  pub to_cut_is : to_cut ≡ raised_by frame.counts.items frame.set
 
--- the levels of a walk without the last one
+-- the frames of a walk without the last one
 pub leads-pop : (served : List ℕ → List ℕ → Option (List ℕ × List ℕ)) (book : List Page)
-    (cut list : List ℕ) (levels : List SetLevel) (level : SetLevel) (to_cut to_list : List ℕ)
-    → Leads served book cut list (levels ++ level ∷ []) to_cut to_list
-    → Back served book cut list levels level to_cut to_list
-leads-pop served book cut list [] level to_cut to_list (after, at, (cut_is, list_is)) = record {
+    (cut list : List ℕ) (frames : List SetFrame) (frame : SetFrame) (to_cut to_list : List ℕ)
+    → Leads served book cut list (frames ++ frame ∷ []) to_cut to_list
+    → Back served book cut list frames frame to_cut to_list
+leads-pop served book cut list [] frame to_cut to_list (after, at, (cut_is, list_is)) = record {
   leads = (sym at.counts, sym at.words);
-  here = subst (λ (l : List ℕ). IsLevel served book level.counts.items level.words.items level l)
-      list_is (moved_level served book level.counts.items cut level.words.items list level after
+  here = subst (λ (l : List ℕ). IsFrame served book frame.counts.items frame.words.items frame l)
+      list_is (moved_frame served book frame.counts.items cut frame.words.items list frame after
       at.counts at.words at);
-  to_cut_is = sym cut_is ∙ ap (λ (c : List ℕ). raised_by c level.set) (sym at.counts);
+  to_cut_is = sym cut_is ∙ ap (λ (c : List ℕ). raised_by c frame.set) (sym at.counts);
 }
-leads-pop served book cut list (first ∷ levels) level to_cut to_list (between, at, later) =
+leads-pop served book cut list (first ∷ frames) frame to_cut to_list (between, at, later) =
     let back =
-    leads-pop served book (raised_by cut first.set) between levels level to_cut to_list later in
+    leads-pop served book (raised_by cut first.set) between frames frame to_cut to_list later in
     record { leads = (between, at, back.leads); here = back.here; to_cut_is = back.to_cut_is }
 
--- the sets of levels continue an order from where the levels begin, where the cut to which they
+-- the sets of frames continue an order from where the frames begin, where the cut to which they
 -- lead holds all answered calls
 leads-continue : (served : List ℕ → List ℕ → Option (List ℕ × List ℕ)) (book : List Page)
-    (cut list : List ℕ) (levels : List SetLevel) (to_cut to_list : List ℕ)
-    → Leads served book cut list levels to_cut to_list → HoldsAnswered book to_cut
-    → SetsContinue served book cut list (order_of levels)
+    (cut list : List ℕ) (frames : List SetFrame) (to_cut to_list : List ℕ)
+    → Leads served book cut list frames to_cut to_list → HoldsAnswered book to_cut
+    → SetsContinue served book cut list (order_of frames)
 leads-continue served book cut list [] to_cut to_list (same_cut, same_list) all =
     subst (λ (c : List ℕ). HoldsAnswered book c) (sym same_cut) all
-leads-continue served book cut list (first ∷ levels) to_cut to_list (between, at, later) all = (
+leads-continue served book cut list (first ∷ frames) to_cut to_list (between, at, later) all = (
   between,
   at.stands,
-  leads-continue served book (raised_by cut first.set) between levels to_cut to_list later all,
+  leads-continue served book (raised_by cut first.set) between frames to_cut to_list later all,
 )
 
--- The levels that lead to a cut with all answered calls make a legal set order.
+-- The frames that lead to a cut with all answered calls make a legal set order.
 pub legal-from_leads : (init : List ℕ) (served : List ℕ → List ℕ → Option (List ℕ × List ℕ))
-    (book : List Page) (levels : List SetLevel) (cut list : List ℕ)
-    → Leads served book (no_calls book) init levels cut list → HoldsAnswered book cut
-    → IsLegalSetOrder init served book (order_of levels)
-legal-from_leads init served book levels cut list leads all =
+    (book : List Page) (frames : List SetFrame) (cut list : List ℕ)
+    → Leads served book (no_calls book) init frames cut list → HoldsAnswered book cut
+    → IsLegalSetOrder init served book (order_of frames)
+legal-from_leads init served book frames cut list leads all =
     let long : length (no_calls book) ≡ length book = length-replicate (length book) 0 in
-    legal_order_from_continue init served book (no_calls book) (order_of levels) (omega arith)
-    (zeros book) (leads-continue served book (no_calls book) init levels cut list leads all)
+    legal_order_from_continue init served book (no_calls book) (order_of frames) (omega arith)
+    (zeros book) (leads-continue served book (no_calls book) init frames cut list leads all)
 
 -- Where the start is a dead end, the book has no legal set order.
 pub none-from_dead : (init : List ℕ) (served : List ℕ → List ℕ → Option (List ℕ × List ℕ))
@@ -120,12 +120,12 @@ abbrev pub Grows : (List ℕ → List ℕ → Option (List ℕ × List ℕ)) →
 Grows served = (list ops after replies : List ℕ) → served list ops ≡ Some (after, replies)
     → length after ≤ length list + length ops
 
--- how far levels lead: to a cut with at least one more call for each level, and to a list that is
+-- how far frames lead: to a cut with at least one more call for each frame, and to a list that is
 -- longer by at most as many words
-pub record Reach (book : List Page) (cut list : List ℕ) (levels : List SetLevel)
+pub record Reach (book : List Page) (cut list : List ℕ) (frames : List SetFrame)
     (to_cut to_list : List ℕ) : Type 0 where
   pub wide : length to_cut ≡ length cut
-  pub deep : sum cut + length levels ≤ sum to_cut
+  pub deep : sum cut + length frames ≤ sum to_cut
   pub words : length to_list + sum cut ≤ length list + sum to_cut
   pub within : (i : ℕ) → get_or to_cut i 0 ≤ calls_of book i
 
@@ -158,9 +158,9 @@ one_step served book cut list places after grows wide within may =
     }
 
 leads-reach : (served : List ℕ → List ℕ → Option (List ℕ × List ℕ)) (book : List Page)
-    (cut list : List ℕ) (levels : List SetLevel) (to_cut to_list : List ℕ) → Grows served
+    (cut list : List ℕ) (frames : List SetFrame) (to_cut to_list : List ℕ) → Grows served
     → length book ≤ length cut → ((i : ℕ) → get_or cut i 0 ≤ calls_of book i)
-    → Leads served book cut list levels to_cut to_list → Reach book cut list levels to_cut to_list
+    → Leads served book cut list frames to_cut to_list → Reach book cut list frames to_cut to_list
 leads-reach served book cut list [] to_cut to_list grows wide within (same_cut, same_list) =
     record {
       wide = ap (λ (c : List ℕ). length c) (sym same_cut);
@@ -170,10 +170,10 @@ leads-reach served book cut list [] to_cut to_list grows wide within (same_cut, 
           (arith, ap (λ (l : List ℕ). length l) same_list, ap (λ (c : List ℕ). sum c) same_cut);
       within = λ (i : ℕ). omega (arith, within i, ap (λ (c : List ℕ). get_or c i 0) same_cut);
     }
-leads-reach served book cut list (first ∷ levels) to_cut to_list grows wide within
+leads-reach served book cut list (first ∷ frames) to_cut to_list grows wide within
     (between, at, later) =
     let step = one_step served book cut list first.set between grows wide within at.stands in
-    let rest = leads-reach served book (raised_by cut first.set) between levels to_cut to_list grows
+    let rest = leads-reach served book (raised_by cut first.set) between frames to_cut to_list grows
     (omega (arith, step.wide)) step.within later in
     let some = at.stands.some in
     record {
@@ -184,19 +184,19 @@ leads-reach served book cut list (first ∷ levels) to_cut to_list grows wide wi
     }
 
 -- What is known of the cut and list to which a walk from the start leads.
-pub record WalkFacts (book : List Page) (levels : List SetLevel) (cut list : List ℕ) : Type 0 where
+pub record WalkFacts (book : List Page) (frames : List SetFrame) (cut list : List ℕ) : Type 0 where
   pub wide : length cut ≡ length book
-  pub depth : length levels ≤ MAX_CALLERS * MAX_CALLS
+  pub depth : length frames ≤ MAX_CALLERS * MAX_CALLS
   pub words : length list ≤ MAX_CALLERS * MAX_CALLS + 1
   pub within : (i : ℕ) → get_or cut i 0 ≤ calls_of book i
 
 pub standing : (init : List ℕ) (served : List ℕ → List ℕ → Option (List ℕ × List ℕ))
-    (book : List Page) (levels : List SetLevel) (cut list : List ℕ)
+    (book : List Page) (frames : List SetFrame) (cut list : List ℕ)
     → IsSmall book → length init ≤ 1 → Grows served
-    → Leads served book (no_calls book) init levels cut list → WalkFacts book levels cut list
-standing init served book levels cut list small begins grows leads =
+    → Leads served book (no_calls book) init frames cut list → WalkFacts book frames cut list
+standing init served book frames cut list small begins grows leads =
     let long : length (no_calls book) ≡ length book = length-replicate (length book) 0 in
-    let reach = leads-reach served book (no_calls book) init levels cut list grows (omega arith)
+    let reach = leads-reach served book (no_calls book) init frames cut list grows (omega arith)
     (λ (i : ℕ). omega (arith, zeros book i)) leads in
     let wide : length cut ≡ length book = reach.wide ∙ long in
     let few : sum cut ≤ MAX_CALLERS * MAX_CALLS = sum_small book cut small wide reach.within in

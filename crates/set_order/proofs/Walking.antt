@@ -1,4 +1,4 @@
--- A walk through the pairs of a cut and a list: one set deeper, one number fewer, one level back.
+-- A walk through the pairs of a cut and a list: one set deeper, one number fewer, one frame back.
 use Rattle.std.proofs.Common.{◌≡◌, ℕ, ◌+◌, ◌^◌, ◌<◌, ◌≤◌, ◌⊎◌, ◌∙◌, List, [], ◌∷◌, ◌++◌, length, get_or, Option, refl, sym, ap, subst, inl, inr, slice_get, arith}
 use Rattle.std.specs.List.{AllByRecursion}
 use Rattle.book_base.specs.declared.call.Place.{Place}
@@ -12,28 +12,28 @@ use Rattle.std.proofs.lemmas.Option.{none-some}
 use Rattle.frontier_check.specs.declared.memo.MemoEntry.{MemoEntry}
 use Rattle.frontier_check.specs.declared.memo.Memo.{Memo}
 use Rattle.frontier_check.specs.Memo.{IsMemo, Remembers}
-use Rattle.set_order.specs.declared.walk.SetLevel.{SetLevel}
+use Rattle.set_order.specs.declared.walk.SetFrame.{SetFrame}
 use Rattle.set_order.specs.declared.walk.SetWalk.{SetWalk}
 use Rattle.set_order.specs.declared.walk.TheConstants.{CAPACITY}
 use Rattle.set_order.specs.SetOrder.{callers_of, operations_of, IsLegalSetOrder, HasLegalSetOrder}
-use Rattle.set_order.specs.Search.{no_calls, raised_by, picked, MayStandIn, MayStandTogether, IsDeadEnd, LeadsNowhere, IsOpen, IsLevel, Leads, IsWalk, order_of, weigh, weight}
+use Rattle.set_order.specs.Search.{no_calls, raised_by, picked, MayStandIn, MayStandTogether, IsDeadEnd, LeadsNowhere, IsOpen, IsFrame, Leads, IsWalk, order_of, weigh, weight}
 use Rattle.set_order.proofs.Raising.{all_so}
 use Rattle.set_order.proofs.Trying.{nowhere-from_dead, open-less, dead_end, IsPart, part-from_open, candidates-few}
 use Rattle.set_order.proofs.Picking.{picked-few}
 use Rattle.set_order.proofs.Leading.{leads-push, leads-pop, Grows, standing, legal-from_leads, none-from_dead}
 use Rattle.set_order.proofs.Weighing.{weigh-push, weigh-skip, weigh-pop}
 
--- the levels of a walk lead also to the cut and list of another walk with the same ones
+-- the frames of a walk lead also to the cut and list of another walk with the same ones
 same_leads : (served : List ℕ → List ℕ → Option (List ℕ × List ℕ)) (book : List Page)
-    (cut list : List ℕ) (levels new_levels : List SetLevel)
+    (cut list : List ℕ) (frames new_frames : List SetFrame)
     (to_cut new_cut to_list new_list : List ℕ)
-    → new_levels ≡ levels → new_cut ≡ to_cut → new_list ≡ to_list
-    → Leads served book cut list levels to_cut to_list
-    → Leads served book cut list new_levels new_cut new_list
-same_leads served book cut list levels new_levels to_cut new_cut to_list new_list e f k h =
-    subst (λ (ls : List SetLevel). Leads served book cut list ls new_cut new_list) (sym e)
-    (subst (λ (c : List ℕ). Leads served book cut list levels c new_list) (sym f)
-    (subst (λ (l : List ℕ). Leads served book cut list levels to_cut l) (sym k) h))
+    → new_frames ≡ frames → new_cut ≡ to_cut → new_list ≡ to_list
+    → Leads served book cut list frames to_cut to_list
+    → Leads served book cut list new_frames new_cut new_list
+same_leads served book cut list frames new_frames to_cut new_cut to_list new_list e f k h =
+    subst (λ (ls : List SetFrame). Leads served book cut list ls new_cut new_list) (sym e)
+    (subst (λ (c : List ℕ). Leads served book cut list frames c new_list) (sym f)
+    (subst (λ (l : List ℕ). Leads served book cut list frames to_cut l) (sym k) h))
 
 same_open : (served : List ℕ → List ℕ → Option (List ℕ × List ℕ)) (book : List Page)
     (cut new_cut list new_list callers new_callers : List ℕ) (left new_left : ℕ)
@@ -48,7 +48,7 @@ same_open served book cut new_cut list new_list callers new_callers left new_lef
 
 -- The new walk differs from the old one in what is left and in its memo alone.
 pub record IsSameWalk (old new : SetWalk) : Type 0 where
-  pub levels : new.levels ≡ old.levels
+  pub frames : new.frames ≡ old.frames
   pub counts : new.counts ≡ old.counts
   pub here : new.here ≡ old.here
   pub callers : new.callers ≡ old.callers
@@ -60,14 +60,14 @@ pub walk-skip : (init : List ℕ) (served : List ℕ → List ℕ → Option (Li
     → IsSameWalk old new → new.memo ≡ old.memo → new.left + 1 ≡ old.left
     → IsWalk init served book new × (weight new < weight old)
 walk-skip init served book old new h nowhere same memo left =
-    let weights : weight new ≡ weigh CAPACITY old.levels.items new.left =
-    ap (λ v. weigh CAPACITY v.items new.left) same.levels in
-    let before : weight old ≡ weigh CAPACITY old.levels.items (new.left + 1) =
-    ap (λ (n : ℕ). weigh CAPACITY old.levels.items n) (sym left) in (
+    let weights : weight new ≡ weigh CAPACITY old.frames.items new.left =
+    ap (λ v. weigh CAPACITY v.items new.left) same.frames in
+    let before : weight old ≡ weigh CAPACITY old.frames.items (new.left + 1) =
+    ap (λ (n : ℕ). weigh CAPACITY old.frames.items n) (sym left) in (
       record {
-        leads = same_leads served book (no_calls book) init old.levels.items new.levels.items
+        leads = same_leads served book (no_calls book) init old.frames.items new.frames.items
             old.counts.items new.counts.items old.here.words new.here.words
-            (ap (λ v. v.items) same.levels) (ap (λ v. v.items) same.counts)
+            (ap (λ v. v.items) same.frames) (ap (λ v. v.items) same.counts)
             (ap (λ s. s.words) same.here) h.leads;
         here = same_open served book old.counts.items new.counts.items old.here.words new.here.words
             old.callers.items new.callers.items new.left new.left
@@ -80,7 +80,7 @@ walk-skip init served book old new h nowhere same memo left =
         callers = ap (λ m. m.callers) memo ∙ h.callers;
         room = ap (λ s. s.room) same.here ∙ h.room;
       },
-      omega (arith, weights, before, weigh-skip CAPACITY old.levels.items new.left),
+      omega (arith, weights, before, weigh-skip CAPACITY old.frames.items new.left),
     )
 
 -- the walk with one more remembered dead end
@@ -93,9 +93,9 @@ pub walk-remember : (init : List ℕ) (served : List ℕ → List ℕ → Option
     → IsWalk init served book new × (weight new ≡ weight old)
 walk-remember init served book old new h none same left memo callers only = (
   record {
-    leads = same_leads served book (no_calls book) init old.levels.items new.levels.items
+    leads = same_leads served book (no_calls book) init old.frames.items new.frames.items
         old.counts.items new.counts.items old.here.words new.here.words
-        (ap (λ v. v.items) same.levels) (ap (λ v. v.items) same.counts)
+        (ap (λ v. v.items) same.frames) (ap (λ v. v.items) same.counts)
         (ap (λ s. s.words) same.here) h.leads;
     here = same_open served book old.counts.items new.counts.items old.here.words new.here.words
         old.callers.items new.callers.items old.left new.left
@@ -115,8 +115,8 @@ walk-remember init served book old new h none same left memo callers only = (
     callers = callers ∙ h.callers;
     room = ap (λ s. s.room) same.here ∙ h.room;
   },
-  ap (λ v. weigh CAPACITY v.items new.left) same.levels
-      ∙ ap (λ (n : ℕ). weigh CAPACITY old.levels.items n) left,
+  ap (λ v. weigh CAPACITY v.items new.left) same.frames
+      ∙ ap (λ (n : ℕ). weigh CAPACITY old.frames.items n) left,
 )
 
 -- a set that leads to a remembered dead end leads nowhere
@@ -149,143 +149,143 @@ nowhere-from_lost init served book old places after cut list is stands cut_is li
 
 -- A walk is deeper than another one by a set that is taken next.
 pub record IsDeeper (served : List ℕ → List ℕ → Option (List ℕ × List ℕ)) (book : List Page)
-    (old new : SetWalk) (level : SetLevel) : Type 0 where
-  pub levels : new.levels.items ≡ old.levels.items ++ level ∷ []
-  pub words : level.words.items ≡ old.here.words
-  pub level_counts : level.counts.items ≡ old.counts.items
-  pub level_callers : level.callers.items ≡ old.callers.items
-  pub level_left : level.left + 1 ≡ old.left
-  pub chosen : callers_of level.set ≡ picked old.left old.callers.items
-  pub stands : MayStandTogether served book old.counts.items old.here.words level.set new.here.words
-  pub counts : new.counts.items ≡ raised_by old.counts.items level.set
+    (old new : SetWalk) (frame : SetFrame) : Type 0 where
+  pub frames : new.frames.items ≡ old.frames.items ++ frame ∷ []
+  pub words : frame.words.items ≡ old.here.words
+  pub level_counts : frame.counts.items ≡ old.counts.items
+  pub level_callers : frame.callers.items ≡ old.callers.items
+  pub level_left : frame.left + 1 ≡ old.left
+  pub chosen : callers_of frame.set ≡ picked old.left old.callers.items
+  pub stands : MayStandTogether served book old.counts.items old.here.words frame.set new.here.words
+  pub counts : new.counts.items ≡ raised_by old.counts.items frame.set
   pub room : new.here.room ≡ old.here.room
   pub memo : new.memo ≡ old.memo
 
 deeper-leads : (init : List ℕ) (served : List ℕ → List ℕ → Option (List ℕ × List ℕ))
-    (book : List Page) (old new : SetWalk) (level : SetLevel) → IsWalk init served book old
-    → IsDeeper served book old new level
-    → Leads served book (no_calls book) init new.levels.items new.counts.items new.here.words
-deeper-leads init served book old new level h d =
-    let here : IsLevel served book old.counts.items old.here.words level new.here.words = record {
+    (book : List Page) (old new : SetWalk) (frame : SetFrame) → IsWalk init served book old
+    → IsDeeper served book old new frame
+    → Leads served book (no_calls book) init new.frames.items new.counts.items new.here.words
+deeper-leads init served book old new frame h d =
+    let here : IsFrame served book old.counts.items old.here.words frame new.here.words = record {
       counts = d.level_counts;
       words = d.words;
       open_here = same_open served book old.counts.items old.counts.items old.here.words
-          old.here.words old.callers.items level.callers.items old.left (level.left + 1)
+          old.here.words old.callers.items frame.callers.items old.left (frame.left + 1)
           refl refl d.level_callers d.level_left h.here;
       chosen = d.chosen ∙ (ap (λ (n : ℕ). picked n old.callers.items) (sym d.level_left)
-          ∙ ap (λ (is : List ℕ). picked (level.left + 1) is) (sym d.level_callers));
+          ∙ ap (λ (is : List ℕ). picked (frame.left + 1) is) (sym d.level_callers));
       stands = d.stands;
     } in
-    same_leads served book (no_calls book) init (old.levels.items ++ level ∷ []) new.levels.items
-    (raised_by old.counts.items level.set) new.counts.items new.here.words new.here.words
-    d.levels d.counts refl (leads-push served book (no_calls book) init old.levels.items
-    old.counts.items old.here.words level new.here.words h.leads here)
+    same_leads served book (no_calls book) init (old.frames.items ++ frame ∷ []) new.frames.items
+    (raised_by old.counts.items frame.set) new.counts.items new.here.words new.here.words
+    d.frames d.counts refl (leads-push served book (no_calls book) init old.frames.items
+    old.counts.items old.here.words frame new.here.words h.leads here)
 
 pub walk-deeper : (init : List ℕ) (served : List ℕ → List ℕ → Option (List ℕ × List ℕ))
-    (book : List Page) (old new : SetWalk) (level : SetLevel) → IsSmall book → length init ≤ 1
+    (book : List Page) (old new : SetWalk) (frame : SetFrame) → IsSmall book → length init ≤ 1
     → Grows served
-    → IsWalk init served book old → IsDeeper served book old new level
+    → IsWalk init served book old → IsDeeper served book old new frame
     → IsOpen served book new.counts.items new.here.words new.callers.items new.left
     → new.left < 2 ^ MAX_CALLERS
     → IsWalk init served book new × (weight new < weight old)
-walk-deeper init served book old new level small begins grows h d here few =
-    let s = standing init served book old.levels.items old.counts.items old.here.words small begins
+walk-deeper init served book old new frame small begins grows h d here few =
+    let s = standing init served book old.frames.items old.counts.items old.here.words small begins
     grows h.leads in
-    let same : weight new ≡ weigh CAPACITY (old.levels.items ++ level ∷ []) new.left =
-    ap (λ (ls : List SetLevel). weigh CAPACITY ls new.left) d.levels in
-    let more : weigh CAPACITY old.levels.items (level.left + 1) ≡ weight old =
-    ap (λ (n : ℕ). weigh CAPACITY old.levels.items n) d.level_left in
-    let deep : length old.levels.items < CAPACITY = omega (arith, s.depth) in (
+    let same : weight new ≡ weigh CAPACITY (old.frames.items ++ frame ∷ []) new.left =
+    ap (λ (ls : List SetFrame). weigh CAPACITY ls new.left) d.frames in
+    let more : weigh CAPACITY old.frames.items (frame.left + 1) ≡ weight old =
+    ap (λ (n : ℕ). weigh CAPACITY old.frames.items n) d.level_left in
+    let deep : length old.frames.items < CAPACITY = omega (arith, s.depth) in (
       record {
-        leads = deeper-leads init served book old new level h d;
+        leads = deeper-leads init served book old new frame h d;
         here = here;
         dead = λ cut list at. h.dead cut list (subst (λ m. Remembers m cut list) d.memo at);
         memo = subst (λ m. IsMemo m) (sym d.memo) h.memo;
         callers = ap (λ m. m.callers) d.memo ∙ h.callers;
         room = d.room ∙ h.room;
       },
-      omega (arith, same, more, weigh-push CAPACITY old.levels.items level new.left deep few),
+      omega (arith, same, more, weigh-push CAPACITY old.frames.items frame new.left deep few),
     )
 
 pub walk-found : (init : List ℕ) (served : List ℕ → List ℕ → Option (List ℕ × List ℕ))
-    (book : List Page) (old new : SetWalk) (level : SetLevel) → IsWalk init served book old
-    → IsDeeper served book old new level → HoldsAnswered book new.counts.items
-    → IsLegalSetOrder init served book (order_of new.levels.items)
-walk-found init served book old new level h d all =
-    legal-from_leads init served book new.levels.items new.counts.items new.here.words
-    (deeper-leads init served book old new level h d) all
+    (book : List Page) (old new : SetWalk) (frame : SetFrame) → IsWalk init served book old
+    → IsDeeper served book old new frame → HoldsAnswered book new.counts.items
+    → IsLegalSetOrder init served book (order_of new.frames.items)
+walk-found init served book old new frame h d all =
+    legal-from_leads init served book new.frames.items new.counts.items new.here.words
+    (deeper-leads init served book old new frame h d) all
 
--- the walk after going back one level from a dead end
+-- the walk after going back one frame from a dead end
 pub walk-back : (init : List ℕ) (served : List ℕ → List ℕ → Option (List ℕ × List ℕ))
-    (book : List Page) (old new : SetWalk) (level : SetLevel) → IsWalk init served book old
+    (book : List Page) (old new : SetWalk) (frame : SetFrame) → IsWalk init served book old
     → old.left ≡ 0
-    → old.levels.items ≡ new.levels.items ++ level ∷ [] → new.counts ≡ level.counts → new.here.words
-    ≡ level.words.items → new.here.room ≡ old.here.room → new.callers ≡ level.callers
-    → new.left ≡ level.left → new.memo ≡ old.memo → IsWalk init served book new
+    → old.frames.items ≡ new.frames.items ++ frame ∷ [] → new.counts ≡ frame.counts → new.here.words
+    ≡ frame.words.items → new.here.room ≡ old.here.room → new.callers ≡ frame.callers
+    → new.left ≡ frame.left → new.memo ≡ old.memo → IsWalk init served book new
     × (weight new < weight old)
-walk-back init served book old new level h none levels counts here room callers left memo =
+walk-back init served book old new frame h none frames counts here room callers left memo =
     let back = leads-pop served book
-    (no_calls book) init new.levels.items level old.counts.items old.here.words
+    (no_calls book) init new.frames.items frame old.counts.items old.here.words
     (subst
-    (λ (ls : List SetLevel).
+    (λ (ls : List SetFrame).
     Leads served book (no_calls book) init ls old.counts.items old.here.words)
-    levels h.leads) in
-    let dead : IsDeadEnd served book (raised_by level.counts.items level.set) old.here.words =
+    frames h.leads) in
+    let dead : IsDeadEnd served book (raised_by frame.counts.items frame.set) old.here.words =
     subst (λ (c : List ℕ). IsDeadEnd served book c old.here.words) back.to_cut_is
     (dead_end served book old.counts.items old.here.words old.callers.items
     (subst (λ (n : ℕ). IsOpen served book old.counts.items old.here.words old.callers.items n)
     none h.here)) in
-    let nowhere : LeadsNowhere served book level.counts.items level.words.items
-    (picked (level.left + 1) level.callers.items) =
-    nowhere-from_dead served book level.counts.items level.words.items level.set old.here.words
-    (picked (level.left + 1) level.callers.items) back.here.chosen back.here.stands dead in
-    let same : weight new ≡ weigh CAPACITY new.levels.items level.left =
-    ap (λ (n : ℕ). weigh CAPACITY new.levels.items n) left in
-    let old_is : weight old ≡ weigh CAPACITY (new.levels.items ++ level ∷ []) 0 =
-    ap (λ (ls : List SetLevel). weigh CAPACITY ls old.left) levels
-    ∙ ap (λ (n : ℕ). weigh CAPACITY (new.levels.items ++ level ∷ []) n) none in (
+    let nowhere : LeadsNowhere served book frame.counts.items frame.words.items
+    (picked (frame.left + 1) frame.callers.items) =
+    nowhere-from_dead served book frame.counts.items frame.words.items frame.set old.here.words
+    (picked (frame.left + 1) frame.callers.items) back.here.chosen back.here.stands dead in
+    let same : weight new ≡ weigh CAPACITY new.frames.items frame.left =
+    ap (λ (n : ℕ). weigh CAPACITY new.frames.items n) left in
+    let old_is : weight old ≡ weigh CAPACITY (new.frames.items ++ frame ∷ []) 0 =
+    ap (λ (ls : List SetFrame). weigh CAPACITY ls old.left) frames
+    ∙ ap (λ (n : ℕ). weigh CAPACITY (new.frames.items ++ frame ∷ []) n) none in (
       record {
-        leads = same_leads served book (no_calls book) init new.levels.items new.levels.items
-            level.counts.items new.counts.items level.words.items new.here.words
+        leads = same_leads served book (no_calls book) init new.frames.items new.frames.items
+            frame.counts.items new.counts.items frame.words.items new.here.words
             refl (ap (λ v. v.items) counts) here back.leads;
-        here = same_open served book level.counts.items new.counts.items level.words.items
-            new.here.words level.callers.items new.callers.items level.left new.left
+        here = same_open served book frame.counts.items new.counts.items frame.words.items
+            new.here.words frame.callers.items new.callers.items frame.left new.left
             (ap (λ v. v.items) counts) here (ap (λ v. v.items) callers) left
-            (open-less served book level.counts.items level.words.items level.callers.items
-            (level.left + 1) level.left refl nowhere back.here.open_here);
+            (open-less served book frame.counts.items frame.words.items frame.callers.items
+            (frame.left + 1) frame.left refl nowhere back.here.open_here);
         dead = λ c l at. h.dead c l (subst (λ m. Remembers m c l) memo at);
         memo = subst (λ m. IsMemo m) (sym memo) h.memo;
         callers = ap (λ m. m.callers) memo ∙ h.callers;
         room = room ∙ h.room;
       },
-      omega (arith, same, old_is, weigh-pop CAPACITY new.levels.items level),
+      omega (arith, same, old_is, weigh-pop CAPACITY new.frames.items frame),
     )
 
--- the words of the last level fit the capacity
+-- the words of the last frame fit the capacity
 pub last_level : (init : List ℕ) (served : List ℕ → List ℕ → Option (List ℕ × List ℕ))
-    (book : List Page) (old : SetWalk) (levels : List SetLevel) (level : SetLevel) → IsSmall book
+    (book : List Page) (old : SetWalk) (frames : List SetFrame) (frame : SetFrame) → IsSmall book
     → length init ≤ 1
     → Grows served → IsWalk init served book old
-    → old.levels.items ≡ levels ++ level ∷ [] → length level.words.items ≤ CAPACITY
-last_level init served book old levels level small begins grows h is =
+    → old.frames.items ≡ frames ++ frame ∷ [] → length frame.words.items ≤ CAPACITY
+last_level init served book old frames frame small begins grows h is =
     let back =
-    leads-pop served book (no_calls book) init levels level old.counts.items old.here.words
+    leads-pop served book (no_calls book) init frames frame old.counts.items old.here.words
     (subst
-    (λ (ls : List SetLevel).
+    (λ (ls : List SetFrame).
     Leads served book (no_calls book) init ls old.counts.items old.here.words)
     is h.leads) in
-    let s = standing init served book levels level.counts.items level.words.items small begins grows
+    let s = standing init served book frames frame.counts.items frame.words.items small begins grows
     back.leads in
     omega (arith, s.words)
 
 -- a dead end at the start shows that the book has no legal set order
 pub walk-none : (init : List ℕ) (served : List ℕ → List ℕ → Option (List ℕ × List ℕ))
     (book : List Page) (walk : SetWalk) → IsWalk init served book walk → walk.left ≡ 0
-    → walk.levels.items ≡ [] → HasLegalSetOrder init served book → ⊥
-walk-none init served book walk h none levels =
+    → walk.frames.items ≡ [] → HasLegalSetOrder init served book → ⊥
+walk-none init served book walk h none frames =
     let leads : Leads served book (no_calls book) init [] walk.counts.items walk.here.words =
-    subst (λ (ls : List SetLevel).
-    Leads served book (no_calls book) init ls walk.counts.items walk.here.words) levels h.leads in
+    subst (λ (ls : List SetFrame).
+    Leads served book (no_calls book) init ls walk.counts.items walk.here.words) frames h.leads in
     none-from_dead init served book
     (subst (λ (c : List ℕ). IsDeadEnd served book c init) (sym leads.0)
     (subst (λ (l : List ℕ). IsDeadEnd served book walk.counts.items l) (sym leads.1)
@@ -295,14 +295,14 @@ walk-none init served book walk h none levels =
 
 -- the walk at the start
 pub walk-start : (init : List ℕ) (served : List ℕ → List ℕ → Option (List ℕ × List ℕ))
-    (book : List Page) (walk : SetWalk) → walk.levels.items ≡ [] → walk.counts.items ≡ no_calls book
+    (book : List Page) (walk : SetWalk) → walk.frames.items ≡ [] → walk.counts.items ≡ no_calls book
     → walk.here.words ≡ init → walk.here.room ≡ CAPACITY → IsMemo walk.memo
     → walk.memo.callers ≡ length book → ((cut list : List ℕ) → Remembers walk.memo cut list → ⊥)
     → IsOpen served book walk.counts.items walk.here.words walk.callers.items walk.left
     → IsWalk init served book walk
-walk-start init served book walk levels counts here room memo callers none start = record {
-  leads = subst (λ (ls : List SetLevel). Leads served book (no_calls book) init ls walk.counts.items
-      walk.here.words) (sym levels) (sym counts, sym here);
+walk-start init served book walk frames counts here room memo callers none start = record {
+  leads = subst (λ (ls : List SetFrame). Leads served book (no_calls book) init ls walk.counts.items
+      walk.here.words) (sym frames) (sym counts, sym here);
   here = start;
   dead = λ cut list there. absurd (none cut list there);
   memo = memo;
@@ -325,7 +325,7 @@ pub set_fits : (init : List ℕ) (served : List ℕ → List ℕ → Option (Lis
 set_fits init served book walk places after small begins grows h may counts set e f =
     let cut : List ℕ = walk.counts.items in
     let s =
-    standing init served book walk.levels.items cut walk.here.words small begins grows h.leads in
+    standing init served book walk.frames.items cut walk.here.words small begins grows h.leads in
     let fits : SetFits cut places = record {
       callers = all_so (MayStandIn book cut) (λ (place : Place). place.caller < length cut) places
           (λ (place : Place) (one : MayStandIn book cut place). let there = caller_from_call book
@@ -366,7 +366,7 @@ pub after_fits : (init : List ℕ) (served : List ℕ → List ℕ → Option (L
     → MayStandTogether served book walk.counts.items walk.here.words places after
     → length after ≤ CAPACITY
 after_fits init served book walk places after small begins grows h is may =
-    let s = standing init served book walk.levels.items walk.counts.items walk.here.words small
+    let s = standing init served book walk.frames.items walk.counts.items walk.here.words small
     begins grows h.leads in
     let few = candidates-few book walk.counts.items walk.callers.items h.here.candidates in
     let part = picked-few walk.left walk.callers.items in
@@ -397,7 +397,7 @@ pub walk-part : (init : List ℕ) (served : List ℕ → List ℕ → Option (Li
     (book : List Page) (walk : SetWalk) → IsSmall book → length init ≤ 1 → Grows served
     → IsWalk init served book walk → 1 ≤ walk.left → Trial book walk
 walk-part init served book walk small begins grows h left =
-    let s = standing init served book walk.levels.items walk.counts.items walk.here.words small
+    let s = standing init served book walk.frames.items walk.counts.items walk.here.words small
     begins grows h.leads in
     let few = candidates-few book walk.counts.items walk.callers.items h.here.candidates in
     let part = part-from_open served book walk.counts.items walk.here.words walk.callers.items

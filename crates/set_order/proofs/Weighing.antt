@@ -2,7 +2,7 @@
 use Rattle.std.proofs.Common.{◌≡◌, ℕ, zero, suc, ◌+◌, ◌-◌, ◌*◌, ◌^◌, ◌<◌, ◌≤◌, List, [], ◌∷◌, ◌++◌, length, sym, ap, arith}
 use Rattle.std.proofs.Math.Nat.{mul-le-mul_right}
 use Rattle.book_base.specs.declared.TheConstants.{MAX_CALLERS}
-use Rattle.set_order.specs.declared.walk.SetLevel.{SetLevel}
+use Rattle.set_order.specs.declared.walk.SetFrame.{SetFrame}
 use Rattle.set_order.specs.Search.{ways, weigh}
 
 ways_positive : (depth : ℕ) → 1 ≤ ways depth
@@ -24,26 +24,26 @@ lighter left fresh above below e positive few =
     let le : fresh * below ≤ 2 ^ MAX_CALLERS * below = mul-le-mul_right below small in
     omega arith
 
--- a new level with its numbers weighs less than one number of the level above it
-pub weigh-push : (depth : ℕ) (levels : List SetLevel) (level : SetLevel) (fresh : ℕ)
-    → length levels < depth → fresh < 2 ^ MAX_CALLERS
-    → weigh depth (levels ++ level ∷ []) fresh < weigh depth levels (level.left + 1)
+-- a new frame with its numbers weighs less than one number of the frame above it
+pub weigh-push : (depth : ℕ) (frames : List SetFrame) (frame : SetFrame) (fresh : ℕ)
+    → length frames < depth → fresh < 2 ^ MAX_CALLERS
+    → weigh depth (frames ++ frame ∷ []) fresh < weigh depth frames (frame.left + 1)
 unfolding weigh
-weigh-push depth [] level fresh h few = lighter level.left fresh (ways depth) (ways (depth - 1))
+weigh-push depth [] frame fresh h few = lighter frame.left fresh (ways depth) (ways (depth - 1))
     (ways_down depth (omega arith)) (ways_positive (depth - 1)) few
-weigh-push depth (first ∷ levels) level fresh h few =
-    omega (arith, weigh-push (depth - 1) levels level fresh (omega arith) few)
+weigh-push depth (first ∷ frames) frame fresh h few =
+    omega (arith, weigh-push (depth - 1) frames frame fresh (omega arith) few)
 
--- a level with one number fewer weighs less
-pub weigh-skip : (depth : ℕ) (levels : List SetLevel) (left : ℕ)
-    → weigh depth levels left < weigh depth levels (left + 1)
+-- a frame with one number fewer weighs less
+pub weigh-skip : (depth : ℕ) (frames : List SetFrame) (left : ℕ)
+    → weigh depth frames left < weigh depth frames (left + 1)
 unfolding weigh
 weigh-skip depth [] left = omega (arith, ways_positive depth)
-weigh-skip depth (first ∷ levels) left = omega (arith, weigh-skip (depth - 1) levels left)
+weigh-skip depth (first ∷ frames) left = omega (arith, weigh-skip (depth - 1) frames left)
 
--- the rest of a level weighs less than the level with all below it
-pub weigh-pop : (depth : ℕ) (levels : List SetLevel) (level : SetLevel)
-    → weigh depth levels level.left < weigh depth (levels ++ level ∷ []) 0
+-- the rest of a frame weighs less than the frame with all below it
+pub weigh-pop : (depth : ℕ) (frames : List SetFrame) (frame : SetFrame)
+    → weigh depth frames frame.left < weigh depth (frames ++ frame ∷ []) 0
 unfolding weigh
-weigh-pop depth [] level = omega (arith, ways_positive (depth - 1))
-weigh-pop depth (first ∷ levels) level = omega (arith, weigh-pop (depth - 1) levels level)
+weigh-pop depth [] frame = omega (arith, ways_positive (depth - 1))
+weigh-pop depth (first ∷ frames) frame = omega (arith, weigh-pop (depth - 1) frames frame)

@@ -9,7 +9,7 @@ use Rattle.book_base.specs.Book.{Page, operation_of, record_of}
 use Rattle.book_base.specs.Order.{call_at}
 use Rattle.book_base.specs.Next.{next_call, HoldsAnswered, MayComeNext}
 use Rattle.frontier_check.specs.Memo.{IsMemo, Remembers}
-use Rattle.set_order.specs.declared.walk.SetLevel.{SetLevel}
+use Rattle.set_order.specs.declared.walk.SetFrame.{SetFrame}
 use Rattle.set_order.specs.declared.walk.SetWalk.{SetWalk}
 use Rattle.set_order.specs.declared.walk.StepOutcome.{StepOutcome}
 use Rattle.set_order.specs.declared.walk.StepOutcome.TheVariants.{Found, NoneLeft, GoesOn}
@@ -95,44 +95,44 @@ pub record IsOpen (served : List ℕ → List ℕ → Option (List ℕ × List �
   pub tried : (number : ℕ) → left < number → number < 2 ^ length callers
       → LeadsNowhere served book cut list (picked number callers)
 
--- A level belongs to a cut and a list: its set may come next there, and takes the object to another
+-- A frame belongs to a cut and a list: its set may come next there, and takes the object to another
 -- list.
-pub record IsLevel (served : List ℕ → List ℕ → Option (List ℕ × List ℕ)) (book : List Page)
-    (cut list : List ℕ) (level : SetLevel) (after : List ℕ) : Type 0 where
-  pub counts : level.counts.items ≡ cut
-  pub words : level.words.items ≡ list
-  pub open_here : IsOpen served book cut list level.callers.items (level.left + 1)
-  pub chosen : callers_of level.set ≡ picked (level.left + 1) level.callers.items
-  pub stands : MayStandTogether served book cut list level.set after
+pub record IsFrame (served : List ℕ → List ℕ → Option (List ℕ × List ℕ)) (book : List Page)
+    (cut list : List ℕ) (frame : SetFrame) (after : List ℕ) : Type 0 where
+  pub counts : frame.counts.items ≡ cut
+  pub words : frame.words.items ≡ list
+  pub open_here : IsOpen served book cut list frame.callers.items (frame.left + 1)
+  pub chosen : callers_of frame.set ≡ picked (frame.left + 1) frame.callers.items
+  pub stands : MayStandTogether served book cut list frame.set after
 
--- The levels lead from one cut and list to another, each by its set.
+-- The frames lead from one cut and list to another, each by its set.
 abbrev pub Leads : (List ℕ → List ℕ → Option (List ℕ × List ℕ)) → List Page → List ℕ → List ℕ
-    → List SetLevel → List ℕ → List ℕ → Type 0
+    → List SetFrame → List ℕ → List ℕ → Type 0
 Leads served book cut list [] to_cut to_list = (cut ≡ to_cut) × (list ≡ to_list)
-Leads served book cut list (level ∷ levels) to_cut to_list =
-    (after : List ℕ) × IsLevel served book cut list level after
-    × Leads served book (raised_by cut level.set) after levels to_cut to_list
+Leads served book cut list (frame ∷ frames) to_cut to_list =
+    (after : List ℕ) × IsFrame served book cut list frame after
+    × Leads served book (raised_by cut frame.set) after frames to_cut to_list
 
 -- all remembered pairs are dead ends
 abbrev pub AllDead : (List ℕ → List ℕ → Option (List ℕ × List ℕ)) → List Page → SetWalk → Type 0
 AllDead served book walk = (cut list : List ℕ) → Remembers walk.memo cut list
     → IsDeadEnd served book cut list
 
--- A walk is right: its levels lead from the cut without calls and the object's first list to where
+-- A walk is right: its frames lead from the cut without calls and the object's first list to where
 -- it is now, and what it remembers are dead ends.
 pub record IsWalk (init : List ℕ) (served : List ℕ → List ℕ → Option (List ℕ × List ℕ))
     (book : List Page) (walk : SetWalk) : Type 0 where
   pub leads : Leads served book
-      (no_calls book) init walk.levels.items walk.counts.items walk.here.words
+      (no_calls book) init walk.frames.items walk.counts.items walk.here.words
   pub here : IsOpen served book walk.counts.items walk.here.words walk.callers.items walk.left
   pub dead : AllDead served book walk
   pub memo : IsMemo walk.memo
   pub callers : walk.memo.callers ≡ length book
   pub room : walk.here.room ≡ CAPACITY
 
--- the sets of levels, in order
-abbrev pub order_of : List SetLevel → List (List Place)
-order_of levels = map (λ level. level.set) levels
+-- the sets of frames, in order
+abbrev pub order_of : List SetFrame → List (List Place)
+order_of frames = map (λ frame. frame.set) frames
 
 -- a bound on how many sequences of at most this many sets there are
 unfoldable pub ways : ℕ → ℕ
@@ -140,21 +140,21 @@ ways zero = 1
 ways (suc depth) = (2 ^ MAX_CALLERS + 2) * ways depth
 
 -- how much may be left to try, where at most this many sets follow the first cut: each number of a
--- level weighs more than all that may come below it
-unfoldable pub weigh : ℕ → List SetLevel → ℕ → ℕ
+-- frame weighs more than all that may come below it
+unfoldable pub weigh : ℕ → List SetFrame → ℕ → ℕ
 weigh depth [] left = (left + 1) * ways depth
-weigh depth (level ∷ levels) left = (level.left + 1) * ways depth + weigh (depth - 1) levels left
+weigh depth (frame ∷ frames) left = (frame.left + 1) * ways depth + weigh (depth - 1) frames left
 
 -- the weight of a walk
 abbrev pub weight : SetWalk → ℕ
-weight walk = weigh CAPACITY walk.levels.items walk.left
+weight walk = weigh CAPACITY walk.frames.items walk.left
 
 -- The outcome of a step of the search is right: a legal set order is found, there is none, or the
 -- walk goes on with less weight than before.
 abbrev pub IsRightOutcome : List ℕ → (List ℕ → List ℕ → Option (List ℕ × List ℕ)) → List Page → ℕ
     → SetWalk → StepOutcome → Type 0
 IsRightOutcome init served book before walk Found =
-    IsLegalSetOrder init served book (order_of walk.levels.items)
+    IsLegalSetOrder init served book (order_of walk.frames.items)
 IsRightOutcome init served book before walk NoneLeft = HasLegalSetOrder init served book → ⊥
 IsRightOutcome init served book before walk GoesOn = IsWalk init served book walk
     × (weight walk < before)

@@ -9,7 +9,7 @@ ghost use Rattle.set_order.specs.Search.{raised_by, picked, MayStandTogether, Ar
 
 use crate::place_set::PlaceSet;
 use crate::set_object::SetObject;
-use crate::walk::{CAPACITY, SetLevel, SetWalk, StepOutcome, greatest, part_of, raised, sets};
+use crate::walk::{CAPACITY, SetFrame, SetWalk, StepOutcome, greatest, part_of, raised, sets};
 use book_base::{Book, Call, MAX_CALLERS, NoMemory, OpWord, Place, State};
 use frontier_check::{Memo, load};
 use std::alloc::Global;
@@ -53,7 +53,7 @@ impl<O: SetObject> SetSearch<'_, O> {
         let candidates = self.candidates(&counts)?;
         let left = greatest(&candidates);
         let mut walk = SetWalk {
-            levels: Vec::new(self.alloc),
+            frames: Vec::new(self.alloc),
             counts,
             here,
             callers: candidates,
@@ -84,7 +84,7 @@ impl<O: SetObject> SetSearch<'_, O> {
     {
         'steps: loop {
             match self.advance(walk, spare, replies)? {
-                StepOutcome::Found => return Ok(Some(sets(self.alloc, &walk.levels)?)),
+                StepOutcome::Found => return Ok(Some(sets(self.alloc, &walk.frames)?)),
                 StepOutcome::NoneLeft => return Ok(None),
                 StepOutcome::GoesOn => {}
             }
@@ -273,7 +273,7 @@ impl<O: SetObject> SetSearch<'_, O> {
         let callers = self.candidates(&counts)?;
         let words = Vec::from_slice(self.alloc, walk.here.words())?;
         let left = mem::replace(&mut walk.left, greatest(&callers)) - 1;
-        let level = SetLevel {
+        let frame = SetFrame {
             counts: mem::replace(&mut walk.counts, counts),
             words,
             set,
@@ -281,7 +281,7 @@ impl<O: SetObject> SetSearch<'_, O> {
             left,
         };
         walk.here.copy_from(spare);
-        walk.levels.push(level)?;
+        walk.frames.push(frame)?;
         if ended {
             Ok(StepOutcome::Found)
         } else {
@@ -289,7 +289,7 @@ impl<O: SetObject> SetSearch<'_, O> {
         }
     }
 
-    // Leaves a dead end: goes back by one level.
+    // Leaves a dead end: goes back by one frame.
     fn retreat(&self, walk: &mut SetWalk) -> StepOutcome
         requires small { IsSmall self.now.book.now }
         requires walk { IsWalk (O.init self.now.object.now)
@@ -298,16 +298,16 @@ impl<O: SetObject> SetSearch<'_, O> {
         ensures { IsRightOutcome (O.init self.now.object.now)
             (O.served self.now.object.now) self.now.book.now (weight walk.old) walk.new result }
     {
-        let Some(level) = walk.levels.pop() else {
+        let Some(frame) = walk.frames.pop() else {
             return StepOutcome::NoneLeft;
         };
-        let SetLevel {
+        let SetFrame {
             counts,
             words,
             set: _,
             callers,
             left,
-        } = level;
+        } = frame;
         walk.counts = counts;
         load(&mut walk.here, &words);
         walk.callers = callers;

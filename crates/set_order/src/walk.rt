@@ -12,10 +12,10 @@ use std::alloc::Global;
 /// set.
 pub const CAPACITY: u64 = MAX_CALLERS as u64 * MAX_CALLS + 1 + MAX_CALLERS as u64;
 
-/// A level: a cut and a list on the way to the present ones of a search, with the set that was
+/// A frame: a cut and a list on the way to the present ones of a search, with the set that was
 /// taken next there, the candidates, and the number up to which their parts are still to be tried.
 #[derive(Drop)]
-pub struct SetLevel {
+pub struct SetFrame {
     pub counts: Vec<u16>,
     pub words: Vec<u64>,
     pub set: PlaceSet,
@@ -23,12 +23,12 @@ pub struct SetLevel {
     pub left: u32,
 }
 
-/// How far a search has come: the levels that lead to its present cut and list, these, the
+/// How far a search has come: the frames that lead to its present cut and list, these, the
 /// candidates for the next set, the number up to which their parts are still to be tried, and the
 /// dead ends that were found.
 #[derive(Drop)]
 pub struct SetWalk {
-    pub levels: Vec<SetLevel>,
+    pub frames: Vec<SetFrame>,
     pub counts: Vec<u16>,
     pub here: State,
     pub callers: Vec<u32>,
@@ -39,7 +39,7 @@ pub struct SetWalk {
 /// The outcome of one more step of a search.
 #[derive(Drop)]
 pub enum StepOutcome {
-    /// The levels have the sets of a legal set order.
+    /// The frames have the sets of a legal set order.
     Found,
     /// The book has no legal set order.
     NoneLeft,
@@ -47,13 +47,13 @@ pub enum StepOutcome {
     GoesOn,
 }
 
-/// The sets of levels, in order.
-pub fn sets(alloc: Global, levels: &[SetLevel]) -> Result<Vec<PlaceSet>, NoMemory>
-    ensures { IfOk result (λ order. order.items ≡ order_of levels.now) }
+/// The sets of frames, in order.
+pub fn sets(alloc: Global, frames: &[SetFrame]) -> Result<Vec<PlaceSet>, NoMemory>
+    ensures { IfOk result (λ order. order.items ≡ order_of frames.now) }
 {
-    let mut order = Vec::with_capacity(alloc, levels.len())?;
-    for level in levels {
-        order.push(level.set.copy(alloc)?)?;
+    let mut order = Vec::with_capacity(alloc, frames.len())?;
+    for frame in frames {
+        order.push(frame.set.copy(alloc)?)?;
     }
     Ok(order)
 }

@@ -13,9 +13,9 @@ use Rattle.text_fields.specs.declared.version.Version.TheVariants.{Second}
 use Rattle.text_fields.specs.Counts.{AreAtMost}
 use Rattle.text_fields.specs.Head.{callers_words, calls_words}
 use Rattle.text_fields.specs.Faults.{ALine}
-use Rattle.book_text.specs.CallLines.{Progress, with_line, IsNamedCall, IsCallLine, call_words, all_calls, is_gap, EntryFails, view_test}
+use Rattle.book_text.specs.CallLines.{BookSoFar, with_line, IsNamedCall, IsCallLine, call_words, all_calls, is_gap, EntryFails, view_test}
 use Rattle.book_text.specs.Grammar.{end_words}
-use Rattle.book_text.specs.ReadOnly.{LeavesAt}
+use Rattle.book_text.specs.AnyTextBeginnings.{LeavesAt}
 use Rattle.book_text.proofs.Leavings.{Completes, one_more, leaves_texts}
 use Rattle.book_text.proofs.ReadTexts.{has_zero}
 use Rattle.setbook_text.specs.JoinWords.{join_operations}
@@ -81,7 +81,7 @@ calls_come book (call ∷ calls) h =
       text = refl;
       book_is = refl;
     } in
-    let next : Progress = record { book = after; due = calls } in
+    let next : BookSoFar = record { book = after; due = calls } in
     more (InCalls book (call ∷ calls)) (InCalls after calls) words (next, (read, refl), refl)
     (calls_come after calls (named_still book after calls (length-with_line book call 0 None) h.1))
 

@@ -16,7 +16,7 @@ use Rattle.text_fields.proofs.Sharp as sharp
 use Rattle.text_fields.proofs.Readings as readings
 use Rattle.text_fields.proofs.NumberTexts.{same_first, same_number, solid_decimal}
 use Rattle.text_fields.proofs.HeadTexts.{plain, same_numbers, numbers_at_most, solid_numbers}
-use Rattle.book_text.specs.CallLines.{Progress, CallPasses, call_wanted, call_rules, no_call_read}
+use Rattle.book_text.specs.CallLines.{BookSoFar, CallPasses, call_wanted, call_rules, no_call_read}
 use Rattle.book_text.specs.BookRules.{whole_text}
 use Rattle.book_text.specs.Ending.{IsEnded, IsNoEnd}
 use Rattle.book_text.proofs.Endings.{goes_end, stops_end}
@@ -127,7 +127,7 @@ setbook_sharp = record { one_way = one_way; apart = apart; solid = solid; lines 
 
 -- ---- the lines of calls within the text
 
-calls_right : (due after : Progress) (words : List (List ℕ))
+calls_right : (due after : BookSoFar) (words : List (List ℕ))
     → (call_rules Second join_operations).Passes due words after
     → SetBookPasses (in_calls due) words (in_calls after)
 calls_right due after words h = right_here due.book due.due h where
@@ -137,7 +137,7 @@ calls_right due after words h = right_here due.book due.due h where
   right_here book [] h = absurd h
   right_here book (call ∷ calls) h = (after, h, refl)
 
-calls_wrong : (due : Progress) (bytes : List ℕ) (what : What)
+calls_wrong : (due : BookSoFar) (bytes : List ℕ) (what : What)
     → IsWrong (call_rules Second join_operations) due (call_wanted due.due) bytes what
     → IsWrong setbook_rules (in_calls due) (setbook_wanted (in_calls due)) bytes what
 calls_wrong due bytes what h = wrong_here due.book due.due h where

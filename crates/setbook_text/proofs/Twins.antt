@@ -9,7 +9,7 @@ use Rattle.text_fields.specs.declared.version.Version.TheVariants.{Second}
 use Rattle.text_fields.specs.Operations.{Operations, kind_operations}
 use Rattle.text_fields.specs.OperationLaws.{one_kind_operation}
 use Rattle.text_fields.specs.Faults.{AllPass}
-use Rattle.book_text.specs.CallLines.{Progress, IsCallLine, place_words, answer_words, call_words}
+use Rattle.book_text.specs.CallLines.{BookSoFar, IsCallLine, place_words, answer_words, call_words}
 use Rattle.book_text.specs.Grammar.{line_of, end_words}
 use Rattle.book_text.specs.BookRules as books
 use Rattle.book_text.specs.BookRules.{BookDue, BookPasses}
@@ -71,7 +71,7 @@ module _ (kind : Kind) where
         ),
       )
   twins_of b book (call ∷ calls) (words ∷ lines) h =
-      let next : Progress = h.1.0 in
+      let next : BookSoFar = h.1.0 in
       let read : IsCallLine Second join_operations book call words next.book = h.1.1.0 in
       let at : h.0 ≡ InCalls next.book calls = h.1.2 ∙ ap (InCalls next.book) h.1.1.1 in
       let rest =
@@ -118,7 +118,7 @@ module _ (kind : Kind) where
       let end = book_end k book b lines (subst (λ (d : BookDue). BookEnds k b d lines) h.1.1 h.2) in
       (end_words ∷ [], (AtEnd book, (refl, refl), ap AtEnd end.1))
   joins_of k b book (call ∷ calls) (words ∷ lines) h =
-      let next : Progress = h.1.0 in
+      let next : BookSoFar = h.1.0 in
       let read : IsCallLine Second others book call words next.book = h.1.1.0 in
       let at : h.0 ≡ books.InCalls kind next.book calls =
       h.1.2 ∙ ap (books.InCalls kind next.book) h.1.1.1 in

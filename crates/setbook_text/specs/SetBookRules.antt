@@ -10,7 +10,7 @@ use Rattle.text_fields.specs.declared.version.Version.TheVariants.{Second}
 use Rattle.text_fields.specs.Lines.{Unread}
 use Rattle.text_fields.specs.Faults.{Wanted, ALine, TheEnd, Nothing, Rules, GoesTo, IsFirstFault, IsReadTo}
 use Rattle.text_fields.specs.Head.{AreCallers, AreCalls, callers_words, calls_words}
-use Rattle.book_text.specs.CallLines.{Progress, CallPasses, CallFails, no_call_read}
+use Rattle.book_text.specs.CallLines.{BookSoFar, CallPasses, CallFails, no_call_read}
 use Rattle.book_text.specs.Grammar.{end_words}
 use Rattle.book_text.specs.BookRules.{whole_text}
 use Rattle.setbook_text.specs.JoinWords.{join_operations}
@@ -33,7 +33,7 @@ pub data SetBookDue : Type 0 where
   AtEnd : List Page → SetBookDue
 
 -- how far the lines of calls are read, as a state of reading the set book
-abbrev pub in_calls : Progress → SetBookDue
+abbrev pub in_calls : BookSoFar → SetBookDue
 in_calls progress = InCalls progress.book progress.due
 
 -- the right lines of a set book's text
@@ -45,7 +45,7 @@ SetBookPasses CallersDue words after = (n : ℕ) × AreCallers Second n × (word
 SetBookPasses (CountsDue n) words after = (calls : List ℕ) × AreCalls Second n calls
     × (words ≡ calls_words calls) × (after ≡ in_calls (no_call_read calls))
 SetBookPasses (InCalls book []) words after = (words ≡ end_words) × (after ≡ AtEnd book)
-SetBookPasses (InCalls book (call ∷ calls)) words after = (next : Progress)
+SetBookPasses (InCalls book (call ∷ calls)) words after = (next : BookSoFar)
     × CallPasses Second join_operations book (call ∷ calls) words next × (after ≡ in_calls next)
 SetBookPasses (AtEnd book) words after = ⊥
 

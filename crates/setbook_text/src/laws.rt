@@ -3,7 +3,7 @@
 ghost use Rattle.std.specs.Prelude.{◌≡◌, ◌↔◌, ℕ, [], ◌++◌, List};
 ghost use Rattle.book_base.specs.Book.{Page};
 ghost use Rattle.book_base.specs.declared.fault.TextFault.{TextFault};
-ghost use Rattle.book_text.specs.ReadOnly.{LeavesAt};
+ghost use Rattle.book_text.specs.AnyTextBeginnings.{LeavesAt};
 ghost use Rattle.setbook_text.specs.Grammar.{IsWrittenText};
 ghost use Rattle.setbook_text.specs.SetBookRules.{IsSetBookText, IsFirstSetBookFault};
 

@@ -9,7 +9,7 @@ use Rattle.atomic_table.specs.Table.{Me, Final, Seen}
 use Rattle.shared_log.specs.declared.entry.Entry.{Entry}
 use Rattle.shared_log.specs.declared.seat.LogSeat.{LogSeat}
 use Rattle.shared_log.specs.declared.shared_log.SharedLog.{SharedLog}
-use Rattle.shared_log.specs.Entries.{calls_by, BeginsWith, IsWithin, IsLonger}
+use Rattle.shared_log.specs.Entries.{calls_by, BeginsWith, IsWithinCap, IsLonger}
 use Rattle.shared_log.specs.Holders.{has, only}
 use Rattle.shared_log.specs.Hands.{Hand, View}
 use Rattle.shared_log.specs.Rule.{HaveOneLog, Ruled}
@@ -177,8 +177,8 @@ module _ (n cap : ℕ) (words : List ℕ) (views : List View) (id : ℕ) (v : Vi
       prefix.1 ∙ ap (λ (l : List Entry). longest ++ l) (nil_from_length prefix.0 none)
       ∙ append-nil longest
 
-  pub within_closed : IsWithin n cap longest
-  within_closed = subst (λ (l : List Entry). IsWithin n cap l) longest_is r.stand.within
+  pub within_closed : IsWithinCap n cap longest
+  within_closed = subst (λ (l : List Entry). IsWithinCap n cap l) longest_is r.stand.within
 
   pub one_log : IsOneLog longest seats
   one_log =
@@ -195,7 +195,7 @@ module _ (n cap : ℕ) (words : List ℕ) (views : List View) (id : ℕ) (v : Vi
 pub closes : (n cap id : ℕ) (v : View) (all rest : List LogSeat) (longest : List Entry)
     (ws : List ℕ) (homes : List (Unit {0})) → map caller_of all ≡ range_with_len 0 n
     → IsClosing n all rest v longest
-    → length rest ≡ 0 → Final (Seen (Ruled n cap) id v) ws homes → IsWithin n cap longest
+    → length rest ≡ 0 → Final (Seen (Ruled n cap) id v) ws homes → IsWithinCap n cap longest
     × IsOneLog longest all
 closes n cap id v all rest longest ws homes callers h none final =
     let came : h.gathered ≡ all =
@@ -224,7 +224,7 @@ pub closed : (l : SharedLog) (id : ℕ) (v : View) (all rest : List LogSeat) (lo
     → IsClosing l.callers all rest v longest
     → length rest ≡ 0
     → Final (Seen (Ruled l.table.shared.key.callers l.table.shared.key.cap) id v) ws homes
-    → IsWithin l.callers l.cap longest × IsOneLog longest all
+    → IsWithinCap l.callers l.cap longest × IsOneLog longest all
 closed l id v all rest longest ws homes seats h none final =
     closes l.callers l.cap id v all rest longest ws homes seats.callers h none
     (subst (λ (k : ℕ × ℕ). Final (Seen (Ruled k.0 k.1) id v) ws homes)

@@ -7,7 +7,7 @@ use Rattle.std.proofs.lemmas.List.Elements.{All-push}
 use Rattle.shared_log.specs.declared.entry.Entry.{Entry}
 use Rattle.shared_log.specs.declared.seat.LogSeat.{LogSeat}
 use Rattle.shared_log.specs.declared.shared_log.SharedLog.{SharedLog}
-use Rattle.shared_log.specs.Entries.{IsWithin}
+use Rattle.shared_log.specs.Entries.{IsWithinCap}
 use Rattle.shared_log.specs.Seats.{caller_of, log_of, IsPlaced, IsSeatOf}
 
 -- a range that is one longer has one number more at its end
@@ -18,7 +18,7 @@ range_more a (suc n) =
     ap (λ (l : List ℕ). a ∷ l)
     (range_more (a + 1) n ∙ ap (λ (k : ℕ). range_with_len (a + 1) n ++ k ∷ []) up)
 
-pub within_none : (n cap : ℕ) → IsWithin n cap []
+pub within_none : (n cap : ℕ) → IsWithinCap n cap []
 within_none n cap = record { callers = λ k d low. absurd (omega arith); calls = λ i. omega arith }
 
 -- These are the seats of the first callers in the log, each with no entry yet.
@@ -38,7 +38,7 @@ dealt l who seats new s ok h is done own placed cap room none =
       placed = placed;
       cap = cap;
       room = room;
-      within = subst (λ (log : List Entry). IsWithin l.callers l.cap log) (sym none)
+      within = subst (λ (log : List Entry). IsWithinCap l.callers l.cap log) (sym none)
           (within_none l.callers l.cap);
     } in
     let up : suc who ≡ who + 1 = omega arith in

@@ -4,9 +4,9 @@ use Rattle.std.proofs.lemmas.Bool.{cases_lt}
 use Rattle.std.proofs.lemmas.List.{append-nil, get_or-set_other, get_or-set_same, get_or_append_left, get_or-append-add}
 use Rattle.book_base.specs.OperationWord.{low_of, high_of}
 use Rattle.shared_log.specs.declared.entry.Entry.{Entry}
-use Rattle.shared_log.specs.Entries.{calls_by, IsWithin, entry}
+use Rattle.shared_log.specs.Entries.{calls_by, IsWithinCap, entry}
 use Rattle.shared_log.specs.Words.{number_of, number_after, operation_index, ticket_index, IsStored, AreWordsOf}
-use Rattle.shared_log.specs.Hands.{Hand, hand, next_number, Fits}
+use Rattle.shared_log.specs.Hands.{Hand, hand, next_number, HandFits}
 use Rattle.shared_log.specs.Rule.{Learns}
 use Rattle.shared_log.proofs.Logs.{ends_at, calls_by-at, calls_by-push_other, within_prefix, within_at, within_push, begins_more}
 use Rattle.shared_log.proofs.Numbers.{number_low, not_ticket, not_other, not_stored, not_others}
@@ -18,7 +18,7 @@ stays words at other x ne = get_or-set_other words at other x 0 ne
 
 -- a store of a word of the next operation of a caller
 module _ (n cap who : ℕ) (words : List ℕ) (log : List Entry) (h : Hand) (word x : ℕ)
-    (stand : AreWordsOf n cap words log) (fits : Fits n cap words log who h)
+    (stand : AreWordsOf n cap words log) (fits : HandFits n cap words log who h)
     (left : length (calls_by who h.log) < cap) (few : length h.staged < 2)
     (at : word ≡ operation_index (next_number cap who h) + length h.staged) where
   abbrev pub staged_words : List ℕ
@@ -83,7 +83,7 @@ module _ (n cap who : ℕ) (words : List ℕ) (log : List Entry) (h : Hand) (wor
         ∙ get_or-append-add h.staged (x ∷ []) 0 0)
   ]
 
-  pub stage_fits : Fits n cap staged_words log who (hand h.log (h.staged ++ x ∷ []) h.tried)
+  pub stage_fits : HandFits n cap staged_words log who (hand h.log (h.staged ++ x ∷ []) h.tried)
   stage_fits =
       record {
         caller = fits.caller;
@@ -94,8 +94,8 @@ module _ (n cap who : ℕ) (words : List ℕ) (log : List Entry) (h : Hand) (wor
         staged = staged_at;
       }
 
-  pub stage_others : (i : ℕ) (m : Hand) → i ≢ who → Fits n cap words log i m
-      → Fits n cap staged_words log i m
+  pub stage_others : (i : ℕ) (m : Hand) → i ≢ who → HandFits n cap words log i m
+      → HandFits n cap staged_words log i m
   stage_others i m ne was =
       record {
         caller = was.caller;
@@ -112,7 +112,7 @@ module _ (n cap who : ℕ) (words : List ℕ) (log : List Entry) (h : Hand) (wor
 
 -- the first place that a caller doesn't know
 module _ (n cap who : ℕ) (words : List ℕ) (log : List Entry) (h : Hand)
-    (stand : AreWordsOf n cap words log) (fits : Fits n cap words log who h)
+    (stand : AreWordsOf n cap words log) (fits : HandFits n cap words log who h)
     (here : length h.log < n * cap) where
   abbrev pub ticket_there : ℕ
   ticket_there = slice_index words (ticket_index n cap (length h.log))
@@ -155,7 +155,7 @@ module _ (n cap who : ℕ) (words : List ℕ) (log : List Entry) (h : Hand)
     same_calls : calls_by who (h.log ++ e ∷ []) ≡ calls_by who h.log
     same_calls = calls_by-push_other who h.log e other
 
-    pub learn_fits : Fits n cap words log who learnt
+    pub learn_fits : HandFits n cap words log who learnt
     learn_fits =
         let count : length (calls_by who (h.log ++ e ∷ [])) ≡ length (calls_by who h.log) =
         ap length same_calls in
@@ -178,7 +178,7 @@ module _ (n cap who : ℕ) (words : List ℕ) (log : List Entry) (h : Hand)
           ticket = (stand.stored h.log rest e is).ticket;
           other = same_calls;
           within = within_prefix n cap (h.log ++ e ∷ []) rest
-              (subst (λ (l : List Entry). IsWithin n cap l) prefix_is stand.within);
+              (subst (λ (l : List Entry). IsWithinCap n cap l) prefix_is stand.within);
         }
 
   -- the caller's own ticket is placed at the first place that it doesn't know
@@ -219,7 +219,7 @@ module _ (n cap who : ℕ) (words : List ℕ) (log : List Entry) (h : Hand)
     stored_kept before rest e is =
         let was = stand.stored before rest e is in
         let at = within_at n cap before rest e
-        (subst (λ (l : List Entry). IsWithin n cap l) is stand.within) in
+        (subst (λ (l : List Entry). IsWithinCap n cap l) is stand.within) in
         let low : number_after cap before e < n * cap =
         number_low n cap e.caller (length (calls_by e.caller before)) at.0 at.1 in
         let all = ap length is in
@@ -272,7 +272,7 @@ module _ (n cap who : ℕ) (words : List ℕ) (log : List Entry) (h : Hand)
       | inr old ↦ stored_kept before old.0 e old.1
     ]
 
-    pub place_within : IsWithin n cap placed_log
+    pub place_within : IsWithinCap n cap placed_log
     place_within = within_push n cap log mine stand.within fits.caller left_in_log
 
     pub place_stands : AreWordsOf n cap placed_words placed_log
@@ -291,7 +291,7 @@ module _ (n cap who : ℕ) (words : List ℕ) (log : List Entry) (h : Hand)
     placed_is = ap (λ (l : List Entry). l ++ mine ∷ []) whole
 
     pub place_fits : (tried : List ℕ)
-        → Fits n cap placed_words placed_log who (hand (h.log ++ mine ∷ []) [] tried)
+        → HandFits n cap placed_words placed_log who (hand (h.log ++ mine ∷ []) [] tried)
     place_fits tried =
         record {
           caller = fits.caller;
@@ -302,8 +302,8 @@ module _ (n cap who : ℕ) (words : List ℕ) (log : List Entry) (h : Hand)
           staged = λ half low. absurd (omega arith);
         }
 
-    pub place_others : (i : ℕ) (m : Hand) → i ≢ who → Fits n cap words log i m
-        → Fits n cap placed_words placed_log i m
+    pub place_others : (i : ℕ) (m : Hand) → i ≢ who → HandFits n cap words log i m
+        → HandFits n cap placed_words placed_log i m
     place_others i m ne was =
         record {
           caller = was.caller;

@@ -3,7 +3,7 @@ use Rattle.std.proofs.Common.{◌≡◌, ℕ, ◌-◌, ◌*◌, ◌/◌, ◌<◌
 use Rattle.std.proofs.lemmas.Nat.{div-mul-add}
 use Rattle.std.specs.Prelude.{Some}
 use Rattle.shared_log.specs.declared.entry.Entry.{Entry}
-use Rattle.shared_log.specs.Entries.{calls_by, IsWithin}
+use Rattle.shared_log.specs.Entries.{calls_by, IsWithinCap}
 use Rattle.shared_log.specs.Words.{number_after, MayHaveTried}
 use Rattle.shared_log.specs.Hands.{Hand}
 use Rattle.shared_log.specs.Rule.{Learns, Finds}
@@ -14,7 +14,7 @@ module _ (n cap who found : ℕ) (tried : List ℕ) (h next : Hand)
     (l : Learns n cap who found tried h next) where
   standing : (l.entry.caller < n) × (length (calls_by l.entry.caller h.log) < cap)
   standing =
-      within_at n cap h.log [] l.entry (subst (λ (g : Hand). IsWithin n cap g.log) l.log l.within)
+      within_at n cap h.log [] l.entry (subst (λ (g : Hand). IsWithinCap n cap g.log) l.log l.within)
 
   number_is : found - 1 ≡ number_after cap h.log l.entry
   number_is = let ticket = l.ticket in omega arith
@@ -46,5 +46,5 @@ module _ (n cap who found : ℕ) (tried : List ℕ) (h next : Hand)
         is ∙ l.log
             ∙ (λ i. record { log = h.log ++ entry_is i ∷ []; staged = h.staged; tried = tried }),
         ap (λ (g : Hand). calls_by who g.log) is ∙ l.other,
-        subst (λ (g : Hand). IsWithin n cap g.log) (sym is) l.within,
+        subst (λ (g : Hand). IsWithinCap n cap g.log) (sym is) l.within,
       )

@@ -5,7 +5,7 @@ use Rattle.std.proofs.lemmas.Bool.{cases_eq, cond-true, cond-false}
 use Rattle.std.proofs.lemmas.List.{append-nil, map-append}
 use Rattle.std.proofs.lemmas.List.Elements.{All-nil, All-cons, All-head, All-tail, All-push, filter-append}
 use Rattle.shared_log.specs.declared.entry.Entry.{Entry}
-use Rattle.shared_log.specs.Entries.{calls_by, BeginsWith, IsWithin, entry}
+use Rattle.shared_log.specs.Entries.{calls_by, BeginsWith, IsWithinCap, entry}
 
 -- a list is empty, or has a last element
 pub ends : {A : Type 0} (xs : List A) → (xs ≡ []) ⊎ ((ys : List A) × (y : A) × (xs ≡ ys ++ y ∷ []))
@@ -116,7 +116,7 @@ All-suffix P [] ys h = h
 All-suffix P (x ∷ xs) ys h = All-suffix P xs ys (All-tail P x (xs ++ ys) h)
 
 -- a prefix of a log within bounds is within them
-pub within_prefix : (n cap : ℕ) (xs ys : List Entry) → IsWithin n cap (xs ++ ys) → IsWithin n cap xs
+pub within_prefix : (n cap : ℕ) (xs ys : List Entry) → IsWithinCap n cap (xs ++ ys) → IsWithinCap n cap xs
 within_prefix n cap xs ys h =
     record {
       callers = All-prefix (λ (e : Entry). e.caller < n) xs ys h.callers;
@@ -124,7 +124,7 @@ within_prefix n cap xs ys h =
     }
 
 -- the caller of an entry of such a log is below n, and has fewer than cap calls before this entry
-pub within_at : (n cap : ℕ) (xs ys : List Entry) (e : Entry) → IsWithin n cap (xs ++ e ∷ ys)
+pub within_at : (n cap : ℕ) (xs ys : List Entry) (e : Entry) → IsWithinCap n cap (xs ++ e ∷ ys)
     → (e.caller < n) × (length (calls_by e.caller xs) < cap)
 within_at n cap xs ys e h = (
   All-head (λ (d : Entry). d.caller < n) e ys
@@ -133,8 +133,8 @@ within_at n cap xs ys e h = (
 )
 
 -- a log within bounds stays within them with one more entry of a caller that has calls left
-pub within_push : (n cap : ℕ) (log : List Entry) (e : Entry) → IsWithin n cap log → e.caller < n
-    → length (calls_by e.caller log) < cap → IsWithin n cap (log ++ e ∷ [])
+pub within_push : (n cap : ℕ) (log : List Entry) (e : Entry) → IsWithinCap n cap log → e.caller < n
+    → length (calls_by e.caller log) < cap → IsWithinCap n cap (log ++ e ∷ [])
 within_push n cap log e h low left =
     record {
       callers = All-push (λ (d : Entry). d.caller < n) log e h.callers low;

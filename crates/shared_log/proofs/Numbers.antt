@@ -2,7 +2,7 @@
 use Rattle.std.proofs.Common.{◌≡◌, ◌≢◌, ℕ, ◌+◌, ◌*◌, ◌<◌, List, ◌∷◌, ◌++◌, length, ap, subst, arith}
 use Rattle.std.proofs.lemmas.Nat.{mul-add-lt, same_from_place}
 use Rattle.shared_log.specs.declared.entry.Entry.{Entry}
-use Rattle.shared_log.specs.Entries.{calls_by, IsWithin}
+use Rattle.shared_log.specs.Entries.{calls_by, IsWithinCap}
 use Rattle.shared_log.specs.Words.{number_of, number_after, operation_index, ticket_index}
 use Rattle.shared_log.specs.Hands.{Hand, next_number}
 use Rattle.shared_log.proofs.Logs.{calls_by-at, within_at}
@@ -25,12 +25,12 @@ not_other a b half other ne one two = λ e. ne (omega arith)
 
 -- the next call of a caller has no entry in the log
 pub not_stored : (n cap who : ℕ) (log before rest : List Entry) (e : Entry) (h : Hand)
-    → IsWithin n cap log → log ≡ before ++ e ∷ rest
+    → IsWithinCap n cap log → log ≡ before ++ e ∷ rest
     → calls_by who log ≡ calls_by who h.log → length (calls_by who h.log) < cap
     → number_after cap before e ≢ next_number cap who h
 not_stored n cap who log before rest e h within is own left = λ same.
     let at =
-    within_at n cap before rest e (subst (λ (l : List Entry). IsWithin n cap l) is within) in
+    within_at n cap before rest e (subst (λ (l : List Entry). IsWithinCap n cap l) is within) in
     let parts = same_from_place e.caller (length (calls_by e.caller before)) who
     (length (calls_by who h.log)) cap at.1 left same in
     let here = calls_by-at before rest e in

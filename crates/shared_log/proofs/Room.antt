@@ -5,7 +5,7 @@ use Rattle.std.specs.List.{All}
 use Rattle.std.proofs.lemmas.Bool.{cases_eq}
 use Rattle.std.proofs.lemmas.List.Elements.{All-head, All-tail}
 use Rattle.shared_log.specs.declared.entry.Entry.{Entry}
-use Rattle.shared_log.specs.Entries.{calls_by, IsWithin}
+use Rattle.shared_log.specs.Entries.{calls_by, IsWithinCap}
 use Rattle.shared_log.proofs.Logs.{calls_by-own, calls_by-other, calls_by-prefix}
 
 -- The sum of a function over the numbers below a bound.
@@ -68,11 +68,11 @@ entries_total n (e ∷ log) callers =
     (λ i. length (calls_by i (e ∷ log))) low own others in
     omega arith
 
-pub length-within : (n cap : ℕ) (log : List Entry) → IsWithin n cap log → length log ≤ n * cap
+pub length-within : (n cap : ℕ) (log : List Entry) → IsWithinCap n cap log → length log ≤ n * cap
 length-within n cap log h = let all = entries_total n log h.callers in
     let most = total_within n cap (λ i. length (calls_by i log)) h.calls in omega arith
 
-pub length-left : (n cap i : ℕ) (log : List Entry) → IsWithin n cap log → i < n
+pub length-left : (n cap i : ℕ) (log : List Entry) → IsWithinCap n cap log → i < n
     → length (calls_by i log) < cap → length log < n * cap
 length-left n cap i log h low left =
     let all = entries_total n log h.callers in

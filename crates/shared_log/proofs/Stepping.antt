@@ -10,11 +10,11 @@ use Rattle.atomic_table.specs.Table.{State, Me, keeps, Allows, Splits, Joins, op
 use Rattle.atomic_table.proofs.Lists.{set_else}
 use Rattle.book_base.specs.OperationWord.{low_of, high_of}
 use Rattle.shared_log.specs.declared.entry.Entry.{Entry}
-use Rattle.shared_log.specs.Entries.{calls_by, IsWithin, entry}
+use Rattle.shared_log.specs.Entries.{calls_by, IsWithinCap, entry}
 use Rattle.shared_log.specs.Words.{operation_index, ticket_index, word_count}
 use Rattle.shared_log.specs.Holders as holders
 use Rattle.shared_log.specs.Holders.{has, only, AreHeld}
-use Rattle.shared_log.specs.Hands.{Hand, View, hand, the, empty, next_number, Fits}
+use Rattle.shared_log.specs.Hands.{Hand, View, hand, the, empty, next_number, HandFits}
 use Rattle.shared_log.specs.Rule.{HaveOneLog, Ruled, Turns, Stages, Learns, Looks, Places, Reads}
 use Rattle.shared_log.proofs.Holding.{held_changed, held_parted, held_returned, held_at_start, joined_only}
 use Rattle.shared_log.proofs.Keeping.{stage_stands, stage_fits, stage_others, next_entry, learnt, learn_fits, learn_tells, placed_log, place_within, place_stands, placed_is, place_fits, place_others}
@@ -44,7 +44,7 @@ module _ (n cap slots id who : ℕ) (me : Me (Unit {0}) View) (h : Hand)
           log = r.log;
           stand = stage_stands n cap who t.words r.log h word x r.stand fits left few is;
           hands =
-              held_changed (Fits n cap t.words r.log) (Fits n cap (slice_set t.words word x) r.log)
+              held_changed (HandFits n cap t.words r.log) (HandFits n cap (slice_set t.words word x) r.log)
               t.views id me.0 who h next r.hands at here
               (stage_fits n cap who t.words r.log h word x r.stand fits left few is)
               (stage_others n cap who t.words r.log h word x r.stand fits left few is);
@@ -73,8 +73,8 @@ module _ (n cap slots id who : ℕ) (me : Me (Unit {0}) View) (h : Hand)
           log = r.log;
           stand = r.stand;
           hands =
-              held_changed (Fits n cap t.words r.log)
-              (Fits n cap t.words r.log) t.views id me.0 who h next r.hands at here
+              held_changed (HandFits n cap t.words r.log)
+              (HandFits n cap t.words r.log) t.views id me.0 who h next r.hands at here
               (learn_fits n cap who t.words r.log h r.stand fits low there.0 there.1 there.2 tried)
               (λ i m ne was. was);
         },
@@ -89,8 +89,8 @@ module _ (n cap slots id who : ℕ) (me : Me (Unit {0}) View) (h : Hand)
         log = r.log;
         stand = r.stand;
         hands =
-            held_changed (Fits n cap t.words r.log)
-            (Fits n cap t.words r.log) t.views id me.0 who h h r.hands at here
+            held_changed (HandFits n cap t.words r.log)
+            (HandFits n cap t.words r.log) t.views id me.0 who h h r.hands at here
             ((r.hands.held who id me.0 h at here).1)
             (λ i m ne was. was);
       }
@@ -163,7 +163,7 @@ module _ (n cap slots id who : ℕ) (me : Me (Unit {0}) View) (h : Hand)
                     stand = place_stands n cap who t.words r.log h r.stand fits room op left staged
                         zero ticket own;
                     hands =
-                        held_changed (Fits n cap t.words r.log) _ t.views id me.0 who h next
+                        held_changed (HandFits n cap t.words r.log) _ t.views id me.0 who h next
                         r.hands at here
                         (place_fits n cap who t.words r.log h r.stand fits room op left staged zero
                         ticket own (h.tried ++ word ∷ []))
@@ -186,7 +186,7 @@ module _ (n cap slots id who : ℕ) (me : Me (Unit {0}) View) (h : Hand)
                           ∙ (λ i. lows i + highs i * 2 ^ 64) ∙ mod-add-div' op (2 ^ 64) in (
                             (λ i. hand ((sym same_hand i).log ++ entry who (sym same i) ∷ []) []
                                 ((sym same_hand i).tried ++ word ∷ [])),
-                            subst (λ (l : List Entry). IsWithin n cap l)
+                            subst (λ (l : List Entry). IsWithinCap n cap l)
                                 (placed_is n cap who t.words r.log h r.stand fits room op left
                                 staged zero ticket own)
                                 (place_within n cap who t.words r.log h r.stand fits room op left
@@ -255,9 +255,9 @@ module _ (n cap slots id who : ℕ) (me : Me (Unit {0}) View) (h : Hand)
         log = r.log;
         stand = r.stand;
         hands =
-            subst (λ (g : Hand). AreHeld (Fits n cap t.words r.log)
+            subst (λ (g : Hand). AreHeld (HandFits n cap t.words r.log)
             (slice_set t.views id (slice_set me.0 who None) ++ only who g ∷ [])) (sym same_hand)
-            (held_parted (Fits n cap t.words r.log) t.views id me.0 who h r.hands at here);
+            (held_parted (HandFits n cap t.words r.log) t.views id me.0 who h r.hands at here);
       }
 
 -- a caller comes to a seat that lacks it
@@ -273,16 +273,16 @@ returns n cap id other v w who h is gone low t r at apart there' =
       log = r.log;
       stand = r.stand;
       hands =
-          subst (λ (u : View). AreHeld (Fits n cap t.words r.log)
+          subst (λ (u : View). AreHeld (HandFits n cap t.words r.log)
           (slice_set (slice_set t.views id u) other [])) (sym both)
-          (held_returned (Fits n cap t.words r.log) t.views id other v who h r.hands at
+          (held_returned (HandFits n cap t.words r.log) t.views id other v who h r.hands at
           apart there low);
     }
 
 -- at the start no ticket is placed
-pub opens : (n cap : ℕ) (words : List ℕ) → words ≡ replicate (word_count n cap) 0
+pub ruled_at_opening : (n cap : ℕ) (words : List ℕ) → words ≡ replicate (word_count n cap) 0
     → Ruled n cap (opening words [] (holders.whole n empty))
-opens n cap words is =
+ruled_at_opening n cap words is =
     record {
       log = [];
       stand =
@@ -295,7 +295,7 @@ opens n cap words is =
                 ap (λ (ws : List ℕ). slice_index ws (ticket_index n cap place)) is
                 ∙ get_or-replicate (word_count n cap) (ticket_index n cap place) 0 0 (omega arith);
           };
-      hands = held_at_start (Fits n cap words []) n empty (λ i low. record {
+      hands = held_at_start (HandFits n cap words []) n empty (λ i low. record {
         caller = low;
         prefix = ([], refl);
         own = refl;

@@ -12,7 +12,7 @@ abbrev pub BeginsWith : List Entry → List Entry → Type 0
 BeginsWith log prefix = (rest : List Entry) × (log ≡ prefix ++ rest)
 
 -- Each entry is of one of n callers, and no caller has more than cap of them.
-pub record IsWithin (n cap : ℕ) (log : List Entry) : Type 0 where
+pub record IsWithinCap (n cap : ℕ) (log : List Entry) : Type 0 where
   pub callers : All (λ e. e.caller < n) log
   pub calls : (i : ℕ) → length (calls_by i log) ≤ cap
 

@@ -3,17 +3,17 @@ use Rattle.std.specs.Prelude.{◌≡◌, ◌≢◌, ℕ, ◌+◌, List, [], ◌�
 use Rattle.atomic_table.specs.Table.{State, Me}
 use Rattle.book_base.specs.OperationWord.{low_of, high_of}
 use Rattle.shared_log.specs.declared.entry.Entry.{Entry}
-use Rattle.shared_log.specs.Entries.{calls_by, entry, IsWithin}
+use Rattle.shared_log.specs.Entries.{calls_by, entry, IsWithinCap}
 use Rattle.shared_log.specs.Words.{number_after, operation_index, AreWordsOf, MayHaveTried}
 use Rattle.shared_log.specs.Holders.{has, AreHeld}
-use Rattle.shared_log.specs.Hands.{Hand, View, hand, the, Fits}
+use Rattle.shared_log.specs.Hands.{Hand, View, hand, the, HandFits}
 
 -- There is one log: the words are its words, and the hand of each caller is with one seat and
 -- agrees with both.
 pub record HaveOneLog (n cap : ℕ) (words : List ℕ) (views : List View) : Type 0 where
   pub log : List Entry
   pub stand : AreWordsOf n cap words log
-  pub hands : AreHeld (Fits n cap words log) views
+  pub hands : AreHeld (HandFits n cap words log) views
 
 -- The rule: the words and the views of the table have one log.
 abbrev pub Ruled : ℕ → ℕ → State (Unit {0}) View → Type 0
@@ -38,7 +38,7 @@ pub record Learns (n cap who found : ℕ) (tried : List ℕ) (h next : Hand) : T
   pub log : next ≡ hand (h.log ++ entry ∷ []) h.staged tried
   pub ticket : found ≡ number_after cap h.log entry + 1
   pub other : calls_by who next.log ≡ calls_by who h.log
-  pub within : IsWithin n cap next.log
+  pub within : IsWithinCap n cap next.log
 
 -- A load of the ticket at the first place that a caller doesn't know: the place is free, or its
 -- entry is learnt.
@@ -52,7 +52,7 @@ pub record Looks (n cap who found : ℕ) (h next : Hand) : Type 0 where
 pub record Places (n cap who word found : ℕ) (h next : Hand) : Type 0 where
   pub placed : found ≡ 0 → (op : ℕ) → h.staged ≡ low_of op ∷ high_of op ∷ []
       → (next ≡ hand (h.log ++ entry who op ∷ []) [] (h.tried ++ word ∷ []))
-      × IsWithin n cap next.log
+      × IsWithinCap n cap next.log
   pub filled : found ≢ 0 → Learns n cap who found (h.tried ++ word ∷ []) h next
 
 -- A load of the ticket at the first place that a caller doesn't know, and an exchange where the
@@ -60,7 +60,7 @@ pub record Places (n cap who word found : ℕ) (h next : Hand) : Type 0 where
 pub record Tries (n cap who word found : ℕ) (h next : Hand) : Type 0 where
   pub placed : found ≡ 0 → (op : ℕ) → h.staged ≡ low_of op ∷ high_of op ∷ []
       → (next ≡ hand (h.log ++ entry who op ∷ []) [] (h.tried ++ word ∷ []))
-      × IsWithin n cap next.log
+      × IsWithinCap n cap next.log
   pub filled : found ≢ 0 → (tried : List ℕ) × MayHaveTried word h.tried tried
       × Learns n cap who found tried h next
 
@@ -77,8 +77,8 @@ pub record Reads (cap word found : ℕ) (h next : Hand) : Type 0 where
 -- exchange, at this word.
 abbrev pub Finds : ℕ → ℕ → ℕ → ℕ → ℕ → Hand → Hand → Option Entry → Type 0
 Finds n cap who word op h next None =
-    (next ≡ hand (h.log ++ entry who op ∷ []) [] (h.tried ++ word ∷ [])) × IsWithin n cap next.log
+    (next ≡ hand (h.log ++ entry who op ∷ []) [] (h.tried ++ word ∷ [])) × IsWithinCap n cap next.log
 Finds n cap who word op h next (Some e) =
     (tried : List ℕ) × MayHaveTried word h.tried tried
     × (next ≡ hand (h.log ++ e ∷ []) h.staged tried) × (calls_by who next.log ≡ calls_by who h.log)
-    × IsWithin n cap next.log
+    × IsWithinCap n cap next.log

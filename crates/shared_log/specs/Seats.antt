@@ -5,7 +5,7 @@ use Rattle.shared_log.specs.declared.entry.Entry.{Entry}
 use Rattle.shared_log.specs.declared.seat.OneSeat.{OneSeat}
 use Rattle.shared_log.specs.declared.seat.LogSeat.{LogSeat}
 use Rattle.shared_log.specs.declared.shared_log.SharedLog.{SharedLog}
-use Rattle.shared_log.specs.Entries.{calls_by, BeginsWith, IsWithin, IsAfterCall}
+use Rattle.shared_log.specs.Entries.{calls_by, BeginsWith, IsWithinCap, IsAfterCall}
 use Rattle.shared_log.specs.Words.{HasTried}
 use Rattle.shared_log.specs.Holders.{has}
 use Rattle.shared_log.specs.Hands.{Hand, the}
@@ -57,7 +57,7 @@ pub record IsSeatOf (l : SharedLog) (s : LogSeat) : Type 0 where
   pub placed : IsPlaced l s.seat
   pub cap : s.cap ≡ l.cap
   pub room : l.callers * l.cap ≤ vec_capacity s.log
-  pub within : IsWithin l.callers l.cap s.log.items
+  pub within : IsWithinCap l.callers l.cap s.log.items
 
 -- These are the seats of all callers of a log, by caller.
 pub record AreSeatsOf (l : SharedLog) (seats : List LogSeat) : Type 0 where

@@ -2,7 +2,7 @@
 use Rattle.std.specs.Prelude.{◌≡◌, ◌⊎◌, ℕ, ◌+◌, ◌*◌, ◌<◌, ◌≤◌, List, [], ◌∷◌, ◌++◌, length, slice_index}
 use Rattle.book_base.specs.OperationWord.{low_of, high_of}
 use Rattle.shared_log.specs.declared.entry.Entry.{Entry}
-use Rattle.shared_log.specs.Entries.{calls_by, IsWithin}
+use Rattle.shared_log.specs.Entries.{calls_by, IsWithinCap}
 
 -- The number of call k of caller i, over the calls of all callers.
 abbrev pub number_of : ℕ → ℕ → ℕ → ℕ
@@ -36,7 +36,7 @@ pub record IsStored (n cap : ℕ) (words : List ℕ) (before : List Entry) (e : 
 -- The words of a log: its entries are stored, and the tickets after them are free.
 pub record AreWordsOf (n cap : ℕ) (words : List ℕ) (log : List Entry) : Type 0 where
   pub count : length words ≡ word_count n cap
-  pub within : IsWithin n cap log
+  pub within : IsWithinCap n cap log
   pub stored : (before rest : List Entry) (e : Entry) → log ≡ before ++ e ∷ rest
       → IsStored n cap words before e
   pub free : (place : ℕ) → length log ≤ place → place < n * cap

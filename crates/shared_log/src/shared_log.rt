@@ -1,7 +1,7 @@
 ghost use Rattle.std.specs.Prelude.{◌≡◌, ℕ, ◌+◌, ◌*◌, ◌<◌, ◌≤◌, List, [], ◌∷◌, Option, None, Some, IfOk, All, map, length, slice_set, vec_len, vec_capacity};
 ghost use Rattle.book_base.specs.declared.TheConstants.{MAX_CALLERS, MAX_CALLS};
 ghost use Rattle.book_base.specs.OperationWord.{low_of, high_of};
-ghost use Rattle.shared_log.specs.Entries.{calls_by, IsWithin, IsAfterCall, IsLonger};
+ghost use Rattle.shared_log.specs.Entries.{calls_by, IsWithinCap, IsAfterCall, IsLonger};
 ghost use Rattle.shared_log.specs.Words as words;
 ghost use Rattle.shared_log.specs.Holders.{has, whole};
 ghost use Rattle.shared_log.specs.Hands as hands;
@@ -78,7 +78,7 @@ impl SharedLog {
         requires ticket { ticket ≡ words.number_of self.now.cap seat.old.who
             (length (calls_by seat.old.who log.old.items)) + 1 }
         requires room { self.now.callers * self.now.cap ≤ vec_capacity log.old }
-        requires within { IsWithin self.now.callers self.now.cap log.old.items }
+        requires within { IsWithinCap self.now.callers self.now.cap log.old.items }
         ensures seat { IsPlaced self.now seat.new × (seat.new.who ≡ seat.old.who) }
         ensures known { (hand_with seat.new).log ≡ log.new.items }
         ensures idle { (hand_with seat.new).staged ≡ [] }
@@ -86,7 +86,7 @@ impl SharedLog {
         ensures tries { words.HasTried self.now.callers self.now.cap (length log.old.items)
             (length log.new.items) (hand_with seat.old).tried (hand_with seat.new).tried }
         ensures room { vec_capacity log.old ≤ vec_capacity log.new }
-        ensures within { IsWithin self.now.callers self.now.cap log.new.items }
+        ensures within { IsWithinCap self.now.callers self.now.cap log.new.items }
     {
         for place in log.len()..place_count(self.callers, self.cap) {
             match self.next_entry(seat, place, ticket, op) {
@@ -238,7 +238,7 @@ impl SharedLog {
         requires seats { AreSeatsOf self (map P.seat seats.items) }
         // Each entry is of one of the log's callers, and no caller has more entries than it may
         // make calls.
-        ensures within { IsWithin (callers_of self) (cap_of self) result.items }
+        ensures within { IsWithinCap (callers_of self) (cap_of self) result.items }
         // The log that is answered begins with the log of each seat, and has just those entries of
         // each caller that the caller's seat knows.
         ensures log { IsOneLog result.items (map P.seat seats.items) }

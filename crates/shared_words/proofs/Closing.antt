@@ -13,7 +13,7 @@ use Rattle.shared_log.proofs.Coming.{IsComing, starts_coming, split_next, next_g
 use Rattle.shared_words.specs.declared.shared_words.SharedWords.{SharedWords}
 use Rattle.shared_words.specs.declared.words_pass.WordsPass.{WordsPass}
 use Rattle.shared_words.specs.Deeds.{Deed, AreCalls}
-use Rattle.shared_words.specs.Histories.{Access, View, deeds_by, IsLawful}
+use Rattle.shared_words.specs.Histories.{Access, View, deeds_by, IsLawfulHistory}
 use Rattle.shared_words.specs.Passes.{seat_in, deeds_of, caller_of_pass, history_in, pairs_in, transcript_of, IsSeatOf, IsPassOf, IsOneHistory}
 use Rattle.shared_words.specs.Transcripts.{Transcript, AreOfOneHistory}
 use Rattle.shared_words.specs.Rule.{HaveOneHistory, Ruled}

@@ -7,7 +7,7 @@ use Rattle.std.proofs.lemmas.List.Elements.{All-nil, All-cons, filter-append}
 use mathlib.Core.List.{IsPrefix}
 use Rattle.shared_log.proofs.Logs.{ends_at}
 use Rattle.shared_words.specs.Deeds.{Deed, place_of, HasFound}
-use Rattle.shared_words.specs.Histories.{Access, deeds_by, word_at, IsRight, IsLawful, IsAfterAccess}
+use Rattle.shared_words.specs.Histories.{Access, deeds_by, word_at, IsRight, IsLawfulHistory, IsAfterAccess}
 
 -- the deeds of a caller in a history and then another are those in the first and then those in the
 -- second
@@ -37,12 +37,12 @@ deeds_by-other i xs a other =
 
 -- an empty history is lawful, and a lawful one stays so with one more access that is right
 pub lawful_none : (may : ℕ → Deed → Type 0) (history : List Access)
-    → history ≡ [] → IsLawful may history
+    → history ≡ [] → IsLawfulHistory may history
 lawful_none may history none before rest a is =
     absurd (let long = ap length (sym none ∙ is) in omega (arith, length-append before (a ∷ rest)))
 
 pub lawful_push : (may : ℕ → Deed → Type 0) (history : List Access) (a : Access)
-    → IsLawful may history → IsRight may history a → IsLawful may (history ++ a ∷ [])
+    → IsLawfulHistory may history → IsRight may history a → IsLawfulHistory may (history ++ a ∷ [])
 lawful_push may history a lawful right before rest b is =
     elim (ends_at history before rest a b is) [
       | inl last ↦
@@ -54,20 +54,20 @@ lawful_push may history a lawful right before rest b is =
 -- in a lawful history each access may be made, a prefix is lawful, and the last access found what
 -- those before it leave
 pub lawful_allowed : (may : ℕ → Deed → Type 0) (prefix history : List Access)
-    → IsLawful may (prefix ++ history) → All (λ (a : Access). may a.caller a.deed) history
+    → IsLawfulHistory may (prefix ++ history) → All (λ (a : Access). may a.caller a.deed) history
 lawful_allowed may prefix [] lawful = All-nil (λ (a : Access). may a.caller a.deed)
 lawful_allowed may prefix (a ∷ history) lawful =
     All-cons (λ (b : Access). may b.caller b.deed) a history (lawful prefix history a refl).allowed
-    (lawful_allowed may (prefix ++ a ∷ []) history (subst (λ (l : List Access). IsLawful may l)
+    (lawful_allowed may (prefix ++ a ∷ []) history (subst (λ (l : List Access). IsLawfulHistory may l)
     (sym (append_assoc prefix (a ∷ []) history)) lawful))
 
 pub lawful_prefix : (may : ℕ → Deed → Type 0) (prefix history : List Access)
-    → IsLawful may (prefix ++ history) → IsLawful may prefix
+    → IsLawfulHistory may (prefix ++ history) → IsLawfulHistory may prefix
 lawful_prefix may prefix history lawful before rest a is = lawful before (rest ++ history) a
     (ap (λ (l : List Access). l ++ history) is ∙ append_assoc before (a ∷ rest) history)
 
 pub lawful_last : (may : ℕ → Deed → Type 0) (before : List Access) (a : Access)
-    → IsLawful may (before ++ a ∷ []) → HasFound a.deed (word_at (place_of a.deed) before)
+    → IsLawfulHistory may (before ++ a ∷ []) → HasFound a.deed (word_at (place_of a.deed) before)
 lawful_last may before a lawful = (lawful before [] a refl).found
 
 -- laws of prefixes

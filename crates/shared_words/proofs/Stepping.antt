@@ -8,7 +8,7 @@ use Rattle.atomic_table.specs.Table.{Me, keeps, Allows, opening}
 use Rattle.shared_log.specs.Holders.{has, only, whole}
 use Rattle.shared_log.proofs.Holding.{held_changed, held_at_start, only_here, only_else, only_set}
 use Rattle.shared_words.specs.Deeds.{Deed, place_of, leaves, HasFound}
-use Rattle.shared_words.specs.Histories.{Access, View, access, known, word_at, IsLawful, IsAfterAccess}
+use Rattle.shared_words.specs.Histories.{Access, View, access, known, word_at, IsLawfulHistory, IsAfterAccess}
 use Rattle.shared_words.specs.Rule.{Knows, Ruled, Accesses}
 use Rattle.shared_words.proofs.Words.{word_at-here, accesses_leave_others}
 use Rattle.shared_words.proofs.Histories.{deeds_by-own, deeds_by-other, lawful_none, lawful_push, prefix_more}
@@ -38,7 +38,7 @@ module _ (may : ℕ → Deed → Type 0) (n count words slots id who : ℕ) (me 
       subst (λ (k : ℕ). place < k) (sym (r.long ∙ same)) low in
       let stood : x ≡ word_at place r.history =
       r.left place (subst (λ (k : ℕ). place < k) (sym same) low) in
-      let lawful : IsLawful may next =
+      let lawful : IsLawfulHistory may next =
       lawful_push may r.history a r.lawful
       (record {
         allowed = allowed x;
@@ -97,7 +97,7 @@ pub record HasMade (may : ℕ → Deed → Type 0) (who : ℕ) (after : Me (Unit
     (h : List Access) (deed : Deed) : Type 0 where
   pub alone : after ≡ (only who (known (has after.0 who)), [])
   pub made : IsAfterAccess who deed h (known (has after.0 who))
-  pub lawful : IsLawful may (known (has after.0 who))
+  pub lawful : IsLawfulHistory may (known (has after.0 who))
 
 pub turned : (may : ℕ → Deed → Type 0) (who : ℕ) (me after : Me (Unit {0}) View) (h : List Access)
     (deed : Deed) → me ≡ (only who h, []) → Accesses may me after deed
@@ -117,13 +117,13 @@ turned may who me after h deed alone t =
       alone = moved ∙ (λ i. (only who (sym here i), []));
       made = subst (λ (y : ℕ × List Access × List Access). IsAfterAccess y.0 deed y.1 y.2)
           (λ i. (own i, before i, sym here i)) t.made;
-      lawful = subst (λ (l : List Access). IsLawful may l) (sym here) t.lawful;
+      lawful = subst (λ (l : List Access). IsLawfulHistory may l) (sym here) t.lawful;
     }
 
 -- at the start there is no access
-pub opens : (may : ℕ → Deed → Type 0) (n count : ℕ) (words : List ℕ) → words ≡ replicate count 0
+pub ruled_at_opening : (may : ℕ → Deed → Type 0) (n count : ℕ) (words : List ℕ) → words ≡ replicate count 0
     → Ruled may n count (opening words [] (whole n []))
-opens may n count words is =
+ruled_at_opening may n count words is =
     record {
       history = [];
       long = ap length is ∙ length-replicate count 0;

@@ -4,7 +4,7 @@ use Rattle.std.specs.List.{All}
 use Rattle.std.proofs.lemmas.List.{append-nil}
 use Rattle.std.proofs.lemmas.List.Elements.{All-nil, All-cons, All-head}
 use Rattle.shared_words.specs.Deeds.{Deed, Added, Stored, Loaded, Swapped, AreCalls}
-use Rattle.shared_words.specs.Histories.{Access, access, deeds_by, IsRight, IsLawful}
+use Rattle.shared_words.specs.Histories.{Access, access, deeds_by, IsRight, IsLawfulHistory}
 use Rattle.shared_words.specs.Transcripts.{Transcript, AreOfOneHistory}
 use Rattle.shared_words.specs.Cases.{on_two_words, all_may, additions_may, adds_1, adds, three_additions, transcript, told_by_0, told_by_1}
 use Rattle.shared_words.proofs.Histories.{lawful_none, lawful_push}
@@ -14,17 +14,17 @@ abbrev pub AllRight : (ℕ → Deed → Type 0) → List Access → List Access 
 AllRight may before [] = Unit {0}
 AllRight may before (a ∷ rest) = IsRight may before a × AllRight may (before ++ a ∷ []) rest
 
-right_from : (may : ℕ → Deed → Type 0) (before rest : List Access) → IsLawful may before
-    → AllRight may before rest → IsLawful may (before ++ rest)
+right_from : (may : ℕ → Deed → Type 0) (before rest : List Access) → IsLawfulHistory may before
+    → AllRight may before rest → IsLawfulHistory may (before ++ rest)
 right_from may before [] lawful right =
-    subst (λ (l : List Access). IsLawful may l) (sym (append-nil before)) lawful
+    subst (λ (l : List Access). IsLawfulHistory may l) (sym (append-nil before)) lawful
 right_from may before (a ∷ rest) lawful right =
-    subst (λ (l : List Access). IsLawful may l) (append_assoc before (a ∷ []) rest)
+    subst (λ (l : List Access). IsLawfulHistory may l) (append_assoc before (a ∷ []) rest)
     (right_from may (before ++ a ∷ []) rest (lawful_push may before a lawful right.0) right.1)
 
 -- accesses that are right after those before them are a lawful history
 pub lawful_by_steps : (may : ℕ → Deed → Type 0) (history : List Access) → AllRight may [] history
-    → IsLawful may history
+    → IsLawfulHistory may history
 lawful_by_steps may history right = right_from may [] history (lawful_none may [] refl) right
 
 -- The kind of a deed, as a number.
@@ -58,7 +58,7 @@ last_of (e ∷ f ∷ deeds) d = last_of (f ∷ deeds) d
 
 -- ---- lawful histories
 
-pub two_words_lawful : IsLawful all_may on_two_words
+pub two_words_lawful : IsLawfulHistory all_may on_two_words
 two_words_lawful =
     lawful_by_steps all_may on_two_words (
       record { allowed = tt; found = refl },
@@ -77,7 +77,7 @@ two_words_lawful =
       ),
     )
 
-pub store_forbidden : IsLawful additions_may on_two_words → ⊥
+pub store_forbidden : IsLawfulHistory additions_may on_two_words → ⊥
 store_forbidden lawful =
     let stored : Access = access 1 (Stored 1 7) in
     let rest : List Access =
@@ -88,29 +88,29 @@ store_forbidden lawful =
     omega (arith, n)
 
 -- the second of two accesses finds what the first left
-second_right : (may : ℕ → Deed → Type 0) (a b : Access) → IsLawful may (a ∷ b ∷ [])
+second_right : (may : ℕ → Deed → Type 0) (a b : Access) → IsLawfulHistory may (a ∷ b ∷ [])
     → IsRight may (a ∷ []) b
 second_right may a b lawful = lawful (a ∷ []) [] b refl
 
-pub addition_of_what_was : IsLawful all_may (adds 0 0 ∷ adds 1 0 ∷ []) → ⊥
+pub addition_of_what_was : IsLawfulHistory all_may (adds 0 0 ∷ adds 1 0 ∷ []) → ⊥
 addition_of_what_was lawful =
     let n : 0 ≡ 1 = (second_right all_may (adds 0 0) (adds 1 0) lawful).found in omega (arith, n)
 
 pub load_of_what_was :
-    IsLawful all_may (access 0 (Stored 0 7) ∷ access 1 (Loaded 0 0) ∷ []) → ⊥
+    IsLawfulHistory all_may (access 0 (Stored 0 7) ∷ access 1 (Loaded 0 0) ∷ []) → ⊥
 load_of_what_was lawful =
     let n : 0 ≡ 7 =
     (second_right all_may (access 0 (Stored 0 7)) (access 1 (Loaded 0 0)) lawful).found in
     omega (arith, n)
 
 pub swap_of_what_was :
-    IsLawful all_may (access 0 (Stored 0 7) ∷ access 1 (Swapped 0 9 0) ∷ []) → ⊥
+    IsLawfulHistory all_may (access 0 (Stored 0 7) ∷ access 1 (Swapped 0 9 0) ∷ []) → ⊥
 swap_of_what_was lawful =
     let n : 0 ≡ 7 =
     (second_right all_may (access 0 (Stored 0 7)) (access 1 (Swapped 0 9 0)) lawful).found in
     omega (arith, n)
 
-pub load_of_1_at_first : IsLawful all_may (access 0 (Loaded 0 1) ∷ []) → ⊥
+pub load_of_1_at_first : IsLawfulHistory all_may (access 0 (Loaded 0 1) ∷ []) → ⊥
 load_of_1_at_first lawful =
     let right : IsRight all_may [] (access 0 (Loaded 0 1)) =
     lawful [] [] (access 0 (Loaded 0 1)) refl in
@@ -118,7 +118,7 @@ load_of_1_at_first lawful =
     omega (arith, n)
 
 pub load_of_another_word :
-    IsLawful all_may (access 0 (Stored 1 7) ∷ access 1 (Loaded 0 7) ∷ []) → ⊥
+    IsLawfulHistory all_may (access 0 (Stored 1 7) ∷ access 1 (Loaded 0 7) ∷ []) → ⊥
 load_of_another_word lawful =
     let n : 7 ≡ 0 =
     (second_right all_may (access 0 (Stored 1 7)) (access 1 (Loaded 0 7)) lawful).found in
@@ -129,7 +129,7 @@ load_of_another_word lawful =
 abbrev Told : List Access → Transcript → Type 0
 Told history t = AreCalls (adds_1 t.caller) t.pairs [] (deeds_by t.caller history)
 
-three_lawful : IsLawful all_may three_additions
+three_lawful : IsLawfulHistory all_may three_additions
 three_lawful =
     lawful_by_steps all_may three_additions (
       record { allowed = tt; found = refl },

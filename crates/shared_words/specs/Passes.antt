@@ -6,7 +6,7 @@ use Rattle.shared_words.specs.declared.shared_words.SharedWords.{SharedWords}
 use Rattle.shared_words.specs.declared.word_seat.WordSeat.{WordSeat}
 use Rattle.shared_words.specs.declared.words_pass.WordsPass.{WordsPass}
 use Rattle.shared_words.specs.Deeds.{Deed, AreCalls}
-use Rattle.shared_words.specs.Histories.{Access, known, deeds_by, IsLawful}
+use Rattle.shared_words.specs.Histories.{Access, known, deeds_by, IsLawfulHistory}
 use Rattle.shared_words.specs.Transcripts.{Transcript}
 
 -- The caller of a seat.
@@ -64,7 +64,7 @@ pub record IsFreshPass (calls : ℕ) (p : WordsPass) : Type 0 where
 pub record IsOneHistory (may : ℕ → Deed → Type 0) (n : ℕ) (history : List Access)
     (passes : List WordsPass) : Type 0 where
   pub callers : All (λ a. a.caller < n) history
-  pub lawful : IsLawful may history
+  pub lawful : IsLawfulHistory may history
   pub prefixes : All (λ p. IsPrefix (history_in p) history) passes
   pub deeds : All (λ p. deeds_by (caller_of_pass p) history ≡ deeds_of p.seat) passes
 
@@ -85,7 +85,7 @@ module _ {U : Type 0} where
   pub record IsSeatOf (may : ℕ → Deed → Type 0) (w : SharedWords U) (s : WordSeat) : Type 0 where
     pub table : s.seat.table_id ≡ w.table.shared.table_id
     pub caller : caller_of_seat s < callers_of w
-    pub lawful : IsLawful may (history_of s)
+    pub lawful : IsLawfulHistory may (history_of s)
 
   -- The pass is one of these words, with capacity for all calls of its caller. Its pairs are calls
   -- in the sense of the relation call, made by its caller's deeds.

@@ -4,7 +4,7 @@ use mathlib.Core.List.{IsPrefix}
 use Rattle.atomic_table.specs.Table.{State, Me}
 use Rattle.shared_log.specs.Holders.{has, AreHeld}
 use Rattle.shared_words.specs.Deeds.{Deed}
-use Rattle.shared_words.specs.Histories.{Access, View, deeds_by, word_at, IsLawful, IsAfterAccess}
+use Rattle.shared_words.specs.Histories.{Access, View, deeds_by, word_at, IsLawfulHistory, IsAfterAccess}
 
 -- Caller i, one of n, knows a prefix of the history, which has all its deeds.
 pub record Knows (n : ℕ) (history : List Access) (i : ℕ) (h : List Access) : Type 0 where
@@ -20,7 +20,7 @@ pub record HaveOneHistory (may : ℕ → Deed → Type 0) (n count : ℕ) (words
   pub long : length words ≡ count
   pub left : (place : ℕ) → place < count → slice_index words place ≡ word_at place history
   pub callers : All (λ a. a.caller < n) history
-  pub lawful : IsLawful may history
+  pub lawful : IsLawfulHistory may history
   pub hands : AreHeld (Knows n history) views
 
 -- The rule: the words and the views of the table have one history.
@@ -37,4 +37,4 @@ pub record Accesses (may : ℕ → Deed → Type 0) (me after : Me (Unit {0}) Vi
   pub here : has me.0 who ≡ Some before
   pub moved : after ≡ (slice_set me.0 who (Some next), me.1)
   pub made : IsAfterAccess who deed before next
-  pub lawful : IsLawful may next
+  pub lawful : IsLawfulHistory may next

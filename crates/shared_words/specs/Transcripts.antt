@@ -2,7 +2,7 @@
 use Rattle.std.specs.Prelude.{◌≡◌, ℕ, ◌<◌, List, [], map, All}
 use Rattle.std.specs.List.{range_with_len}
 use Rattle.shared_words.specs.Deeds.{Deed, AreCalls}
-use Rattle.shared_words.specs.Histories.{Access, deeds_by, IsLawful}
+use Rattle.shared_words.specs.Histories.{Access, deeds_by, IsLawfulHistory}
 
 -- A caller, and its calls in order, each as an operation and a reply.
 pub record Transcript : Type 0 where
@@ -18,5 +18,5 @@ pub record AreOfOneHistory (may : ℕ → Deed → Type 0)
     (transcripts : List Transcript) : Type 0 where
   pub all : map (λ t. t.caller) transcripts ≡ range_with_len 0 n
   pub callers : All (λ a. a.caller < n) history
-  pub lawful : IsLawful may history
+  pub lawful : IsLawfulHistory may history
   pub calls : All (λ t. AreCalls (call t.caller) t.pairs [] (deeds_by t.caller history)) transcripts

@@ -3,7 +3,7 @@
 
 ghost use Rattle.std.specs.Prelude.{◌≡◌, [], ◌∷◌, ◌++◌};
 ghost use Rattle.shared_words.specs.Deeds as deeds;
-ghost use Rattle.shared_words.specs.Histories.{access, deeds_by, word_at, IsLawful};
+ghost use Rattle.shared_words.specs.Histories.{access, deeds_by, word_at, IsLawfulHistory};
 ghost use Rattle.shared_words.specs.Transcripts.{AreOfOneHistory};
 ghost use Rattle.shared_words.specs.Cases.{on_two_words, all_may, additions_may, adds_1, adds, three_additions, transcript, told_by_0, told_by_1};
 
@@ -28,21 +28,21 @@ pub fn histories_leave_words()
 #[tactic(auto, using(crate::proofs::Worked::two_words_lawful, crate::proofs::Worked::store_forbidden, crate::proofs::Worked::addition_of_what_was, crate::proofs::Worked::load_of_what_was, crate::proofs::Worked::swap_of_what_was, crate::proofs::Worked::load_of_1_at_first, crate::proofs::Worked::load_of_another_word))]
 pub fn histories_are_lawful()
     // A history is lawful in which each access found what those before it left.
-    ensures right { IsLawful all_may on_two_words }
+    ensures right { IsLawfulHistory all_may on_two_words }
     // A history with a store isn't lawful where callers may make additions alone.
-    ensures forbidden { ¬ IsLawful additions_may on_two_words }
+    ensures forbidden { ¬ IsLawfulHistory additions_may on_two_words }
     // An addition can't find the word that the addition before it found.
-    ensures addition { ¬ IsLawful all_may (adds 0 0 ∷ adds 1 0 ∷ []) }
+    ensures addition { ¬ IsLawfulHistory all_may (adds 0 0 ∷ adds 1 0 ∷ []) }
     // A load can't find the word that the store before it replaced.
-    ensures load { ¬ IsLawful all_may
+    ensures load { ¬ IsLawfulHistory all_may
         (access 0 (deeds.Stored 0 7) ∷ access 1 (deeds.Loaded 0 0) ∷ []) }
     // A swap can't find the word that the store before it replaced.
-    ensures swap { ¬ IsLawful all_may
+    ensures swap { ¬ IsLawfulHistory all_may
         (access 0 (deeds.Stored 0 7) ∷ access 1 (deeds.Swapped 0 9 0) ∷ []) }
     // The first load can't find 1.
-    ensures first { ¬ IsLawful all_may (access 0 (deeds.Loaded 0 1) ∷ []) }
+    ensures first { ¬ IsLawfulHistory all_may (access 0 (deeds.Loaded 0 1) ∷ []) }
     // A load can't find what was stored in another word.
-    ensures other_word { ¬ IsLawful all_may
+    ensures other_word { ¬ IsLawfulHistory all_may
         (access 0 (deeds.Stored 1 7) ∷ access 1 (deeds.Loaded 0 7) ∷ []) }
 {}
 

@@ -570,10 +570,10 @@ module _ (keys : ℕ → Bool) where
 
 -- Where a known word has its argument as its key, the argument is one of some keys exactly where
 -- the key of the word is.
-argument_goes : (kind : Kind) (keys : ℕ → Bool) (word reply : ℕ) (b : Bool)
+keys_of_argument : (kind : Kind) (keys : ℕ → Bool) (word reply : ℕ) (b : Bool)
     → is_known_word kind word ≡ true → key_by_kind kind word (Some reply) ≡ Some (argument_of word)
     → is_among keys (key_of_step kind word (Some reply)) ≡ b → keys (argument_of word) ≡ b
-argument_goes kind keys word reply b known own among =
+keys_of_argument kind keys word reply b known own among =
     ap (is_among keys) (sym (known_key kind word (Some reply) known ∙ own)) ∙ among
 
 set_gone : (keys : ℕ → Bool) (whole few : List ℕ) (word : ℕ) → HasSameValues keys whole few
@@ -586,7 +586,7 @@ set_gone keys whole few word same among =
     elim (cases_Bool (is_known_word kinds.IntSet word)) [
       | inr unknown ↦ subst P (sym (kind_next-unknown kinds.IntSet whole word unknown)) same
       | inl known ↦
-          let goes : keys v ≡ true = argument_goes kinds.IntSet keys word
+          let goes : keys v ≡ true = keys_of_argument kinds.IntSet keys word
           (kind_next kinds.IntSet whole word).1 true known refl among in
           elim (cases_Bool (is_operation_of word words.add)) [
             | inl add ↦
@@ -630,7 +630,7 @@ set_kept keys whole few word same among =
       | inr unknown ↦ by_steps _ _ (kind_next-unknown kinds.IntSet few word unknown)
           (kind_next-unknown kinds.IntSet whole word unknown) (refl, same)
       | inl known ↦
-          let stay : keys v ≡ false = argument_goes kinds.IntSet keys word
+          let stay : keys v ≡ false = keys_of_argument kinds.IntSet keys word
           (kind_next kinds.IntSet whole word).1 false known refl among in
           elim (cases_Bool (is_operation_of word words.add)) [
             | inl add ↦ by_steps _ _ (after_add few word add) (after_add whole word add)
@@ -848,7 +848,7 @@ map_gone keys whole few word related among = elim (cases_Bool (is_known_word kin
   | inl known ↦
       let key : ℕ = argument_of word in
       let goes : keys key ≡ true =
-      argument_goes kinds.Map keys word (kind_next kinds.Map whole word).1 true known refl among in
+      keys_of_argument kinds.Map keys word (kind_next kinds.Map whole word).1 true known refl among in
       record {
         all_once = keys_stay_once whole word related.all_once;
         few_once = related.few_once;
@@ -873,7 +873,7 @@ map_kept keys whole few word related among = elim (cases_Bool (is_known_word kin
   | inl known ↦
       let key : ℕ = argument_of word in
       let stay : keys key ≡ false =
-      argument_goes kinds.Map keys word (kind_next kinds.Map whole word).1 false known refl among in
+      keys_of_argument kinds.Map keys word (kind_next kinds.Map whole word).1 false known refl among in
       let alike =
       replies_alike few whole word related.few_once related.all_once (related.same key stay) in (
         alike.0,

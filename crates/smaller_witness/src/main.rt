@@ -7,7 +7,7 @@ ghost use Rattle.smaller_witness.specs.Output.{SaysLegal};
 ghost use Rattle.witness_texts.specs.Texts.{IsSmallerWitness};
 
 use book_base::ReadFault;
-use byte_streams::{Answer, StdSink, StdSource, TextProgram, run_program};
+use byte_streams::{ProgramAnswer, StdSink, StdSource, TextProgram, run_program};
 use std::alloc::Global;
 use std::process::ExitCode;
 use witness_texts::smaller_text;
@@ -23,10 +23,10 @@ impl TextProgram for Shrinker {
 
     ghost is_fault = { λ _ bytes fault. IsFirstGivenFault bytes fault };
 
-    fn answer(&self, alloc: Global, bytes: &[u8]) -> Result<Answer, ReadFault> {
+    fn answer(&self, alloc: Global, bytes: &[u8]) -> Result<ProgramAnswer, ReadFault> {
         match smaller_text(alloc, bytes)? {
-            Some(text) => Ok(Answer::Found(text)),
-            None => Ok(Answer::Fine(b"legal\n".to_vec(alloc)?)),
+            Some(text) => Ok(ProgramAnswer::Found(text)),
+            None => Ok(ProgramAnswer::Fine(b"legal\n".to_vec(alloc)?)),
         }
     }
 }

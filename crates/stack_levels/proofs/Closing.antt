@@ -8,7 +8,7 @@ use Rattle.list_laws.proofs.Options.{map_some}
 use Rattle.list_laws.proofs.Places.{get_or-replicate_default}
 use Rattle.book_base.specs.declared.TheConstants.{MAX_CALLERS}
 use Rattle.book_base.specs.declared.call.Call.{Call}
-use Rattle.book_base.specs.declared.marks.Marks.{Marks}
+use Rattle.book_base.specs.declared.marked_callers.MarkedCallers.{MarkedCallers}
 use Rattle.book_base.specs.Book.{Page, IsValid, operation_of}
 use Rattle.book_base.specs.Next.{next_call, raised}
 use Rattle.book_base.specs.Pruning.{HasOneOpen, IsMarked, MarksSuffice}
@@ -23,7 +23,7 @@ use Rattle.stack_levels.specs.declared.table.Node.{Node}
 use Rattle.stack_levels.specs.declared.table.NodeKey.{NodeKey}
 use Rattle.stack_levels.specs.Levels.{Layer, Nodes, IsOneLevel, DeedLeads, CallLeads, IsFollowed, IsClosedAt, IsKeptLayer, no_calls}
 use Rattle.stack_levels.specs.LevelLaws.{StackHasNoOrder}
-use Rattle.stack_levels.specs.Tables.{layer_of, layers_of, cut_at, nodes_of, Begins}
+use Rattle.stack_levels.specs.Tables.{layer_of, layers_of, cut_at, nodes_of, BeginsAtBottom}
 use Rattle.stack_levels.proofs.Refuting.{no_order_where_closed}
 
 -- The level at a place of a table in memory, without how it was found, is at that place among the
@@ -70,7 +70,7 @@ each_one P levels each p one =
 -- of the level, for each object that gives its last value first, and the next call of each marked
 -- caller is followed.
 pub closed_at : (reading : Reading) (book : List Page) (levels : List Level) (nodes : Nodes) (l : ℕ)
-    (level : Level) (cut mine : List ℕ) (marks : Marks)
+    (level : Level) (cut mine : List ℕ) (marks : MarkedCallers)
     → length book ≤ length cut → slice_get levels l ≡ Some level → mine ≡ cut
     → ((next : List ℕ → ℕ → List ℕ × ℕ) (bound : ℕ) (list : List ℕ)
     → GivesLastFirst reading next bound
@@ -120,7 +120,7 @@ call_leads reading book layers nodes node layer cut new call op role its known d
 pub refuted : (reading : Reading) (book : List Page) (levels : List Level) (cuts : List (List ℕ))
     (nodes : List NodeKey)
     → IsValid book → HasOneOpen book
-    → Begins book levels cuts nodes
+    → BeginsAtBottom book levels cuts nodes
     → ((l : ℕ) (level : Level) → slice_get levels l ≡ Some level → IsTrue level.top.kept
     → IsKeptLayer reading book (layers_of levels) (layer_of level))
     → ((k : ℕ) (key : NodeKey) → slice_get nodes k ≡ Some key

@@ -5,7 +5,7 @@ use Rattle.std.proofs.lemmas.Bool.{true≢false, cases_lt}
 use Rattle.std.proofs.lemmas.Option.{same_Some, none-some}
 use Rattle.book_base.specs.declared.call.Call.{Call}
 use Rattle.book_base.specs.declared.call.Record.{Record}
-use Rattle.book_base.specs.declared.marks.Marks.{Marks}
+use Rattle.book_base.specs.declared.marked_callers.MarkedCallers.{MarkedCallers}
 use Rattle.book_base.specs.Cut.{Holds, IsWithin, AreComparable}
 use Rattle.book_base.specs.Book.{Page, IsAnswered, IsValid, Precedes, record_of, answers_of, calls_of}
 use Rattle.book_base.specs.Order.{call_at, step_at, HasLegalOrder}
@@ -29,7 +29,7 @@ call i k = record { caller = i; number = k }
 -- Where a cut lacks an answered call, marks suffice that are on all callers whose next calls may
 -- come next.
 marked_suffice : (book : List Page) (next : List ℕ → ℕ → List ℕ × ℕ) (cut list : List ℕ)
-    (marks : Marks) (outside : Call) → IsAnswered book outside → (Holds cut outside → ⊥)
+    (marks : MarkedCallers) (outside : Call) → IsAnswered book outside → (Holds cut outside → ⊥)
     → ((i : ℕ) → MayComeNext book cut (next_call cut i) → IsMarked marks i)
     → MarksSuffice book next cut list marks
 marked_suffice book next cut list marks outside answered out marked [] goes =
@@ -65,13 +65,13 @@ only_parent P parent p it (zero, at) = subst P (same_Some parent p at) it
 only_parent P parent p it (suc k, at) = absurd (none-some p at)
 
 -- Caller 0 alone is marked.
-abbrev first : Marks
+abbrev first : MarkedCallers
 first = record { callers = true ∷ [] }
 
-abbrev second : Marks
+abbrev second : MarkedCallers
 second = record { callers = false ∷ true ∷ [] }
 
-abbrev both : Marks
+abbrev both : MarkedCallers
 both = record { callers = true ∷ true ∷ [] }
 
 at_first : (P : ℕ → Type 0) → P 0 → (i : ℕ) → IsMarked first i → P i
@@ -233,7 +233,7 @@ both_see r s x y i =
 -- A pair of the table that goes up and down is closed where its cut lacks an answered call, all
 -- callers whose next calls may come next are marked, and the next call of each marked caller is
 -- followed.
-closed_pair : (l : ℕ) (cut : List ℕ) (at : Layer) (marks : Marks) (outside : Call)
+closed_pair : (l : ℕ) (cut : List ℕ) (at : Layer) (marks : MarkedCallers) (outside : Call)
     → length taken_too_often ≤ length cut → slice_get one_on_one l ≡ Some at
     → IsAnswered taken_too_often outside → (Holds cut outside → ⊥)
     → ((i : ℕ) → MayComeNext taken_too_often cut (next_call cut i) → IsMarked marks i)

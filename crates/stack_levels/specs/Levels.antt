@@ -4,7 +4,7 @@
 use Rattle.std.specs.Prelude.{◌≡◌, ◌≢◌, ℕ, ◌≤◌, ◌⊎◌, IsTrue, List, length, replicate, Option, Some, None, IfSome, slice_get}
 use Rattle.book_base.specs.declared.call.Call.{Call}
 use Rattle.book_base.specs.declared.call.Record.{Record}
-use Rattle.book_base.specs.declared.marks.Marks.{Marks}
+use Rattle.book_base.specs.declared.marked_callers.MarkedCallers.{MarkedCallers}
 use Rattle.book_base.specs.Book.{Page, IsAnswered, operation_of, record_of}
 use Rattle.book_base.specs.Next.{next_call, raised, MayComeNext}
 use Rattle.book_base.specs.Pruning.{IsMarked, MarksSuffice, ViewsAreWithin}
@@ -115,7 +115,7 @@ pub record IsClosedAt (reading : Reading) (book : List Page) (layers : List Laye
   pub wide : length book ≤ length cut
   pub layer : Layer
   pub there : slice_get layers l ≡ Some layer
-  pub marks : Marks
+  pub marks : MarkedCallers
   pub suffice : (next : List ℕ → ℕ → List ℕ × ℕ) (bound : ℕ) (list : List ℕ)
       → GivesLastFirst reading next bound
       → HasTop reading book cut bound layer.top list → MarksSuffice book next cut list marks

@@ -28,7 +28,7 @@ nodes_of book cuts nodes l cut = (k : ℕ) × (key : NodeKey) × (slice_get node
     × (take (length book) counts ≡ cut))
 
 -- The first level is the bottom, and the bottom after no call is one of the pairs.
-pub record Begins (book : List Page) (levels : List Level) (cuts : List (List ℕ))
+pub record BeginsAtBottom (book : List Page) (levels : List Level) (cuts : List (List ℕ))
     (nodes : List NodeKey) : Type 0 where
   pub bottom : Layer
   pub first : slice_get (layers_of levels) 0 ≡ Some bottom

@@ -10,10 +10,10 @@ ghost use Rattle.stack_levels.specs.declared.table.NodeKey.{NodeKey};
 ghost use Rattle.stack_levels.specs.Levels.{CallLeads, IsClosedAt, IsFollowed, IsKeptLayer, IsOneLevel, IsServed, TakeLeads};
 ghost use Rattle.stack_levels.specs.declared.table.Level.{Level};
 ghost use Rattle.stack_levels.specs.LevelLaws.{StackHasNoOrder};
-ghost use Rattle.stack_levels.specs.Tables.{Begins, IsSaidKept, LiesOn, cut_at, layer_of, layers_of, nodes_of};
+ghost use Rattle.stack_levels.specs.Tables.{BeginsAtBottom, IsSaidKept, LiesOn, cut_at, layer_of, layers_of, nodes_of};
 ghost use Rattle.value_pruning.specs.Sights.{ListsValues};
 
-use crate::stack_book::{Look, StackBook};
+use crate::stack_book::{NextCallers, StackBook};
 use crate::table::{Beginning, Level, LevelTable, Node, NodeKey, raised};
 use book_base::{Call, MAX_CALLERS};
 use container_pruning::{Reader, Role};
@@ -62,7 +62,7 @@ impl<R: Reader> Closure<'_, R> {
 
     // Whether the first level is the bottom, and the bottom after no call is one of the nodes.
     fn begins(&self) -> bool
-        ensures { IsTrue result → Begins self.now.on.now.book.now self.now.table.now.levels.items
+        ensures { IsTrue result → BeginsAtBottom self.now.on.now.book.now self.now.table.now.levels.items
             self.now.table.now.cuts.keys self.now.table.now.nodes.keys }
     {
         let _callers = self.on.book.callers();
@@ -294,7 +294,7 @@ impl<R: Reader> Closure<'_, R> {
     }
 
     // Whether the next calls of all marked callers are followed, as `is_followed` says.
-    fn callers_are_followed(&self, node: &Node, level: &Level, look: &Look) -> bool
+    fn callers_are_followed(&self, node: &Node, level: &Level, look: &NextCallers) -> bool
         requires cut { look.now.cut ≡ cut_at self.now.on.now.book.now node.now }
         requires all { MarksAllNext self.now.on.now.book.now look.now.cut look.now.all }
         requires fewer { IsMarkedWithin look.now.marks look.now.all }
@@ -316,7 +316,7 @@ impl<R: Reader> Closure<'_, R> {
 
     // Whether the next call of a caller is followed, as `is_followed` says, or the caller isn't
     // marked.
-    fn caller_is_followed(&self, node: &Node, level: &Level, look: &Look, caller: u32) -> bool
+    fn caller_is_followed(&self, node: &Node, level: &Level, look: &NextCallers, caller: u32) -> bool
         requires cut { look.now.cut ≡ cut_at self.now.on.now.book.now node.now }
         requires all { MarksAllNext self.now.on.now.book.now look.now.cut look.now.all }
         requires fewer { IsMarkedWithin look.now.marks look.now.all }
@@ -339,7 +339,7 @@ impl<R: Reader> Closure<'_, R> {
     // Whether a caller's next call is followed: it shows something other than the last word, or it
     // is unanswered and doesn't change the list, or it leads to the nodes, or a next call that
     // serves for it leads to them.
-    fn is_followed(&self, node: &Node, level: &Level, look: &Look, call: Call) -> bool
+    fn is_followed(&self, node: &Node, level: &Level, look: &NextCallers, call: Call) -> bool
         requires cut { look.now.cut ≡ cut_at self.now.on.now.book.now node.now }
         requires all { MarksAllNext self.now.on.now.book.now look.now.cut look.now.all }
         requires wide { length look.now.cut ≡ length self.now.on.now.book.now }
@@ -366,7 +366,7 @@ impl<R: Reader> Closure<'_, R> {
 
     // Whether the next call of some caller may come next, serves for this call, and leads to the
     // nodes.
-    fn is_served(&self, node: &Node, level: &Level, look: &Look, call: Call) -> bool
+    fn is_served(&self, node: &Node, level: &Level, look: &NextCallers, call: Call) -> bool
         requires cut { look.now.cut ≡ cut_at self.now.on.now.book.now node.now }
         requires all { MarksAllNext self.now.on.now.book.now look.now.cut look.now.all }
         requires wide { length look.now.cut ≡ length self.now.on.now.book.now }
@@ -388,7 +388,7 @@ impl<R: Reader> Closure<'_, R> {
 
     // Whether the next call of this caller may come next, serves for another call, and leads to the
     // nodes.
-    fn serves(&self, node: &Node, level: &Level, look: &Look, caller: u32, call: Call) -> bool
+    fn serves(&self, node: &Node, level: &Level, look: &NextCallers, caller: u32, call: Call) -> bool
         requires cut { look.now.cut ≡ cut_at self.now.on.now.book.now node.now }
         requires all { MarksAllNext self.now.on.now.book.now look.now.cut look.now.all }
         requires wide { length look.now.cut ≡ length self.now.on.now.book.now }
@@ -414,7 +414,7 @@ impl<R: Reader> Closure<'_, R> {
 
     // Whether a call leads from a level to the nodes: each level that may end the list after the
     // call is in a node with the cut after the call.
-    fn leads(&self, node: &Node, level: &Level, look: &Look, call: Call) -> bool
+    fn leads(&self, node: &Node, level: &Level, look: &NextCallers, call: Call) -> bool
         requires cut { look.now.cut ≡ cut_at self.now.on.now.book.now node.now }
         requires caller { call.caller < length self.now.on.now.book.now }
         requires call { IsCall self.now.on.now.book.now call }

@@ -1,4 +1,4 @@
-use crate::table::{LevelTable, Reached};
+use crate::table::{LevelTable, FirstReached};
 use book_base::{Call, MAX_CALLERS, MAX_CALLS, NoMemory};
 use std::alloc::Global;
 
@@ -50,17 +50,17 @@ fn read_in_level(
     calls: &mut Vec<Call>,
 ) -> Result<(), NoMemory> {
     match table.reached.get(place) {
-        Some(Reached::Stays(from, call)) => {
+        Some(FirstReached::Stays(from, call)) => {
             calls.push(*call)?;
             tasks.push(Task::InLevel(*from))?;
         }
-        Some(Reached::Returns(origin, node, take)) => {
+        Some(FirstReached::Returns(origin, node, take)) => {
             calls.push(*take)?;
             tasks.push(Task::InLevel(origin.node))?;
             tasks.push(Task::One(origin.put))?;
             tasks.push(Task::InLevel(*node))?;
         }
-        Some(Reached::Begins) | None => {}
+        Some(FirstReached::Begins) | None => {}
     }
     Ok(())
 }

@@ -3,8 +3,8 @@ ghost use Rattle.book_base.specs.Book.{IsCall};
 ghost use Rattle.book_base.specs.Pruning.{HasOneOpen, IsMarkedWithin, MarksAllNext};
 ghost use Rattle.value_pruning.specs.Sights.{ListsValues};
 
-use crate::stack_book::{Look, StackBook};
-use crate::table::{Beginning, Ending, Level, LevelTable, NodeKey, Origin, Reached, raised};
+use crate::stack_book::{NextCallers, StackBook};
+use crate::table::{Beginning, LevelEnd, Level, LevelTable, NodeKey, Origin, FirstReached, raised};
 use book_base::{Call, MAX_CALLERS, MAX_CALLS, NoMemory};
 use container_pruning::{Reader, Role};
 use indexmap::IndexSet;
@@ -44,12 +44,12 @@ impl<R> Drop for LevelSearch<'_, R> {
 /// The levels that were found, the numbers of the nodes that are still to be looked at, how often
 /// something led to a node, and what is to be tried at the cuts and tops that were looked at.
 #[derive(Drop)]
-struct Progress {
+struct SearchState {
     table: LevelTable,
     open: Vec<usize>,
     links: u64,
     looked: IndexSet<Beginning>,
-    steps: Vec<Vec<Step>>,
+    steps: Vec<Vec<LevelStep>>,
 }
 
 /// A node, its number, and what is known of the lists that its level ends.
@@ -70,7 +70,7 @@ struct Turn {
 
 /// A call that is to be tried, and the number of the cut that it leads to.
 #[derive(Clone, Copy)]
-struct Step {
+struct LevelStep {
     call: Call,
     cut: usize,
 }
@@ -82,7 +82,7 @@ impl<R: Reader> LevelSearch<'_, R> {
             self.now.on.now.sight.now }
         requires open { HasOneOpen self.now.on.now.book.now }
     {
-        let mut progress = Progress {
+        let mut progress = SearchState {
             table: LevelTable::start(self.alloc)?,
             open: vec![in self.alloc; 0]?,
             links: 0,
@@ -105,7 +105,7 @@ impl<R: Reader> LevelSearch<'_, R> {
 
     // Follows each call that is to be tried from a node. Answers whether no call is, since the cut
     // holds all answered calls.
-    fn look_at(&self, progress: &mut Progress, place: usize) -> Result<bool, NoMemory>
+    fn look_at(&self, progress: &mut SearchState, place: usize) -> Result<bool, NoMemory>
         requires sight { ListsValues (R.reading self.now.on.now.reader.now) self.now.on.now.book.now
             self.now.on.now.sight.now }
         requires open { HasOneOpen self.now.on.now.book.now }
@@ -132,7 +132,7 @@ impl<R: Reader> LevelSearch<'_, R> {
 
     // The number of the list of calls that are to be tried at a cut and a top; each such list is
     // made once. There is none where the cut holds all answered calls.
-    fn steps_at(&self, progress: &mut Progress, at: Beginning) -> Result<Option<usize>, NoMemory>
+    fn steps_at(&self, progress: &mut SearchState, at: Beginning) -> Result<Option<usize>, NoMemory>
         requires sight { ListsValues (R.reading self.now.on.now.reader.now) self.now.on.now.book.now
             self.now.on.now.sight.now }
         requires open { HasOneOpen self.now.on.now.book.now }
@@ -151,7 +151,7 @@ impl<R: Reader> LevelSearch<'_, R> {
         for turn in &self.turns(&look, at.top)? {
             let call = turn.call;
             let (cut, _is_new) = progress.table.cuts.insert_full(more(&counts, call.caller))?;
-            steps.push(Step { call, cut })?;
+            steps.push(LevelStep { call, cut })?;
         }
         progress.steps.push(steps)?;
         let (looked, _is_new) = progress.looked.insert_full(at)?;
@@ -159,7 +159,7 @@ impl<R: Reader> LevelSearch<'_, R> {
     }
 
     // The calls that are to be tried, the one of the least turn last.
-    fn turns(&self, look: &Look, top: Top) -> Result<Vec<Turn>, NoMemory>
+    fn turns(&self, look: &NextCallers, top: Top) -> Result<Vec<Turn>, NoMemory>
         requires wide { length look.now.cut ≡ length self.now.on.now.book.now }
         requires all { MarksAllNext self.now.on.now.book.now look.now.cut look.now.all }
         requires fewer { IsMarkedWithin look.now.marks look.now.all }
@@ -232,18 +232,18 @@ impl<R: Reader> LevelSearch<'_, R> {
     }
 
     // Follows a call from a node to all nodes that it leads to.
-    fn follow(&self, progress: &mut Progress, here: Here, step: Step) -> Result<(), NoMemory>
+    fn follow(&self, progress: &mut SearchState, here: Here, step: LevelStep) -> Result<(), NoMemory>
         requires sight { ListsValues (R.reading self.now.on.now.reader.now) self.now.on.now.book.now
             self.now.on.now.sight.now }
     {
-        let Step { call, cut } = step;
+        let LevelStep { call, cut } = step;
         if !self.is_call(call) {
             return Ok(());
         }
         match self.on.reader.role(self.on.book.op(call)) {
             Role::Put(value) => self.begin(progress, here, value, step),
             Role::Take if here.top.last.is_some() => {
-                let take = Ending {
+                let take = LevelEnd {
                     node: here.place,
                     take: call,
                     cut,
@@ -255,7 +255,7 @@ impl<R: Reader> LevelSearch<'_, R> {
                     level: here.node.level,
                     cut,
                 };
-                reach(progress, node, Reached::Stays(here.place, call))
+                reach(progress, node, FirstReached::Stays(here.place, call))
             }
         }
     }
@@ -264,10 +264,10 @@ impl<R: Reader> LevelSearch<'_, R> {
     // to the same cut, with the same answer to whether the list is kept.
     fn begin(
         &self,
-        progress: &mut Progress,
+        progress: &mut SearchState,
         here: Here,
         value: u64,
-        step: Step,
+        step: LevelStep,
     ) -> Result<(), NoMemory>
         requires sight { ListsValues (R.reading self.now.on.now.reader.now) self.now.on.now.book.now
             self.now.on.now.sight.now }
@@ -289,12 +289,12 @@ impl<R: Reader> LevelSearch<'_, R> {
             put: step.call,
         };
         lay_on(progress, level, here.node.level, origin)?;
-        reach(progress, NodeKey { level, cut }, Reached::Begins)
+        reach(progress, NodeKey { level, cut }, FirstReached::Begins)
     }
 }
 
 // The step with this number of those at a cut and a top.
-fn step_of(progress: &Progress, looked: usize, k: usize) -> Option<Step> {
+fn step_of(progress: &SearchState, looked: usize, k: usize) -> Option<LevelStep> {
     progress.steps.get(looked)?.get(k).copied()
 }
 
@@ -312,7 +312,7 @@ fn more(counts: &[u16; MAX_CALLERS], caller: u32) -> [u16; MAX_CALLERS] {
 // Adds a level to those that may lie right below another one, with a put that leads from it: each
 // take that ended the upper level leads to the lower one too.
 fn lay_on(
-    progress: &mut Progress,
+    progress: &mut SearchState,
     level: usize,
     below: usize,
     origin: Origin,
@@ -331,7 +331,7 @@ fn lay_on(
                 level: below,
                 cut: ending.cut,
             };
-            let by = Reached::Returns(origin, ending.node, ending.take);
+            let by = FirstReached::Returns(origin, ending.node, ending.take);
             reach(progress, node, by)?;
         }
     }
@@ -339,12 +339,12 @@ fn lay_on(
 }
 
 // The take with this number among those that ended a level.
-fn ending_of(progress: &Progress, level: usize, k: usize) -> Option<Ending> {
+fn ending_of(progress: &SearchState, level: usize, k: usize) -> Option<LevelEnd> {
     progress.table.levels.get(level)?.endings.get(k).copied()
 }
 
 // Adds a take to those that ended a level: it leads to each of the levels that may lie right below.
-fn end(progress: &mut Progress, level: usize, ending: Ending) -> Result<(), NoMemory> {
+fn end(progress: &mut SearchState, level: usize, ending: LevelEnd) -> Result<(), NoMemory> {
     let node = NodeKey {
         level,
         cut: ending.cut,
@@ -362,7 +362,7 @@ fn end(progress: &mut Progress, level: usize, ending: Ending) -> Result<(), NoMe
                 level: below,
                 cut: ending.cut,
             };
-            let by = Reached::Returns(origin, ending.node, ending.take);
+            let by = FirstReached::Returns(origin, ending.node, ending.take);
             reach(progress, node, by)?;
         }
     }
@@ -371,7 +371,7 @@ fn end(progress: &mut Progress, level: usize, ending: Ending) -> Result<(), NoMe
 
 // The level with this number among the parents of a level, and a put that leads from it to the
 // level.
-fn parent_of(progress: &Progress, level: usize, k: usize) -> Option<(usize, Origin)> {
+fn parent_of(progress: &SearchState, level: usize, k: usize) -> Option<(usize, Origin)> {
     let upper = progress.table.levels.get(level)?;
     let below = upper.parents.get(k).copied()?;
     let origin = upper.origins.get(k).copied()?;
@@ -379,7 +379,7 @@ fn parent_of(progress: &Progress, level: usize, k: usize) -> Option<(usize, Orig
 }
 
 // Counts that something leads to a node; a new node is still to be looked at.
-fn reach(progress: &mut Progress, node: NodeKey, by: Reached) -> Result<(), NoMemory> {
+fn reach(progress: &mut SearchState, node: NodeKey, by: FirstReached) -> Result<(), NoMemory> {
     progress.links = progress.links.saturating_add(1);
     let (place, is_new) = progress.table.nodes.insert_full(node)?;
     if is_new {

@@ -6,7 +6,7 @@ ghost use Rattle.stack_levels.specs.Levels.{AreAnsweredAlike, LeavesTop, ServesA
 ghost use Rattle.stack_pruning.specs.LastFirst.{GivesLastFirst, HasTop};
 ghost use Rattle.value_pruning.specs.Sights.{ListsValues};
 
-use book_base::{Book, Call, Cut, Marks, Sight};
+use book_base::{Book, Call, Cut, MarkedCallers, Sight};
 use container_pruning::{Reader, Role};
 use next_calls::{all_next, cut_of, first_view, least_open};
 use stack_pruning::{Top, narrow_by_top};
@@ -32,16 +32,16 @@ impl<R> Drop for StackBook<'_, R> {
 /// A cut, the callers whose next calls may come next after it, and those of them whose next calls
 /// have to be tried.
 #[derive(Drop)]
-pub struct Look {
+pub struct NextCallers {
     pub cut: Cut,
-    pub all: Marks,
-    pub marks: Marks,
+    pub all: MarkedCallers,
+    pub marks: MarkedCallers,
 }
 
 impl<R: Reader> StackBook<'_, R> {
     /// What may come next after the calls of a cut, at a list with this top. No answer is given
     /// where the cut holds all answered calls.
-    pub fn look(&self, counts: &[u16], top: Top) -> Option<Look>
+    pub fn look(&self, counts: &[u16], top: Top) -> Option<NextCallers>
         // The sight lists each call of the book that puts in a value, and each answered one that
         // takes it out.
         requires sight { ListsValues (R.reading self.now.reader.now) self.now.book.now
@@ -70,7 +70,7 @@ impl<R: Reader> StackBook<'_, R> {
         let view = first_view(self.book, counts, first);
         let all = all_next(self.book, &cut, view, first);
         let marks = narrow_by_top(self.reader, self.sight, self.book, &cut, top, first, all);
-        Some(Look { cut, all, marks })
+        Some(NextCallers { cut, all, marks })
     }
 
     /// Whether a call is an answered take that shows something other than the last word.

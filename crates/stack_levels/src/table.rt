@@ -39,7 +39,7 @@ pub struct Origin {
 /// A take that ended a level, the number of the node from which it leads away, and the number of
 /// the cut that it leads to.
 #[derive(Clone, Copy)]
-pub struct Ending {
+pub struct LevelEnd {
     pub node: usize,
     pub take: Call,
     pub cut: usize,
@@ -53,12 +53,12 @@ pub struct Level {
     pub top: Top,
     pub parents: Vec<usize>,
     pub origins: Vec<Origin>,
-    pub endings: Vec<Ending>,
+    pub endings: Vec<LevelEnd>,
 }
 
 /// How a node was reached first.
 #[derive(Clone, Copy)]
-pub enum Reached {
+pub enum FirstReached {
     /// By a put that begins the node's level; or the node is the bottom after no call.
     Begins,
     /// By a call that doesn't change the list, from another node of the level, by its number.
@@ -77,7 +77,7 @@ pub struct LevelTable {
     pub cuts: IndexSet<[u16; MAX_CALLERS]>,
     pub beginnings: IndexSet<Beginning>,
     pub nodes: IndexSet<NodeKey>,
-    pub reached: Vec<Reached>,
+    pub reached: Vec<FirstReached>,
     pub ended: IndexSet<NodeKey>,
 }
 
@@ -121,7 +121,7 @@ impl LevelTable {
         let (cut, _is_new) = table.cuts.insert_full([0; MAX_CALLERS])?;
         let _is_new = table.beginnings.insert(Beginning { cut, top })?;
         let _is_new = table.nodes.insert(NodeKey { level: 0, cut })?;
-        table.reached.push(Reached::Begins)?;
+        table.reached.push(FirstReached::Begins)?;
         Ok(table)
     }
 }

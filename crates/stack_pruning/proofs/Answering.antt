@@ -5,7 +5,7 @@ use Rattle.std.proofs.lemmas.Bool.{cases_eq}
 use Rattle.book_base.specs.declared.call.Call.{Call}
 use Rattle.book_base.specs.declared.call.Place.{Place}
 use Rattle.book_base.specs.declared.call.Record.{Record}
-use Rattle.book_base.specs.declared.marks.Marks.{Marks}
+use Rattle.book_base.specs.declared.marked_callers.MarkedCallers.{MarkedCallers}
 use Rattle.book_base.specs.Book.{Page, IsValid, operation_of, record_of}
 use Rattle.book_base.specs.Order.{call_at, step_at}
 use Rattle.book_base.specs.Sequential.{IsRunFrom}
@@ -491,7 +491,7 @@ call_first reading next bound is book valid one cut list below c v most take wai
 
 -- Places that begin with the call of a marked caller, no more than some given places, continue an
 -- order from a cut and a list.
-abbrev GoesOnMarked : List Page → (List ℕ → ℕ → List ℕ × ℕ) → List ℕ → List ℕ → Marks
+abbrev GoesOnMarked : List Page → (List ℕ → ℕ → List ℕ × ℕ) → List ℕ → List ℕ → MarkedCallers
     → List Place → Type 0
 GoesOnMarked book next cut list marks rest =
     (place : Place) × (other : List Place) × IsMarked marks place.caller
@@ -501,7 +501,7 @@ GoesOnMarked book next cut list marks rest =
 -- in a value that the forced take doesn't show, or that is the last item.
 pub needed_suffice : (reading : Reading) (next : List ℕ → ℕ → List ℕ × ℕ) (bound : ℕ)
     → GivesLastFirst reading next bound → (book : List Page) → IsValid book → HasOneOpen book
-    → (cut list : List ℕ) (forced : ℕ) (shown : Option ℕ) (all left : Marks)
+    → (cut list : List ℕ) (forced : ℕ) (shown : Option ℕ) (all left : MarkedCallers)
     → length book ≤ length cut → IsForced book cut forced
     → TakesShowing reading book (next_call cut forced) shown → MarksAllNext book cut all
     → ((i : ℕ) → IsMarked all i → IsMarked left i ⊎ PutsNeedless reading book cut list shown i)
@@ -584,7 +584,7 @@ needed_suffice reading next bound is book valid one cut list forced shown all le
 -- Each of the remaining marks was a mark, and each caller whose mark was taken away has a next call
 -- that puts in a value that the take doesn't show, or that is the last item.
 pub record AreLeft (reading : Reading) (book : List Page) (cut list : List ℕ) (shown : Option ℕ)
-    (all left : Marks) : Type 0 where
+    (all left : MarkedCallers) : Type 0 where
   pub fewer : IsMarkedWithin left all
   pub needless : (i : ℕ) → IsMarked all i → IsMarked left i
       ⊎ PutsNeedless reading book cut list shown i
@@ -592,7 +592,7 @@ pub record AreLeft (reading : Reading) (book : List Page) (cut list : List ℕ) 
 -- One more mark may be taken away, where the next call of its caller puts in a value that the take
 -- doesn't show, or that is the last item.
 pub one_less_left : (reading : Reading) (book : List Page) (cut list : List ℕ) (shown : Option ℕ)
-    (caller : ℕ) (all left new : Marks)
+    (caller : ℕ) (all left new : MarkedCallers)
     → ((i : ℕ) → IsMarked new i ↔ ((i ≢ caller) × IsMarked left i))
     → PutsNeedless reading book cut list shown caller → AreLeft reading book cut list shown all left
     → AreLeft reading book cut list shown all new

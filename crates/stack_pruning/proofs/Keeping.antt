@@ -7,7 +7,7 @@ use Rattle.std.proofs.lemmas.List.{append-nil}
 use Rattle.book_base.specs.declared.call.Call.{Call}
 use Rattle.book_base.specs.declared.call.Place.{Place}
 use Rattle.book_base.specs.declared.call.Record.{Record}
-use Rattle.book_base.specs.declared.marks.Marks.{Marks}
+use Rattle.book_base.specs.declared.marked_callers.MarkedCallers.{MarkedCallers}
 use Rattle.book_base.specs.Book.{Page, IsAnswered, operation_of, record_of}
 use Rattle.book_base.specs.Order.{call_at}
 use Rattle.book_base.specs.Next.{raised, next_call, MayComeNext, MayStandNext, list_after, Continues}
@@ -327,7 +327,7 @@ put_first reading next bound is book one v put puts answered
 -- all items of the list are kept, and no answered call outside the cut finds nothing.
 pub kept_put_suffices : (reading : Reading) (next : List ℕ → ℕ → List ℕ × ℕ) (bound : ℕ)
     → GivesLastFirst reading next bound → (book : List Page) (cut list : List ℕ)
-    (caller : ℕ) (marks : Marks) → IsSmall bound list → HasOneOpen book → length book ≤ length cut
+    (caller : ℕ) (marks : MarkedCallers) → IsSmall bound list → HasOneOpen book → length book ≤ length cut
     → MayComeNext book cut (next_call cut caller)
     → PutsKept reading book cut list caller → IsMarked marks caller
     → MarksSuffice book next cut list marks

@@ -4,7 +4,7 @@ use Rattle.std.proofs.lemmas.Bool.{cases_lt}
 use Rattle.list_laws.proofs.Options.{some_from_is_some_and}
 use Rattle.book_base.specs.declared.call.Call.{Call}
 use Rattle.book_base.specs.declared.call.Record.{Record}
-use Rattle.book_base.specs.declared.marks.Marks.{Marks}
+use Rattle.book_base.specs.declared.marked_callers.MarkedCallers.{MarkedCallers}
 use Rattle.book_base.specs.Cut.{IsWithin}
 use Rattle.book_base.specs.Book.{Page, IsValid, Precedes, calls_of, record_of}
 use Rattle.book_base.specs.Next.{next_call, MayComeNext}
@@ -27,7 +27,7 @@ view_below_calls book valid take view seen i =
 -- A call may come next or a take precedes it, where this call, if the take's view holds it, is a
 -- marked caller's next call.
 pub next_or_later : (book : List Page) (cut : List ℕ) (take put : Call) (view : List ℕ)
-    (marks : Marks) → MarksAllNext book cut marks
+    (marks : MarkedCallers) → MarksAllNext book cut marks
     → IsSomeAnd (record_of book take) (λ (r : Record). view ≡ r.view)
     → (put.number < get_or view put.caller 0
     → IsMarked marks put.caller × (put.number ≡ get_or cut put.caller 0))

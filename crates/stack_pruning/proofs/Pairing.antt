@@ -8,7 +8,7 @@ use Rattle.std.proofs.lemmas.Option.{same_Some, none-some}
 use Rattle.book_base.specs.declared.call.Call.{Call}
 use Rattle.book_base.specs.declared.call.Place.{Place}
 use Rattle.book_base.specs.declared.call.Record.{Record}
-use Rattle.book_base.specs.declared.marks.Marks.{Marks}
+use Rattle.book_base.specs.declared.marked_callers.MarkedCallers.{MarkedCallers}
 use Rattle.book_base.specs.declared.sight.Sight.{Sight}
 use Rattle.book_base.specs.Book.{Page, IsValid, operation_of, record_of}
 use Rattle.book_base.specs.Order.{call_at}
@@ -165,7 +165,7 @@ both_hold bound v (x ∷ rest) lacks small =
 -- list, and the take of this value with the least view may come next.
 pub paired_put_suffices : (reading : Reading) (next : List ℕ → ℕ → List ℕ × ℕ) (bound : ℕ)
     → GivesLastFirst reading next bound → (book : List Page) (cut list : List ℕ)
-    (caller : ℕ) (marks : Marks) → IsSmall bound list → IsValid book → HasOneOpen book
+    (caller : ℕ) (marks : MarkedCallers) → IsSmall bound list → IsValid book → HasOneOpen book
     → length book ≤ length cut → MayComeNext book cut (next_call cut caller)
     → PutsPaired reading book cut list caller → IsMarked marks caller
     → MarksSuffice book next cut list marks
@@ -222,7 +222,7 @@ paired_put_suffices reading next bound is book cut list caller marks all valid o
 -- put, and a marked caller's next call is the take of this value with the least view, the put is
 -- paired with this take as `PutsPaired` says.
 pub puts_paired : (reading : Reading) (book : List Page) (cut list : List ℕ) (sight : Sight)
-    (marks : Marks) (caller v : ℕ) (taker : Option ℕ) → ListsValues reading book sight
+    (marks : MarkedCallers) (caller v : ℕ) (taker : Option ℕ) → ListsValues reading book sight
     → MarksAllNext book cut marks → PutsIn reading book (next_call cut caller) v → Lacks list v
     → length (puts_of sight v) ≡ 1 → is_some taker ≡ true
     → IfSome taker (IsMarked marks)

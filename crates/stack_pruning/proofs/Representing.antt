@@ -3,7 +3,7 @@ use Rattle.std.proofs.Common.{◌≡◌, ◌≢◌, ℕ, ◌<◌, ◌⊎◌, Boo
 use Rattle.std.specs.List.{AllByRecursion}
 use Rattle.std.specs.Option.{IfSome}
 use Rattle.book_base.specs.declared.call.Call.{Call}
-use Rattle.book_base.specs.declared.marks.Marks.{Marks}
+use Rattle.book_base.specs.declared.marked_callers.MarkedCallers.{MarkedCallers}
 use Rattle.book_base.specs.Book.{Page}
 use Rattle.book_base.specs.Next.{next_call}
 use Rattle.book_base.specs.Pruning.{IsMarked}
@@ -55,7 +55,7 @@ puts_kept reading book cut ends others list look caller told stands it =
 -- Where each caller whose mark was taken away puts in a value that a take doesn't show, or the last
 -- word, it puts in such a value, or the last item, for each list for which the words stand.
 pub puts_needless : (reading : Reading) (book : List Page) (cut ends others list : List ℕ)
-    (look : Bool) (shown : Option ℕ) (all left : Marks)
+    (look : Bool) (shown : Option ℕ) (all left : MarkedCallers)
     → StandFor reading book cut ends others look list
     → ((i : ℕ) → IsMarked all i → IsMarked left i ⊎ PutsNeedless reading book cut ends shown i)
     → (i : ℕ) → IsMarked all i → IsMarked left i ⊎ PutsNeedless reading book cut list shown i

@@ -8,7 +8,7 @@ use Rattle.std.proofs.lemmas.Option.{same_Some}
 use Rattle.book_base.specs.declared.call.Call.{Call}
 use Rattle.book_base.specs.declared.call.Place.{Place}
 use Rattle.book_base.specs.declared.call.Record.{Record}
-use Rattle.book_base.specs.declared.marks.Marks.{Marks}
+use Rattle.book_base.specs.declared.marked_callers.MarkedCallers.{MarkedCallers}
 use Rattle.book_base.specs.Book.{Page, IsValid, operation_of, record_of}
 use Rattle.book_base.specs.Order.{call_at}
 use Rattle.book_base.specs.Next.{raised, next_call, MayComeNext, MayStandNext, list_after, Continues}
@@ -350,7 +350,7 @@ take_stands reading next bound is book cut v below take least small now may =
 -- and each call outside the cut that puts its value in may come next or comes after the take.
 pub last_take_suffices : (reading : Reading) (next : List ℕ → ℕ → List ℕ × ℕ) (bound : ℕ)
     → GivesLastFirst reading next bound → (book : List Page) (cut list : List ℕ)
-    (caller : ℕ) (marks : Marks) → IsSmall bound list → IsValid book → HasOneOpen book
+    (caller : ℕ) (marks : MarkedCallers) → IsSmall bound list → IsValid book → HasOneOpen book
     → length book ≤ length cut → MayComeNext book cut (next_call cut caller)
     → TakesLast reading book cut list caller → IsMarked marks caller
     → MarksSuffice book next cut list marks

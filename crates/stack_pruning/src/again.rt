@@ -5,7 +5,7 @@ ghost use Rattle.book_base.specs.Pruning.{IsMarked, MarksAllNext};
 ghost use Rattle.history_rules.specs.Calls.{PutsIn};
 ghost use Rattle.stack_pruning.specs.LastFirst.{PutsAreNextOrLater};
 
-use book_base::{Book, Call, Cut, Marks};
+use book_base::{Book, Call, Cut, MarkedCallers};
 use container_pruning::Reader;
 use value_pruning::value_put;
 
@@ -15,7 +15,7 @@ pub fn puts_are_next_or_later<R: Reader>(
     reader: &R,
     book: &Book,
     cut: &Cut,
-    marks: Marks,
+    marks: MarkedCallers,
     taker: u32,
     value: u64,
 ) -> bool
@@ -45,7 +45,7 @@ fn puts_below<R: Reader>(
     reader: &R,
     book: &Book,
     cut: &Cut,
-    marks: Marks,
+    marks: MarkedCallers,
     caller: u32,
     below: u64,
     value: u64,
@@ -70,7 +70,7 @@ fn puts_past<R: Reader>(
     reader: &R,
     book: &Book,
     cut: &Cut,
-    marks: Marks,
+    marks: MarkedCallers,
     call: Call,
     value: u64,
 ) -> bool

@@ -6,7 +6,7 @@ ghost use Rattle.history_rules.specs.Calls.{TakesShowing};
 ghost use Rattle.stack_pruning.specs.LastFirst.{EndsWith, PutsNeedless};
 
 use crate::words::last_word;
-use book_base::{Book, Call, Cut, Marks};
+use book_base::{Book, Call, Cut, MarkedCallers};
 use container_pruning::{Reader, Role};
 use value_pruning::value_put;
 
@@ -44,8 +44,8 @@ pub fn without_needless<R: Reader>(
     cut: &Cut,
     words: &[u64],
     shown: Option<u64>,
-    marks: Marks,
-) -> Marks
+    marks: MarkedCallers,
+) -> MarkedCallers
     requires wide { length cut.now ≡ length book.now }
     requires marks { MarksAllNext book.now cut.now marks }
     ensures fewer { IsMarkedWithin result marks }

@@ -7,7 +7,7 @@ ghost use Rattle.value_pruning.specs.HoldsLast.{IsUnreadWrite};
 ghost use Rattle.value_pruning.specs.Sights.{ListsValues};
 ghost use Rattle.stack_pruning.specs.LastFirst.{IsKept, IsKeptPut, IsNeverEmpty, PutsKept};
 
-use book_base::{Book, Call, Cut, Marks, Sight};
+use book_base::{Book, Call, Cut, MarkedCallers, Sight};
 use container_pruning::{Reader, Role};
 use value_pruning::{is_read, value_put};
 
@@ -20,7 +20,7 @@ pub fn kept_put<R: Reader>(
     book: &Book,
     cut: &Cut,
     words: &[u64],
-    marks: Marks,
+    marks: MarkedCallers,
 ) -> Option<u32>
     requires sight { ListsValues (R.reading reader.now) book.now sight.now }
     requires wide { length cut.now ≡ length book.now }
@@ -46,7 +46,7 @@ fn next_kept_put<R: Reader>(
     sight: &Sight,
     book: &Book,
     cut: &Cut,
-    marks: Marks,
+    marks: MarkedCallers,
 ) -> Option<u32>
     requires sight { ListsValues (R.reading reader.now) book.now sight.now }
     requires wide { length cut.now ≡ length book.now }

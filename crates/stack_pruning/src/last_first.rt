@@ -10,7 +10,7 @@ use crate::kept::kept_put;
 use crate::takes::next_least_take;
 use crate::top::Top;
 use crate::words::{holds, last_word};
-use book_base::{Book, Call, Cut, Marks, Sight};
+use book_base::{Book, Call, Cut, MarkedCallers, Sight};
 use container_pruning::Reader;
 use value_pruning::{is_put_once, value_put};
 
@@ -28,8 +28,8 @@ pub fn narrow_last_first<R: Reader>(
     cut: &Cut,
     words: &[u64],
     forced: u32,
-    marks: Marks,
-) -> Marks
+    marks: MarkedCallers,
+) -> MarkedCallers
     // The sight lists each call of the book that puts in a value, and each answered one that takes
     // it out.
     requires sight { ListsValues (R.reading reader.now) book.now sight.now }
@@ -64,8 +64,8 @@ pub fn narrow_by_top<R: Reader>(
     cut: &Cut,
     top: Top,
     forced: u32,
-    marks: Marks,
-) -> Marks
+    marks: MarkedCallers,
+) -> MarkedCallers
     // The sight lists each call of the book that puts in a value, and each answered one that takes
     // it out.
     requires sight { ListsValues (R.reading reader.now) book.now sight.now }
@@ -115,8 +115,8 @@ fn narrow_by<R: Reader>(
     others: &[u64],
     look: bool,
     forced: u32,
-    marks: Marks,
-) -> Marks
+    marks: MarkedCallers,
+) -> MarkedCallers
     requires sight { ListsValues (R.reading reader.now) book.now sight.now }
     requires open { HasOneOpen book.now }
     requires wide { length cut.now ≡ length book.now }
@@ -131,13 +131,13 @@ fn narrow_by<R: Reader>(
 {
     let _callers = book.callers();
     if let Some(caller) = last_take(reader, book, cut, ends, marks) {
-        return Marks::only(caller);
+        return MarkedCallers::only(caller);
     }
     if let Some(caller) = paired_put(reader, sight, book, cut, others, marks) {
-        return Marks::only(caller);
+        return MarkedCallers::only(caller);
     }
     if let Some(caller) = put_if_kept(reader, sight, book, cut, others, look, marks) {
-        return Marks::only(caller);
+        return MarkedCallers::only(caller);
     }
     match forced_take(reader, book, cut, forced) {
         Some(shown) => without_needless(reader, book, cut, ends, shown, marks),
@@ -154,7 +154,7 @@ fn put_if_kept<R: Reader>(
     cut: &Cut,
     others: &[u64],
     look: bool,
-    marks: Marks,
+    marks: MarkedCallers,
 ) -> Option<u32>
     requires sight { ListsValues (R.reading reader.now) book.now sight.now }
     requires wide { length cut.now ≡ length book.now }
@@ -179,7 +179,7 @@ fn last_take<R: Reader>(
     book: &Book,
     cut: &Cut,
     words: &[u64],
-    marks: Marks,
+    marks: MarkedCallers,
 ) -> Option<u32>
     requires wide { length cut.now ≡ length book.now }
     requires marks { MarksAllNext book.now cut.now marks }
@@ -203,7 +203,7 @@ fn paired_put<R: Reader>(
     book: &Book,
     cut: &Cut,
     words: &[u64],
-    marks: Marks,
+    marks: MarkedCallers,
 ) -> Option<u32>
     requires sight { ListsValues (R.reading reader.now) book.now sight.now }
     requires wide { length cut.now ≡ length book.now }
@@ -228,7 +228,7 @@ fn puts_paired<R: Reader>(
     book: &Book,
     cut: &Cut,
     words: &[u64],
-    marks: Marks,
+    marks: MarkedCallers,
     caller: u32,
 ) -> bool
     requires sight { ListsValues (R.reading reader.now) book.now sight.now }

@@ -8,7 +8,7 @@ ghost use Rattle.book_base.specs.Pruning.{IsMarked, ViewsAreWithin};
 ghost use Rattle.history_rules.specs.Calls.{TakesOut};
 ghost use Rattle.value_pruning.specs.LeastFirst.{IsLeastTake};
 
-use book_base::{Book, Call, Cut, Marks};
+use book_base::{Book, Call, Cut, MarkedCallers};
 use container_pruning::Reader;
 use value_pruning::value_taken;
 
@@ -20,7 +20,7 @@ pub fn next_least_take<R: Reader>(
     reader: &R,
     book: &Book,
     cut: &Cut,
-    marks: Marks,
+    marks: MarkedCallers,
     value: u64,
 ) -> Option<u32>
     requires wide { length cut.now ≡ length book.now }

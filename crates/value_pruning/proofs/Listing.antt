@@ -7,7 +7,7 @@ use Rattle.book_base.specs.declared.call.Call.{Call}
 use Rattle.book_base.specs.declared.call.Record.{Record}
 use Rattle.book_base.specs.declared.sight.Labelled.{Labelled}
 use Rattle.book_base.specs.declared.sight.Sight.{Sight}
-use Rattle.book_base.specs.declared.marks.Marks.{Marks}
+use Rattle.book_base.specs.declared.marked_callers.MarkedCallers.{MarkedCallers}
 use Rattle.book_base.specs.Book.{Page, page_of, calls_of, IsCall}
 use Rattle.book_base.proofs.PageLemmas.{caller_from_call}
 use Rattle.book_base.proofs.ViewLemmas.{same_call}
@@ -399,7 +399,7 @@ has_take old mid new v place call was now is there same items puts shows =
 -- A caller's next call puts the least value where it alone puts in a value less than all items, and
 -- the take of this value with the least view may come next.
 pub puts_least : (reading : Reading) (book : List Page) (cut list : List ℕ) (sight : Sight)
-    (marks : Marks) (caller v : ℕ) (taker : Option ℕ) → ListsValues reading book sight
+    (marks : MarkedCallers) (caller v : ℕ) (taker : Option ℕ) → ListsValues reading book sight
     → MarksAllNext book cut marks → PutsIn reading book (next_call cut caller) v
     → IsBelowFirst v list → length (puts_of sight v) ≡ 1 → is_some taker ≡ true
     → IfSome taker (IsMarked marks)

@@ -6,7 +6,7 @@ use Rattle.std.proofs.lemmas.Option.{same_Some, none-some}
 use Rattle.book_base.specs.declared.call.Call.{Call}
 use Rattle.book_base.specs.declared.call.Place.{Place}
 use Rattle.book_base.specs.declared.call.Record.{Record}
-use Rattle.book_base.specs.declared.marks.Marks.{Marks}
+use Rattle.book_base.specs.declared.marked_callers.MarkedCallers.{MarkedCallers}
 use Rattle.book_base.specs.Book.{Page, IsValid, operation_of, record_of}
 use Rattle.book_base.specs.Order.{call_at}
 use Rattle.book_base.specs.Next.{raised, next_call, MayComeNext, MayStandNext, list_after, Continues}
@@ -240,7 +240,7 @@ put_and_taken reading next bound is book v put take small valid one alone two
 -- next, the put suffices.
 pub put_suffices : (reading : Reading) (next : List ℕ → ℕ → List ℕ × ℕ) (bound : ℕ)
     → GivesLeastFirst reading next bound → (book : List Page) (cut list : List ℕ)
-    (caller : ℕ) (marks : Marks) → IsRising bound list → IsValid book → HasOneOpen book
+    (caller : ℕ) (marks : MarkedCallers) → IsRising bound list → IsValid book → HasOneOpen book
     → length book ≤ length cut → MayComeNext book cut (next_call cut caller)
     → PutsLeast reading book cut list caller → IsMarked marks caller
     → MarksSuffice book next cut list marks

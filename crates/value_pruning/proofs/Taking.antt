@@ -9,7 +9,7 @@ use Rattle.book_base.specs.declared.call.Record.{Record}
 use Rattle.book_base.specs.Book.{Page, page_of, answers_of, IsCall, IsAnswered, IsValid, operation_of, record_of}
 use Rattle.book_base.specs.Order.{call_at, step_at}
 use Rattle.book_base.specs.Next.{raised, next_call, MayComeNext, MayStandNext, HoldsAnswered, list_after, Continues}
-use Rattle.book_base.specs.declared.marks.Marks.{Marks}
+use Rattle.book_base.specs.declared.marked_callers.MarkedCallers.{MarkedCallers}
 use Rattle.book_base.specs.Pruning.{HasOneOpen, IsMarked, MarksSuffice}
 use Rattle.book_laws.proofs.LegalOrder.{raised_more, raised_twice, comes_later, same_call, answer_stands, within_cut}
 use Rattle.history_rules.specs.Container.{Puts, Takes, Neither, Reading}
@@ -373,7 +373,7 @@ take_stands reading next bound is book cut low after take least small now may =
 -- The mark on a caller whose next call takes the first item with the least view suffices.
 pub take_suffices : (reading : Reading) (next : List ℕ → ℕ → List ℕ × ℕ) (bound : ℕ)
     → GivesLeastFirst reading next bound → (book : List Page) (cut : List ℕ) (low : ℕ)
-    (after : List ℕ) (caller : ℕ) (marks : Marks) → low < bound
+    (after : List ℕ) (caller : ℕ) (marks : MarkedCallers) → low < bound
     → AllByRecursion (λ (y : ℕ). low ≤ y) after → IsValid book → HasOneOpen book
     → length book ≤ length cut
     → MayComeNext book cut (next_call cut caller)
@@ -398,7 +398,7 @@ take_suffices reading next bound is book cut low after caller marks small above 
 
 pub first_take_suffices : (reading : Reading) (next : List ℕ → ℕ → List ℕ × ℕ) (bound : ℕ)
     → GivesLeastFirst reading next bound → (book : List Page) (cut list : List ℕ)
-    (caller : ℕ) (marks : Marks) → IsRising bound list → IsValid book → HasOneOpen book
+    (caller : ℕ) (marks : MarkedCallers) → IsRising bound list → IsValid book → HasOneOpen book
     → length book ≤ length cut → MayComeNext book cut (next_call cut caller)
     → TakesFirst reading book cut list caller → IsMarked marks caller
     → MarksSuffice book next cut list marks

@@ -5,7 +5,7 @@ use Rattle.std.proofs.lemmas.Bool.{cases_eq, cases_lt}
 use Rattle.book_base.specs.declared.call.Call.{Call}
 use Rattle.book_base.specs.declared.call.Place.{Place}
 use Rattle.book_base.specs.declared.call.Record.{Record}
-use Rattle.book_base.specs.declared.marks.Marks.{Marks}
+use Rattle.book_base.specs.declared.marked_callers.MarkedCallers.{MarkedCallers}
 use Rattle.book_base.specs.Book.{Page, IsAnswered, IsValid, operation_of, record_of}
 use Rattle.book_base.specs.Order.{call_at, step_at}
 use Rattle.book_base.specs.Sequential.{IsRunFrom}
@@ -406,7 +406,7 @@ could_take reading next bound is book valid one cut list c most waits by =
 -- unwanted.
 pub wanted_suffice : (reading : Reading) (next : List ℕ → ℕ → List ℕ × ℕ) (bound : ℕ)
     → GivesLeastFirst reading next bound → (book : List Page) → IsValid book → HasOneOpen book
-    → (cut list : List ℕ) (forced : ℕ) (all left : Marks) → IsRising bound list
+    → (cut list : List ℕ) (forced : ℕ) (all left : MarkedCallers) → IsRising bound list
     → length book ≤ length cut → IsForced book cut forced → MarksAllNext book cut all
     → ((i : ℕ) → IsMarked all i → IsMarked left i ⊎ IsUnwanted reading book cut list forced i)
     → MarksSuffice book next cut list left
@@ -490,13 +490,13 @@ answered_takes reading book cut v i answered none could =
 -- The remaining marks are some of all marks, and each caller that lost its mark has an unwanted
 -- next call.
 pub record AreWanted (reading : Reading) (book : List Page) (cut list : List ℕ) (forced : ℕ)
-    (all left : Marks) : Type 0 where
+    (all left : MarkedCallers) : Type 0 where
   pub fewer : IsMarkedWithin left all
   pub unwanted : (i : ℕ) → IsMarked all i
       → IsMarked left i ⊎ IsUnwanted reading book cut list forced i
 
 pub one_less_wanted : (reading : Reading) (book : List Page) (cut list : List ℕ)
-    (forced caller : ℕ) (all left new : Marks)
+    (forced caller : ℕ) (all left new : MarkedCallers)
     → ((i : ℕ) → IsMarked new i ↔ ((i ≢ caller) × IsMarked left i))
     → IsUnwanted reading book cut list forced caller
     → AreWanted reading book cut list forced all left

@@ -6,7 +6,7 @@ use Rattle.std.proofs.lemmas.Option.{same_Some, slice_get_within}
 use Rattle.book_base.specs.declared.call.Call.{Call}
 use Rattle.book_base.specs.declared.call.Place.{Place}
 use Rattle.book_base.specs.declared.call.Record.{Record}
-use Rattle.book_base.specs.declared.marks.Marks.{Marks}
+use Rattle.book_base.specs.declared.marked_callers.MarkedCallers.{MarkedCallers}
 use Rattle.book_base.specs.declared.sight.Sight.{Sight}
 use Rattle.book_base.specs.Book.{Page, calls_of, IsAnswered, operation_of, record_of}
 use Rattle.book_base.specs.Order.{call_at}
@@ -198,7 +198,7 @@ written_first reading held next is book write v writes answered
 -- mark on the write's caller suffices.
 pub unread_write_suffices : (reading : Reading) (held : List ℕ → ℕ) (next : List ℕ → ℕ → List ℕ × ℕ)
     → HoldsLast reading held next → (book : List Page) (cut list : List ℕ)
-    (caller : ℕ) (marks : Marks) → length book ≤ length cut
+    (caller : ℕ) (marks : MarkedCallers) → length book ≤ length cut
     → MayComeNext book cut (next_call cut caller) → WritesUnread reading book cut (held list) caller
     → IsMarked marks caller
     → MarksSuffice book next cut list marks
@@ -348,7 +348,7 @@ needless_is_left_out reading held next is book cut list place rest wide one need
 -- The remaining marks suffice where the next calls of all callers that lost their marks are
 -- needless.
 left_suffice : (reading : Reading) (held : List ℕ → ℕ) (next : List ℕ → ℕ → List ℕ × ℕ)
-    → HoldsLast reading held next → (book : List Page) (cut list : List ℕ) (all left : Marks)
+    → HoldsLast reading held next → (book : List Page) (cut list : List ℕ) (all left : MarkedCallers)
     → length book ≤ length cut → HasOneOpen book → MarksSuffice book next cut list all
     → ((i : ℕ) → IsMarked all i → IsMarked left i ⊎ IsNeedless reading book cut (held list) i)
     → (few : ℕ) (rest : List Place) → length rest ≤ few → Continues book next cut list rest
@@ -371,7 +371,7 @@ left_suffice reading held next is book cut list all left wide one suffice needle
 
 pub needed_suffice : (reading : Reading) (held : List ℕ → ℕ) (next : List ℕ → ℕ → List ℕ × ℕ)
     → HoldsLast reading held next → (book : List Page) (cut list : List ℕ) (forced : ℕ)
-    (all left : Marks) → length book ≤ length cut → HasOneOpen book → IsForced book cut forced
+    (all left : MarkedCallers) → length book ≤ length cut → HasOneOpen book → IsForced book cut forced
     → MarksAllNext book cut all
     → ((i : ℕ) → IsMarked all i → IsMarked left i ⊎ IsNeedless reading book cut (held list) i)
     → MarksSuffice book next cut list left
@@ -384,17 +384,17 @@ needed_suffice reading held next is book cut list forced all left wide one force
 -- The remaining marks are some of all marks, and each caller that lost its mark has a needless next
 -- call.
 pub record AreNeeded (reading : Reading) (book : List Page) (cut : List ℕ) (held : ℕ)
-    (all left : Marks) : Type 0 where
+    (all left : MarkedCallers) : Type 0 where
   pub fewer : IsMarkedWithin left all
   pub needless : (i : ℕ) → IsMarked all i → IsMarked left i ⊎ IsNeedless reading book cut held i
 
-pub all_needed : (reading : Reading) (book : List Page) (cut : List ℕ) (held : ℕ) (all : Marks)
+pub all_needed : (reading : Reading) (book : List Page) (cut : List ℕ) (held : ℕ) (all : MarkedCallers)
     → AreNeeded reading book cut held all all
 all_needed reading book cut held all =
     record { fewer = λ (i : ℕ) marked. marked; needless = λ (i : ℕ) marked. inl marked }
 
 pub one_less_needed : (reading : Reading) (book : List Page) (cut : List ℕ) (held caller : ℕ)
-    (all left new : Marks)
+    (all left new : MarkedCallers)
     → ((i : ℕ) → IsMarked new i ↔ ((i ≢ caller) × IsMarked left i))
     → IsNeedless reading book cut held caller → AreNeeded reading book cut held all left
     → AreNeeded reading book cut held all new

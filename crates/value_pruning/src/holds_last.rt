@@ -7,7 +7,7 @@ ghost use Rattle.value_pruning.specs.HoldsLast.{HoldsLast, IsIrreplaceable, IsNe
 
 use crate::outside::{is_read, is_written};
 use crate::values::value_put;
-use book_base::{Book, Call, Cut, Marks, Sight};
+use book_base::{Book, Call, Cut, MarkedCallers, Sight};
 use container_pruning::Reader;
 
 /// Which of the calls that may come next a search has to try, of a register that holds a value:
@@ -22,8 +22,8 @@ pub fn narrow_holds_last<R: Reader>(
     cut: &Cut,
     held: u64,
     forced: u32,
-    marks: Marks,
-) -> Marks
+    marks: MarkedCallers,
+) -> MarkedCallers
     // The sight lists each call of the book that puts in a value, and each answered one that takes
     // it out.
     requires sight { ListsValues (R.reading reader.now) book.now sight.now }
@@ -46,7 +46,7 @@ pub fn narrow_holds_last<R: Reader>(
 {
     let _callers = book.callers();
     match unread_write(reader, sight, book, cut, held, marks) {
-        Some(caller) => Marks::only(caller),
+        Some(caller) => MarkedCallers::only(caller),
         None => without_needless(reader, sight, book, cut, held, marks),
     }
 }
@@ -59,7 +59,7 @@ fn unread_write<R: Reader>(
     book: &Book,
     cut: &Cut,
     held: u64,
-    marks: Marks,
+    marks: MarkedCallers,
 ) -> Option<u32>
     requires sight { ListsValues (R.reading reader.now) book.now sight.now }
     requires wide { length cut.now ≡ length book.now }
@@ -103,8 +103,8 @@ fn without_needless<R: Reader>(
     book: &Book,
     cut: &Cut,
     held: u64,
-    marks: Marks,
-) -> Marks
+    marks: MarkedCallers,
+) -> MarkedCallers
     requires sight { ListsValues (R.reading reader.now) book.now sight.now }
     requires wide { length cut.now ≡ length book.now }
     requires marks { MarksAllNext book.now cut.now marks }

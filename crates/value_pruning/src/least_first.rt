@@ -9,7 +9,7 @@ ghost use Rattle.value_pruning.specs.LeastFirst.{GivesLeastFirst, IsBelowFirst, 
 use crate::outside::reads_outside;
 use crate::sight::{is_put_once, least_take};
 use crate::values::{value_put, value_taken};
-use book_base::{Book, Call, Cut, Marks, Sight};
+use book_base::{Book, Call, Cut, MarkedCallers, Sight};
 use container_pruning::{Reader, Role};
 
 /// Which of the calls that may come next a search has to try, of a priority queue: some of those
@@ -25,8 +25,8 @@ pub fn narrow_least_first<R: Reader>(
     cut: &Cut,
     words: &[u64],
     forced: u32,
-    marks: Marks,
-) -> Marks
+    marks: MarkedCallers,
+) -> MarkedCallers
     // The sight lists each call of the book that puts in a value, and each answered one that takes
     // it out.
     requires sight { ListsValues (R.reading reader.now) book.now sight.now }
@@ -51,10 +51,10 @@ pub fn narrow_least_first<R: Reader>(
 {
     let _callers = book.callers();
     if let Some(caller) = first_take(reader, sight, book, cut, words, marks) {
-        return Marks::only(caller);
+        return MarkedCallers::only(caller);
     }
     if let Some(caller) = least_put(reader, sight, book, cut, words, marks) {
-        return Marks::only(caller);
+        return MarkedCallers::only(caller);
     }
     without_unwanted(reader, book, cut, words, forced, marks)
 }
@@ -66,7 +66,7 @@ fn first_take<R: Reader>(
     book: &Book,
     cut: &Cut,
     words: &[u64],
-    marks: Marks,
+    marks: MarkedCallers,
 ) -> Option<u32>
     requires sight { ListsValues (R.reading reader.now) book.now sight.now }
     requires wide { length cut.now ≡ length book.now }
@@ -88,7 +88,7 @@ pub fn next_take<R: Reader>(
     sight: &Sight,
     book: &Book,
     cut: &Cut,
-    marks: Marks,
+    marks: MarkedCallers,
     value: u64,
 ) -> Option<u32>
     // The sight lists each call of the book that puts in a value, and each answered one that takes
@@ -123,7 +123,7 @@ fn least_put<R: Reader>(
     book: &Book,
     cut: &Cut,
     words: &[u64],
-    marks: Marks,
+    marks: MarkedCallers,
 ) -> Option<u32>
     requires sight { ListsValues (R.reading reader.now) book.now sight.now }
     requires wide { length cut.now ≡ length book.now }
@@ -148,7 +148,7 @@ fn puts_least<R: Reader>(
     book: &Book,
     cut: &Cut,
     words: &[u64],
-    marks: Marks,
+    marks: MarkedCallers,
     caller: u32,
 ) -> bool
     requires sight { ListsValues (R.reading reader.now) book.now sight.now }
@@ -191,8 +191,8 @@ fn without_unwanted<R: Reader>(
     cut: &Cut,
     words: &[u64],
     forced: u32,
-    marks: Marks,
-) -> Marks
+    marks: MarkedCallers,
+) -> MarkedCallers
     requires wide { length cut.now ≡ length book.now }
     requires marks { MarksAllNext book.now cut.now marks }
     ensures fewer { IsMarkedWithin result marks }
@@ -216,7 +216,7 @@ fn is_unwanted<R: Reader>(
     cut: &Cut,
     words: &[u64],
     forced: u32,
-    marks: Marks,
+    marks: MarkedCallers,
     caller: u32,
 ) -> bool
     requires wide { length cut.now ≡ length book.now }
@@ -248,7 +248,7 @@ fn is_wanted<R: Reader>(
     book: &Book,
     cut: &Cut,
     words: &[u64],
-    marks: Marks,
+    marks: MarkedCallers,
     value: u64,
 ) -> bool
     requires wide { length cut.now ≡ length book.now }
@@ -263,7 +263,7 @@ fn is_wanted<R: Reader>(
 }
 
 // Whether a marked caller's next call may take out a value.
-fn may_be_taken<R: Reader>(reader: &R, book: &Book, cut: &Cut, marks: Marks, value: u64) -> bool
+fn may_be_taken<R: Reader>(reader: &R, book: &Book, cut: &Cut, marks: MarkedCallers, value: u64) -> bool
     requires wide { length cut.now ≡ length book.now }
     requires marks { MarksAllNext book.now cut.now marks }
     ensures { result ≡ false → IsTakenByNone (R.reading reader.now) book.now cut.now value }
@@ -281,7 +281,7 @@ fn next_may_take<R: Reader>(
     reader: &R,
     book: &Book,
     cut: &Cut,
-    marks: Marks,
+    marks: MarkedCallers,
     value: u64,
     caller: u32,
 ) -> bool

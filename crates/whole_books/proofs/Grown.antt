@@ -6,7 +6,7 @@ use Rattle.book_base.specs.declared.call.Record.{Record}
 use Rattle.book_base.specs.Book.{Page, page_of, with_answer}
 use Rattle.book_base.proofs.GrowthLemmas.{page_of-set_same, page_of-set_other, record_of-with_answer_old}
 use Rattle.std.specs.Prelude.{IfSome}
-use Rattle.frontier_check.specs.declared.mark.KeptOrder.{KeptOrder}
+use Rattle.frontier_check.specs.declared.kept_order.KeptOrder.{KeptOrder}
 use Rattle.frontier_check.specs.Standing.{HasGrown, IsStandingFor}
 use Rattle.frontier_check.proofs.Resuming.{standing_stays}
 

@@ -1,6 +1,6 @@
 //! Pictures of books.
 use book_base::{Call, Place};
-use book_picture::{Marks, draw_book};
+use book_picture::{MarkedCalls, draw_book};
 use book_text::read_book;
 use frontier_check::Verdict;
 use seq_objects::DONE;
@@ -19,7 +19,7 @@ fn only_calls_of_a_legal_order_have_numbers(rt: HostRuntime) -> Result<(), Fail>
         reply: DONE,
     }];
     let legal = Verdict::Legal(order.to_vec(rt.alloc())?);
-    let text = draw_book(rt.alloc(), kind, &book, &legal, &Marks::Unasked, None)?;
+    let text = draw_book(rt.alloc(), kind, &book, &legal, &MarkedCalls::Unasked, None)?;
     assert!(rt;
         text.as_str()
             .contains("class=\"number\" x=\"222\" y=\"103\">1</text>")
@@ -30,7 +30,7 @@ fn only_calls_of_a_legal_order_have_numbers(rt: HostRuntime) -> Result<(), Fail>
         kind,
         &book,
         &Verdict::Illegal,
-        &Marks::NoMemory,
+        &MarkedCalls::NoMemory,
         None,
     )?;
     assert!(rt; !text.as_str().contains("class=\"number\""));
@@ -87,7 +87,7 @@ fn sixteen_calls_are_folded_into_two_rows(rt: HostRuntime) -> Result<(), Fail> {
     let mut numbers = Vec::new(rt.alloc());
     numbers.push([0u64, 2, 11].to_vec(rt.alloc())?)?;
     numbers.push([0u64].to_vec(rt.alloc())?)?;
-    let marks = Marks::Smaller(numbers);
+    let marks = MarkedCalls::Smaller(numbers);
     let error = Call {
         caller: 0,
         number: 7,

@@ -6,7 +6,7 @@ ghost use Rattle.given_book.specs.Given.{IsFirstGivenFault};
 ghost use Rattle.witness_texts.specs.Texts.{IsPictureOf};
 
 use book_base::ReadFault;
-use byte_streams::{Answer, StdSink, StdSource, TextProgram, run_program};
+use byte_streams::{ProgramAnswer, StdSink, StdSource, TextProgram, run_program};
 use std::alloc::Global;
 use std::process::ExitCode;
 use witness_texts::picture_text;
@@ -23,9 +23,9 @@ impl TextProgram for Painter {
 
     ghost is_fault = { λ _ bytes fault. IsFirstGivenFault bytes fault };
 
-    fn answer(&self, alloc: Global, bytes: &[u8]) -> Result<Answer, ReadFault> {
+    fn answer(&self, alloc: Global, bytes: &[u8]) -> Result<ProgramAnswer, ReadFault> {
         let text = picture_text(alloc, bytes)?;
-        Ok(Answer::Fine(text.into_bytes()))
+        Ok(ProgramAnswer::Fine(text.into_bytes()))
     }
 }
 

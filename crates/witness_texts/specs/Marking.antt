@@ -4,9 +4,9 @@ use Rattle.book_base.specs.Book.{Page}
 use Rattle.book_base.specs.Order.{HasLegalOrder}
 use Rattle.seq_objects.specs.declared.kind.Kind.{Kind}
 use Rattle.seq_objects.specs.Objects.{kind_init, kind_next}
-use Rattle.book_picture.specs.declared.marks.Marks.{Marks}
-use Rattle.book_picture.specs.declared.marks.Marks.TheVariants.{Unasked, Smaller, TooLarge, NoMemory}
-use Rattle.book_picture.specs.Marks.{numbers_in}
+use Rattle.book_picture.specs.declared.marked_calls.MarkedCalls.{MarkedCalls}
+use Rattle.book_picture.specs.declared.marked_calls.MarkedCalls.TheVariants.{Unasked, Smaller, TooLarge, NoMemory}
+use Rattle.book_picture.specs.MarkedCalls.{numbers_in}
 use Rattle.smaller_book.specs.Part.{size_of, IsPart}
 use Rattle.smaller_book.specs.Keys.{IsEvidence}
 use Rattle.smaller_book.specs.Minimal.{IsMinimal}
@@ -23,14 +23,14 @@ pub record AreOfASmallerBook (kind : Kind) (book : List Page) (names : List (Lis
 
 -- The marks of a book without a legal order: the calls of a smaller book are marked, or none where
 -- the book has too many calls or memory was wanted.
-abbrev pub AreMarksOf : Kind → List Page → Marks → Type 0
+abbrev pub AreMarksOf : Kind → List Page → MarkedCalls → Type 0
 AreMarksOf kind book (Smaller numbers) = AreOfASmallerBook kind book (numbers_in numbers.items)
 AreMarksOf kind book TooLarge = MOST_CALLS < size_of book
 AreMarksOf kind book NoMemory = Unit {0}
 AreMarksOf kind book Unasked = ⊥
 
 -- The marks of a book, by whether it has a legal order: where it has one, no marks are asked for.
-abbrev pub AreMarksFor : Kind → List Page → Bool → Marks → Type 0
+abbrev pub AreMarksFor : Kind → List Page → Bool → MarkedCalls → Type 0
 AreMarksFor kind book true Unasked = Unit {0}
 AreMarksFor kind book true (Smaller numbers) = ⊥
 AreMarksFor kind book true TooLarge = ⊥

@@ -14,7 +14,7 @@ use Rattle.smaller_book.specs.Keys.{IsEvidence}
 use Rattle.smaller_book.specs.Minimal.{IsMinimal}
 use Rattle.book_picture.specs.Elements.{ShowsEachCall}
 use Rattle.book_picture.specs.Titles.{first_lines, SaysFirst}
-use Rattle.book_picture.specs.declared.marks.Marks.{Marks}
+use Rattle.book_picture.specs.declared.marked_calls.MarkedCalls.{MarkedCalls}
 use Rattle.witness_texts.specs.Marking.{AreMarksFor}
 
 -- The bytes give a book that has a legal order.
@@ -65,7 +65,7 @@ pub record IsPictureOf (bytes text : List ℕ) : Type 0 where
   pub told : IsGiven bytes kind book
   pub legal : Bool
   pub judged : IsJudged kind book legal
-  pub marks : Marks
+  pub marks : MarkedCalls
   pub marked : AreMarksFor kind book legal marks
   pub error : Option Call
   pub first : IsErrorTold bytes error

@@ -5,13 +5,13 @@ ghost use Rattle.std.specs.Prelude.{◌≡◌, IfOk};
 ghost use Rattle.book_base.specs.Order.{HasLegalOrder};
 ghost use Rattle.frontier_check.specs.Verdict.{IsRight};
 ghost use Rattle.seq_objects.specs.Objects.{kind_init, kind_next};
-ghost use Rattle.book_picture.specs.Marks.{numbers_in};
+ghost use Rattle.book_picture.specs.MarkedCalls.{numbers_in};
 ghost use Rattle.book_picture.specs.Titles.{is_legal};
 ghost use Rattle.smaller_book.specs.Part.{size_of};
 ghost use Rattle.witness_texts.specs.Marking.{AreOfASmallerBook, AreMarksOf, AreMarksFor};
 
 use book_base::{Book, NoMemory};
-use book_picture::Marks;
+use book_picture::MarkedCalls;
 use frontier_check::Verdict;
 use seq_objects::Kind;
 use smaller_book::shrink;
@@ -22,28 +22,28 @@ const MOST_CALLS: u64 = 1024;
 
 /// The calls that are marked in the picture of a book with this verdict: none where the book has a
 /// legal order.
-pub(crate) fn marks_for(alloc: Global, kind: Kind, book: &Book, verdict: &Verdict) -> Marks
+pub(crate) fn marks_for(alloc: Global, kind: Kind, book: &Book, verdict: &Verdict) -> MarkedCalls
     requires { IsRight (kind_init kind) (kind_next kind) book.now verdict.now }
     ensures { AreMarksFor kind book.now (is_legal verdict.now) result }
 {
     match verdict {
-        Verdict::Legal(_) => Marks::Unasked,
+        Verdict::Legal(_) => MarkedCalls::Unasked,
         Verdict::Illegal => marks_of(alloc, kind, book),
     }
 }
 
 // The calls that are marked in the picture of a book without a legal order: those of a smaller
 // book.
-fn marks_of(alloc: Global, kind: Kind, book: &Book) -> Marks
+fn marks_of(alloc: Global, kind: Kind, book: &Book) -> MarkedCalls
     requires { ¬ HasLegalOrder (kind_init kind) (kind_next kind) book.now }
     ensures { AreMarksOf kind book.now result }
 {
     if calls_of_all(book) > MOST_CALLS {
-        return Marks::TooLarge;
+        return MarkedCalls::TooLarge;
     }
     match smaller_numbers(alloc, kind, book) {
-        Ok(numbers) => Marks::Smaller(numbers),
-        Err(NoMemory) => Marks::NoMemory,
+        Ok(numbers) => MarkedCalls::Smaller(numbers),
+        Err(NoMemory) => MarkedCalls::NoMemory,
     }
 }
 

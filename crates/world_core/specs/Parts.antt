@@ -8,7 +8,7 @@ use Rattle.world_core.specs.Programs.{scrap}
 use Rattle.world_core.specs.Local.{Phase, Announcing, Asking, Viewing, Publishing, Judging, Local, fresh, Scan, Staged, Given, Looked, Peeked}
 use Rattle.world_core.specs.Event.{Purpose, purpose_of, Stage, Look, Begins_none, Begins_scan, Begins_view}
 use Rattle.world_core.specs.World.{World, Step}
-use Rattle.world_core.specs.Snapshot.{Span}
+use Rattle.world_core.specs.Snapshot.{ScanSpan}
 use Rattle.world_core.specs.Schedules.{by, scan, announcement, publication, single, local_after_all}
 
 -- The five phases of a call, in order.
@@ -51,7 +51,7 @@ rowless = record fresh { phase = Publishing; announced = 2; published = 1 }
 
 -- A span with these steps before the first, this first step and these steps between, whose last
 -- step is a look of caller 0 at its count in N that finds 1.
-abbrev pub span_to_look : List Step → Step → List Step → Span
+abbrev pub span_to_look : List Step → Step → List Step → ScanSpan
 span_to_look before first between = record {
   before = before;
   first = first;
@@ -60,16 +60,16 @@ span_to_look before first between = record {
 }
 
 -- A span whose first look finds a count that the table doesn't have.
-abbrev pub span_of_no_run : Span
+abbrev pub span_of_no_run : ScanSpan
 span_of_no_run = span_to_look [] (by 0 (Look N 0 1 Begins_scan)) []
 
 -- A span whose first step begins no scan, since the scan began in a step before.
-abbrev pub span_begun_before : Span
+abbrev pub span_begun_before : ScanSpan
 span_begun_before = span_to_look (announcement 0 5 (0 ∷ []) ++ by 0 (Look N 0 1 Begins_scan) ∷ [])
     (by 0 (Look M 0 0 Begins_none)) []
 
 -- A span in which the scan is given up for another one.
-abbrev pub span_given_up : Span
+abbrev pub span_given_up : ScanSpan
 span_given_up = span_to_look (announcement 0 5 (0 ∷ [])) (by 0 (Look N 0 1 Begins_scan))
     (by 0 (Look N 0 1 Begins_scan) ∷ [])
 

@@ -8,7 +8,7 @@ use Rattle.world_core.specs.Programs.{outside, scrap}
 use Rattle.world_core.specs.Local.{Phase, Given, Local, Object_step}
 use Rattle.world_core.specs.Event.{Event, Stage, Announce, Object, Look, Peek, Publish, Opening, Begins_none, Begins_scan, Begins_view}
 use Rattle.world_core.specs.World.{Step, local_of, end_of, is_possible}
-use Rattle.world_core.specs.Snapshot.{Span}
+use Rattle.world_core.specs.Snapshot.{ScanSpan}
 
 -- Two callers with one row each and no object words: the words of the table are the four counts,
 -- the row of caller 0, and the row of caller 1.
@@ -143,7 +143,7 @@ abbrev pub two_calls : List Step
 two_calls = ((announced_both ++ published_one) ++ judged_one) ++ judged_both
 
 -- The span of the view's scan of caller 0 in `two_calls`.
-abbrev pub view_span : Span
+abbrev pub view_span : ScanSpan
 view_span =
     record {
       before = take 9 two_calls;
@@ -255,7 +255,7 @@ abbrev pub borrowing : List Step
 borrowing = moved_twice ++ borrowed
 
 -- The span of the scan of caller 2 in `borrowing`.
-abbrev pub borrowing_span : Span
+abbrev pub borrowing_span : ScanSpan
 borrowing_span =
     record {
       before = [];
@@ -272,7 +272,7 @@ borrowed_words =
 
 -- The span of a scan of N by caller 0, after caller 1 has announced. Between the looks of the scan
 -- caller 0 peeks a word of a row that it knows of, and stages two words of its own row.
-abbrev pub span_beside_stages : Span
+abbrev pub span_beside_stages : ScanSpan
 span_beside_stages =
     record {
       before = announcement 1 6 (0 ∷ 0 ∷ []);
@@ -296,7 +296,7 @@ abbrev pub scan_alone : List Step
 scan_alone = scan 0 N Begins_scan (0 ∷ [])
 
 -- The span of a scan of N that a caller alone makes once it has announced.
-abbrev pub span_after_announcement : Span
+abbrev pub span_after_announcement : ScanSpan
 span_after_announcement =
     record {
       before = announcement 0 5 (0 ∷ []);

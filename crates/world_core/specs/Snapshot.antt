@@ -42,24 +42,24 @@ keeps_scan who step = not (step.who == who && gives_up step.event)
 
 -- The steps of a run up to the end of a scan, in four parts: the steps before the scan, its first
 -- look, the steps between, and its last step, which is a look, or the last peek at a borrowed cut.
-pub record Span : Type 0 where
+pub record ScanSpan : Type 0 where
   pub before : List Step
   pub first : Step
   pub between : List Step
   pub last : Step
 
 -- All steps of a span but the scan's last one, from the start of the run on.
-abbrev pub up_to_last : Span → List Step
+abbrev pub up_to_last : ScanSpan → List Step
 up_to_last r = r.before ++ r.first ∷ r.between
 
 -- All steps of a span, from the start of the run through the scan's last step.
-abbrev pub through_last : Span → List Step
+abbrev pub through_last : ScanSpan → List Step
 through_last r = up_to_last r ++ r.last ∷ []
 
 -- A scan of caller `who` has this span and gives this cut: the steps of the span are a run, its
 -- first look is that caller's and begins a scan of the cut's region, no later step gives the scan
 -- up, and the last step adds the cut to those that the caller's scans gave.
-pub record GivesCut (s : Shape) (who : ℕ) (given : Given) (r : Span) : Type 0 where
+pub record GivesCut (s : Shape) (who : ℕ) (given : Given) (r : ScanSpan) : Type 0 where
   pub run : IsRun s (through_last r)
   pub begins : IsTrue (begins_scan who given.region r.first)
   pub keeps : IsTrue (list_all (keeps_scan who) (r.between ++ r.last ∷ []))
@@ -68,7 +68,7 @@ pub record GivesCut (s : Shape) (who : ℕ) (given : Given) (r : Span) : Type 0 
 
 -- The cut of a scan is instantaneous where the counts of its region were exactly this cut at some
 -- moment after the scan's first look and before its last step.
-abbrev pub IsInstantaneous : Shape → Given → Span → Type 0
+abbrev pub IsInstantaneous : Shape → Given → ScanSpan → Type 0
 IsInstantaneous s given r =
     (early late : List Step) × (r.between ≡ early ++ late)
     × (counts_in s given.region (end_of s (r.before ++ r.first ∷ early)) ≡ given.cut)

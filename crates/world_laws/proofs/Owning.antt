@@ -26,15 +26,15 @@ use Rattle.world_laws.proofs.Running.{possible, own_local, other_local}
 
 -- Where a scan under way began: at a world in which its caller had the own count that it still has,
 -- and whose counts no word of the scan is below.
-pub record Mark (s : Shape) (w : World) (i : ℕ) (l : Local) (scan : Scan) : Type 0 where
+pub record ScanStart (s : Shape) (w : World) (i : ℕ) (l : Local) (scan : Scan) : Type 0 where
   pub from : World
   pub all : AllHigh s from w
   pub high : AreHigh s from scan.region scan.taken
   pub own : count_of s from scan.region i ≡ own_count l scan.region
 
-abbrev pub IsMarked : Shape → World → ℕ → Local → Option Scan → Type 0
-IsMarked s w i l None = Unit {0}
-IsMarked s w i l (Some scan) = Mark s w i l scan
+abbrev pub HasScanStart : Shape → World → ℕ → Local → Option Scan → Type 0
+HasScanStart s w i l None = Unit {0}
+HasScanStart s w i l (Some scan) = ScanStart s w i l scan
 
 abbrev pub OwnsKept : ℕ → ℕ → Option (List ℕ) → Type 0
 OwnsKept i count None = Unit {0}
@@ -52,7 +52,7 @@ pub record Owns (i : ℕ) (l : Local) : Type 0 where
 -- The own entries and the mark of a caller.
 pub record Owned (s : Shape) (w : World) (i : ℕ) (l : Local) (o : Option Scan) : Type 0 where
   pub owns : Owns i l
-  pub mark : IsMarked s w i l o
+  pub mark : HasScanStart s w i l o
 
 abbrev pub AllOwned : Shape → World → Type 0
 AllOwned s w = (i : ℕ) → i < s.callers → Owned s w i (local_of w i) (local_of w i).scan
@@ -143,7 +143,7 @@ module _ (s : Shape) (w : World) (sound : Sound s w) (me : ℕ) (low : me < s.ca
   module _ (l : Local) (counts : (r : Region) → count_of s w r me ≡ own_count l r)
       (phase : HasPhase l) (keeps : IsKeptIn l.phase l.to_embed) (h : Owns me l) where
     -- the own entry of a scan's cut is the caller's own count in the region
-    own_entry : (scan : Scan) (cut : List ℕ) → Mark s w me l scan
+    own_entry : (scan : Scan) (cut : List ℕ) → ScanStart s w me l scan
         → AreLow s w scan.region scan.taken → wanted s.callers scan.taken ≡ Done cut
         → slice_index cut me ≡ own_count l scan.region
     own_entry scan cut mark words done =
@@ -255,12 +255,12 @@ module _ (s : Shape) (w : World) (sound : Sound s w) (me : ℕ) (low : me < s.ca
       to_embed = λ r staging. h.to_embed r staging;
     }
 
-    mark_like : (scan : Scan) → Mark s w me l scan
-        → Mark s w me (record l { scan = Some scan }) scan
+    mark_like : (scan : Scan) → ScanStart s w me l scan
+        → ScanStart s w me (record l { scan = Some scan }) scan
     mark_like scan mark =
         record { from = mark.from; all = mark.all; high = mark.high; own = mark.own }
 
-    went_on_owned : (scan : Scan) (want : Want) → Mark s w me l scan
+    went_on_owned : (scan : Scan) (want : Want) → ScanStart s w me l scan
         → AreLow s w scan.region scan.taken → wanted s.callers scan.taken ≡ want
         → Owned s w me (went_on l scan want) (went_on l scan want).scan
     went_on_owned scan (Done cut) mark words done =
@@ -272,7 +272,7 @@ module _ (s : Shape) (w : World) (sound : Sound s w) (me : ℕ) (low : me < s.ca
         record { owns = scanning_owns (Some scan); mark = mark_like scan mark }
 
     fed_owned : (o : Option Scan) (q : Region) (is_it : Want → Bool) (x : ℕ) → IsLowScan s w o
-        → IsMarked s w me l o → Owned s w me l l.scan
+        → HasScanStart s w me l o → Owned s w me l l.scan
         → ((taken : List ℕ) → is_it (wanted s.callers taken) ≡ true
         → x ≤ count_of s w q (length (open_round s.callers taken)))
         → ((from : World) → AllHigh s from w → (taken : List ℕ) → AreHigh s from q taken
@@ -347,7 +347,7 @@ module _ (s : Shape) (w : World) (sound : Sound s w) (me : ℕ) (low : me < s.ca
       }
 
   same_mark : (l m : Local) (o : Option Scan) → ((r : Region) → own_count l r ≡ own_count m r)
-      → IsMarked s w me l o → IsMarked s w me m o
+      → HasScanStart s w me l o → HasScanStart s w me m o
   same_mark l m None same h = tt
   same_mark l m (Some scan) same h =
       record { from = h.from; all = h.all; high = h.high; own = h.own ∙ same scan.region }
@@ -410,7 +410,7 @@ module _ (s : Shape) (w : World) (sound : Sound s w) (me : ℕ) (low : me < s.ca
         embedded = λ r k below. opens.owns.embedded r k below;
         to_embed = λ r staging. opens.owns.to_embed r staging;
       } in
-      let mark : IsMarked s w me saw (opened mine q o).scan = same_mark (opened mine q o) saw
+      let mark : HasScanStart s w me saw (opened mine q o).scan = same_mark (opened mine q o) saw
       (opened mine q o).scan (same_counts (opened mine q o) look) opens.mark in
       let found : x ≡ count_of s w q j = eqb-true x (count_of s w q j) loaded in
       fed_owned saw (λ r. opened_counts q o r ∙ same_counts (opened mine q o) look r)
@@ -440,7 +440,7 @@ module _ (s : Shape) (w : World) (sound : Sound s w) (me : ℕ) (low : me < s.ca
         embedded = λ r m below. h.owns.embedded r m below;
         to_embed = λ r staging. h.owns.to_embed r staging;
       } in
-      let mark : IsMarked s w me saw mine.scan =
+      let mark : HasScanStart s w me saw mine.scan =
       same_mark mine saw mine.scan (peeked_counts mine peek) h.mark in
       let parts = and_parts (nat_lt j s.callers)
       (nat_lt t (places s.callers q) && knows_row s.callers mine q j k) may in
@@ -510,7 +510,7 @@ module _ (s : Shape) (w : World) (sound : Sound s w) (me : ℕ) (low : me < s.ca
 
 -- a mark of a scan stays one along steps
 mark_on : (s : Shape) (w : World) (step : Step) (i : ℕ) (l : Local) (o : Option Scan) → Sound s w
-    → IsTrue (is_possible s w step) → IsMarked s w i l o → IsMarked s (after s w step) i l o
+    → IsTrue (is_possible s w step) → HasScanStart s w i l o → HasScanStart s (after s w step) i l o
 mark_on s w step i l None sound may h = tt
 mark_on s w step i l (Some scan) sound may h = record {
   from = h.from;

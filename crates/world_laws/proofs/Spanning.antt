@@ -11,7 +11,7 @@ use Rattle.world_core.specs.Shape.{Shape}
 use Rattle.world_core.specs.Local.{Given, Local}
 use Rattle.world_core.specs.Event.{Event, Stage, Announce, Object, Look, Peek, Publish, words_after, is_same_region}
 use Rattle.world_core.specs.World.{World, Step, start, local_of, count_of, after, is_possible, after_all, are_possible, IsRun, end_of}
-use Rattle.world_core.specs.Snapshot.{counts_in, is_opening, is_first_look, gives_up, keeps_scan, Span, up_to_last, through_last, GivesCut, IsInstantaneous}
+use Rattle.world_core.specs.Snapshot.{counts_in, is_opening, is_first_look, gives_up, keeps_scan, ScanSpan, up_to_last, through_last, GivesCut, IsInstantaneous}
 use Rattle.world_laws.specs.Spans.{CutsAreInstantaneous, CutsHoldEarlier, CutsHoldNoLater, CutsHoldOwn, CutsTellSince}
 use Rattle.world_laws.proofs.Each.{each_get}
 use Rattle.world_laws.proofs.Low.{IsLowCut, IsLowGiven}
@@ -80,7 +80,7 @@ one_given a b gs h = let e : a ∷ [] ≡ b ∷ [] = append_cancel_left gs (a �
 
 -- The last step of a scan's span is where the scan, which began at the span's first look, gave the
 -- cut.
-pub record Spanned (s : Shape) (who : ℕ) (given : Given) (r : Span) : Type 0 where
+pub record Spanned (s : Shape) (who : ℕ) (given : Given) (r : ScanSpan) : Type 0 where
   pub low : who < s.callers
   pub step : StepGave s (end_of s (up_to_last r)) r.last who (end_of s r.before)
   pub is : step.gave.given ≡ given
@@ -89,7 +89,7 @@ pub record Spanned (s : Shape) (who : ℕ) (given : Given) (r : Span) : Type 0 w
   pub ends : end_of s (through_last r) ≡ after s (end_of s (up_to_last r)) r.last
   pub sound : Sound s (end_of s (through_last r))
 
-pub spanned : (s : Shape) (who : ℕ) (given : Given) (r : Span) → GivesCut s who given r
+pub spanned : (s : Shape) (who : ℕ) (given : Given) (r : ScanSpan) → GivesCut s who given r
     → Spanned s who given r
 spanned s who given r h =
     let up : List Step = up_to_last r in
@@ -148,7 +148,7 @@ spanned s who given r h =
           }
     ]
 
-module _ (s : Shape) (who : ℕ) (given : Given) (r : Span) (h : GivesCut s who given r) where
+module _ (s : Shape) (who : ℕ) (given : Given) (r : ScanSpan) (h : GivesCut s who given r) where
   it : Spanned s who given r
   it = spanned s who given r h
 

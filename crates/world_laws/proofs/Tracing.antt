@@ -14,7 +14,7 @@ use Rattle.world_core.specs.Local.{Scan, Given, Local, fresh}
 use Rattle.world_core.specs.Scan.{rounds, open_round, course, course_after, wanted}
 use Rattle.world_core.specs.Event.{Event, Stage, Announce, Object, Look, Peek, Publish, Opening, Begins_none, Begins_scan, Begins_view, local_after, opened, fed, went_on, given_by, with_word, with_look, with_peek, purpose_of, is_same_region, is_look_wanted, is_peek_wanted}
 use Rattle.world_core.specs.World.{World, Step, start, local_of, after, is_possible, after_all, are_possible, IsRun, end_of}
-use Rattle.world_core.specs.Snapshot.{is_first_look, begins_scan, gives_up, keeps_scan, Span, through_last}
+use Rattle.world_core.specs.Snapshot.{is_first_look, begins_scan, gives_up, keeps_scan, ScanSpan, through_last}
 use Rattle.world_core.proofs.Scans.{open_length}
 use Rattle.world_laws.specs.Spans.{IsGivenBy, CutsHaveSpans}
 use Rattle.world_laws.proofs.Each.{Each, each_map, each_push, each_get}
@@ -202,7 +202,7 @@ module _ (s : Shape) (done : List Step) (w : World) (step : Step) (i : ℕ) (low
   given_now : keeps_scan i step ≡ true → IsGivenBy s (done ++ step ∷ []) i gave.gave.given
   given_now keeps =
       let o = scan_open keeps in
-      let span : Span =
+      let span : ScanSpan =
       record { before = o.before; first = o.first; between = o.between; last = step } in
       let all : done ++ step ∷ [] ≡ through_last span =
       ap (λ (xs : List Step). xs ++ step ∷ []) o.parts in

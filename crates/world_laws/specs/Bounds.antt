@@ -5,7 +5,7 @@ use Rattle.world_core.specs.Shape.{Shape}
 use Rattle.world_core.specs.Local.{Scan, Given, Local}
 use Rattle.world_core.specs.Scan.{IsSteady, looks, peeks, wanted}
 use Rattle.world_core.specs.World.{Step, local_of, IsRun, end_of}
-use Rattle.world_core.specs.Snapshot.{Span, up_to_last, GivesCut}
+use Rattle.world_core.specs.Snapshot.{ScanSpan, up_to_last, GivesCut}
 use Rattle.world_core.specs.Calls.{AreTogether, local_at}
 
 -- The words that a scan of caller i of n has taken are steady. They come of at most n + 1 collects,
@@ -32,7 +32,7 @@ ScansAreBoundedInRuns =
 
 -- The scan that gave a cut at the end of a span was done with that cut at its last word, and is
 -- bounded.
-pub record IsEnded (s : Shape) (who : ℕ) (given : Given) (r : Span) : Type 0 where
+pub record IsEnded (s : Shape) (who : ℕ) (given : Given) (r : ScanSpan) : Type 0 where
   pub scan : Scan
   pub under : (local_of (end_of s (up_to_last r)) who).scan ≡ Some scan
   pub word : ℕ
@@ -42,5 +42,5 @@ pub record IsEnded (s : Shape) (who : ℕ) (given : Given) (r : Span) : Type 0 w
 -- Each scan that gave a cut at the end of a span was done with that cut at its last word, and is
 -- bounded.
 abbrev pub EndedScansAreBounded : Type 0
-EndedScansAreBounded = (s : Shape) (who : ℕ) (given : Given) (r : Span) → GivesCut s who given r
+EndedScansAreBounded = (s : Shape) (who : ℕ) (given : Given) (r : ScanSpan) → GivesCut s who given r
     → IsEnded s who given r

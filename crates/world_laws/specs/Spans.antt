@@ -3,44 +3,44 @@ use Rattle.std.specs.Prelude.{◌≡◌, ℕ, ◌<◌, ◌≤◌, List, ◌++◌
 use Rattle.world_core.specs.Shape.{Shape}
 use Rattle.world_core.specs.Local.{Given}
 use Rattle.world_core.specs.World.{Step, local_of, count_of, IsRun, end_of}
-use Rattle.world_core.specs.Snapshot.{Span, through_last, GivesCut, IsInstantaneous}
+use Rattle.world_core.specs.Snapshot.{ScanSpan, through_last, GivesCut, IsInstantaneous}
 
 -- The cut of every scan of every run is instantaneous, borrowed cuts included (Afek and others
 -- 1993).
 abbrev pub CutsAreInstantaneous : Type 0
-CutsAreInstantaneous = (s : Shape) (who : ℕ) (given : Given) (r : Span) → GivesCut s who given r
+CutsAreInstantaneous = (s : Shape) (who : ℕ) (given : Given) (r : ScanSpan) → GivesCut s who given r
     → IsInstantaneous s given r
 
 -- The cut of a scan holds all that was counted before the scan began.
 abbrev pub CutsHoldEarlier : Type 0
 CutsHoldEarlier =
-    (s : Shape) (who : ℕ) (given : Given) (r : Span) (j : ℕ) → GivesCut s who given r
+    (s : Shape) (who : ℕ) (given : Given) (r : ScanSpan) (j : ℕ) → GivesCut s who given r
     → j < s.callers
     → count_of s (end_of s r.before) given.region j ≤ slice_index given.cut j
 
 -- The cut of a scan holds nothing that was counted after the scan ended.
 abbrev pub CutsHoldNoLater : Type 0
 CutsHoldNoLater =
-    (s : Shape) (who : ℕ) (given : Given) (r : Span) (j : ℕ) → GivesCut s who given r
+    (s : Shape) (who : ℕ) (given : Given) (r : ScanSpan) (j : ℕ) → GivesCut s who given r
     → j < s.callers
     → slice_index given.cut j ≤ count_of s (end_of s (through_last r)) given.region j
 
 -- The entry of a scan's cut for the scan's own caller is that caller's count.
 abbrev pub CutsHoldOwn : Type 0
 CutsHoldOwn =
-    (s : Shape) (who : ℕ) (given : Given) (r : Span) → GivesCut s who given r
+    (s : Shape) (who : ℕ) (given : Given) (r : ScanSpan) → GivesCut s who given r
     → slice_index given.cut who ≡ count_of s (end_of s (through_last r)) given.region who
 
 -- The field since of a cut is the number of counts that its caller had looked at before the cut's
 -- scan began.
 abbrev pub CutsTellSince : Type 0
 CutsTellSince =
-    (s : Shape) (who : ℕ) (given : Given) (r : Span) → GivesCut s who given r
+    (s : Shape) (who : ℕ) (given : Given) (r : ScanSpan) → GivesCut s who given r
     → given.since ≡ length (local_of (end_of s r.before) who).looked
 
 -- A scan by a caller gave this cut in the run, in this span of it.
 pub record IsGivenBy (s : Shape) (steps : List Step) (who : ℕ) (given : Given) : Type 0 where
-  pub span : Span
+  pub span : ScanSpan
   pub later : List Step
   pub parts : steps ≡ through_last span ++ later
   pub gives : GivesCut s who given span

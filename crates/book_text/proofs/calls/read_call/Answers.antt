@@ -1,6 +1,6 @@
 use Rattle.std.proofs.Common.{◌<◌, ◌^◌, List, ◌∷◌, length, ap, ◌∙◌, refl, arith}
 use Rattle.std.proofs.lemmas.Result.{err_from_is_err_and}
-use Rattle.book_text.specs.CallLines.{Progress}
+use Rattle.book_text.specs.CallLines.{BookSoFar}
 use Rattle.book_base.specs.Book.{Page, calls_of, answers_of}
 use Rattle.book_base.proofs.PageLemmas.{caller_from_call}
 use Rattle.text_fields.specs.Lines.{words_of}
@@ -64,7 +64,7 @@ returns-in-Err-record_entry-clause-refused g c = λ more.
     let operations = g.T.OpText.operations c.args.operations.now in
     let entry = rw (c.callers-n.ensures.count, c.is_gap-gap.ensures) at c.in-Ok.ensures.found in
     let small : length c.args.book.now < 2 ^ 64 = omega arith in
-    let due : Progress = record { book = c.args.book.now; due = c.args.call ∷ more } in
+    let due : BookSoFar = record { book = c.args.book.now; due = c.args.call ∷ more } in
     let rules = call_rules c.args.version operations in
     stops_refused rules due c.args.lines.now c.number-number.result
     (view_test c.in-Err-record_entry.fault) c.refusal.result c.refusal.ensures.text
@@ -81,7 +81,7 @@ returns-in-Err-clause-refused g c = λ more.
     let operations = g.T.OpText.operations c.args.operations.now in
     let first = rw (c.callers-n.ensures.count, c.is_gap-gap.ensures) at c.in-Err.ensures.refused in
     let small : length c.args.book.now < 2 ^ 64 = omega arith in
-    let due : Progress = record { book = c.args.book.now; due = c.args.call ∷ more } in
+    let due : BookSoFar = record { book = c.args.book.now; due = c.args.call ∷ more } in
     let rules = call_rules c.args.version operations in
     rw c.number-number.ensures (stops_line rules due c.args.lines.now c.line.new.self
     c.in_ok-line.line.now c.in-Err.what refl c.in_ok-line.ensures.line

@@ -3,7 +3,7 @@ use Rattle.std.proofs.lemmas.Result.{err_from_is_err_and}
 use Rattle.book_base.specs.declared.call.Call.{Call}
 use Rattle.text_fields.specs.Faults.{GoesTo}
 use Rattle.text_fields.proofs.Sharp.{goes_then}
-use Rattle.book_text.specs.CallLines.{Progress, call_rules, calls_from}
+use Rattle.book_text.specs.CallLines.{BookSoFar, call_rules, calls_from}
 use Rattle.book_text.proofs.CallTexts.{stops_then}
 use Rattle.book_text.proofs.calls.read_caller.Goals as goal
 
@@ -18,7 +18,7 @@ returns-in_err-read_call-clause-refused g c =
     let p = err_from_is_err_and c.from_residual.result c.from_residual.ensures.1 in
     let k = c.loop-number.number in
     rw (p.1, p.2) (λ more.
-    let start : Progress =
+    let start : BookSoFar =
     record { book = c.args.book.now; due = calls_from c.args.i 0 c.args.count ++ more } in
     let here = subst (λ (calls : List Call). GoesTo rules start c.args.lines.now
     (record { book = c.loop-number.book; due = calls }) c.loop-number.lines)
@@ -34,7 +34,7 @@ loop-number-preserved g c =
     let k = c.loop-number.number in
     record {
       goes = λ more.
-          let start : Progress =
+          let start : BookSoFar =
           record { book = c.args.book.now; due = calls_from c.args.i 0 c.args.count ++ more } in
           let here = subst (λ (calls : List Call). GoesTo rules start c.args.lines.now
           (record { book = c.loop-number.book; due = calls }) c.loop-number.lines)

@@ -7,7 +7,7 @@ use Rattle.text_fields.specs.Faults.{GoesTo}
 use Rattle.text_fields.proofs.Sharp.{goes_then}
 use Rattle.book_text.specs.CallLines.{calls_from, all_calls}
 use Rattle.book_text.proofs.CallTexts.{stops_then, next_caller}
-use Rattle.client_scripts.specs.declared.script.Client.{Client}
+use Rattle.client_scripts.specs.declared.script.CallerScript.{CallerScript}
 use Rattle.client_scripts.specs.Plans.{sizes}
 use Rattle.client_scripts.specs.ScriptRules.{Begun, ScriptDue, InBody, begin, with_operations, script_rules}
 use Rattle.client_scripts.specs.ScriptLayout.{operations_in, stops_in}
@@ -49,7 +49,7 @@ loop-i-preserved c =
     let here = subst (λ (due : List Call). GoesTo rules start c.args.lines.now
     (InBody words.kind so_far due) l.lines) next l.invariant.goes in
     let ops = c.in_ok-read_operations.field-0 in
-    let client : Client = record { operations = ops; stop = None } in
+    let client : CallerScript = record { operations = ops; stop = None } in
     let both = goes_then rules start _ (InBody words.kind (with_operations so_far ops.items) later)
     c.args.lines.now l.lines c.read_operations.new.lines here
     (c.in_ok-read_operations.ensures.found so_far later) in
@@ -57,20 +57,20 @@ loop-i-preserved c =
     let joined : concat (operations_in l.clients.items) ++ ops.items
     ≡ concat (operations_in c.push.new.self.items)
     = sym (operations-push l.clients.items client)
-    ∙ ap (λ (cs : List Client). concat (operations_in cs)) (sym pushed) in
+    ∙ ap (λ (cs : List CallerScript). concat (operations_in cs)) (sym pushed) in
     let size : length ops.items ≡ get_or calls l.i 0 =
     c.in_ok-read_operations.ensures.count ∙ c.get.ensures in
     record {
       goes = subst
           (λ (d : ScriptDue). GoesTo rules start c.args.lines.now d c.read_operations.new.lines)
           (after_calls words.kind (begin calls) later _ _ joined) both;
-      count = ap (length {A = Client}) pushed ∙ length_push l.clients.items client
+      count = ap (length {A = CallerScript}) pushed ∙ length_push l.clients.items client
           ∙ ap (λ (n : ℕ). n + 1) l.invariant.count;
-      sizes = ap (λ (cs : List Client). sizes (operations_in cs)) pushed
+      sizes = ap (λ (cs : List CallerScript). sizes (operations_in cs)) pushed
           ∙ sizes-push l.clients.items client
           ∙ ap (λ (ns : List ℕ). ns ++ length ops.items ∷ []) l.invariant.sizes
           ∙ ap (λ (n : ℕ). take l.i calls ++ n ∷ []) size ∙ sym (take_more calls l.i 0 lt);
-      stops = ap stops_in pushed ∙ map_push (λ (c : Client). c.stop) l.clients.items client ∙ ap
+      stops = ap stops_in pushed ∙ map_push (λ (c : CallerScript). c.stop) l.clients.items client ∙ ap
           (λ (s : List (Option ℕ)). s ++ None ∷ []) l.invariant.stops ∙ replicate_more l.i None;
     }
 

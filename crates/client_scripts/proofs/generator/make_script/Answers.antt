@@ -4,7 +4,7 @@ use Rattle.std.proofs.lemmas.List.{map_push, replicate_more}
 use Rattle.list_laws.proofs.Elements.{AllByRecursion-append}
 use Rattle.seq_objects.specs.declared.kind.Kind.{Kind}
 use Rattle.text_fields.specs.declared.version.Version.TheVariants.{Second}
-use Rattle.client_scripts.specs.declared.script.Client.{Client}
+use Rattle.client_scripts.specs.declared.script.CallerScript.{CallerScript}
 use Rattle.client_scripts.specs.Plans.{Plan, IsPlan}
 use Rattle.client_scripts.specs.Generator.{generated_operations, generated}
 use Rattle.client_scripts.specs.ScriptLayout.{operations_in, stops_in, plan_in}
@@ -15,17 +15,17 @@ pub loop-caller-preserved : goal.loop-caller-preserved
 loop-caller-preserved c =
     let l = c.loop-caller in
     let ops = c.in_ok-make_operations.field-0 in
-    let client : Client = record { operations = ops; stop = None } in
+    let client : CallerScript = record { operations = ops; stop = None } in
     let pushed = c.in_ok-push.ensures.items in
     let f : ℕ → List ℕ = generated_operations c.args.number c.args.calls c.args.kind in
     let held : operations_in c.push.new.self.items
     ≡ operations_in l.clients.items ++ ops.items ∷ [] = ap operations_in pushed
-    ∙ map_push (λ (x : Client). x.operations.items) l.clients.items client in
+    ∙ map_push (λ (x : CallerScript). x.operations.items) l.clients.items client in
     record {
       operations = held ∙ ap (λ (xs : List (List ℕ)). xs ++ ops.items ∷ []) l.invariant.operations
           ∙ ap (λ (x : List ℕ). map f (range_with_len 0 l.caller) ++ x ∷ [])
           c.in_ok-make_operations.ensures.ok ∙ sym (map_range-push f l.caller);
-      stops = ap stops_in pushed ∙ map_push (λ (x : Client). x.stop) l.clients.items client
+      stops = ap stops_in pushed ∙ map_push (λ (x : CallerScript). x.stop) l.clients.items client
           ∙ ap (λ (s : List (Option ℕ)). s ++ None ∷ []) l.invariant.stops
           ∙ replicate_more l.caller None;
       small = subst (AllByRecursion (AllByRecursion (λ op. op < 2 ^ 128))) (sym held)
@@ -34,7 +34,7 @@ loop-caller-preserved c =
           (c.in_ok-make_operations.ensures.small, tt));
     }
 
-made : (kind : Kind) (number calls callers i : ℕ) (clients : List Client) (turns : List ℕ)
+made : (kind : Kind) (number calls callers i : ℕ) (clients : List CallerScript) (turns : List ℕ)
     → operations_in clients ≡ map (generated_operations number calls kind) (range_with_len 0 i)
     → stops_in clients ≡ replicate i None
     → turns ≡ [] → i ≡ callers → plan_in kind clients turns ≡ generated number callers calls kind

@@ -13,7 +13,7 @@ use Rattle.client_scripts.specs.Plans.{Plan}
 use Rattle.client_scripts.specs.ScriptRules.{InHead, InBody, Turned, begin, script_rules, IsScriptText}
 use Rattle.client_scripts.specs.ScriptLayout.{plan_in, told}
 use Rattle.client_scripts.proofs.Readings.{head_within, script_no_end}
-use Rattle.client_scripts.proofs.Stages.{to_calls, to_stops, to_end, to_text}
+use Rattle.client_scripts.proofs.Stages.{goes_to_calls, goes_to_stops, goes_to_end_line, is_text_read}
 use Rattle.client_scripts.proofs.ReadTexts.{read_is_written, plan_of_both}
 use Rattle.client_scripts.proofs.WrittenTexts.{most_both}
 use Rattle.client_scripts.proofs.reader.read_version.Goals as goal
@@ -42,7 +42,7 @@ returns-in_err-clients-clause-refused c =
     let version = c.args.version in
     let kind = c.in_ok-head.head.kind in
     let calls = c.in_ok-head.head.calls in
-    let start = to_calls version c.args.bytes.now kind calls c.new-lines.result
+    let start = goes_to_calls version c.args.bytes.now kind calls c.new-lines.result
     c.read_head_of.new.lines c.new-lines.ensures c.in_ok-head.ensures.found in
     rw (p.1, p.2) (stops_then (script_rules version) (InHead TitleDue)
     (InBody kind (begin calls) (all_calls 0 calls)) (whole_text c.args.bytes.now)
@@ -55,7 +55,7 @@ returns-in_err-turns-clause-refused c =
     let version = c.args.version in
     let kind = c.in_ok-head.head.kind in
     let begun = told c.in_ok-clients.clients.items 0 in
-    let so_far = to_stops version c.args.bytes.now kind c.in_ok-head.head.calls c.new-lines.result
+    let so_far = goes_to_stops version c.args.bytes.now kind c.in_ok-head.head.calls c.new-lines.result
     c.read_head_of.new.lines c.new-lines.ensures c.in_ok-head.ensures.found begun
     c.read_clients.new.lines c.in_ok-clients.ensures.found in
     rw (p.1, p.2) (stops_then (script_rules version) (InHead TitleDue) (InBody kind begun [])
@@ -69,7 +69,7 @@ returns-in_err-read_end-clause-refused c =
     let version = c.args.version in
     let kind = c.in_ok-head.head.kind in
     let plan : Plan = plan_in kind c.read_tail.new.clients.items c.in_ok-turns.turns.items in
-    let so_far = to_end version c.args.bytes.now kind c.in_ok-head.head.calls c.new-lines.result
+    let so_far = goes_to_end_line version c.args.bytes.now kind c.in_ok-head.head.calls c.new-lines.result
     c.read_head_of.new.lines c.new-lines.ensures c.in_ok-head.ensures.found
     (told c.in_ok-clients.clients.items 0) c.read_clients.new.lines c.in_ok-clients.ensures.found
     plan c.read_tail.new.lines (c.in_ok-turns.ensures.found version kind) in
@@ -83,7 +83,7 @@ from_parts-requires c =
     let version = c.args.version in
     let kind = c.in_ok-head.head.kind in
     let plan : Plan = plan_in kind c.read_tail.new.clients.items c.in_ok-turns.turns.items in
-    let text = to_text version c.args.bytes.now kind c.in_ok-head.head.calls c.new-lines.result
+    let text = is_text_read version c.args.bytes.now kind c.in_ok-head.head.calls c.new-lines.result
     c.read_head_of.new.lines c.new-lines.ensures c.in_ok-head.ensures.found
     (told c.in_ok-clients.clients.items 0) c.read_clients.new.lines c.in_ok-clients.ensures.found
     plan c.read_tail.new.lines (c.in_ok-turns.ensures.found version kind) c.read_end.new.lines
@@ -95,7 +95,7 @@ returns-clause-found c =
     let version = c.args.version in
     let kind = c.in_ok-head.head.kind in
     let plan : Plan = plan_in kind c.read_tail.new.clients.items c.in_ok-turns.turns.items in
-    let text = to_text version c.args.bytes.now kind c.in_ok-head.head.calls c.new-lines.result
+    let text = is_text_read version c.args.bytes.now kind c.in_ok-head.head.calls c.new-lines.result
     c.read_head_of.new.lines c.new-lines.ensures c.in_ok-head.ensures.found
     (told c.in_ok-clients.clients.items 0) c.read_clients.new.lines c.in_ok-clients.ensures.found
     plan c.read_tail.new.lines (c.in_ok-turns.ensures.found version kind) c.read_end.new.lines

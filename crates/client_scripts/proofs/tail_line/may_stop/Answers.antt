@@ -1,6 +1,6 @@
 use Rattle.std.proofs.Common.{◌≡◌, length, get_or, vec_len, sym, ap, ◌∙◌, arith}
 use Rattle.std.proofs.lemmas.Bool.{ltb-true, lt-ltb}
-use Rattle.client_scripts.specs.declared.script.Client.{Client}
+use Rattle.client_scripts.specs.declared.script.CallerScript.{CallerScript}
 use Rattle.client_scripts.specs.Plans.{sizes}
 use Rattle.client_scripts.specs.ScriptLayout.{operations_in}
 use Rattle.client_scripts.proofs.Clients.{size_at, callers_in}
@@ -14,7 +14,7 @@ returns c =
     size_at clients c.args.caller c.index-clients-caller.result c.if-caller-clients.false
     c.index-clients-caller.is in
     let read : c.len.result ≡ vec_len held =
-    c.len.ensures ∙ ap (λ (r : Client). vec_len r.operations) (sym c.index-clients-caller.is) in
+    c.len.ensures ∙ ap (λ (r : CallerScript). vec_len r.operations) (sym c.index-clients-caller.is) in
     let count : c.len.result ≡ length held.items = omega (arith, held.ok.0) in
     let callers : length (sizes (operations_in clients)) ≡ length clients = callers_in clients in (
       λ test. let below = ltb-true _ _ test in record {

@@ -1,4 +1,4 @@
-use Rattle.collect_scan.proofs.ReadOnly.{scans_add_their_cut, scans_leave_work}
+use Rattle.collect_scan.proofs.AfterScans.{scans_add_their_cut, scans_leave_work}
 use Rattle.collect_scan.proofs.laws.scans_add_one_cut.Goals as goal
 
 pub returns-clause-cut : goal.returns-clause-cut

@@ -1,5 +1,5 @@
 use Rattle.std.proofs.Common.{List, sym, subst}
-use Rattle.frontier_check.specs.declared.mark.Mark.{Mark}
+use Rattle.frontier_check.specs.declared.kept_order.OrderMark.{OrderMark}
 use Rattle.frontier_check.specs.Standing.{AreMarks}
 use Rattle.frontier_check.proofs.Resuming.{marks_fewer}
 use Rattle.frontier_check.proofs.verdict.check_before.Goals as goal
@@ -11,7 +11,7 @@ order_put-requires g c =
     let book = c.args.book.now in
     let order = c.loop.order.items in
     record {
-      marks = subst (λ (ms : List Mark). AreMarks init next book order 0 ms)
+      marks = subst (λ (ms : List OrderMark). AreMarks init next book order 0 ms)
           (sym c.truncate.ensures.items)
           (marks_fewer init next book order 0 c.loop.left
           c.loop.marks.items c.loop.invariant);
@@ -24,7 +24,7 @@ check_at_marks-requires g c =
     let book = c.args.book.now in
     let order = c.loop.order.items in
     record {
-      marks = subst (λ (ms : List Mark). AreMarks init next book order 0 ms)
+      marks = subst (λ (ms : List OrderMark). AreMarks init next book order 0 ms)
           (sym c.truncate-2.ensures.items)
           (marks_fewer init next book order 0 c.loop.left c.loop.marks.items c.loop.invariant);
     }

@@ -3,7 +3,7 @@ use Rattle.call_handles.specs.declared.caller_handle.CallerHandle.{CallerHandle}
 use Rattle.call_handles.specs.declared.monitor_handle.MonitorHandle.{MonitorHandle}
 use Rattle.call_handles.specs.declared.handle.Handle.TheVariants.{Caller, Monitor}
 use Rattle.call_handles.specs.Tables.{next_of, IsFreshOf, IsFreshMonitorOf}
-use Rattle.handle_slots.specs.declared.role.Role.{Role}
+use Rattle.handle_slots.specs.declared.role.CallerRole.{CallerRole}
 use Rattle.handle_slots.specs.Slots.{IsFreshAs}
 use Rattle.handle_slots.proofs.opening.next_in.Goals as goal
 
@@ -13,7 +13,7 @@ returns-in-Some-clause-given c =
     let h = c.in-Some.caller in
     let fresh = subst (λ (o : Option CallerHandle). IfSome o (IsFreshOf t (next_of t))) c.in-Some.is
     c.in_ok-caller-in-Caller.ensures.given in
-    subst (λ (role : Role). IsFreshAs role t (next_of t) (Caller h)) (sym c.in-Caller.is)
+    subst (λ (role : CallerRole). IsFreshAs role t (next_of t) (Caller h)) (sym c.in-Caller.is)
     (h, refl, fresh)
 
 pub returns-in-Some-2-clause-given : goal.returns-in-Some-2-clause-given
@@ -22,5 +22,5 @@ returns-in-Some-2-clause-given c =
     let m = c.in-Some-2.monitor in
     let fresh = subst (λ (o : Option MonitorHandle). IfSome o (IsFreshMonitorOf t (next_of t)))
     c.in-Some-2.is c.in_ok-monitor-in-Monitor.ensures.given in
-    subst (λ (role : Role). IsFreshAs role t (next_of t) (Monitor m)) (sym c.in-Monitor.is)
+    subst (λ (role : CallerRole). IsFreshAs role t (next_of t) (Monitor m)) (sym c.in-Monitor.is)
     (m, refl, fresh)

@@ -9,7 +9,7 @@ use Rattle.hunts.proofs.runs.hunt.Goals as goal
 pub loop-number-init : goal.loop-number-init
 loop-number-init g c = (
   λ k below. absurd (omega (arith, below)),
-  hears_nothing (g.W.Watch.heard c.args.watch.now),
+  hears_nothing (g.W.Onlooker.heard c.args.watch.now),
 )
 
 pub loop-number-preserved : goal.loop-number-preserved
@@ -23,13 +23,13 @@ loop-number-preserved g c =
       below_next Quiet number c.loop-number.invariant.0
           (subst (λ (found : Option Catch). IfNone found (Quiet number)) c.in_default.is
           c.in_ok-catch.ensures.quiet),
-      hears_next settings number (g.W.Watch.heard c.args.watch.now)
-          (g.W.Watch.heard c.loop-number.watch) (g.W.Watch.heard c.run_seed.new.watch)
+      hears_next settings number (g.W.Onlooker.heard c.args.watch.now)
+          (g.W.Onlooker.heard c.loop-number.watch) (g.W.Onlooker.heard c.run_seed.new.watch)
           c.loop-number.invariant.1 c.in_ok-catch.ensures.heard,
     )
 
 pub returns-in-Some-clause-heard : goal.returns-in-Some-clause-heard
 returns-in-Some-clause-heard g c =
-    hears_next c.args.settings.now c.loop-number.number (g.W.Watch.heard c.args.watch.now)
-    (g.W.Watch.heard c.loop-number.watch) (g.W.Watch.heard c.run_seed.new.watch)
+    hears_next c.args.settings.now c.loop-number.number (g.W.Onlooker.heard c.args.watch.now)
+    (g.W.Onlooker.heard c.loop-number.watch) (g.W.Onlooker.heard c.run_seed.new.watch)
     c.loop-number.invariant.1 c.in_ok-catch.ensures.heard

@@ -5,5 +5,5 @@ use Rattle.hunts.proofs.runs.hunt.Given as goal
 abbrev pub invariant-loop-number : goal.invariant-loop-number
 invariant-loop-number g l =
     AreQuietBefore g.B.Pass.ObjectPass.made g.B.Pass.ObjectPass.told l.settings l.number
-    × Hears (g.W.Watch.heard l.initial.watch) (first_seeds l.settings l.number)
-    (g.W.Watch.heard l.watch)
+    × Hears (g.W.Onlooker.heard l.initial.watch) (first_seeds l.settings l.number)
+    (g.W.Onlooker.heard l.watch)

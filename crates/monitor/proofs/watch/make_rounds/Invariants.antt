@@ -1,7 +1,7 @@
 use Rattle.std.proofs.Common.{◌≡◌, None}
 use Rattle.row_table.specs.Callers.{who_of}
 use Rattle.monitor.specs.Rounds.{HasMadeRounds}
-use Rattle.enforcer.specs.Lines.{StandsIn}
+use Rattle.enforcer.specs.Lines.{OrderStandsIn}
 use Rattle.monitor.specs.Monitors.{caller_of, local_of, kept_by}
 use Rattle.monitor.specs.Watching.{IsFresh}
 use Rattle.monitor.proofs.watch.make_rounds.Given as goal
@@ -11,7 +11,7 @@ invariant-loop-i g l =
     record {
       fresh : IsFresh g.P.Program.meaning l.shared.rows.now l.shared.board.now l.monitor;
       who : who_of (caller_of l.monitor) ≡ who_of (caller_of l.fn.monitor);
-      stands : StandsIn (g.S.SeqObject.init l.shared.sequential.now)
+      stands : OrderStandsIn (g.S.SeqObject.init l.shared.sequential.now)
           (g.S.SeqObject.next l.shared.sequential.now) (kept_by l.monitor) l.standing;
       rounds : HasMadeRounds (g.S.SeqObject.init l.shared.sequential.now)
           (g.S.SeqObject.next l.shared.sequential.now) l.shared.rows.now.callers l._i

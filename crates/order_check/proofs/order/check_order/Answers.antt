@@ -8,7 +8,7 @@ use Rattle.book_base.specs.Order.{call_at}
 use Rattle.book_base.proofs.PageLemmas.{caller_from_call}
 use Rattle.book_base.specs.Next.{raised}
 use Rattle.order_check.specs.declared.fault.OrderFault.TheVariants.{Run, Missing}
-use Rattle.order_check.specs.Fault.{IsFirstFault, reply_at}
+use Rattle.order_check.specs.Fault.{IsFirstFault, reply_after_places}
 use Rattle.order_check.specs.Standing.{IsStanding, IsInPlace}
 use Rattle.order_check.proofs.Faults.{no_place, stands_here, legal_orders_fail_no_test}
 use Rattle.order_check.proofs.Placing.{IsGiven, first_fault, run_first, number_in_line, standing_more, made_more, sum-raised, few_stand, list_more, reply_more, given_here, missing_first, legal}
@@ -76,7 +76,7 @@ returns-then-wanted-place-clause-fault g c =
     let at : slice_get order p ≡ Some here = slice_get-get_or order p no_place c.loop-p-test.true in
     let op : operation_of book (call_at here) ≡ Some c.op.result =
     subst (λ (x : Call). operation_of book x ≡ Some c.op.result) c.call_at.ensures c.op.ensures in
-    let wanted : c.step-wanted.result ≡ reply_at init next book order p here =
+    let wanted : c.step-wanted.result ≡ reply_after_places init next book order p here =
     c.step-wanted.ensures.reply ∙ reply_more init next book order p c.op.result c.loop-p.state.words
     here op c.loop-p.invariant.words in
     first_fault init next book order p (Run p c.step-wanted.result here.reply) c.loop-p-test.true
@@ -95,7 +95,7 @@ returns-then-wanted-place-clause-accepted g c legal =
     let at : slice_get order p ≡ Some here = slice_get-get_or order p no_place c.loop-p-test.true in
     let op : operation_of book (call_at here) ≡ Some c.op.result =
     subst (λ (x : Call). operation_of book x ≡ Some c.op.result) c.call_at.ensures c.op.ensures in
-    let wanted : c.step-wanted.result ≡ reply_at init next book order p here =
+    let wanted : c.step-wanted.result ≡ reply_after_places init next book order p here =
     c.step-wanted.ensures.reply ∙ reply_more init next book order p c.op.result c.loop-p.state.words
     here op c.loop-p.invariant.words in
     absurd (legal_orders_fail_no_test init next book order legal
@@ -138,7 +138,7 @@ loop-p-preserved g c =
     ap (λ s. s.words) c.step-wanted.ensures.list in
     let longer =
     g.met.S.SeqObject.grows_by_one c.args.object.now c.loop-p.state.words c.op.result in
-    let wanted : reply_at init next book order p here ≡ here.reply =
+    let wanted : reply_after_places init next book order p here ≡ here.reply =
     sym (reply_more init next book order p c.op.result c.loop-p.state.words here op before.words)
     ∙ (sym c.step-wanted.ensures.reply ∙ c.if-wanted-place.false) in
     record {

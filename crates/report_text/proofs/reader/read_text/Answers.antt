@@ -15,7 +15,7 @@ use Rattle.reports.specs.ReportLayout.{lines_in}
 use Rattle.report_text.specs.ReportRules.{InHead, InLines, report_rules, IsReportText}
 use Rattle.report_text.specs.Parts.{joined}
 use Rattle.report_text.proofs.Readings.{head_within, report_no_end}
-use Rattle.report_text.proofs.Stages.{to_lines, to_end, to_text}
+use Rattle.report_text.proofs.Stages.{goes_to_lines, goes_to_end_line, is_text_read}
 use Rattle.report_text.proofs.ReadTexts.{read_is_written}
 use Rattle.report_text.proofs.reader.read_text.Goals as goal
 
@@ -36,7 +36,7 @@ returns-in_err-callers-clause-refused c =
     c.from_residual-in_err-callers.ensures.1 in
     let kind = c.in_ok-head.head.kind in
     let calls = c.in_ok-head.head.calls in
-    let start = to_lines c.args.bytes.now kind calls c.new-lines.result c.read_head.new.lines
+    let start = goes_to_lines c.args.bytes.now kind calls c.new-lines.result c.read_head.new.lines
     c.new-lines.ensures c.in_ok-head.ensures.found in
     rw (p.1, p.2) (stops_then report_rules (InHead TitleDue)
     (InLines kind calls [] (all_calls 0 calls)) (whole_text c.args.bytes.now) c.read_head.new.lines
@@ -49,7 +49,7 @@ returns-in_err-read_end-clause-refused c =
     let kind = c.in_ok-head.head.kind in
     let calls = c.in_ok-head.head.calls in
     let told = joined (lines_in c.in_ok-callers.callers.items) in
-    let so_far = to_end c.args.bytes.now kind calls c.new-lines.result c.read_head.new.lines
+    let so_far = goes_to_end_line c.args.bytes.now kind calls c.new-lines.result c.read_head.new.lines
     c.new-lines.ensures c.in_ok-head.ensures.found (lines_in c.in_ok-callers.callers.items)
     c.read_callers.new.lines c.in_ok-callers.ensures.found in
     rw (p.1, p.2) (stops_later report_rules (InHead TitleDue) (InLines kind calls told [])
@@ -63,7 +63,7 @@ of_lines-requires c =
     let calls = c.in_ok-head.head.calls in
     let lines = lines_in c.in_ok-callers.callers.items in
     let text =
-    to_text c.args.bytes.now kind calls c.new-lines.result c.read_head.new.lines c.new-lines.ensures
+    is_text_read c.args.bytes.now kind calls c.new-lines.result c.read_head.new.lines c.new-lines.ensures
     c.in_ok-head.ensures.found lines c.read_callers.new.lines c.in_ok-callers.ensures.found
     c.read_end.new.lines c.in_ok-callers.ensures.sizes c.in_ok-read_end.ensures.found in
     (read_is_written c.args.bytes.now (record { kind = kind; lines = lines }) text).writable
@@ -74,7 +74,7 @@ returns-clause-found c =
     let calls = c.in_ok-head.head.calls in
     let lines = lines_in c.in_ok-callers.callers.items in
     let text =
-    to_text c.args.bytes.now kind calls c.new-lines.result c.read_head.new.lines c.new-lines.ensures
+    is_text_read c.args.bytes.now kind calls c.new-lines.result c.read_head.new.lines c.new-lines.ensures
     c.in_ok-head.ensures.found lines c.read_callers.new.lines c.in_ok-callers.ensures.found
     c.read_end.new.lines c.in_ok-callers.ensures.sizes c.in_ok-read_end.ensures.found in
     subst (IsReportText c.args.bytes.now) (sym c.of_lines.ensures) text

@@ -1,5 +1,5 @@
 use Rattle.std.proofs.Common.{ℕ, sym, subst}
-use Rattle.book_base.specs.declared.marks.Marks.{Marks}
+use Rattle.book_base.specs.declared.marked_callers.MarkedCallers.{MarkedCallers}
 use Rattle.value_pruning.proofs.Writing.{AreNeeded, one_less_needed}
 use Rattle.value_pruning.proofs.holds_last.without_needless.Goals as goal
 use Rattle.value_pruning.proofs.holds_last.without_needless.Goals.{then-has+then-is_needless, else-has}
@@ -12,10 +12,10 @@ loop-caller-preserved g c =
     let held : ℕ = c.args.held in
     elim c.if-has.branch [
       | then-has+then-is_needless w ↦
-          subst (λ (m : Marks). AreNeeded reading book cut held c.args.marks m) (sym w.left-is)
+          subst (λ (m : MarkedCallers). AreNeeded reading book cut held c.args.marks m) (sym w.left-is)
           (one_less_needed reading book cut held c.loop-caller.caller c.args.marks
           c.loop-caller.left _ w.without-left.ensures
           (w.is_needless.ensures w.if-is_needless.true) c.loop-caller.invariant)
-      | else-has w ↦ subst (λ (m : Marks). AreNeeded reading book cut held c.args.marks m)
+      | else-has w ↦ subst (λ (m : MarkedCallers). AreNeeded reading book cut held c.args.marks m)
           (sym w.left-is) c.loop-caller.invariant
     ]

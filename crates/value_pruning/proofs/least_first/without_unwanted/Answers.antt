@@ -1,5 +1,5 @@
 use Rattle.std.proofs.Common.{ℕ, sym, subst}
-use Rattle.book_base.specs.declared.marks.Marks.{Marks}
+use Rattle.book_base.specs.declared.marked_callers.MarkedCallers.{MarkedCallers}
 use Rattle.value_pruning.proofs.Wanting.{AreWanted, one_less_wanted}
 use Rattle.value_pruning.proofs.least_first.without_unwanted.Goals as goal
 use Rattle.value_pruning.proofs.least_first.without_unwanted.Goals.{then-has+then-is_unwanted, else-has}
@@ -13,11 +13,11 @@ loop-caller-preserved g c =
     let forced : ℕ = c.args.forced in
     elim c.if-has.branch [
       | then-has+then-is_unwanted w ↦
-          subst (λ (m : Marks). AreWanted reading book cut words forced c.args.marks m)
+          subst (λ (m : MarkedCallers). AreWanted reading book cut words forced c.args.marks m)
           (sym w.left-is) (one_less_wanted reading book cut words forced c.loop-caller.caller
           c.args.marks c.loop-caller.left _ w.without-left.ensures
           (w.is_unwanted.ensures w.if-is_unwanted.true) c.loop-caller.invariant)
       | else-has w ↦
-          subst (λ (m : Marks). AreWanted reading book cut words forced c.args.marks m)
+          subst (λ (m : MarkedCallers). AreWanted reading book cut words forced c.args.marks m)
           (sym w.left-is) c.loop-caller.invariant
     ]

@@ -3,7 +3,7 @@ use Rattle.row_table.specs.declared.rows.Rows.{Rows}
 use Rattle.row_table.specs.Callers.{local_with}
 use Rattle.row_gather.proofs.Kept.{gathered_by_stays}
 use Rattle.drv_wrapper.specs.States.{announced_local}
-use Rattle.call_handles.specs.declared.stage.Stage.{Stage}
+use Rattle.call_handles.specs.declared.stage.HandleStage.{HandleStage}
 use Rattle.call_handles.specs.Callers.{every_reply, rows_of, IsSoundAt}
 use Rattle.call_handles.specs.Ends.{IsAnnouncedBy}
 use Rattle.call_handles.proofs.caller_handle.CallerHandle.announce.Goals as goal
@@ -11,7 +11,7 @@ use Rattle.call_handles.proofs.caller_handle.CallerHandle.announce.Goals as goal
 pub returns-else-left-eq0-clause-sound : goal.returns-else-left-eq0-clause-sound
 returns-else-left-eq0-clause-sound c =
     let self = c.args.self in
-    let stands = subst (λ (s : Stage). IsSoundAt (rows_of self) self.kept.kind self.kept.gathered s)
+    let stands = subst (λ (s : HandleStage). IsSoundAt (rows_of self) self.kept.kind self.kept.gathered s)
     c.in-Idle.is c.requires.sound.0 in
     let begun = subst
     (λ (r : Rows _). IsAnnouncedBy every_reply r c.in-Idle.caller c.args.op c.announce_alone.result)
@@ -28,7 +28,7 @@ returns-else-left-eq0-clause-sound c =
 pub returns-else-left-eq0-clause-when : goal.returns-else-left-eq0-clause-when
 returns-else-left-eq0-clause-when c =
     let self = c.args.self in
-    let stands = subst (λ (s : Stage). IsSoundAt (rows_of self) self.kept.kind self.kept.gathered s)
+    let stands = subst (λ (s : HandleStage). IsSoundAt (rows_of self) self.kept.kind self.kept.gathered s)
     c.in-Idle.is c.requires.sound.0 in (
       λ _. (
         c.in-Idle.caller,

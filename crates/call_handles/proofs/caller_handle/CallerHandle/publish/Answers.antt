@@ -3,7 +3,7 @@ use Rattle.row_table.specs.declared.rows.Rows.{Rows}
 use Rattle.row_table.specs.Callers.{local_with}
 use Rattle.row_gather.proofs.Kept.{gathered_by_stays}
 use Rattle.drv_wrapper.specs.States.{announced_local}
-use Rattle.call_handles.specs.declared.stage.Stage.{Stage}
+use Rattle.call_handles.specs.declared.stage.HandleStage.{HandleStage}
 use Rattle.call_handles.specs.Callers.{every_reply, rows_of, IsSoundAt}
 use Rattle.call_handles.specs.Ends.{IsPublishedBy}
 use Rattle.call_handles.proofs.caller_handle.CallerHandle.publish.Goals as goal
@@ -13,7 +13,7 @@ returns-in-Announced-clause-sound c =
     let self = c.args.self in
     let call = c.in-Announced.call in
     let caller = c.publish_alone.result in
-    let stands = subst (λ (s : Stage). IsSoundAt (rows_of self) self.kept.kind self.kept.gathered s)
+    let stands = subst (λ (s : HandleStage). IsSoundAt (rows_of self) self.kept.kind self.kept.gathered s)
     c.in-Announced.is c.requires.sound.0 in
     let (told, seen, at) = c.publish_alone.ensures.published in
     let published =

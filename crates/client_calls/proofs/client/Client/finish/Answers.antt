@@ -11,7 +11,7 @@ use Rattle.client_calls.specs.Stands.{phases_at}
 use Rattle.client_calls.specs.Finishing.{end_at, stance_left, IsLeftStanding, KeepsAsked}
 use Rattle.client_calls.proofs.Asked.{keeps_asked}
 use Rattle.client_calls.proofs.Left.{line_within, left_standing, left_free}
-use Rattle.client_calls.proofs.ReadOnly.{operation_left, noted_left, unnoted_left}
+use Rattle.client_calls.proofs.LinesLeft.{operation_left, noted_left, unnoted_left}
 use Rattle.client_calls.proofs.client.Client.finish.Goals as goal
 use Rattle.client_calls.proofs.client.Client.finish.Goals.{in-Some, in_default}
 

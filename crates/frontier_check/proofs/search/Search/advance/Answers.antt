@@ -13,7 +13,7 @@ enter-requires-clause-walk g c =
     let object = c.args.self.now.object.now in
     let old = c.args.walk.now in
     let new : Walk = record {
-      levels = old.levels;
+      frames = old.frames;
       counts = old.counts;
       here = old.here;
       choices = c.pop.new.self;
@@ -29,7 +29,7 @@ remember-requires-clause-wide g c =
     let w = c.requires.walk in
     ap length c.deref.ensures.value
     ∙ (leads-wide c.args.self.now.book.now c.args.self.now.prefix.now (g.S.SeqObject.init object)
-    (g.S.SeqObject.next object) c.args.walk.now.levels.items c.args.walk.now.counts.items
+    (g.S.SeqObject.next object) c.args.walk.now.frames.items c.args.walk.now.counts.items
     c.args.walk.now.here.words w.begins (g.met.S.SeqObject.grows_by_one object) w.leads
     ∙ sym w.callers)
 
@@ -41,7 +41,7 @@ retreat-requires g c =
     let next = g.S.SeqObject.next object in
     let old = c.args.walk.now in
     let new : Walk = record {
-      levels = old.levels;
+      frames = old.frames;
       counts = old.counts;
       here = old.here;
       choices = c.pop.new.self;

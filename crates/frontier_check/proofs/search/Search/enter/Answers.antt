@@ -2,7 +2,7 @@ use Rattle.std.proofs.Common.{◌≡◌, ◌+◌, ◌∙◌, [], ◌∷◌, ◌+
 use Rattle.std.proofs.lemmas.List.{length-set}
 use Rattle.book_base.specs.State.{Contents}
 use Rattle.book_base.specs.Next.{raised, list_after, HoldsAnswered}
-use Rattle.frontier_check.specs.declared.walk.WalkLevel.{WalkLevel}
+use Rattle.frontier_check.specs.declared.walk.WalkFrame.{WalkFrame}
 use Rattle.frontier_check.specs.declared.walk.Walk.{Walk}
 use Rattle.book_base.specs.Pruning.{IsLeast}
 use Rattle.frontier_check.specs.Search.{places_of, IsOpen}
@@ -18,7 +18,7 @@ set_count-requires-clause-caller g c =
     let old = c.args.walk.now in
     let w = c.requires.walk in
     let s = standing c.args.self.now.book.now c.args.self.now.prefix.now (g.S.SeqObject.init object)
-    (g.S.SeqObject.next object) old.levels.items old.counts.items old.here.words c.args.place
+    (g.S.SeqObject.next object) old.frames.items old.counts.items old.here.words c.args.place
     w.begins (g.met.S.SeqObject.grows_by_one object) w.leads w.here.sound.0.may_come in
     omega (
       arith,
@@ -34,7 +34,7 @@ copy_from-requires g c =
     let old = c.args.walk.now in
     let w = c.requires.walk in
     let s = standing c.args.self.now.book.now c.args.self.now.prefix.now (g.S.SeqObject.init object)
-    (g.S.SeqObject.next object) old.levels.items old.counts.items old.here.words c.args.place
+    (g.S.SeqObject.next object) old.frames.items old.counts.items old.here.words c.args.place
     w.begins (g.met.S.SeqObject.grows_by_one object) w.leads w.here.sound.0.may_come in
     omega (
       arith,
@@ -51,7 +51,7 @@ returns-then-remembers-clause-outcome g c =
     let old = c.args.walk.now in
     let e = c.step.ensures in
     let new : Walk = record {
-      levels = c.step.new.walk.levels;
+      frames = c.step.new.walk.frames;
       counts = c.set_count.new.counts;
       here = c.copy_from.new.self;
       choices = c.step.new.walk.choices;
@@ -74,7 +74,7 @@ returns-then-remembers-clause-outcome g c =
     (ap (λ (s : Contents). s.words) e.spare)
     ∙ ap (made old.here.words) (ap (λ (s : Contents). s.room) e.here)) in
     walk-skip book c.args.self.now.prefix.now (g.S.SeqObject.init c.args.self.now.object.now) next
-    old new c.args.place c.requires.walk there e.levels counts here e.choices e.memo
+    old new c.args.place c.requires.walk there e.frames counts here e.choices e.memo
 
 pub least_open-requires : goal.least_open-requires
 least_open-requires g c =
@@ -82,7 +82,7 @@ least_open-requires g c =
     let old = c.args.walk.now in
     let w = c.requires.walk in
     let s = standing c.args.self.now.book.now c.args.self.now.prefix.now (g.S.SeqObject.init object)
-    (g.S.SeqObject.next object) old.levels.items old.counts.items old.here.words c.args.place
+    (g.S.SeqObject.next object) old.frames.items old.counts.items old.here.words c.args.place
     w.begins (g.met.S.SeqObject.grows_by_one object) w.leads w.here.sound.0.may_come in
     ap length (c.deref-2.ensures.value ∙ c.step.ensures.counts) ∙ (length-set old.counts.items
     c.args.place.caller (get_or old.counts.items c.args.place.caller 0 + 1) ∙ s.wide)
@@ -93,7 +93,7 @@ choices-requires-clause-wide g c =
     let old = c.args.walk.now in
     let w = c.requires.walk in
     let s = standing c.args.self.now.book.now c.args.self.now.prefix.now (g.S.SeqObject.init object)
-    (g.S.SeqObject.next object) old.levels.items old.counts.items old.here.words c.args.place
+    (g.S.SeqObject.next object) old.frames.items old.counts.items old.here.words c.args.place
     w.begins (g.met.S.SeqObject.grows_by_one object) w.leads w.here.sound.0.may_come in
     ap length (c.deref-in-Some.ensures.value ∙ c.step.ensures.counts) ∙ (length-set old.counts.items
     c.args.place.caller (get_or old.counts.items c.args.place.caller 0 + 1) ∙ s.wide)
@@ -105,9 +105,9 @@ choices-requires-clause-reached g c =
     let next = g.S.SeqObject.next object in
     let old = c.args.walk.now in
     let e = c.step.ensures in
-    let level : WalkLevel =
+    let frame : WalkFrame =
     record { place = c.args.place; words = c.in_ok-words.words; choices = old.choices } in
-    let to : LeadsTo book next old level c.deref-in-Some.result.now c.step.new.walk.here.words =
+    let to : LeadsTo book next old frame c.deref-in-Some.result.now c.step.new.walk.here.words =
     record {
       words = c.in_ok-words.ensures.items
           ∙ (c.words-2.ensures ∙ ap (λ (s : Contents). s.words) e.spare);
@@ -115,7 +115,7 @@ choices-requires-clause-reached g c =
       cut_is = c.deref-in-Some.ensures.value ∙ e.counts;
       list_is = ap (λ (s : Contents). s.words) e.here;
     } in
-    deeper-reached book c.args.self.now.prefix.now (g.S.SeqObject.init object) next old level
+    deeper-reached book c.args.self.now.prefix.now (g.S.SeqObject.init object) next old frame
     c.deref-in-Some.result.now c.step.new.walk.here.words c.requires.walk to
 
 pub choices-requires-clause-fits : goal.choices-requires-clause-fits
@@ -125,12 +125,12 @@ choices-requires-clause-fits g c =
     let next = g.S.SeqObject.next object in
     let old = c.args.walk.now in
     let e = c.step.ensures in
-    let level : WalkLevel =
+    let frame : WalkFrame =
     record { place = c.args.place; words = c.in_ok-words.words; choices = old.choices } in
     let least : IsLeast book c.deref-in-Some.result.now (length book) c.in-Some.first =
     subst (λ (cut : List ℕ). IsLeast book cut (length book) c.in-Some.first)
     (c.deref-2.ensures.value ∙ sym c.deref-in-Some.ensures.value) c.in-Some.ensures.least in
-    let to : LeadsTo book next old level c.deref-in-Some.result.now c.step.new.walk.here.words =
+    let to : LeadsTo book next old frame c.deref-in-Some.result.now c.step.new.walk.here.words =
     record {
       words = c.in_ok-words.ensures.items
           ∙ (c.words-2.ensures ∙ ap (λ (s : Contents). s.words) e.spare);
@@ -138,7 +138,7 @@ choices-requires-clause-fits g c =
       cut_is = c.deref-in-Some.ensures.value ∙ e.counts;
       list_is = ap (λ (s : Contents). s.words) e.here;
     } in
-    deeper-fits book c.args.self.now.prefix.now (g.S.SeqObject.init object) next old level
+    deeper-fits book c.args.self.now.prefix.now (g.S.SeqObject.init object) next old frame
     c.deref-in-Some.result.now c.step.new.walk.here.words c.in-Some.first
     (g.met.S.SeqObject.grows_by_one object) c.requires.walk to least
 
@@ -148,20 +148,20 @@ returns-in_ok-push-in-None-clause-outcome g c =
     let next = g.S.SeqObject.next c.args.self.now.object.now in
     let old = c.args.walk.now in
     let e = c.step.ensures in
-    let level : WalkLevel = record {
+    let frame : WalkFrame = record {
       place = c.args.place;
       words = c.in_ok-words.words;
       choices = c.replace-choices.result;
     } in
     let new : Walk = record {
-      levels = c.push.new.self;
+      frames = c.push.new.self;
       counts = c.step.new.walk.counts;
       here = c.step.new.walk.here;
       choices = c.replace-choices.new.dest;
       memo = c.step.new.walk.memo;
     } in
-    let deeper : IsDeeper book next old new level = record {
-      levels = c.in_ok-push-in-None.ensures.items ∙ ap (λ v. v.items ++ level ∷ []) e.levels;
+    let deeper : IsDeeper book next old new frame = record {
+      frames = c.in_ok-push-in-None.ensures.items ∙ ap (λ v. v.items ++ frame ∷ []) e.frames;
       words = c.in_ok-words.ensures.items
           ∙ (c.words-2.ensures ∙ ap (λ (s : Contents). s.words) e.spare);
       choices = ap (λ v. v.items) (c.replace-choices.ensures.value ∙ e.choices);
@@ -171,7 +171,7 @@ returns-in_ok-push-in-None-clause-outcome g c =
       memo = e.memo;
     } in
     walk-found book c.args.self.now.prefix.now
-    (g.S.SeqObject.init c.args.self.now.object.now) next old new level c.requires.walk deeper
+    (g.S.SeqObject.init c.args.self.now.object.now) next old new frame c.requires.walk deeper
     (subst (λ (cut : List ℕ). HoldsAnswered book cut) c.deref-2.ensures.value
     c.in-None.ensures.none)
 
@@ -182,20 +182,20 @@ returns-in_ok-push-in-Some-clause-outcome g c =
     let next = g.S.SeqObject.next object in
     let old = c.args.walk.now in
     let e = c.step.ensures in
-    let level : WalkLevel = record {
+    let frame : WalkFrame = record {
       place = c.args.place;
       words = c.in_ok-words.words;
       choices = c.replace-choices-in-Some.result;
     } in
     let new : Walk = record {
-      levels = c.push-in-Some.new.self;
+      frames = c.push-in-Some.new.self;
       counts = c.step.new.walk.counts;
       here = c.step.new.walk.here;
       choices = c.replace-choices-in-Some.new.dest;
       memo = c.step.new.walk.memo;
     } in
-    let deeper : IsDeeper book next old new level = record {
-      levels = c.in_ok-push-in-Some.ensures.items ∙ ap (λ v. v.items ++ level ∷ []) e.levels;
+    let deeper : IsDeeper book next old new frame = record {
+      frames = c.in_ok-push-in-Some.ensures.items ∙ ap (λ v. v.items ++ frame ∷ []) e.frames;
       words = c.in_ok-words.ensures.items
           ∙ (c.words-2.ensures ∙ ap (λ (s : Contents). s.words) e.spare);
       choices = ap (λ v. v.items) (c.replace-choices-in-Some.ensures.value ∙ e.choices);
@@ -211,6 +211,6 @@ returns-in_ok-push-in-Some-clause-outcome g c =
     (places_of c.in_ok-fresh-in-Some.fresh.items) (places_of new.choices.items)
     (sym c.deref-in-Some.ensures.value) refl
     (ap (λ v. places_of v.items) fresh) c.in_ok-fresh-in-Some.ensures.open in
-    walk-deeper book c.args.self.now.prefix.now (g.S.SeqObject.init object) next old new level
+    walk-deeper book c.args.self.now.prefix.now (g.S.SeqObject.init object) next old new frame
     (g.met.S.SeqObject.grows_by_one object) c.requires.walk deeper here
     (omega (arith, ap (λ v. length v.items) fresh, c.in_ok-fresh-in-Some.ensures.few))

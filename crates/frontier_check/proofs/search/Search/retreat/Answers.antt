@@ -10,7 +10,7 @@ returns-in_default g c =
     let object = c.args.self.now.object.now in
     walk-none c.args.self.now.book.now c.args.self.now.prefix.now (g.S.SeqObject.init object)
     (g.S.SeqObject.next object) c.args.walk.now c.requires.walk
-    (nil_from_length c.args.walk.now.levels.items
+    (nil_from_length c.args.walk.now.frames.items
     (let e = c.in_default.ensures.cases.0 in search rules))
 
 pub set_count-requires : goal.set_count-requires
@@ -18,7 +18,7 @@ set_count-requires g c =
     let object = c.args.self.now.object.now in
     let last =
     last_level c.args.self.now.book.now c.args.self.now.prefix.now (g.S.SeqObject.init object)
-    (g.S.SeqObject.next object) c.args.walk.now c.pop.new.self.items c.in-Some.level
+    (g.S.SeqObject.next object) c.args.walk.now c.pop.new.self.items c.in-Some.frame
     (g.met.S.SeqObject.grows_by_one object) c.requires.walk c.in-Some.ensures.items in
     record { caller = last.caller; number = last.number }
 
@@ -27,7 +27,7 @@ load-requires g c =
     let object = c.args.self.now.object.now in
     let last =
     last_level c.args.self.now.book.now c.args.self.now.prefix.now (g.S.SeqObject.init object)
-    (g.S.SeqObject.next object) c.args.walk.now c.pop.new.self.items c.in-Some.level
+    (g.S.SeqObject.next object) c.args.walk.now c.pop.new.self.items c.in-Some.frame
     (g.met.S.SeqObject.grows_by_one object) c.requires.walk c.in-Some.ensures.items in
     omega (arith, last.words, c.requires.walk.room, ap length c.deref.ensures.value)
 
@@ -35,14 +35,14 @@ pub returns : goal.returns
 returns g c =
     let object = c.args.self.now.object.now in
     let new : Walk = record {
-      levels = c.pop.new.self;
+      frames = c.pop.new.self;
       counts = c.set_count.new.counts;
       here = c.load.new.state;
-      choices = c.in-Some.level.choices;
+      choices = c.in-Some.frame.choices;
       memo = c.args.walk.now.memo;
     } in
     walk-back c.args.self.now.book.now c.args.self.now.prefix.now (g.S.SeqObject.init object)
-    (g.S.SeqObject.next object) c.args.walk.now new c.in-Some.level c.requires.walk
+    (g.S.SeqObject.next object) c.args.walk.now new c.in-Some.frame c.requires.walk
     c.in-Some.ensures.items
     c.set_count.ensures (ap (λ (s : Contents). s.words) c.load.ensures ∙ c.deref.ensures.value)
     (ap (λ (s : Contents). s.room) c.load.ensures) refl refl

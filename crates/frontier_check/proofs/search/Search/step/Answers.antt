@@ -7,7 +7,7 @@ copy_from-requires g c =
     let object = c.args.self.now.object.now in
     let w = c.requires.walk in
     let s = standing c.args.self.now.book.now c.args.self.now.prefix.now (g.S.SeqObject.init object)
-    (g.S.SeqObject.next object) c.args.walk.now.levels.items c.args.walk.now.counts.items
+    (g.S.SeqObject.next object) c.args.walk.now.frames.items c.args.walk.now.counts.items
     c.args.walk.now.here.words c.args.place
     w.begins (g.met.S.SeqObject.grows_by_one object) w.leads w.here.sound.0.may_come in
     omega (arith, s.fits, c.requires.room)
@@ -17,7 +17,7 @@ step-reply-requires g c =
     let object = c.args.self.now.object.now in
     let w = c.requires.walk in
     let s = standing c.args.self.now.book.now c.args.self.now.prefix.now (g.S.SeqObject.init object)
-    (g.S.SeqObject.next object) c.args.walk.now.levels.items c.args.walk.now.counts.items
+    (g.S.SeqObject.next object) c.args.walk.now.frames.items c.args.walk.now.counts.items
     c.args.walk.now.here.words c.args.place
     w.begins (g.met.S.SeqObject.grows_by_one object) w.leads w.here.sound.0.may_come in
     omega (arith, s.fits, w.room)
@@ -27,7 +27,7 @@ set_count-requires g c =
     let object = c.args.self.now.object.now in
     let w = c.requires.walk in
     let s = standing c.args.self.now.book.now c.args.self.now.prefix.now (g.S.SeqObject.init object)
-    (g.S.SeqObject.next object) c.args.walk.now.levels.items c.args.walk.now.counts.items
+    (g.S.SeqObject.next object) c.args.walk.now.frames.items c.args.walk.now.counts.items
     c.args.walk.now.here.words c.args.place
     w.begins (g.met.S.SeqObject.grows_by_one object) w.leads w.here.sound.0.may_come in
     record { caller = s.caller; number = omega (arith, s.number) }

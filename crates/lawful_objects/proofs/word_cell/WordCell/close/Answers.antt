@@ -1,11 +1,11 @@
-use Rattle.lawful_objects.specs.Forms.{cell_may, IsKept}
+use Rattle.lawful_objects.specs.Forms.{cell_may, IsCellCall}
 use Rattle.shared_words.proofs.Closing.{seats_of, of_one_history}
 use Rattle.lawful_objects.proofs.Together.{one_cell}
 use Rattle.lawful_objects.proofs.word_cell.WordCell.close.Goals as goal
 
 pub close-requires-clause-seats : goal.close-requires-clause-seats
 close-requires-clause-seats c =
-    seats_of cell_may (λ _. IsKept) c.args.self.word c.args.passes.items c.requires.own
+    seats_of cell_may (λ _. IsCellCall) c.args.self.word c.args.passes.items c.requires.own
 
 pub returns : goal.returns
 returns c =
@@ -14,7 +14,7 @@ returns c =
       history = (
         known.0,
         one_cell _ known.0 _
-            (of_one_history cell_may (λ _. IsKept) c.args.self.word _ known.0
+            (of_one_history cell_may (λ _. IsCellCall) c.args.self.word _ known.0
             c.args.passes.items c.requires.callers c.requires.own known.1),
       );
     }

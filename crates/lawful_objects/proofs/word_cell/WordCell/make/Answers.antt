@@ -2,7 +2,7 @@ use Rattle.std.proofs.Common.{◌∙◌, ◌<◌, ap, sym, subst, arith}
 use mathlib.Core.List.{IsPrefix}
 use Rattle.shared_words.specs.Passes.{history_of}
 use Rattle.shared_words.proofs.Calling.{called}
-use Rattle.lawful_objects.specs.Forms.{cell_may, IsKept, IsLastRead}
+use Rattle.lawful_objects.specs.Forms.{cell_may, IsCellCall, IsLastRead}
 use Rattle.lawful_objects.proofs.Forming.{cell_form}
 use Rattle.lawful_objects.proofs.word_cell.WordCell.make.Goals as goal
 
@@ -17,7 +17,7 @@ note-requires c =
 pub returns-clause-own : goal.returns-clause-own
 returns-clause-own c =
     let noted = c.note.ensures in
-    called cell_may (λ _. IsKept) c.args.self.now.word c.args.pass.now c.note.new.self
+    called cell_may (λ _. IsCellCall) c.args.self.now.word c.args.pass.now c.note.new.self
     c.reply-reply.new.seat c.args.op c.reply-reply.result c.requires.own
     c.reply-reply.ensures.seat c.reply-reply.ensures.caller c.reply-reply.ensures.call noted.pairs
     noted.seat noted.same.0 noted.same.1

@@ -4,7 +4,7 @@ use Rattle.row_table.specs.Callers.{shape_of, who_of, local_with}
 use Rattle.row_gather.specs.declared.gathered.Gathered.{Gathered}
 use Rattle.row_gather.specs.Gathered.{IsGatheredBy}
 use Rattle.drv_wrapper.proofs.Locals.{announcing_is_free}
-use Rattle.enforcer.specs.Lines.{IsHeldIn}
+use Rattle.enforcer.specs.Lines.{IsGatheredWithin}
 use Rattle.enforcer.proofs.Grown.{stands_on}
 use Rattle.monitor.proofs.Resting.{given_once, kept_once, rests_scanned, rests_peeked, ok_gathered, ok_ticks}
 use Rattle.monitor.proofs.monitor.Monitor.look.Goals as goal
@@ -64,7 +64,7 @@ returns-clause-stands g c init next stands =
     (local_with c.scan-cut.new.caller) c.requires.rows.resting.idle c.scan-cut.ensures.scanned in
     let once = (rests_peeked _ _ _ (local_with d) _ _ rests c.grow_at.ensures.peeks).once in
     let held = subst (λ (o : Option Gathered).
-    IfSome c.standing_in-before.result (λ _. IsHeldIn c.callers.result o c.scan-cut.result))
+    IfSome c.standing_in-before.result (λ _. IsGatheredWithin c.callers.result o c.scan-cut.result))
     c.take-kept.ensures.value c.standing_in-before.ensures.held in
     stands_on init next (shape_of g.P.Program.meaning c.args.rows.now) (who_of d) c.callers.result
     (local_with d) kept c.args.standing c.standing_in-before.result c.scan-cut.result

@@ -5,7 +5,7 @@ use Rattle.row_table.specs.declared.bench.Kept.{Kept}
 use Rattle.row_table.specs.Seats.{View, Together, whole}
 use Rattle.row_table.specs.Notes.{notes_from}
 use Rattle.row_table.specs.Benches.{kept_notes}
-use Rattle.row_table.proofs.Parting.{opens, together_at_start}
+use Rattle.row_table.proofs.Parting.{ruled_at_opening, together_at_start}
 use Rattle.row_table.proofs.Benching.{tied_fresh}
 use Rattle.row_table.proofs.rows.Rows.open.Goals as goal
 
@@ -13,7 +13,7 @@ pub of_words-requires : goal.of_words-requires
 of_words-requires g c =
     let filled : c.in_ok-words.words.items
     ≡ replicate (c.row_words.result + c.object_words-objects.result) 0 = search rules in
-    opens _ _ _ c.object_words-objects.ensures.count
+    ruled_at_opening _ _ _ c.object_words-objects.ensures.count
     (c.as_slice.ensures.value ∙ filled
     ∙ (λ i. replicate (c.row_words.ensures.count i + c.object_words-objects.ensures.count i) 0))
 

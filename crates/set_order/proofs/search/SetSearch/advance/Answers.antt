@@ -13,7 +13,7 @@ remember-requires-clause-wide g c =
     let object = c.args.self.now.object.now in
     let old = c.args.walk.now in
     let s = standing (g.O.SetObject.init object) (g.O.SetObject.served object)
-    c.args.self.now.book.now old.levels.items old.counts.items old.here.words c.requires.small
+    c.args.self.now.book.now old.frames.items old.counts.items old.here.words c.requires.small
     (g.met.O.SetObject.begins_small object)
     (g.met.O.SetObject.grows_by_each object) c.requires.walk.leads in
     ap length c.deref.ensures.value ∙ (s.wide ∙ sym c.requires.walk.callers)
@@ -23,7 +23,7 @@ retreat-requires-clause-walk g c =
     let object = c.args.self.now.object.now in
     let old = c.args.walk.now in
     let new : SetWalk = record {
-      levels = old.levels;
+      frames = old.frames;
       counts = old.counts;
       here = old.here;
       callers = old.callers;
@@ -33,7 +33,7 @@ retreat-requires-clause-walk g c =
     let made = c.in_ok-remember.ensures in
     (walk-remember (g.O.SetObject.init object) (g.O.SetObject.served object)
     c.args.self.now.book.now old new c.requires.walk c.if-walk-eq0.true
-    (record { levels = refl; counts = refl; here = refl; callers = refl }) refl made.memo
+    (record { frames = refl; counts = refl; here = refl; callers = refl }) refl made.memo
     made.callers
     (λ (cut list : List ℕ) (there : Remembers new.memo cut list). elim (made.only cut list there) [
       | inl before ↦ inl before
@@ -48,7 +48,7 @@ returns-in-None-clause-outcome g c =
     let served = g.O.SetObject.served object in
     let old = c.args.walk.now in
     let new : SetWalk = record {
-      levels = old.levels;
+      frames = old.frames;
       counts = old.counts;
       here = old.here;
       callers = old.callers;
@@ -61,5 +61,5 @@ returns-in-None-clause-outcome g c =
     (picked old.left old.callers.items))) c.in-None.is c.in_ok-next_set.ensures.none in
     walk-skip init served book old new c.requires.walk (nowhere-from_cannot served book
     old.counts.items old.here.words (picked old.left old.callers.items) cannot)
-    (record { levels = refl; counts = refl; here = refl; callers = refl }) refl
+    (record { frames = refl; counts = refl; here = refl; callers = refl }) refl
     (omega (arith, c.if-walk-eq0.false))

@@ -2,7 +2,7 @@ use Rattle.std.proofs.Common.{◌≡◌, ◌+◌, ◌-◌, ◌^◌, ◌∙◌, �
 use Rattle.std.proofs.lemmas.Bool.{both_ways}
 use Rattle.book_base.specs.State.{Contents}
 use Rattle.book_base.specs.Next.{HoldsAnswered}
-use Rattle.set_order.specs.declared.walk.SetLevel.{SetLevel}
+use Rattle.set_order.specs.declared.walk.SetFrame.{SetFrame}
 use Rattle.set_order.specs.declared.walk.SetWalk.{SetWalk}
 use Rattle.set_order.specs.Search.{MayStandTogether, IsOpen, AreCandidates}
 use Rattle.set_order.proofs.Trying.{open-start}
@@ -16,7 +16,7 @@ holds_answered-ended-requires g c =
     let object = c.args.self.now.object.now in
     let old = c.args.walk.now in
     let s = standing (g.O.SetObject.init object) (g.O.SetObject.served object)
-    c.args.self.now.book.now old.levels.items old.counts.items old.here.words c.requires.small
+    c.args.self.now.book.now old.frames.items old.counts.items old.here.words c.requires.small
     (g.met.O.SetObject.begins_small object)
     (g.met.O.SetObject.grows_by_each object) c.requires.walk.leads in
     ap length (c.deref.ensures.value ∙ c.requires.counts)
@@ -27,7 +27,7 @@ candidates-requires g c =
     let object = c.args.self.now.object.now in
     let old = c.args.walk.now in
     let s = standing (g.O.SetObject.init object) (g.O.SetObject.served object)
-    c.args.self.now.book.now old.levels.items old.counts.items old.here.words c.requires.small
+    c.args.self.now.book.now old.frames.items old.counts.items old.here.words c.requires.small
     (g.met.O.SetObject.begins_small object)
     (g.met.O.SetObject.grows_by_each object) c.requires.walk.leads in
     ap length (c.deref-2.ensures.value ∙ c.requires.counts)
@@ -48,7 +48,7 @@ returns-then-ended g c =
     let book = c.args.self.now.book.now in
     let served = g.O.SetObject.served object in
     let old = c.args.walk.now in
-    let level : SetLevel = record {
+    let frame : SetFrame = record {
       counts = c.replace.result;
       words = c.in_ok-words.words;
       set = c.args.set;
@@ -56,15 +56,15 @@ returns-then-ended g c =
       left = c.replace-left.result - 1;
     } in
     let new : SetWalk = record {
-      levels = c.push.new.self;
+      frames = c.push.new.self;
       counts = c.replace.new.dest;
       here = c.copy_from.new.self;
       callers = c.replace-2.new.dest;
       left = c.replace-left.new.dest;
       memo = old.memo;
     } in
-    let deeper : IsDeeper served book old new level = record {
-      levels = c.in_ok-push.ensures.items;
+    let deeper : IsDeeper served book old new frame = record {
+      frames = c.in_ok-push.ensures.items;
       words = c.in_ok-words.ensures.items ∙ c.words.ensures;
       level_counts = ap (λ v. v.items) c.replace.ensures.value;
       level_callers = ap (λ v. v.items) c.replace-2.ensures.value;
@@ -81,7 +81,7 @@ returns-then-ended g c =
     c.holds_answered-ended.ensures.0 c.if-ended.true in
     record {
       outcome =
-          walk-found (g.O.SetObject.init object) served book old new level c.requires.walk deeper
+          walk-found (g.O.SetObject.init object) served book old new frame c.requires.walk deeper
           (subst (λ (cut : List ℕ). HoldsAnswered book cut)
           (c.deref.ensures.value ∙ sym (ap (λ v. v.items) c.replace.ensures.after)) all);
     }
@@ -92,7 +92,7 @@ returns-else-ended g c =
     let book = c.args.self.now.book.now in
     let served = g.O.SetObject.served object in
     let old = c.args.walk.now in
-    let level : SetLevel = record {
+    let frame : SetFrame = record {
       counts = c.replace.result;
       words = c.in_ok-words.words;
       set = c.args.set;
@@ -100,7 +100,7 @@ returns-else-ended g c =
       left = c.replace-left.result - 1;
     } in
     let new : SetWalk = record {
-      levels = c.push.new.self;
+      frames = c.push.new.self;
       counts = c.replace.new.dest;
       here = c.copy_from.new.self;
       callers = c.replace-2.new.dest;
@@ -111,8 +111,8 @@ returns-else-ended g c =
     ap (λ v. v.items) c.replace.ensures.after ∙ sym c.deref-2.ensures.value in
     let list : new.here.words ≡ c.args.spare.now.words =
     ap (λ (s : Contents). s.words) c.copy_from.ensures in
-    let deeper : IsDeeper served book old new level = record {
-      levels = c.in_ok-push.ensures.items;
+    let deeper : IsDeeper served book old new frame = record {
+      frames = c.in_ok-push.ensures.items;
       words = c.in_ok-words.ensures.items ∙ c.words.ensures;
       level_counts = ap (λ v. v.items) c.replace.ensures.value;
       level_callers = ap (λ v. v.items) c.replace-2.ensures.value;
@@ -142,7 +142,7 @@ returns-else-ended g c =
     open-start served book new.counts.items new.here.words new.callers.items new.left whole unended
     candidates in
     record {
-      outcome = walk-deeper (g.O.SetObject.init object) served book old new level c.requires.small
+      outcome = walk-deeper (g.O.SetObject.init object) served book old new frame c.requires.small
           (g.met.O.SetObject.begins_small object)
           (g.met.O.SetObject.grows_by_each object) c.requires.walk deeper here
           (omega (arith, c.replace-left.ensures.after, c.greatest.ensures.few));

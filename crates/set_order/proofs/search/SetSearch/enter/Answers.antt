@@ -32,7 +32,7 @@ returns-then-remembers g c =
     let served = g.O.SetObject.served object in
     let old = c.args.walk.now in
     let new : SetWalk = record {
-      levels = old.levels;
+      frames = old.frames;
       counts = old.counts;
       here = old.here;
       callers = old.callers;
@@ -48,7 +48,7 @@ returns-then-remembers g c =
     c.words.ensures (c.remembers.ensures c.if-remembers.true) in
     record {
       outcome = walk-skip init served book old new c.requires.walk nowhere
-          (record { levels = refl; counts = refl; here = refl; callers = refl }) refl
+          (record { frames = refl; counts = refl; here = refl; callers = refl }) refl
           (omega (arith, c.requires.left));
     }
 
@@ -57,7 +57,7 @@ is_lost-requires g c =
     let object = c.args.self.now.object.now in
     let old = c.args.walk.now in
     let s = standing (g.O.SetObject.init object) (g.O.SetObject.served object)
-    c.args.self.now.book.now old.levels.items old.counts.items old.here.words c.requires.small
+    c.args.self.now.book.now old.frames.items old.counts.items old.here.words c.requires.small
     (g.met.O.SetObject.begins_small object)
     (g.met.O.SetObject.grows_by_each object) c.requires.walk.leads in
     let cut : c.deref-3.result.now ≡ raised_by old.counts.items c.args.set =
@@ -74,7 +74,7 @@ returns-then-is_lost g c =
     let served = g.O.SetObject.served object in
     let old = c.args.walk.now in
     let new : SetWalk = record {
-      levels = old.levels;
+      frames = old.frames;
       counts = old.counts;
       here = old.here;
       callers = old.callers;
@@ -90,6 +90,6 @@ returns-then-is_lost g c =
     refl (c.is_lost.ensures c.if-is_lost.true) in
     record {
       outcome = walk-skip init served book old new c.requires.walk nowhere
-          (record { levels = refl; counts = refl; here = refl; callers = refl }) refl
+          (record { frames = refl; counts = refl; here = refl; callers = refl }) refl
           (omega (arith, c.requires.left));
     }

@@ -10,14 +10,14 @@ returns-in_default g c =
     let object = c.args.self.now.object.now in
     walk-none (g.O.SetObject.init object) (g.O.SetObject.served object) c.args.self.now.book.now
     c.args.walk.now c.requires.walk c.requires.left
-    (nil_from_length c.args.walk.now.levels.items
+    (nil_from_length c.args.walk.now.frames.items
     (let e = c.in_default.ensures.cases.0 in search rules))
 
 pub load-requires : goal.load-requires
 load-requires g c =
     let object = c.args.self.now.object.now in
     let fits = last_level (g.O.SetObject.init object) (g.O.SetObject.served object)
-    c.args.self.now.book.now c.args.walk.now c.pop.new.self.items c.in-Some.level c.requires.small
+    c.args.self.now.book.now c.args.walk.now c.pop.new.self.items c.in-Some.frame c.requires.small
     (g.met.O.SetObject.begins_small object)
     (g.met.O.SetObject.grows_by_each object) c.requires.walk c.in-Some.ensures.items in
     omega (arith, fits, c.requires.walk.room, ap length c.deref.ensures.value)
@@ -25,16 +25,16 @@ load-requires g c =
 pub returns : goal.returns
 returns g c =
     let object = c.args.self.now.object.now in
-    let level = c.in-Some.level in
+    let frame = c.in-Some.frame in
     let new : SetWalk = record {
-      levels = c.pop.new.self;
-      counts = level.counts;
+      frames = c.pop.new.self;
+      counts = frame.counts;
       here = c.load.new.state;
-      callers = level.callers;
-      left = level.left;
+      callers = frame.callers;
+      left = frame.left;
       memo = c.args.walk.now.memo;
     } in
     walk-back (g.O.SetObject.init object) (g.O.SetObject.served object) c.args.self.now.book.now
-    c.args.walk.now new level c.requires.walk c.requires.left c.in-Some.ensures.items
+    c.args.walk.now new frame c.requires.walk c.requires.left c.in-Some.ensures.items
     refl (ap (λ (s : Contents). s.words) c.load.ensures ∙ c.deref.ensures.value)
     (ap (λ (s : Contents). s.room) c.load.ensures) refl refl refl

@@ -37,7 +37,7 @@ go_on-requires-clause-walk g c =
     let start : counts ≡ no_calls book =
     zeros ∙ ap (λ (n : ℕ). replicate n 0) c.callers-callers.ensures.count in
     let walk : SetWalk = record {
-      levels = c.new-2.result;
+      frames = c.new-2.result;
       counts = c.in_ok-counts.counts;
       here = c.reset.new.state;
       callers = c.in_ok-candidates.candidates;

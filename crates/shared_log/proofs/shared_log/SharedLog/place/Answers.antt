@@ -1,6 +1,6 @@
 use Rattle.std.proofs.Common.{rules, ◌≡◌, ℕ, ◌+◌, ◌<◌, List, [], ◌∷◌, ◌++◌, length, sym, ap, ◌∙◌, subst, arith, append_assoc, length-append}
 use Rattle.shared_log.specs.declared.entry.Entry.{Entry}
-use Rattle.shared_log.specs.Entries.{calls_by, IsWithin, entry}
+use Rattle.shared_log.specs.Entries.{calls_by, IsWithinCap, entry}
 use Rattle.shared_log.specs.Hands.{Hand}
 use Rattle.shared_log.specs.Seats.{hand_with}
 use Rattle.shared_log.proofs.Room.{length-left}
@@ -50,7 +50,7 @@ loop-place-preserved c =
       );
       own = ap (calls_by who) (sym known) ∙ other ∙ ap (calls_by who) k.known ∙ k.own;
       room = omega arith;
-      within = subst (λ (xs : List Entry). IsWithin l.callers l.cap xs) known found.4;
+      within = subst (λ (xs : List Entry). IsWithinCap l.callers l.cap xs) known found.4;
       tries =
           found_more l.callers l.cap _ c.args.op c.loop-place.place c.args.log.now.items log
           c.push-in-Some.new.self.items e

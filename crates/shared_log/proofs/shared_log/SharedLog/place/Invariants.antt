@@ -1,6 +1,6 @@
 use Rattle.std.proofs.Common.{◌≡◌, ◌≤◌, [], ◌∷◌, length, vec_capacity}
 use Rattle.book_base.specs.OperationWord.{low_of, high_of}
-use Rattle.shared_log.specs.Entries.{calls_by, IsWithin, BeginsWith}
+use Rattle.shared_log.specs.Entries.{calls_by, IsWithinCap, BeginsWith}
 use Rattle.shared_log.specs.Words.{HasTried}
 use Rattle.shared_log.specs.Seats.{hand_with, IsPlaced}
 use Rattle.shared_log.proofs.shared_log.SharedLog.place.Given as goal
@@ -16,7 +16,7 @@ invariant-loop-place l =
       begins : BeginsWith l.log.items l.fn.log.items;
       own : calls_by l.fn.seat.who l.log.items ≡ calls_by l.fn.seat.who l.fn.log.items;
       room : vec_capacity l.fn.log ≤ vec_capacity l.log;
-      within : IsWithin l.self.callers l.self.cap l.log.items;
+      within : IsWithinCap l.self.callers l.self.cap l.log.items;
       tries : HasTried l.self.callers l.self.cap (length l.fn.log.items) (length l.log.items)
           (hand_with l.fn.seat).tried (hand_with l.seat).tried;
     }

@@ -1,7 +1,7 @@
 use Rattle.std.proofs.Common.{List, ℕ, ◌++◌, is_some, codes, string_bytes, ap, ◌∙◌}
 use Rattle.book_picture.specs.Titles.{line_text, title, error_line}
 use Rattle.book_picture.proofs.PlainTexts.{on_ok, by_lines}
-use Rattle.book_picture.proofs.sheet.Sheet.put_legend.Goals as goal
+use Rattle.book_picture.proofs.sheet.PictureSheet.put_legend.Goals as goal
 
 pub returns : goal.returns
 returns c =

@@ -9,15 +9,15 @@ use std::alloc::Global;
 ///
 /// The turns are a guess. A search is right with any turns, so that no clause says what they are.
 #[derive(Drop)]
-pub struct Plan {
+pub struct CallTurns {
     turns: Vec<u32>,
     first: Cut,
     most: u64,
     guided: u32,
 }
 
-impl Plan {
-    /// A plan for the calls after a prefix: first come the calls of a guide's later places, in the
+impl CallTurns {
+    /// A call_turns for the calls after a prefix: first come the calls of a guide's later places, in the
     /// order of these places; then the other answered calls, the one whose view counts the fewest
     /// calls first; and last all others.
     pub fn new(
@@ -25,24 +25,24 @@ impl Plan {
         book: &Book,
         later: &[Place],
         prefix: &Prefix,
-    ) -> Result<Plan, NoMemory>
+    ) -> Result<CallTurns, NoMemory>
         requires { length prefix.now.cut ≡ length book.now }
     {
         let most = most_calls(book, &prefix.cut);
         let size = (book.callers() as usize).saturating_mul(most as usize);
-        let mut plan = Plan {
+        let mut call_turns = CallTurns {
             turns: vec![in alloc; u32::MAX; size]?,
             first: prefix.cut,
             most,
             guided: u32::try_from(later.len()).unwrap_or(u32::MAX),
         };
         for caller in 0..book.callers() {
-            plan.guess(book, caller, prefix.cut.get(caller), later.len());
+            call_turns.guess(book, caller, prefix.cut.get(caller), later.len());
         }
         for (index, place) in later.iter().enumerate() {
-            plan.put(place.caller, place.number, index);
+            call_turns.put(place.caller, place.number, index);
         }
-        Ok(plan)
+        Ok(call_turns)
     }
 
     // Gives each answered call of a caller, from this number on, a turn after as many turns as the
@@ -67,7 +67,7 @@ impl Plan {
     }
 
     // The index of a call's turn in the list of turns. `None` comes for a call that the prefix's
-    // cut holds, and for a caller or a number that the plan has no turn for.
+    // cut holds, and for a caller or a number that the call_turns has no turn for.
     fn place_of(&self, caller: u32, number: u64) -> Option<usize> {
         if caller >= self.first.n() || number < self.first.get(caller) {
             return None;

@@ -6,33 +6,33 @@ use crate::MAX_CALLERS;
 
 /// Marks on callers: those whose next calls a search is still to try.
 #[derive(Clone, Copy, Debug)]
-pub struct Marks {
+pub struct MarkedCallers {
     pub callers: [bool; MAX_CALLERS],
 }
 
-impl Marks {
+impl MarkedCallers {
     /// Marks on no caller.
-    pub fn none() -> Marks
+    pub fn none() -> MarkedCallers
         // The answer marks no caller.
         ensures none { (i : ℕ) → IsMarked result i → ⊥ }
     {
-        Marks {
+        MarkedCallers {
             callers: [false; MAX_CALLERS],
         }
     }
 
     /// The mark on one caller alone.
-    pub fn only(caller: u32) -> Marks
+    pub fn only(caller: u32) -> MarkedCallers
         // The caller is below `MAX_CALLERS`.
         requires { caller < MAX_CALLERS }
         // The answer marks this caller, and no other one.
         ensures { (i : ℕ) → IsMarked result i ↔ (i ≡ caller) }
     {
-        Marks::none().with(caller)
+        MarkedCallers::none().with(caller)
     }
 
     /// These marks with one more, on this caller.
-    pub fn with(self, caller: u32) -> Marks
+    pub fn with(self, caller: u32) -> MarkedCallers
         // The caller is below `MAX_CALLERS`.
         requires { caller < MAX_CALLERS }
         // The answer marks this caller, those that were marked, and no other one.
@@ -44,7 +44,7 @@ impl Marks {
     }
 
     /// These marks without the one on this caller.
-    pub fn without(self, caller: u32) -> Marks
+    pub fn without(self, caller: u32) -> MarkedCallers
         // The caller is below `MAX_CALLERS`.
         requires { caller < MAX_CALLERS }
         // The answer marks those that were marked but for this caller.

@@ -1,12 +1,12 @@
 ghost use Rattle.std.specs.Prelude.{◌≡◌};
-ghost use Rattle.book_picture.specs.Marks.{numbers_in, is_named, is_marked};
+ghost use Rattle.book_picture.specs.MarkedCalls.{numbers_in, is_named, is_marked};
 ghost use Rattle.book_picture.specs.Titles.{marks_text};
 
 use book_base::Call;
 
 /// Which calls of a picture are marked, or why none are.
 #[derive(Debug, Drop)]
-pub enum Marks {
+pub enum MarkedCalls {
     /// No calls are marked, and the picture says nothing of marks.
     Unasked,
     /// The calls of a smaller book that has no legal order either are marked: for each caller,
@@ -18,16 +18,16 @@ pub enum Marks {
     NoMemory,
 }
 
-impl Marks {
+impl MarkedCalls {
     /// Whether a call is marked.
     pub(crate) fn has(&self, call: Call) -> bool
         ensures { result ≡ is_marked self.now call }
     {
         match self {
-            Marks::Unasked => false,
-            Marks::Smaller(numbers) => is_named(numbers, call),
-            Marks::TooLarge => false,
-            Marks::NoMemory => false,
+            MarkedCalls::Unasked => false,
+            MarkedCalls::Smaller(numbers) => is_named(numbers, call),
+            MarkedCalls::TooLarge => false,
+            MarkedCalls::NoMemory => false,
         }
     }
 
@@ -36,10 +36,10 @@ impl Marks {
         ensures { result.now ≡ marks_text self.now }
     {
         match self {
-            Marks::Unasked => "",
-            Marks::Smaller(_) => ", nor those of the marked calls alone",
-            Marks::TooLarge => " (so many calls: none are marked)",
-            Marks::NoMemory => " (no memory: none are marked)",
+            MarkedCalls::Unasked => "",
+            MarkedCalls::Smaller(_) => ", nor those of the marked calls alone",
+            MarkedCalls::TooLarge => " (so many calls: none are marked)",
+            MarkedCalls::NoMemory => " (no memory: none are marked)",
         }
     }
 }

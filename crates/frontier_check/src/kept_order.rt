@@ -4,7 +4,7 @@ use book_base::{Cut, Place};
 /// that those places lead to, and how many records of each caller the book had in which they follow
 /// one another.
 #[derive(Debug, Drop)]
-pub struct Mark {
+pub struct OrderMark {
     pub len: usize,
     pub cut: Cut,
     pub words: Vec<u64>,
@@ -16,5 +16,5 @@ pub struct Mark {
 #[derive(Debug, Drop)]
 pub struct KeptOrder {
     pub order: Vec<Place>,
-    pub marks: Vec<Mark>,
+    pub marks: Vec<OrderMark>,
 }

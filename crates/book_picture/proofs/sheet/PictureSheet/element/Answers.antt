@@ -1,6 +1,6 @@
 use Rattle.std.proofs.Common.{ℕ, List, ◌++◌, codes, decimal, string_bytes, ap, ◌∙◌}
 use Rattle.book_picture.proofs.PlainTexts.{has_no_group}
-use Rattle.book_picture.proofs.sheet.Sheet.element.Goals as goal
+use Rattle.book_picture.proofs.sheet.PictureSheet.element.Goals as goal
 
 pub class-requires : goal.class-requires
 class-requires c = c.requires.call

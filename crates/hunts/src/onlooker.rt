@@ -4,7 +4,7 @@ ghost use Rattle.hunts.specs.Watching.{Hears};
 use reports::Counts;
 
 /// The onlooker of a hunt, who is told of each run.
-pub trait Watch {
+pub trait Onlooker {
     /// The seeds of the runs that the onlooker was told of, in order, where it keeps them.
     ghost heard: { Self → Option (List ℕ) };
 
@@ -18,7 +18,7 @@ pub trait Watch {
 #[derive(Clone, Copy, Debug, Drop)]
 pub struct Unwatched;
 
-impl Watch for Unwatched {
+impl Onlooker for Unwatched {
     ghost heard = { λ _. None };
 
     fn ran(&mut self, _seed: u64, _counts: Counts) {}

@@ -1,4 +1,4 @@
-use crate::form::{Answer, TextForm};
+use crate::form::{ReaderAnswer, TextForm};
 use anyhow::Result;
 use book_base::What;
 use std::alloc::Global;
@@ -28,17 +28,17 @@ impl ReadingCounts {
 
     /// Lets the reader read a text. The answer is whether the text was refused, or is written back
     /// as it was.
-    pub fn take(&mut self, alloc: Global, bytes: &[u8]) -> Result<bool> {
+    pub fn count_reading(&mut self, alloc: Global, bytes: &[u8]) -> Result<bool> {
         match self.form.answer(alloc, bytes)? {
-            Answer::Written(text) if text.as_slice() == bytes => {
+            ReaderAnswer::Written(text) if text.as_slice() == bytes => {
                 self.kept = self.kept.saturating_add(1);
                 Ok(true)
             }
-            Answer::Written(_) => {
+            ReaderAnswer::Written(_) => {
                 self.changed = self.changed.saturating_add(1);
                 Ok(false)
             }
-            Answer::Refused(what) => {
+            ReaderAnswer::Refused(what) => {
                 self.count(what)?;
                 Ok(true)
             }

@@ -1,7 +1,7 @@
 use Rattle.std.proofs.Common.{is_some, string_bytes}
 use Rattle.book_picture.specs.Titles.{first_lines}
 use Rattle.book_picture.proofs.PlainTexts.{has_no_group, head_says, head_plain, plain_first_lines}
-use Rattle.book_picture.proofs.sheet.Sheet.head.Goals as goal
+use Rattle.book_picture.proofs.sheet.PictureSheet.head.Goals as goal
 
 pub returns-clause-plain : goal.returns-clause-plain
 returns-clause-plain c =

@@ -1,5 +1,5 @@
 use Rattle.std.proofs.Common.{append_assoc, arith}
-use Rattle.book_picture.proofs.sheet.Sheet.opening.Goals as goal
+use Rattle.book_picture.proofs.sheet.PictureSheet.opening.Goals as goal
 
 pub returns : goal.returns
 returns c = (

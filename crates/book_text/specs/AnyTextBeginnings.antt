@@ -17,7 +17,7 @@ BeginsNone {Said} IsText prefix = (said : Said) (more : List ℕ) → ¬ (IsText
 
 -- After the first whole lines comes one more whole line, and no text begins with all of these
 -- lines.
-pub record Breaks {Said : Type 0} (IsText : List ℕ → Said → Type 0) (prefix rest : List ℕ)
+pub record BreaksOff {Said : Type 0} (IsText : List ℕ → Said → Type 0) (prefix rest : List ℕ)
     (what : What) : Type 0 where
   pub named : (what ≢ Cut) × (what ≢ Rest)
   pub line : List ℕ
@@ -45,6 +45,6 @@ pub record LeavesAt {Said : Type 0} (IsText : List ℕ → Said → Type 0) (byt
   pub bytes_are : bytes ≡ prefix ++ rest
   pub lines : AreWholeLines count prefix
   pub begins : BeginsSome IsText prefix
-  pub leaves : Breaks IsText prefix rest fault.what
+  pub leaves : BreaksOff IsText prefix rest fault.what
       ⊎ (EndsEarly rest fault.what ⊎ GoesPast IsText prefix rest fault.what)
   pub no_text : (said : Said) → ¬ (IsText bytes said)

@@ -1,6 +1,6 @@
 use Rattle.std.proofs.Common.{length, arith}
 use Rattle.frontier_check.proofs.Following.{stands-fit}
-use Rattle.frontier_check.proofs.fresh.opens.Goals as goal
+use Rattle.frontier_check.proofs.fresh.enables_recorded_reply.Goals as goal
 
 pub copy_from-requires : goal.copy_from-requires
 copy_from-requires g c =

@@ -1,7 +1,7 @@
 use Rattle.std.proofs.Common.{◌≡◌, ℕ, List, ◌++◌, string_bytes, sym, ap, subst, ◌∙◌}
 use Rattle.book_picture.specs.Groups.{is_plain}
 use Rattle.book_picture.specs.Elements.{ArePartsIn}
-use Rattle.book_picture.proofs.sheet.Sheet.inside.Goals as goal
+use Rattle.book_picture.proofs.sheet.PictureSheet.inside.Goals as goal
 
 pub returns-clause-plain : goal.returns-clause-plain
 returns-clause-plain c =

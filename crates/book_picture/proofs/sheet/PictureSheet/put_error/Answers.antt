@@ -3,7 +3,7 @@ use Rattle.std.proofs.lemmas.List.{append-nil}
 use Rattle.book_base.specs.declared.call.Call.{Call}
 use Rattle.book_picture.specs.Titles.{error_line}
 use Rattle.book_picture.proofs.PlainTexts.{on_ok}
-use Rattle.book_picture.proofs.sheet.Sheet.put_error.Goals as goal
+use Rattle.book_picture.proofs.sheet.PictureSheet.put_error.Goals as goal
 
 pub returns-in-None : goal.returns-in-None
 returns-in-None c =
