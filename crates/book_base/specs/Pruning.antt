@@ -64,7 +64,8 @@ MarksAllNext book cut marks = (i : ℕ) → IsMarked marks i ↔ MayComeNext boo
 
 -- Where places continue an order from a cut and a list, as many or fewer that begin with the next
 -- call of a marked caller do too.
-abbrev pub MarksSuffice : List Page → (List ℕ → ℕ → List ℕ × ℕ) → List ℕ → List ℕ → MarkedCallers → Type 0
+abbrev pub MarksSuffice : List Page → (List ℕ → ℕ → List ℕ × ℕ) → List ℕ → List ℕ
+    → MarkedCallers → Type 0
 MarksSuffice book next cut list marks = (rest : List Place) → Continues book next cut list rest
     → (place : Place) × (other : List Place) × IsMarked marks place.caller
     × Continues book next cut list (place ∷ other) × (length other < length rest)

@@ -86,7 +86,11 @@ fn order_of(verdict: &Verdict) -> Option<&[Place]>
 }
 
 // Appends the elements of the calls of all callers.
-fn put_lanes(out: &mut String, sheet: &PictureSheet, lanes: &[Vec<Interval>]) -> Result<(), NoMemory>
+fn put_lanes(
+    out: &mut String,
+    sheet: &PictureSheet,
+    lanes: &[Vec<Interval>],
+) -> Result<(), NoMemory>
     requires { AreAllDrawable sheet.now.book.now (rows_of lanes.now) }
     ensures { OnOk result ((text : List ℕ) × AreLanesElements
         (class_of_call sheet.now.kind sheet.now.book.now sheet.now.values.now sheet.now.marks.now)

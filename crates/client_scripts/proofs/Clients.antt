@@ -13,18 +13,21 @@ use Rattle.client_scripts.specs.ScriptLayout.{operations_in, stops_in, plan_in, 
 use Rattle.client_scripts.proofs.Groups.{grouped-concat, concat-push}
 
 -- the operations of a client are those of its caller
-pub operations_at : (clients : List CallerScript) (i : ℕ) (client : CallerScript) → i < length clients → client
+pub operations_at : (clients : List CallerScript) (i : ℕ) (client : CallerScript)
+    → i < length clients → client
     ≡ get_or clients i client → get_or (operations_in clients) i [] ≡ client.operations.items
 operations_at clients i client lt is =
     get_or-map (λ (c : CallerScript). c.operations.items) clients i client [] lt
     ∙ ap (λ (c : CallerScript). c.operations.items) (sym is)
 
-pub callers_in : (clients : List CallerScript) → length (sizes (operations_in clients)) ≡ length clients
+pub callers_in : (clients : List CallerScript)
+    → length (sizes (operations_in clients)) ≡ length clients
 callers_in clients = length-map (operations_in clients) (λ (ops : List ℕ). length ops)
     ∙ length-map clients (λ (c : CallerScript). c.operations.items)
 
 -- a caller with calls is one of the clients
-caller_of : (clients : List CallerScript) (i k : ℕ) → k < length (get_or (operations_in clients) i [])
+caller_of : (clients : List CallerScript) (i k : ℕ)
+    → k < length (get_or (operations_in clients) i [])
     → i < length clients
 caller_of [] i k h = absurd (omega arith)
 caller_of (c ∷ clients) zero k h = omega arith
@@ -39,7 +42,8 @@ size_at clients i client lt is =
     ∙ ap (length {A = ℕ}) (operations_at clients i client lt is)
 
 pub operation_at : (kind : Kind) (clients : List CallerScript) (turns : List ℕ) (plan : Plan)
-    (call : Call) (client : CallerScript) (op : ℕ) → plan_in kind clients turns ≡ plan → IsCall plan call
+    (call : Call) (client : CallerScript) (op : ℕ) → plan_in kind clients turns ≡ plan
+    → IsCall plan call
     → client ≡ get_or clients call.caller client
     → op ≡ get_or client.operations.items call.number op
     → slice_get (operations_of plan call.caller) call.number ≡ Some op
@@ -66,11 +70,13 @@ operations-push clients client =
 pub sizes-push : (clients : List CallerScript) (client : CallerScript)
     → sizes (operations_in (clients ++ client ∷ []))
     ≡ sizes (operations_in clients) ++ length client.operations.items ∷ []
-sizes-push clients client = ap sizes (map_push (λ (c : CallerScript). c.operations.items) clients client)
+sizes-push clients client =
+    ap sizes (map_push (λ (c : CallerScript). c.operations.items) clients client)
     ∙ map_push (λ (ops : List ℕ). length ops) (operations_in clients) client.operations.items
 
 -- the lines of all calls say the operations that the clients hold
-pub told_from : (clients : List CallerScript) (calls : List ℕ) → sizes (operations_in clients) ≡ calls
+pub told_from : (clients : List CallerScript) (calls : List ℕ)
+    → sizes (operations_in clients) ≡ calls
     → stops_in clients ≡ replicate (length calls) None
     → with_operations (begin calls) (concat (operations_in clients)) ≡ told clients 0
 told_from clients calls counts stops =

@@ -123,7 +123,8 @@ outside-same test one other i (row ∷ rows) same =
 -- Where no call of a caller passes from the caller's number up to a later call, the count of all
 -- calls that pass from their callers' numbers on is that with the number after the later call, and
 -- one more where the later call passes.
-pub outside-past : (test : TimedCall → Bool) (numbers : List ℕ) (p : Call) (t : TimedCall) (gap i : ℕ)
+pub outside-past : (test : TimedCall → Bool) (numbers : List ℕ) (p : Call)
+    (t : TimedCall) (gap i : ℕ)
     (rows : List (List TimedCall)) → p.caller ≡ i + gap → p.caller < length numbers
     → get_or numbers p.caller 0 ≤ p.number → slice_get (get_or rows gap []) p.number ≡ Some t
     → ((k : ℕ) (u : TimedCall) → get_or numbers p.caller 0 ≤ k → k < p.number

@@ -77,7 +77,8 @@ called op viewed r seen l v p s views publishes sees same =
 -- alone, too.
 pub grows_peeking : (l s m : Local) (before after : ℕ) → Grows l s → HasOnlyPeeked s m before after
     → Grows l m
-grows_peeking l s m before after grows peeks = grows_on l s m grows (peeks_grow s m before after peeks)
+grows_peeking l s m before after grows peeks =
+    grows_on l s m grows (peeks_grow s m before after peeks)
 
 -- A counter that rises by at most 2m, then by at most m, and then by at most m again has risen by
 -- at most 4m: with m for one scan, two scans lead to the view, one to the publication, and one to

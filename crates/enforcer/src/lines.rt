@@ -122,7 +122,8 @@ pub fn judge_line<P: Program, S: SeqObject, L: Ledger>(
     requires gathered { IsGatheredBy (local_with (caller_seen seen)) gathered.old }
     // Where a book and an order are kept, each mark of the order is one, for this object, in that
     // book or in one from which that book has grown.
-    requires stands { OrderStandsIn (S.init object.now) (S.next object.now) gathered.old standing.old }
+    requires stands { OrderStandsIn (S.init object.now)
+        (S.next object.now) gathered.old standing.old }
     // With an end of the line the caller is still one of these rows, with the same number.
     ensures caller { IfOk result (λ r. IsStill P.meaning rows.now (caller_seen seen) r.0) }
     // With an end of the line the caller has made peeks and no other event, and the counter of
@@ -151,7 +152,8 @@ pub fn judge_line<P: Program, S: SeqObject, L: Ledger>(
     ensures kept_book { IfOk result (λ r. IsKeptAfterLine rows.now.callers r.1 gathered.new) }
     // Where a book and an order are now kept, each mark of the order is one, for this object, in
     // that book or in one from which that book has grown.
-    ensures stands { OrderStandsIn (S.init object.now) (S.next object.now) gathered.new standing.new }
+    ensures stands { OrderStandsIn (S.init object.now)
+        (S.next object.now) gathered.new standing.new }
     // With an end of the line, where a book is now kept, the counter of steps has risen by the
     // number of words that this book has and the book kept before lacks, where that one is of as
     // many callers as the rows have and its cut is within the new one; where no book was kept

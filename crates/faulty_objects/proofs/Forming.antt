@@ -42,7 +42,8 @@ loaded_and_stored op reply found word before between after is loaded stored more
 
 -- the reply to a split increment
 pub torn_reply : (who who' found word reply : ℕ) (before between after : List Access)
-    → IsLawfulHistory cell_may between → IsAfterAccess who (Loaded 0 found) before between → who' ≡ who
+    → IsLawfulHistory cell_may between → IsAfterAccess who (Loaded 0 found) before between
+    → who' ≡ who
     → IsAfterAccess who' (Stored 0 word) between after → word ≡ (found + 1) % 2 ^ 64
     → reply ≡ reply_value found → IsTorn who reply after
 torn_reply who who' found word reply before between after lawful loaded same stored more told =

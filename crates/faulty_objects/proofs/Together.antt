@@ -23,7 +23,8 @@ AllMay history = All (λ (a : Access). queue_may a.caller a.deed) history
 first_lawful : (may : ℕ → Deed → Type 0) (history before rest : List Access) (a : Access)
     → IsLawfulHistory may history → history ≡ before ++ a ∷ rest → IsLawfulHistory may before
 first_lawful may history before rest a lawful is =
-    lawful_prefix may before (a ∷ rest) (subst (λ (l : List Access). IsLawfulHistory may l) is lawful)
+    lawful_prefix may before (a ∷ rest)
+    (subst (λ (l : List Access). IsLawfulHistory may l) is lawful)
 
 -- ---- the counter
 

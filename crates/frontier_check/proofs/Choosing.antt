@@ -224,7 +224,8 @@ unended-from_least book cut first least all = let held : get_or cut first 0 < ge
     all (next_call cut first) least.answered in absurd (omega arith)
 
 -- where no more than this many places continue an order, some that begin with a chosen place do
-goes_on-by : (book : List Page) (next : List ℕ → ℕ → List ℕ × ℕ) (cut list : List ℕ) (marks : MarkedCallers)
+goes_on-by : (book : List Page) (next : List ℕ → ℕ → List ℕ × ℕ) (cut list : List ℕ)
+    (marks : MarkedCallers)
     (places : List Place) → MarksSuffice book next cut list marks
     → AreChosen book next cut list marks (length book) places → (few : ℕ) (rest : List Place)
     → length rest ≤ few → Continues book next cut list rest → GoesOnBy book next cut list places

@@ -260,7 +260,8 @@ module _ (init : List ℕ) (next : List ℕ → ℕ → List ℕ × ℕ) where
     length-append is.prefix.places.items is.rest,
   )
 
-  mark_wide : (book : List Page) (order : List Place) (m : OrderMark) → IsMark init next book order m
+  mark_wide : (book : List Page) (order : List Place) (m : OrderMark)
+      → IsMark init next book order m
       → IsAsWide book m
   mark_wide book order m is = (
     ap (λ (c : List ℕ). length c) (sym is.cut) ∙ (is.put.stands.wide ∙ sym is.grown.callers),
@@ -268,7 +269,8 @@ module _ (init : List ℕ) (next : List ℕ → ℕ → List ℕ × ℕ) where
         ∙ (length-map is.earlier (λ (p : Page). length p.records) ∙ sym is.grown.callers),
   )
 
-  mark_fits : (book : List Page) (order : List Place) (m : OrderMark) → IsMark init next book order m
+  mark_fits : (book : List Page) (order : List Place) (m : OrderMark)
+      → IsMark init next book order m
       → length m.words.items ≤ CAPACITY
   mark_fits book order m is = omega (
     arith,
@@ -311,7 +313,8 @@ module _ (init : List ℕ) (next : List ℕ → ℕ → List ℕ × ℕ) where
   marks_longer book order more least (m ∷ ms) (low, is, later) =
       (low, mark_longer book order more m is, marks_longer book order more m.len ms later)
 
-  marks_more : (book : List Page) (order : List Place) (least : ℕ) (ms : List OrderMark) (m : OrderMark)
+  marks_more : (book : List Page) (order : List Place) (least : ℕ) (ms : List OrderMark)
+      (m : OrderMark)
       → IsMark init next book order m → m.len ≡ length order → least ≤ length order
       → AreMarks init next book order least ms → AreMarks init next book order least (ms ++ m ∷ [])
   marks_more book order least [] m is here low h = (omega (arith, here, low), is, tt)
@@ -326,7 +329,8 @@ module _ (init : List ℕ) (next : List ℕ → ℕ → List ℕ × ℕ) where
   marks_push book prefix ms m put e h = marks_more book prefix.places.items 0 ms m
       (mark_here book prefix m put e) e.len (omega arith) h
 
-  marks_at : (book : List Page) (order : List Place) (least : ℕ) (ms : List OrderMark) (k : ℕ) (m : OrderMark)
+  marks_at : (book : List Page) (order : List Place) (least : ℕ) (ms : List OrderMark) (k : ℕ)
+      (m : OrderMark)
       → k < length ms → m ≡ get_or ms k m → AreMarks init next book order least ms
       → (least ≤ m.len) × IsMark init next book order m
   marks_at book order least [] k m low is h = absurd (omega (arith, low))
@@ -342,8 +346,11 @@ module _ (init : List ℕ) (next : List ℕ → ℕ → List ℕ × ℕ) where
       (m : OrderMark) → k < length ms → m ≡ get_or ms k m → AreMarks init next book order least ms
       → AreMarks init next book (take m.len order) least (take (suc k) ms)
   marks_cut book order least [] k m low is h = absurd (omega (arith, low))
-  marks_cut book order least (x ∷ ms) zero m low is (le, first, later) =
-      (le, mark_shorter book order m.len x (omega (arith, ap (λ (y : OrderMark). y.len) is)) first, tt)
+  marks_cut book order least (x ∷ ms) zero m low is (le, first, later) = (
+    le,
+    mark_shorter book order m.len x (omega (arith, ap (λ (y : OrderMark). y.len) is)) first,
+    tt,
+  )
   marks_cut book order least (x ∷ ms) (suc k) m low is (le, first, later) =
       let found = marks_at book order x.len ms k m (omega (arith, low)) is later in (
         le,
@@ -354,21 +361,24 @@ module _ (init : List ℕ) (next : List ℕ → ℕ → List ℕ × ℕ) where
   -- The cut and the numbers of records of each mark of an order have one count for each caller of
   -- the book.
   pub marks_wide : (book : List Page) (order : List Place) (ms : List OrderMark)
-      → AreMarks init next book order 0 ms → (k : ℕ) (m : OrderMark) → k < length ms → m ≡ get_or ms k m
+      → AreMarks init next book order 0 ms → (k : ℕ) (m : OrderMark) → k < length ms
+      → m ≡ get_or ms k m
       → IsAsWide book m
   marks_wide book order ms h k m low is =
       mark_wide book order m (marks_at book order 0 ms k m low is h).1
 
   -- Each mark of an order counts no more places than the order has, and its words fit the capacity.
   pub marks_fit : (book : List Page) (order : List Place) (ms : List OrderMark)
-      → AreMarks init next book order 0 ms → (k : ℕ) (m : OrderMark) → k < length ms → m ≡ get_or ms k m
+      → AreMarks init next book order 0 ms → (k : ℕ) (m : OrderMark) → k < length ms
+      → m ≡ get_or ms k m
       → (m.len ≤ length order) × (length m.words.items ≤ CAPACITY)
   marks_fit book order ms h k m low is =
       let found = (marks_at book order 0 ms k m low is h).1 in
       (mark_low book order m found, mark_fits book order m found)
 
   -- The marks up to one of them, and that one with them, are marks of the places before it.
-  pub marks_taken : (book : List Page) (order places : List Place) (ms some : List OrderMark) (k : ℕ)
+  pub marks_taken : (book : List Page) (order places : List Place)
+      (ms some : List OrderMark) (k : ℕ)
       (m : OrderMark) → k < length ms → m ≡ get_or ms k m → AreMarks init next book order 0 ms
       → places ≡ take m.len order → some ≡ take (k + 1) ms → AreMarks init next book places 0 some
   marks_taken book order places ms some k m low is h prefix fewer =
@@ -379,7 +389,8 @@ module _ (init : List ℕ) (next : List ℕ → ℕ → List ℕ × ℕ) where
 
   -- A prefix is put where its places are those before a mark which may still begin an order of the
   -- book, and its cut and its list are those of the mark.
-  pub mark_resumed : (book : List Page) (order : List Place) (ms : List OrderMark) (k : ℕ) (m : OrderMark)
+  pub mark_resumed : (book : List Page) (order : List Place) (ms : List OrderMark) (k : ℕ)
+      (m : OrderMark)
       (new : Prefix) → IsValid book → IsSmall book → k < length ms → m ≡ get_or ms k m
       → AreMarks init next book order 0 ms → StillStands book m
       → new.places.items ≡ take m.len order → new.cut ≡ m.cut → new.here.words ≡ m.words.items
@@ -397,7 +408,8 @@ module _ (init : List ℕ) (next : List ℕ → ℕ → List ℕ × ℕ) where
       small is.put
       (places ∙ taken) (cut ∙ sym is.cut) (words ∙ sym is.words)
 
-  marks_lower : (book : List Page) (order : List Place) (least most : ℕ) (ms : List OrderMark) → least
+  marks_lower : (book : List Page) (order : List Place) (least most : ℕ) (ms : List OrderMark)
+      → least
       ≤ most → AreMarks init next book order most ms → AreMarks init next book order least ms
   marks_lower book order least most [] low h = tt
   marks_lower book order least most (m ∷ ms) low (le, is, later) =

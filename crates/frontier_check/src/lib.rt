@@ -1,13 +1,13 @@
 //! The search for a legal order of a book: `check` finds one, or says that the book has none.
 #![tactic(auto)]
 
+mod call_turns;
 mod choice;
 mod fresh;
 mod guess;
 mod guide;
 mod kept_order;
 mod memo;
-mod call_turns;
 mod prefix;
 mod remaining;
 mod resume;

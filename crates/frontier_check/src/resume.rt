@@ -39,7 +39,8 @@ fn still_stands(book: &Book, mark: &OrderMark) -> bool
 // The index of the last mark for which the places before it may still begin an order of a book, if
 // there is such a mark.
 fn last_standing(book: &Book, marks: &[OrderMark]) -> Option<usize>
-    requires { (k : ℕ) (mark : OrderMark) → k < length marks.now → mark ≡ slice_index_or marks.now k mark
+    requires { (k : ℕ) (mark : OrderMark) → k < length marks.now
+        → mark ≡ slice_index_or marks.now k mark
         → IsAsWide book.now mark }
     ensures within { IfSome result (λ k. k < length marks.now) }
     ensures stands { IfSome result (λ k. (mark : OrderMark) → mark ≡ slice_index_or marks.now k mark

@@ -11,13 +11,15 @@ ghost use Rattle.frontier_check.specs.Prefix.{IsPrefix};
 ghost use Rattle.book_base.specs.Pruning.{HasOneOpen, IsLeast, IsDeadEnd, MarksAllNext, ViewsAreWithin, IsReached, StandsAtOnce};
 ghost use Rattle.frontier_check.specs.Search.{places_of, AreToTry, IsOneMore, IsOpen, IsWalk, IsRightOutcome, IsRankIn, MayGrow, weigh, weight};
 
+use crate::call_turns::CallTurns;
 use crate::choice::Choice;
 use crate::memo::Memo;
-use crate::call_turns::CallTurns;
 use crate::prefix::Prefix;
 use crate::twins::choose;
 use crate::walk::{CAPACITY, StepOutcome, Walk, WalkFrame, load, places, set_count};
-use book_base::{Book, Call, Cut, MarkedCallers, NoMemory, Place, PruningRules, SeqObject, Sight, State};
+use book_base::{
+    Book, Call, Cut, MarkedCallers, NoMemory, Place, PruningRules, SeqObject, Sight, State,
+};
 use next_calls::{all_next, cut_of, first_view, least_open};
 use std::alloc::Global;
 use std::mem;

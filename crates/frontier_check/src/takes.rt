@@ -230,6 +230,7 @@ fn is_first_out<S: SeqObject>(
         return false;
     };
     object.reset(spare);
-    let put = checked_step(object, spare, first).is_some() && checked_step(object, spare, second).is_some();
+    let put = checked_step(object, spare, first).is_some()
+        && checked_step(object, spare, second).is_some();
     put && checked_step(object, spare, take) == Some(shown)
 }

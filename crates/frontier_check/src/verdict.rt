@@ -7,10 +7,10 @@ ghost use Rattle.frontier_check.specs.Standing.{AreMarks, IsStandingFor};
 ghost use Rattle.frontier_check.specs.Verdict.{IsRight, KeepsLastOrder};
 ghost use Rattle.frontier_check.specs.declared.walk.TheConstants.{CAPACITY};
 
+use crate::call_turns::CallTurns;
 use crate::fresh::{calls_after, holds_answered, put_fresh};
 use crate::guide::Guide;
 use crate::kept_order::{KeptOrder, OrderMark};
-use crate::call_turns::CallTurns;
 use crate::prefix::{Prefix, answers_in, leaves_open, limit_of};
 use crate::remaining::decided_after;
 use crate::resume::resume;

@@ -80,7 +80,10 @@ fn next_in(table: &mut TableHandle, given: (Global, CallerRole)) -> Result<Optio
 
 // The handle, and what it gives where it is a table's: the handle in this role of the table's next
 // caller, where one is left.
-fn given_by(handle: Handle, given: (Global, CallerRole)) -> (Handle, Result<Option<Handle>, NoMemory>)
+fn given_by(
+    handle: Handle,
+    given: (Global, CallerRole),
+) -> (Handle, Result<Option<Handle>, NoMemory>)
     requires sound { IsSound handle }
     ensures sound { IsSound result.0 }
     ensures when { IfOk result.1 (λ found. IsSome found ↔ MayGive (Some handle)) }
@@ -125,7 +128,12 @@ fn filled(mut place: Box<Handle>, handle: Handle) -> Box<Handle>
 /// Puts the handle in this role of the next caller of a table into the slot. The answer is whether
 /// it does; it doesn't where the first slot has no table, where this table has given all its
 /// callers, or where the second slot has a handle.
-pub fn give(alloc: Global, role: CallerRole, table: &mut Slot, slot: &mut Slot) -> Result<bool, NoMemory>
+pub fn give(
+    alloc: Global,
+    role: CallerRole,
+    table: &mut Slot,
+    slot: &mut Slot,
+) -> Result<bool, NoMemory>
     // The answer is true exactly where the first slot has a table with a caller left to give, and
     // the second slot had no handle.
     ensures when { IfOk result (λ done. IsTrue done ↔

@@ -71,6 +71,13 @@ fn picture(alloc: Global, kind: Kind, witness: &Book) -> Result<Vec<u8>, NoMemor
     ensures { IfOk result (λ text. IsSmallerPicture kind witness.now text.items) }
 {
     let book = smaller(alloc, kind, witness)?;
-    let text = draw_book(alloc, kind, &book, &Verdict::Illegal, &MarkedCalls::Unasked, None)?;
+    let text = draw_book(
+        alloc,
+        kind,
+        &book,
+        &Verdict::Illegal,
+        &MarkedCalls::Unasked,
+        None,
+    )?;
     Ok(text.into_bytes())
 }

@@ -12,7 +12,7 @@ use crate::shown::Shown;
 use book_base::NoMemory;
 use byte_streams::{Sink, Status, write_text};
 use drv_wrapper::{BlackBox, ObjectPass};
-use hunts::{Maker, Settings, Onlooker, hunt};
+use hunts::{Maker, Onlooker, Settings, hunt};
 use std::alloc::Global;
 use std::thread::Threads;
 
@@ -28,7 +28,13 @@ struct Output {
 
 /// Hunts over the objects that a maker makes, and writes what is to be shown of the catch, or that
 /// no run had an error.
-pub fn hunt_and_write<R: Threads + Sync, B: BlackBox + Sync + Drop, M: Maker<B>, W: Onlooker, K: Sink>(
+pub fn hunt_and_write<
+    R: Threads + Sync,
+    B: BlackBox + Sync + Drop,
+    M: Maker<B>,
+    W: Onlooker,
+    K: Sink,
+>(
     rt: &R,
     alloc: Global,
     maker: &M,

@@ -7,7 +7,7 @@ use crate::hunting::hunt_and_write;
 use crate::shown::Shown;
 use byte_streams::{Status, StdSink, write_text};
 use drv_wrapper::{BlackBox, ObjectPass};
-use hunts::{Maker, Settings, Onlooker};
+use hunts::{Maker, Onlooker, Settings};
 use reports::Counts;
 use std::env;
 use std::io::ErrorKind;

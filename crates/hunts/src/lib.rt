@@ -6,13 +6,13 @@ mod maker;
 mod noise;
 mod noisy;
 mod once;
+mod onlooker;
 mod runs;
 mod trial;
-mod onlooker;
 
 pub use maker::Maker;
 pub use noise::{Loudness, Noise};
 pub use noisy::Noisy;
+pub use onlooker::{Onlooker, Unwatched};
 pub use runs::{Hunted, Settings, hunt};
 pub use trial::Catch;
-pub use onlooker::{Unwatched, Onlooker};

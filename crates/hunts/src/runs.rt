@@ -7,8 +7,8 @@ ghost use Rattle.hunts.specs.Watching.{Hears};
 
 use crate::maker::Maker;
 use crate::noise::Loudness;
-use crate::trial::{Catch, run_seed};
 use crate::onlooker::Onlooker;
+use crate::trial::{Catch, run_seed};
 use book_base::NoMemory;
 use drv_wrapper::{BlackBox, ObjectPass};
 use random_scripts::Workload;

@@ -79,7 +79,8 @@ cells_hold_the_last history lawful =
     holds_from 0 history (lawful_allowed cell_may [] history lawful)
 
 -- the reply to an increment, and that to a read
-pub counted_reply : (who found reply : ℕ) (before after : List Access) → IsLawfulHistory tally_may after
+pub counted_reply : (who found reply : ℕ) (before after : List Access)
+    → IsLawfulHistory tally_may after
     → IsAfterAccess who (Added 0 1 found) before after → reply ≡ reply_value found
     → IsCounted who reply after
 counted_reply who found reply before after lawful made told =

@@ -125,7 +125,8 @@ module _ (init : List ℕ) (next : List ℕ → ℕ → List ℕ × ℕ) (n cap 
       let place : Option ℕ = placed_at total (ticket_of number) (steps_now me) in
       let allowed : known_reply next init total (operation_now me) (all_steps_of me) place
       ≡ Some answer =
-      reply_is (known_reply next init total (operation_now me) (all_steps_of me) place) answer may in
+      reply_is (known_reply next init total (operation_now me) (all_steps_of me) place)
+      answer may in
       elim (cases_Option place) [
         | inl none ↦ absurd (none-some answer (sym
             (ap (known_reply next init total (operation_now me) (all_steps_of me)) none) ∙ allowed))

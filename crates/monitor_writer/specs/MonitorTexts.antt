@@ -29,7 +29,8 @@ IsAnswerOutput kind answer status text = IsAnswerText kind answer text × (statu
 
 -- The book of all records that these callers have published has a legal order, for this kind.
 abbrev pub HasLegalRecords : Kind → List Local → Type 0
-HasLegalRecords kind locals = HasLegalOrder (kind_init kind) (kind_next kind) (published_book locals)
+HasLegalRecords kind locals =
+    HasLegalOrder (kind_init kind) (kind_next kind) (published_book locals)
 
 -- The text and the status that are written of these callers' calls: that the book of all published
 -- records has a legal order; or that it has none, and after that the text of the book of a witness.

@@ -83,7 +83,8 @@ answered_to object n l (c ∷ calls) (x ∷ own) (suc m) rest h e zero line ther
     (recorded object n l c.reached x.end h.0.end
     (same_Some (mark_of c.reached) Seen (ap (λ (ms : List CallMark). slice_get ms 0) e)))
 answered_to object n l (c ∷ calls) (x ∷ own) (suc m) rest h e (suc k) line there low =
-    answered_to object n l calls own m rest h.1 (ap (λ (ms : List CallMark). drop 1 ms) e) k line there
+    answered_to object n l calls own m rest h.1
+    (ap (λ (ms : List CallMark). drop 1 ms) e) k line there
     (omega (arith, low))
 
 -- each line but the last has its record

@@ -10,8 +10,8 @@ mod form;
 mod mutate;
 mod older;
 mod pieces;
-mod samples;
 mod reading_counts;
+mod samples;
 mod words;
 
 use anyhow::{Context, Result};
@@ -19,12 +19,12 @@ use form::TextForm;
 use mutate::{mutate, pick};
 use rand_core::SeedableRng;
 use rand_xoshiro::Xoshiro256PlusPlus;
+use reading_counts::ReadingCounts;
 use samples::SAMPLES;
 use std::alloc::Global;
 use std::env;
 use std::process::ExitCode;
 use std::rt::Env;
-use reading_counts::ReadingCounts;
 
 /// What the command words say.
 #[derive(Drop)]

@@ -293,7 +293,8 @@ marked-skip book cut caller marks h not i = (
   ],
 )
 
-pub marked-all : (book : List Page) (cut : List ℕ) (below : ℕ) (marks : MarkedCallers) → below ≡ length book
+pub marked-all : (book : List Page) (cut : List ℕ) (below : ℕ) (marks : MarkedCallers)
+    → below ≡ length book
     → MarksNextBelow book cut below marks → MarksAllNext book cut marks
 marked-all book cut below marks is h i = (
   λ marked. ((h i).0 marked).1,

@@ -153,7 +153,8 @@ first_fault init next book order p fault inside in_place given h = record {
 -- another reply than the object's is the first fault of a place whose call is in place
 pub run_first : (init : List ℕ) (next : List ℕ → ℕ → List ℕ × ℕ) (book : List Page)
     (order : List Place) (p : ℕ) (place : Place) (wanted : ℕ) → slice_get order p ≡ Some place
-    → IsInPlace book order p → wanted ≡ reply_after_places init next book order p place → wanted ≢ place.reply
+    → IsInPlace book order p → wanted ≡ reply_after_places init next book order p place
+    → wanted ≢ place.reply
     → IsFirstAt init next book order p (Run p wanted place.reply)
 run_first init next book order p place wanted at in_place is other =
     first_at init next book order p (Run p wanted place.reply) (slice_get_within order p place at)

@@ -15,7 +15,8 @@ abbrev pub list_before : List ℕ → (List ℕ → ℕ → List ℕ × ℕ) →
 list_before init next book order p = fold (list_after book next) init (take p order)
 
 -- the reply that the object gives to the operation of a place, after those of the first p places
-abbrev pub reply_after_places : List ℕ → (List ℕ → ℕ → List ℕ × ℕ) → List Page → List Place → ℕ → Place → ℕ
+abbrev pub reply_after_places : List ℕ → (List ℕ → ℕ → List ℕ × ℕ) → List Page → List Place
+    → ℕ → Place → ℕ
 reply_after_places init next book order p place =
     (next (list_before init next book order p) (step_at book place).0).1
 
@@ -44,7 +45,8 @@ FailsTest init next book order (Record p wanted found) = (place : Place) × (r :
 -- the object gives another reply at place p than the place has
 FailsTest init next book order (Run p wanted found) = (place : Place)
     × (slice_get order p ≡ Some place)
-    × (wanted ≡ reply_after_places init next book order p place) × (found ≡ place.reply) × (wanted ≢ found)
+    × (wanted ≡ reply_after_places init next book order p place) × (found ≡ place.reply)
+    × (wanted ≢ found)
 -- the call is answered, and stands at no place
 FailsTest init next book order (Missing caller number) =
     let call : Call = record { caller = caller; number = number } in

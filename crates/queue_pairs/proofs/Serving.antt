@@ -155,7 +155,8 @@ find-idle reading book s m steps turn none are =
 
 -- Steps that begin with takes that find nothing lead to a whole standing also from where some of
 -- these takes, those of an earlier moment, are covered.
-pub find-earlier : (reading : Reading) (book : List Page) (s : Paired) (g m : ℕ) (steps : List PairStep)
+pub find-earlier : (reading : Reading) (book : List Page) (s : Paired) (g m : ℕ)
+    (steps : List PairStep)
     → s.found ≤ g → g ≤ m
     → AreSteps reading book s (FindNothing m ∷ steps)
     → AreSteps reading book (after s (FindNothing g)) (FindNothing m ∷ steps)
@@ -277,7 +278,8 @@ put-due reading book s (FindNothing m ∷ steps) p r turn are put known out =
 
 -- An answered take that shows a value and isn't covered isn't overdue, where steps lead to a whole
 -- standing.
-pub take-due : (reading : Reading) (book : List Page) (s : Paired) (steps : List PairStep) (t : Call)
+pub take-due : (reading : Reading) (book : List Page) (s : Paired)
+    (steps : List PairStep) (t : Call)
     (v : ℕ) (r : Record) → AreSteps reading book s steps
     → deal_of reading book t ≡ deals.Took v → record_of book t ≡ Some r
     → get_or s.takes t.caller 0 ≤ t.number → s.take_moment ≤ moment_of r
@@ -304,7 +306,8 @@ take-due reading book s (FindNothing m ∷ steps) t v r are took known out =
     )
 
 -- A take that finds nothing and isn't covered isn't overdue, where steps lead to a whole standing.
-pub find-due : (reading : Reading) (book : List Page) (s : Paired) (steps : List PairStep) (e : Call)
+pub find-due : (reading : Reading) (book : List Page) (s : Paired)
+    (steps : List PairStep) (e : Call)
     (r : Record) → IsValid book → AreSteps reading book s steps
     → deal_of reading book e ≡ deals.FoundNothing → record_of book e ≡ Some r
     → (IsHeldBy book e s.found → ⊥) → s.take_moment ≤ moment_of r

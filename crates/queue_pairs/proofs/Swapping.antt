@@ -261,7 +261,8 @@ takes-end reading book s t p w h whole = let k = h.places in record {
 
 -- An answered take that isn't covered is due no earlier than the last take so far, where steps lead
 -- to a whole standing.
-take-in-time : (reading : Reading) (book : List Page) (s : Paired) (steps : List PairStep) (p : Call)
+take-in-time : (reading : Reading) (book : List Page) (s : Paired)
+    (steps : List PairStep) (p : Call)
     (o : Record) → AreSteps reading book s steps → IsTake reading book p
     → record_of book p ≡ Some o → get_or s.takes p.caller 0 ≤ p.number
     → s.take_moment ≤ moment_of o

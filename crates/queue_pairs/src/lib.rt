@@ -19,7 +19,7 @@ pub use search::{PairSearch, PairsFound};
 pub use standing::PairState;
 pub use surplus::Surplus;
 pub use table::{QueueDeal, Table, TimedCall};
-pub use walk::{StepChoice, PairFrame, PairWalk, PairStep};
+pub use walk::{PairFrame, PairStep, PairWalk, StepChoice};
 
 /// A moment later than all others, which no call has: a view counts at most the calls of all
 /// callers.

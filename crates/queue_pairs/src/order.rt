@@ -2,7 +2,7 @@ ghost use Rattle.std.specs.Prelude.{◌↔◌, IsTrue};
 ghost use Rattle.book_base.specs.Book.{IsCall};
 
 use crate::table::{QueueDeal, Table, TimedCall};
-use crate::walk::{StepChoice, PairWalk, PairStep};
+use crate::walk::{PairStep, PairWalk, StepChoice};
 use book_base::{Book, Call, MAX_CALLERS, MAX_CALLS, NoMemory, Place, SeqObject, State};
 use std::alloc::Global;
 
@@ -48,7 +48,11 @@ pub fn calls_in_order(
 }
 
 // Adds the calls of a step.
-fn add_step(table: &Table, choice: StepChoice, events: &mut Vec<CallAtMoment>) -> Result<(), NoMemory> {
+fn add_step(
+    table: &Table,
+    choice: StepChoice,
+    events: &mut Vec<CallAtMoment>,
+) -> Result<(), NoMemory> {
     match choice.step {
         PairStep::Pair(pair) => {
             events.push(CallAtMoment {

@@ -3,7 +3,7 @@ use crate::next_entries::{NextEntries, TimedPair};
 use crate::standing::PairState;
 use crate::surplus::Surplus;
 use crate::table::{QueueDeal, Table, TimedCall};
-use crate::walk::{StepChoice, PairWalk, PairStep};
+use crate::walk::{PairStep, PairWalk, StepChoice};
 use book_base::{MAX_CALLERS, NoMemory};
 use indexmap::IndexSet;
 use std::alloc::Global;

@@ -109,7 +109,8 @@ due-put : (reading : Reading) (book : List Page) (v m : ℕ) (t : TimedCall)
     → (r : Record) × IsPut reading book t.call × (record_of book t.call ≡ Some r)
     × (moment_of r ≤ m)
 due-put reading book v m t timed told few =
-    let parts : (puts_one (listed (v ∷ [])) t.deal ≡ true) × (nat_le t.span.last m ≡ true) = both _ _ told in
+    let parts : (puts_one (listed (v ∷ [])) t.deal ≡ true) × (nat_le t.span.last m ≡ true) =
+    both _ _ told in
     let low : t.span.last ≤ m = leb-true t.span.last m parts.1 in
     let there = answered-last reading book t timed (omega (arith, low, few)) in
     let put : deal_of reading book t.call ≡ deals.Put v
@@ -121,7 +122,8 @@ due-take : (reading : Reading) (book : List Page) (v n : ℕ) (t : TimedCall)
     → (r : Record) × (deal_of reading book t.call ≡ deals.Took v) × (record_of book t.call ≡ Some r)
     × (moment_of r ≤ n)
 due-take reading book v n t timed told few =
-    let parts : (shows_one (listed (v ∷ [])) t.deal ≡ true) × (nat_le t.span.last n ≡ true) = both _ _ told in
+    let parts : (shows_one (listed (v ∷ [])) t.deal ≡ true) × (nat_le t.span.last n ≡ true) =
+    both _ _ told in
     let low : t.span.last ≤ n = leb-true t.span.last n parts.1 in
     let there = answered-last reading book t timed (omega (arith, low, few)) in
     let took : deal_of reading book t.call ≡ deals.Took v
@@ -132,10 +134,12 @@ due-take reading book v n t timed told few =
 early-put : (v m : ℕ) (t : TimedCall) → t.deal ≡ did.Put v
     → (is_counted counted.EarlyPuts (v ∷ []) m t ≡ true) ⊎ (m < t.span.first)
 early-put v m t is =
-    let put : puts_one (listed (v ∷ [])) t.deal ≡ true = ap (puts_one (listed (v ∷ []))) is ∙ is-listed v in
+    let put : puts_one (listed (v ∷ [])) t.deal ≡ true =
+    ap (puts_one (listed (v ∷ []))) is ∙ is-listed v in
     elim (cases_lt m t.span.first) [
       | inl later ↦ inr later
-      | inr low ↦ inl (cond-true (puts_one (listed (v ∷ [])) t.deal) _ false put ∙ le-leb t.span.first m low)
+      | inr low ↦ inl
+          (cond-true (puts_one (listed (v ∷ [])) t.deal) _ false put ∙ le-leb t.span.first m low)
     ]
 
 early-take : (v n : ℕ) (t : TimedCall) → (t.deal ≡ did.Took v) ⊎ (t.deal ≡ did.OpenTake)
@@ -147,7 +151,8 @@ early-take v n t is =
     ] in
     elim (cases_lt n t.span.first) [
       | inl later ↦ inr later
-      | inr low ↦ inl (cond-true (may_take_one (listed (v ∷ [])) t.deal) _ false take ∙ le-leb t.span.first n low)
+      | inr low ↦ inl (cond-true (may_take_one (listed (v ∷ [])) t.deal) _ false take
+          ∙ le-leb t.span.first n low)
     ]
 
 bit-le : (a b : Bool) → (a ≡ true → b ≡ true) → bit a ≤ bit b
@@ -231,7 +236,8 @@ counted-off reading book table s pair v u m n is wide_puts wide_takes may e = re
       (is_counted counted.DueTakes (v ∷ []) n) s.takes pair.take e.take is (takes-read reading book)
       (due-takes-take v n) may.take e.take_at (omega (arith, e.take_inside, wide_takes));
   early_takes = left-next reading book table is_take (IsTake reading book)
-      (is_counted counted.EarlyTakes (u ∷ []) n) s.takes pair.take e.take is (takes-read reading book)
+      (is_counted counted.EarlyTakes (u ∷ []) n) s.takes pair.take e.take is
+      (takes-read reading book)
       (early-takes-take u n) may.take e.take_at (omega (arith, e.take_inside, wide_takes));
 }
 
@@ -284,7 +290,8 @@ take-in-time : (reading : Reading) (book : List Page) (table : Table) (v n : ℕ
     → AreSteps reading book s (Pairs pair ∷ steps)
     → 0 < left_in (is_counted counted.DueTakes (v ∷ []) n) table s.takes → n < pair.take_moment → ⊥
 take-in-time reading book table v n s pair steps is few are more later =
-    let there = left-some reading book table (is_counted counted.DueTakes (v ∷ []) n) s.takes is more in
+    let there =
+    left-some reading book table (is_counted counted.DueTakes (v ∷ []) n) s.takes is more in
     let due = due-take reading book v n there.0 there.1 there.3 few in
     omega (
       arith,
@@ -299,7 +306,8 @@ put-in-time : (reading : Reading) (book : List Page) (table : Table) (u m : ℕ)
     → AreSteps reading book s (Pairs pair ∷ steps)
     → 0 < left_in (is_counted counted.DuePuts (u ∷ []) m) table s.puts → m < pair.put_moment → ⊥
 put-in-time reading book table u m s pair steps is few are more later =
-    let there = left-some reading book table (is_counted counted.DuePuts (u ∷ []) m) s.puts is more in
+    let there =
+    left-some reading book table (is_counted counted.DuePuts (u ∷ []) m) s.puts is more in
     let due = due-put reading book u m there.0 there.1 there.3 few in
     omega (
       arith,
@@ -403,7 +411,8 @@ takes_follow_puts reading book table v u m n is has few_m few_n takes =
 -- ---- tables
 
 -- where takes are ahead, a table's book has no pairs
-pub takes-refute : (table : Table) (v u m n : ℕ) → m < NEVER → n < NEVER → TakesAhead table (v ∷ []) m n
+pub takes-refute : (table : Table) (v u m n : ℕ) → m < NEVER → n < NEVER
+    → TakesAhead table (v ∷ []) m n
     → (n ≤ m) ⊎ PutsAhead table (u ∷ []) m n → HasNoPairs table
 takes-refute table v u m n few_m few_n takes puts reading book is has =
     let law = takes_follow_puts reading book table v u m n is has few_m few_n takes in

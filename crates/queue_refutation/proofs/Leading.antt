@@ -200,7 +200,8 @@ serve-take reading book s pair p m steps valid one wide are deal next low turn e
     ]
 
 -- Where steps begin with a pair, as many begin with one that serves for it.
-served : (reading : Reading) (book : List Page) (s : Paired) (pair other : Pair) (steps : List PairStep)
+served : (reading : Reading) (book : List Page) (s : Paired) (pair other : Pair)
+    (steps : List PairStep)
     → IsValid book → HasOneOpen book
     → length book ≤ length s.puts → length book ≤ length s.takes
     → PairServesFor reading book s other pair → AreSteps reading book s (Pairs pair ∷ steps)
@@ -361,7 +362,8 @@ find-step-due reading book s m steps e r valid are nothing known out =
     ]
 
 -- no call is overdue at the moment of a step of takes that find nothing, or before
-find-not-overdue : (reading : Reading) (book : List Page) (s : Paired) (m g : ℕ) (steps : List PairStep)
+find-not-overdue : (reading : Reading) (book : List Page) (s : Paired) (m g : ℕ)
+    (steps : List PairStep)
     → IsValid book → g ≤ m → AreSteps reading book s (FindNothing m ∷ steps)
     → IsOverdue reading book s g g → ⊥
 find-not-overdue reading book s m g steps valid low are overdue =

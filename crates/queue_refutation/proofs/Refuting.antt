@@ -30,7 +30,8 @@ latest-bounds (t ∷ standings) (suc k) s at = omega (arith, latest-bounds stand
 -- fewer do, by induction on the moments that are left for takes that find nothing
 dead-within : (reading : Reading) (book : List Page) (standings : List Paired) (few more : ℕ)
     → IsValid book → HasOneOpen book → AreClosed reading book standings
-    → ((s : Paired) (steps : List PairStep) → IsOnePaired standings s → AreSteps reading book s steps
+    → ((s : Paired) (steps : List PairStep) → IsOnePaired standings s
+    → AreSteps reading book s steps
     → length steps < few → ⊥)
     → (s : Paired) (steps : List PairStep) → IsOnePaired standings s → AreSteps reading book s steps
     → length steps ≤ few → latest standings ≤ s.found + more → ⊥

@@ -25,8 +25,8 @@ struct ValueMoments {
     early_takes: Vec<u64>,
 }
 
-/// Whether counts of calls show that a queue's book has no legal order: takes of one value are ahead
-/// of its puts while puts of another one are ahead of its takes, which no queue allows.
+/// Whether counts of calls show that a queue's book has no legal order: takes of one value are
+/// ahead of its puts while puts of another one are ahead of its takes, which no queue allows.
 ///
 /// The moments at which to count are found by lists of moments, which aren't trusted: the calls are
 /// counted once more at these moments.

@@ -22,14 +22,16 @@ marks_of-with_last : (further : Reached → Reached) (before after : CallMark)
     → (prefix : List CallMark) (calls : List Made) → marks_of calls
     ≡ prefix ++ before ∷ [] → marks_of (with_last further calls) ≡ prefix ++ after ∷ []
 marks_of-with_last further before after turns prefix [] e =
-    absurd (omega (arith, ap (λ (ms : List CallMark). length ms) e, length-append prefix (before ∷ [])))
+    absurd
+    (omega (arith, ap (λ (ms : List CallMark). length ms) e, length-append prefix (before ∷ [])))
 marks_of-with_last further before after turns [] (c ∷ []) e =
     let own : mark_of c.reached ≡ before = cc in
     ap (λ (m : CallMark). m ∷ []) (turns c.reached own)
 marks_of-with_last further before after turns [] (c ∷ d ∷ calls) e =
     absurd (omega (arith, ap (λ (ms : List CallMark). length ms) e))
 marks_of-with_last further before after turns (m ∷ prefix) (c ∷ []) e =
-    absurd (omega (arith, ap (λ (ms : List CallMark). length ms) e, length-append prefix (before ∷ [])))
+    absurd
+    (omega (arith, ap (λ (ms : List CallMark). length ms) e, length-append prefix (before ∷ [])))
 marks_of-with_last further before after turns (m ∷ prefix) (c ∷ d ∷ calls) e =
     let own : mark_of c.reached ≡ m = cc in
     let rest : marks_of (d ∷ calls) ≡ prefix ++ before ∷ [] = cc in

@@ -123,7 +123,8 @@ sound-none counts =
 module _ (kind : Kind) (counts : List ℕ) (told : List Line) (line : Line) (call : Call)
     (words : List (List ℕ)) (stand : StandBefore counts told call.caller call.number)
     (lt : call.number < get_or counts call.caller 0)
-    (says : SaysLine kind (length counts) call words line) (fits : FitsEarlier counts told call line)
+    (says : SaysLine kind (length counts) call words line)
+    (fits : FitsEarlier counts told call line)
     (s : IsSound counts told) where
   abbrev lines : List (List Line)
   lines = grouped counts told

@@ -31,7 +31,8 @@ module _ (bytes : List ℕ) (kind : Kind) (calls : List ℕ) (new a : Unread)
   module _ (lines : List (List Line)) (b : Unread) (body : AreAllRead kind calls a lines b) where
     pub goes_to_end_line : GoesTo report_rules (InHead TitleDue) (whole_text bytes)
         (InLines kind calls (joined lines) []) b
-    goes_to_end_line = goes_then report_rules (InHead TitleDue) (InLines kind calls [] (all_calls 0 calls))
+    goes_to_end_line =
+        goes_then report_rules (InHead TitleDue) (InLines kind calls [] (all_calls 0 calls))
         (InLines kind calls (joined lines) []) (whole_text bytes) a b goes_to_lines body
 
     pub is_text_read : (left : Unread) → sizes lines ≡ calls → IsEnded b left
@@ -41,6 +42,7 @@ module _ (bytes : List ℕ) (kind : Kind) (calls : List ℕ) (new a : Unread)
         ap (λ (ns : List ℕ). grouped ns (joined lines)) (sym size) ∙ grouped-joined lines in
         let goes = goes_then report_rules (InHead TitleDue) (InLines kind calls (joined lines) [])
         (AtEnd (record { kind = kind; lines = grouped calls (joined lines) }))
-        (whole_text bytes) b left goes_to_end_line (report_ends kind calls (joined lines) b left end) in
+        (whole_text bytes) b left goes_to_end_line
+        (report_ends kind calls (joined lines) b left end) in
         subst (λ (ls : List (List Line)). IsReportText bytes (record { kind = kind; lines = ls }))
         groups (left, record { goes = goes; through = end.whole })

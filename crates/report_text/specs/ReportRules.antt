@@ -115,7 +115,8 @@ EndsTooEarly counts call line = (delivered_in line.end ≡ None)
     × (call.number + 1 < slice_index counts call.caller)
 
 -- A line fits the lines before it.
-pub record FitsEarlier (counts : List ℕ) (told : List Line) (call : Call) (line : Line) : Type 0 where
+pub record FitsEarlier (counts : List ℕ) (told : List Line) (call : Call)
+    (line : Line) : Type 0 where
   pub view : (r : Record) → records_of (reached_of line.end)
       ≡ r ∷ [] → MayAnswer (book_so_far counts told) call.caller r.view
   pub seen : (cut : List ℕ) → seen_in line.end ≡ Some cut

@@ -113,7 +113,8 @@ fits_back meaning r fits c l pass pass' who caller number same is h =
     rw (← caller.callers, ← caller.cap, ← number, same, is) h
 
 module _ {P T E : Type 0} (meaning : P → ℕ → ℕ → Meaning) (r : Rows P) (says : Says)
-    (object : E → Sequential) (fits : Fits T) (count : T → Option PassCount) (course : RunCourse) where
+    (object : E → Sequential) (fits : Fits T) (count : T → Option PassCount)
+    (course : RunCourse) where
   -- the client of a worker that has spent its phases
   pub spent_client : (i : ℕ) (w : Worker P T E) (c : Client P T E)
       → IsSpent meaning r says object fits count course i w → w.client ≡ Some c

@@ -36,7 +36,8 @@ goes_or_not (Halted c) = inr (λ goes. goes)
 goes_or_not (Unjudged u) = inr (λ goes. goes)
 
 module _ {P T E : Type 0} (meaning : P → ℕ → ℕ → Meaning) (r : Rows P) (says : Says)
-    (object : E → Sequential) (fits : Fits T) (count : T → Option PassCount) (course : RunCourse) where
+    (object : E → Sequential) (fits : Fits T) (count : T → Option PassCount)
+    (course : RunCourse) where
   abbrev Turned : ℕ → ℕ → Worker P T E → Type 0
   Turned i turns w = IsTurned meaning r says object fits count course i turns w
 
@@ -160,7 +161,8 @@ set_cases (z ∷ xs) (suc p) (suc j) y x there =
     ]
 
 module _ {P T E : Type 0} (meaning : P → ℕ → ℕ → Meaning) (r : Rows P) (says : Says)
-    (object : E → Sequential) (fits : Fits T) (count : T → Option PassCount) (course : RunCourse) where
+    (object : E → Sequential) (fits : Fits T) (count : T → Option PassCount)
+    (course : RunCourse) where
   abbrev Are : ℕ → List ℕ → List (Worker P T E) → Type 0
   Are n turns ws = AreDownFrom n
       (λ i w. IsTurned meaning r says object fits count course i (turns_of turns i) w) ws

@@ -238,7 +238,8 @@ one_sketch_text bytes text text' a b =
     ∙ ap (written b.kind b.book) events ∙ sym b.text_is
 
 one_drawing : (bytes : List ℕ) (status other : Status) (text text' : List ℕ)
-    → IsSketchOutput bytes status text → IsSketchOutput bytes other text' → (status ≡ other) × (text ≡ text')
+    → IsSketchOutput bytes status text → IsSketchOutput bytes other text' → (status ≡ other)
+    × (text ≡ text')
 one_drawing bytes Fine Fine text text' a b = (refl, one_sketch_text bytes text text' a b)
 one_drawing bytes Fine _ text text' a b = absurd b
 one_drawing bytes _ other text text' a b = absurd a

@@ -9,7 +9,9 @@ use crate::buffer::put;
 use crate::{ILLEGAL, LEGAL, NO_MEMORY, NO_ROOM};
 use book_base::{NoMemory, join};
 use call_handles::{CallAnswer, Judgement};
-use handle_slots::{CallerRole, Slot, announce, answered, close, give, judge, open, publish, witness};
+use handle_slots::{
+    CallerRole, Slot, announce, answered, close, give, judge, open, publish, witness,
+};
 use std::alloc::Global;
 
 /// The call did what it is for; where a reply was handed in and its call judged, the reply is
@@ -59,7 +61,8 @@ pub extern "C" fn selfcheck_caller(alloc: Global, table: &mut Slot, slot: &mut S
     // With `DONE` the slot has the handle of the table's next caller, which has made no call, and
     // the table gives the caller after it next.
     ensures given { result ≡ DONE →
-        HasGiven CallerRole.Caller (handle_in table.old) (handle_in table.new) (handle_in slot.new) }
+        HasGiven CallerRole.Caller (handle_in table.old) (handle_in table.new)
+        (handle_in slot.new) }
     // With `UNFIT` there is no table with a caller left to give, or the slot had a handle.
     ensures unfit { result ≡ UNFIT
         → ¬ (MayGive (handle_in table.old) × (handle_in slot.old ≡ None)) }
@@ -85,7 +88,8 @@ pub extern "C" fn selfcheck_monitor(alloc: Global, table: &mut Slot, slot: &mut 
     // With `DONE` the slot has the handle of the table's next caller, as a monitor that has made no
     // round, and the table gives the caller after it next.
     ensures given { result ≡ DONE →
-        HasGiven CallerRole.Monitor (handle_in table.old) (handle_in table.new) (handle_in slot.new) }
+        HasGiven CallerRole.Monitor (handle_in table.old) (handle_in table.new)
+        (handle_in slot.new) }
     // With `UNFIT` there is no table with a caller left to give, or the slot had a handle.
     ensures unfit { result ≡ UNFIT
         → ¬ (MayGive (handle_in table.old) × (handle_in slot.old ≡ None)) }

@@ -60,7 +60,8 @@ pub marked_is_call : (book : List Page) (cut : List ℕ) (marks : MarkedCallers)
     → MarksAllNext book cut marks → IsMarked marks i → IsCall book (next_call cut i)
 marked_is_call book cut marks i all marked = ((all i).0 marked).is_call
 
-pub kept-all : (book : List Page) (cut : List ℕ) (holds : ℕ → Type 0) (old new : MarkedCallers) (below : ℕ)
+pub kept-all : (book : List Page) (cut : List ℕ) (holds : ℕ → Type 0)
+    (old new : MarkedCallers) (below : ℕ)
     → MarksAllNext book cut old → length book ≤ below → KeptBelow holds old below new
     → (i : ℕ) → IsMarked new i ↔ (IsMarked old i × holds i)
 kept-all book cut holds old new below all wide h i = (

@@ -11,7 +11,9 @@ use crate::entry::{POP, PUSH, argument_of};
 use crate::items::take_last;
 use crate::kind::Kind;
 use crate::reply::{DONE, is_value, shown_value};
-use book_base::{BAD, Book, Cut, MarkedCallers, NoMemory, OpWord, PruningRules, SeqObject, Sight, State};
+use book_base::{
+    BAD, Book, Cut, MarkedCallers, NoMemory, OpWord, PruningRules, SeqObject, Sight, State,
+};
 use container_pruning::{Reader, Role, stack_pruning_rules};
 use stack_pruning::narrow_last_first;
 use std::alloc::Global;

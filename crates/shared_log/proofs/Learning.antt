@@ -14,7 +14,8 @@ module _ (n cap who found : ℕ) (tried : List ℕ) (h next : Hand)
     (l : Learns n cap who found tried h next) where
   standing : (l.entry.caller < n) × (length (calls_by l.entry.caller h.log) < cap)
   standing =
-      within_at n cap h.log [] l.entry (subst (λ (g : Hand). IsWithinCap n cap g.log) l.log l.within)
+      within_at n cap h.log [] l.entry
+      (subst (λ (g : Hand). IsWithinCap n cap g.log) l.log l.within)
 
   number_is : found - 1 ≡ number_after cap h.log l.entry
   number_is = let ticket = l.ticket in omega arith

@@ -116,7 +116,8 @@ All-suffix P [] ys h = h
 All-suffix P (x ∷ xs) ys h = All-suffix P xs ys (All-tail P x (xs ++ ys) h)
 
 -- a prefix of a log within bounds is within them
-pub within_prefix : (n cap : ℕ) (xs ys : List Entry) → IsWithinCap n cap (xs ++ ys) → IsWithinCap n cap xs
+pub within_prefix : (n cap : ℕ) (xs ys : List Entry) → IsWithinCap n cap (xs ++ ys)
+    → IsWithinCap n cap xs
 within_prefix n cap xs ys h =
     record {
       callers = All-prefix (λ (e : Entry). e.caller < n) xs ys h.callers;

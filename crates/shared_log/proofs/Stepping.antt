@@ -44,7 +44,8 @@ module _ (n cap slots id who : ℕ) (me : Me (Unit {0}) View) (h : Hand)
           log = r.log;
           stand = stage_stands n cap who t.words r.log h word x r.stand fits left few is;
           hands =
-              held_changed (HandFits n cap t.words r.log) (HandFits n cap (slice_set t.words word x) r.log)
+              held_changed (HandFits n cap t.words r.log)
+              (HandFits n cap (slice_set t.words word x) r.log)
               t.views id me.0 who h next r.hands at here
               (stage_fits n cap who t.words r.log h word x r.stand fits left few is)
               (stage_others n cap who t.words r.log h word x r.stand fits left few is);

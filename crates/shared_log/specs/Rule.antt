@@ -77,7 +77,8 @@ pub record Reads (cap word found : ℕ) (h next : Hand) : Type 0 where
 -- exchange, at this word.
 abbrev pub Finds : ℕ → ℕ → ℕ → ℕ → ℕ → Hand → Hand → Option Entry → Type 0
 Finds n cap who word op h next None =
-    (next ≡ hand (h.log ++ entry who op ∷ []) [] (h.tried ++ word ∷ [])) × IsWithinCap n cap next.log
+    (next ≡ hand (h.log ++ entry who op ∷ []) [] (h.tried ++ word ∷ []))
+    × IsWithinCap n cap next.log
 Finds n cap who word op h next (Some e) =
     (tried : List ℕ) × MayHaveTried word h.tried tried
     × (next ≡ hand (h.log ++ e ∷ []) h.staged tried) × (calls_by who next.log ≡ calls_by who h.log)

@@ -58,7 +58,8 @@ pub lawful_allowed : (may : ℕ → Deed → Type 0) (prefix history : List Acce
 lawful_allowed may prefix [] lawful = All-nil (λ (a : Access). may a.caller a.deed)
 lawful_allowed may prefix (a ∷ history) lawful =
     All-cons (λ (b : Access). may b.caller b.deed) a history (lawful prefix history a refl).allowed
-    (lawful_allowed may (prefix ++ a ∷ []) history (subst (λ (l : List Access). IsLawfulHistory may l)
+    (lawful_allowed may (prefix ++ a ∷ []) history
+    (subst (λ (l : List Access). IsLawfulHistory may l)
     (sym (append_assoc prefix (a ∷ []) history)) lawful))
 
 pub lawful_prefix : (may : ℕ → Deed → Type 0) (prefix history : List Access)

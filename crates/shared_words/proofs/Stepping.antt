@@ -121,7 +121,8 @@ turned may who me after h deed alone t =
     }
 
 -- at the start there is no access
-pub ruled_at_opening : (may : ℕ → Deed → Type 0) (n count : ℕ) (words : List ℕ) → words ≡ replicate count 0
+pub ruled_at_opening : (may : ℕ → Deed → Type 0) (n count : ℕ) (words : List ℕ)
+    → words ≡ replicate count 0
     → Ruled may n count (opening words [] (whole n []))
 ruled_at_opening may n count words is =
     record {

@@ -33,7 +33,8 @@ pub record IsRight (may : ℕ → Deed → Type 0) (before : List Access) (a : A
 
 -- Each access of a history is right after those before it.
 abbrev pub IsLawfulHistory : (ℕ → Deed → Type 0) → List Access → Type 0
-IsLawfulHistory may history = (before rest : List Access) (a : Access) → history ≡ before ++ a ∷ rest
+IsLawfulHistory may history = (before rest : List Access) (a : Access)
+    → history ≡ before ++ a ∷ rest
     → IsRight may before a
 
 -- A history after an access of a caller: it begins with the one before, ends with the access, and

@@ -1,7 +1,7 @@
 -- The numbers of the calls that are about none of some keys.
-use Rattle.std.proofs.Common.{◌≡◌, ℕ, ◌<◌, ◌≤◌, ◌∙◌, Bool, true, false, not, List, [], length, map, get_or, refl, sym, ap, subst, inl, inr, zero-add, arith}
+use Rattle.std.proofs.Common.{◌≡◌, ℕ, ◌<◌, ◌≤◌, ◌∙◌, Bool, true, false, not, List, [], length, map, get_or, sym, ap, subst, inl, inr, zero-add, arith}
 use Rattle.std.specs.List.{range_with_len}
-use Rattle.std.proofs.lemmas.Bool.{cases_lt, cases_Bool, true≢false}
+use Rattle.std.proofs.lemmas.Bool.{cases_lt, cases_Bool, not-true}
 use Rattle.std.proofs.lemmas.List.{get_or_past}
 use Rattle.std.proofs.lemmas.List.FromFn.{get_or-range_with_len, length-range_with_len, get_or-map-range_with_len, length-map-range_with_len}
 use Rattle.std.proofs.lemmas.List.Elements.{All-filter}
@@ -81,12 +81,8 @@ module _ (kind : Kind) (keys : ℕ → Bool) (book : List Page) where
       let passes : stays_in kind keys book i (get_or (row_without kind keys book i) found.0 0)
       ≡ true = filter-passes (stays_in kind keys book i)
       (range_with_len 0 (calls_of book i)) found.0 0 found.1 in
-      not_true (is_among keys (key_of_call kind book call))
+      not-true (is_among keys (key_of_call kind book call))
       (sym (ap (stays_in kind keys book i) found.2) ∙ passes)
-    where
-      not_true : (b : Bool) → not b ≡ true → b ≡ false
-      not_true true e = absurd (true≢false (sym e))
-      not_true false e = refl
 
   -- A call that isn't named is about one of these keys.
   pub unnamed_goes : (call : Call) → IsCall book call → ¬ IsNamed (all_without kind keys book) call

@@ -848,7 +848,8 @@ map_gone keys whole few word related among = elim (cases_Bool (is_known_word kin
   | inl known ↦
       let key : ℕ = argument_of word in
       let goes : keys key ≡ true =
-      keys_of_argument kinds.Map keys word (kind_next kinds.Map whole word).1 true known refl among in
+      keys_of_argument kinds.Map keys word
+      (kind_next kinds.Map whole word).1 true known refl among in
       record {
         all_once = keys_stay_once whole word related.all_once;
         few_once = related.few_once;
@@ -873,7 +874,8 @@ map_kept keys whole few word related among = elim (cases_Bool (is_known_word kin
   | inl known ↦
       let key : ℕ = argument_of word in
       let stay : keys key ≡ false =
-      keys_of_argument kinds.Map keys word (kind_next kinds.Map whole word).1 false known refl among in
+      keys_of_argument kinds.Map keys word
+      (kind_next kinds.Map whole word).1 false known refl among in
       let alike =
       replies_alike few whole word related.few_once related.all_once (related.same key stay) in (
         alike.0,

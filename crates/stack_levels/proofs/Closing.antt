@@ -1,6 +1,6 @@
 -- Tables in memory whose nodes lead to one another alone: what is found of such a table holds of
 -- its levels.
-use Rattle.std.proofs.Common.{◌≡◌, ℕ, ◌+◌, ◌<◌, ◌≤◌, ◌∙◌, Bool, true, false, not, IsTrue, List, length, get_or, set, take, replicate, Some, option_map, refl, sym, ap, subst, slice_get, arith}
+use Rattle.std.proofs.Common.{◌≡◌, ℕ, ◌+◌, ◌<◌, ◌≤◌, ◌∙◌, IsTrue, List, length, get_or, set, take, replicate, Some, option_map, sym, ap, subst, slice_get, arith}
 use Rattle.std.proofs.lemmas.List.{take-replicate, get_or-take}
 use Rattle.std.proofs.Math.Seq.{take-set-lt}
 use Rattle.std.proofs.lemmas.Option.{get_or_from_slice_get, slice_get-map, slice_get_within}
@@ -44,11 +44,6 @@ pub cut_raised : (n : ℕ) (counts : List ℕ) (i : ℕ) → i < n
 cut_raised n counts i below =
     take-set-lt n counts i (get_or counts i 0 + 1) below
     ∙ ap (λ (m : ℕ). set (take n counts) i (m + 1)) (sym (get_or-take n counts i 0 below))
-
--- A boolean whose negation is true is false.
-pub not_true : (b : Bool) → IsTrue (not b) → b ≡ false
-not_true true told = sym told
-not_true false told = refl
 
 -- A value that no answered call takes, of those that the cut without calls doesn't hold, is never
 -- taken.

@@ -62,7 +62,8 @@ impl<R: Reader> Closure<'_, R> {
 
     // Whether the first level is the bottom, and the bottom after no call is one of the nodes.
     fn begins(&self) -> bool
-        ensures { IsTrue result → BeginsAtBottom self.now.on.now.book.now self.now.table.now.levels.items
+        ensures { IsTrue result
+            → BeginsAtBottom self.now.on.now.book.now self.now.table.now.levels.items
             self.now.table.now.cuts.keys self.now.table.now.nodes.keys }
     {
         let _callers = self.on.book.callers();
@@ -316,7 +317,13 @@ impl<R: Reader> Closure<'_, R> {
 
     // Whether the next call of a caller is followed, as `is_followed` says, or the caller isn't
     // marked.
-    fn caller_is_followed(&self, node: &Node, level: &Level, look: &NextCallers, caller: u32) -> bool
+    fn caller_is_followed(
+        &self,
+        node: &Node,
+        level: &Level,
+        look: &NextCallers,
+        caller: u32,
+    ) -> bool
         requires cut { look.now.cut ≡ cut_at self.now.on.now.book.now node.now }
         requires all { MarksAllNext self.now.on.now.book.now look.now.cut look.now.all }
         requires fewer { IsMarkedWithin look.now.marks look.now.all }
@@ -388,7 +395,14 @@ impl<R: Reader> Closure<'_, R> {
 
     // Whether the next call of this caller may come next, serves for another call, and leads to the
     // nodes.
-    fn serves(&self, node: &Node, level: &Level, look: &NextCallers, caller: u32, call: Call) -> bool
+    fn serves(
+        &self,
+        node: &Node,
+        level: &Level,
+        look: &NextCallers,
+        caller: u32,
+        call: Call,
+    ) -> bool
         requires cut { look.now.cut ≡ cut_at self.now.on.now.book.now node.now }
         requires all { MarksAllNext self.now.on.now.book.now look.now.cut look.now.all }
         requires wide { length look.now.cut ≡ length self.now.on.now.book.now }

@@ -1,4 +1,4 @@
-use crate::table::{LevelTable, FirstReached};
+use crate::table::{FirstReached, LevelTable};
 use book_base::{Call, MAX_CALLERS, MAX_CALLS, NoMemory};
 use std::alloc::Global;
 

@@ -4,7 +4,7 @@ ghost use Rattle.book_base.specs.Pruning.{HasOneOpen, IsMarkedWithin, MarksAllNe
 ghost use Rattle.value_pruning.specs.Sights.{ListsValues};
 
 use crate::stack_book::{NextCallers, StackBook};
-use crate::table::{Beginning, LevelEnd, Level, LevelTable, NodeKey, Origin, FirstReached, raised};
+use crate::table::{Beginning, FirstReached, Level, LevelEnd, LevelTable, NodeKey, Origin, raised};
 use book_base::{Call, MAX_CALLERS, MAX_CALLS, NoMemory};
 use container_pruning::{Reader, Role};
 use indexmap::IndexSet;
@@ -232,7 +232,12 @@ impl<R: Reader> LevelSearch<'_, R> {
     }
 
     // Follows a call from a node to all nodes that it leads to.
-    fn follow(&self, progress: &mut SearchState, here: Here, step: LevelStep) -> Result<(), NoMemory>
+    fn follow(
+        &self,
+        progress: &mut SearchState,
+        here: Here,
+        step: LevelStep,
+    ) -> Result<(), NoMemory>
         requires sight { ListsValues (R.reading self.now.on.now.reader.now) self.now.on.now.book.now
             self.now.on.now.sight.now }
     {

@@ -327,7 +327,8 @@ put_first reading next bound is book one v put puts answered
 -- all items of the list are kept, and no answered call outside the cut finds nothing.
 pub kept_put_suffices : (reading : Reading) (next : List ℕ → ℕ → List ℕ × ℕ) (bound : ℕ)
     → GivesLastFirst reading next bound → (book : List Page) (cut list : List ℕ)
-    (caller : ℕ) (marks : MarkedCallers) → IsSmall bound list → HasOneOpen book → length book ≤ length cut
+    (caller : ℕ) (marks : MarkedCallers) → IsSmall bound list → HasOneOpen book
+    → length book ≤ length cut
     → MayComeNext book cut (next_call cut caller)
     → PutsKept reading book cut list caller → IsMarked marks caller
     → MarksSuffice book next cut list marks

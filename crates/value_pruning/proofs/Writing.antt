@@ -348,7 +348,8 @@ needless_is_left_out reading held next is book cut list place rest wide one need
 -- The remaining marks suffice where the next calls of all callers that lost their marks are
 -- needless.
 left_suffice : (reading : Reading) (held : List ℕ → ℕ) (next : List ℕ → ℕ → List ℕ × ℕ)
-    → HoldsLast reading held next → (book : List Page) (cut list : List ℕ) (all left : MarkedCallers)
+    → HoldsLast reading held next
+    → (book : List Page) (cut list : List ℕ) (all left : MarkedCallers)
     → length book ≤ length cut → HasOneOpen book → MarksSuffice book next cut list all
     → ((i : ℕ) → IsMarked all i → IsMarked left i ⊎ IsNeedless reading book cut (held list) i)
     → (few : ℕ) (rest : List Place) → length rest ≤ few → Continues book next cut list rest
@@ -371,7 +372,8 @@ left_suffice reading held next is book cut list all left wide one suffice needle
 
 pub needed_suffice : (reading : Reading) (held : List ℕ → ℕ) (next : List ℕ → ℕ → List ℕ × ℕ)
     → HoldsLast reading held next → (book : List Page) (cut list : List ℕ) (forced : ℕ)
-    (all left : MarkedCallers) → length book ≤ length cut → HasOneOpen book → IsForced book cut forced
+    (all left : MarkedCallers) → length book ≤ length cut → HasOneOpen book
+    → IsForced book cut forced
     → MarksAllNext book cut all
     → ((i : ℕ) → IsMarked all i → IsMarked left i ⊎ IsNeedless reading book cut (held list) i)
     → MarksSuffice book next cut list left
@@ -388,7 +390,8 @@ pub record AreNeeded (reading : Reading) (book : List Page) (cut : List ℕ) (he
   pub fewer : IsMarkedWithin left all
   pub needless : (i : ℕ) → IsMarked all i → IsMarked left i ⊎ IsNeedless reading book cut held i
 
-pub all_needed : (reading : Reading) (book : List Page) (cut : List ℕ) (held : ℕ) (all : MarkedCallers)
+pub all_needed : (reading : Reading) (book : List Page) (cut : List ℕ) (held : ℕ)
+    (all : MarkedCallers)
     → AreNeeded reading book cut held all all
 all_needed reading book cut held all =
     record { fewer = λ (i : ℕ) marked. marked; needless = λ (i : ℕ) marked. inl marked }

@@ -263,7 +263,13 @@ fn is_wanted<R: Reader>(
 }
 
 // Whether a marked caller's next call may take out a value.
-fn may_be_taken<R: Reader>(reader: &R, book: &Book, cut: &Cut, marks: MarkedCallers, value: u64) -> bool
+fn may_be_taken<R: Reader>(
+    reader: &R,
+    book: &Book,
+    cut: &Cut,
+    marks: MarkedCallers,
+    value: u64,
+) -> bool
     requires wide { length cut.now ≡ length book.now }
     requires marks { MarksAllNext book.now cut.now marks }
     ensures { result ≡ false → IsTakenByNone (R.reading reader.now) book.now cut.now value }

@@ -17,7 +17,8 @@ grown_by_answer book i r h =
     record {
       callers = length-set book i p;
       operations = λ call op e. elim (cases_eq call.caller i) [
-        | inl same ↦ ap (λ (k : ℕ). slice_get (page_of (set book i p) k).operations call.number) same
+        | inl same ↦
+            ap (λ (k : ℕ). slice_get (page_of (set book i p) k).operations call.number) same
             ∙ (ap (λ (q : Page). slice_get q.operations call.number) (page_of-set_same book i p h)
             ∙ (ap (λ (k : ℕ). slice_get (page_of book k).operations call.number) (sym same) ∙ e))
         | inr other ↦ ap (λ (q : Page). slice_get q.operations call.number)

@@ -70,7 +70,8 @@ loop-i-preserved c =
           ∙ sizes-push l.clients.items client
           ∙ ap (λ (ns : List ℕ). ns ++ length ops.items ∷ []) l.invariant.sizes
           ∙ ap (λ (n : ℕ). take l.i calls ++ n ∷ []) size ∙ sym (take_more calls l.i 0 lt);
-      stops = ap stops_in pushed ∙ map_push (λ (c : CallerScript). c.stop) l.clients.items client ∙ ap
+      stops =
+          ap stops_in pushed ∙ map_push (λ (c : CallerScript). c.stop) l.clients.items client ∙ ap
           (λ (s : List (Option ℕ)). s ++ None ∷ []) l.invariant.stops ∙ replicate_more l.i None;
     }
 

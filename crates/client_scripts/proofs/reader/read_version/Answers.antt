@@ -55,7 +55,8 @@ returns-in_err-turns-clause-refused c =
     let version = c.args.version in
     let kind = c.in_ok-head.head.kind in
     let begun = told c.in_ok-clients.clients.items 0 in
-    let so_far = goes_to_stops version c.args.bytes.now kind c.in_ok-head.head.calls c.new-lines.result
+    let so_far =
+    goes_to_stops version c.args.bytes.now kind c.in_ok-head.head.calls c.new-lines.result
     c.read_head_of.new.lines c.new-lines.ensures c.in_ok-head.ensures.found begun
     c.read_clients.new.lines c.in_ok-clients.ensures.found in
     rw (p.1, p.2) (stops_then (script_rules version) (InHead TitleDue) (InBody kind begun [])
@@ -69,7 +70,8 @@ returns-in_err-read_end-clause-refused c =
     let version = c.args.version in
     let kind = c.in_ok-head.head.kind in
     let plan : Plan = plan_in kind c.read_tail.new.clients.items c.in_ok-turns.turns.items in
-    let so_far = goes_to_end_line version c.args.bytes.now kind c.in_ok-head.head.calls c.new-lines.result
+    let so_far =
+    goes_to_end_line version c.args.bytes.now kind c.in_ok-head.head.calls c.new-lines.result
     c.read_head_of.new.lines c.new-lines.ensures c.in_ok-head.ensures.found
     (told c.in_ok-clients.clients.items 0) c.read_clients.new.lines c.in_ok-clients.ensures.found
     plan c.read_tail.new.lines (c.in_ok-turns.ensures.found version kind) in

@@ -14,7 +14,8 @@ returns c =
     size_at clients c.args.caller c.index-clients-caller.result c.if-caller-clients.false
     c.index-clients-caller.is in
     let read : c.len.result ≡ vec_len held =
-    c.len.ensures ∙ ap (λ (r : CallerScript). vec_len r.operations) (sym c.index-clients-caller.is) in
+    c.len.ensures ∙ ap (λ (r : CallerScript). vec_len r.operations)
+    (sym c.index-clients-caller.is) in
     let count : c.len.result ≡ length held.items = omega (arith, held.ok.0) in
     let callers : length (sizes (operations_in clients)) ≡ length clients = callers_in clients in (
       λ test. let below = ltb-true _ _ test in record {

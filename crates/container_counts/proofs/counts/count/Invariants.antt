@@ -5,4 +5,5 @@ use Rattle.container_counts.proofs.counts.count.Given as goal
 
 abbrev pub invariant-loop-caller : goal.invariant-loop-caller
 invariant-loop-caller l =
-    l.all ≡ sum_by (count_by (is_counted l.what l.values l.moment)) (take l.caller (rows_of l.table))
+    l.all ≡ sum_by (count_by (is_counted l.what l.values l.moment))
+    (take l.caller (rows_of l.table))

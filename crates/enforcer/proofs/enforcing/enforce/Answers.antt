@@ -53,7 +53,8 @@ returns-clause-unjudged_progress g c =
     err_by c.judge.result (λ u. HasOnlyPeeked (local_with seen.caller) (local_with u.caller)
     c.call_and_see-seen.new.steps c.judge.new.steps)
     (λ u. (u.reply ≡ seen.reply) × (u.view ≡ seen.view) × (u.seen ≡ seen.cut))
-    (λ u. progress_of (local_with u.caller) ≡ after_call c.args.op (record_unjudged u) u.seen before)
+    (λ u.
+    progress_of (local_with u.caller) ≡ after_call c.args.op (record_unjudged u) u.seen before)
     (λ u peeks tells. whole_call c.args.op r (record_unjudged u) seen.cut u.seen before
     (local_with seen.caller) (local_with u.caller) c.call_and_see-seen.new.steps c.judge.new.steps
     c.call_and_see-seen.ensures.progress peeks

@@ -24,7 +24,8 @@ pub returns-clause-unjudged_grows : goal.returns-clause-unjudged_grows
 returns-clause-unjudged_grows g c =
     let s = local_with c.call_and_see-seen.result.caller in
     err_from c.judge_after.result
-    (λ u. HasOnlyPeeked s (local_with u.caller) c.call_and_see-seen.new.steps c.judge_after.new.steps)
+    (λ u.
+    HasOnlyPeeked s (local_with u.caller) c.call_and_see-seen.new.steps c.judge_after.new.steps)
     (λ u. Grows (local_with c.args.caller) (local_with u.caller))
     (λ u peeks. grows_peeking (local_with c.args.caller) s (local_with u.caller)
     c.call_and_see-seen.new.steps c.judge_after.new.steps c.call_and_see-seen.ensures.grows peeks)
@@ -39,7 +40,8 @@ returns-clause-progress g c =
     c.call_and_see-seen.new.steps c.judge_after.new.steps) (λ x. record_judged x.1 ≡ r)
     (λ x. cut_judged x.1 ≡ seen.cut) (λ x. progress_of (local_with x.0)
     ≡ after_call c.args.op (record_judged x.1) (cut_judged x.1) before)
-    (λ x peeks tells saw. whole_call c.args.op r (record_judged x.1) seen.cut (cut_judged x.1) before
+    (λ x peeks tells saw.
+    whole_call c.args.op r (record_judged x.1) seen.cut (cut_judged x.1) before
     (local_with seen.caller) (local_with x.0) c.call_and_see-seen.new.steps c.judge_after.new.steps
     c.call_and_see-seen.ensures.progress peeks tells saw)
     c.judge_after.ensures.peeks c.judge_after.ensures.record c.judge_after.ensures.cut
@@ -52,9 +54,11 @@ returns-clause-unjudged_progress g c =
     err_by c.judge_after.result (λ u. HasOnlyPeeked (local_with seen.caller) (local_with u.caller)
     c.call_and_see-seen.new.steps c.judge_after.new.steps)
     (λ u. (u.reply ≡ seen.reply) × (u.view ≡ seen.view) × (u.seen ≡ seen.cut))
-    (λ u. progress_of (local_with u.caller) ≡ after_call c.args.op (record_unjudged u) u.seen before)
+    (λ u.
+    progress_of (local_with u.caller) ≡ after_call c.args.op (record_unjudged u) u.seen before)
     (λ u peeks tells. whole_call c.args.op r (record_unjudged u) seen.cut u.seen before
-    (local_with seen.caller) (local_with u.caller) c.call_and_see-seen.new.steps c.judge_after.new.steps
+    (local_with seen.caller)
+    (local_with u.caller) c.call_and_see-seen.new.steps c.judge_after.new.steps
     c.call_and_see-seen.ensures.progress peeks
     (λ i. record { reply = tells.0 i; view = tells.1 i }) tells.2)
     c.judge_after.ensures.unjudged_peeks c.judge_after.ensures.unjudged_record
@@ -64,7 +68,8 @@ returns-clause-wide g c =
     let n = c.args.rows.now.callers in
     let seen = c.call_and_see-seen.result in
     let wide = c.call_and_see-seen.ensures.wide in
-    ok_by c.judge_after.result (λ x. record_judged x.1 ≡ record { reply = seen.reply; view = seen.view })
+    ok_by c.judge_after.result
+    (λ x. record_judged x.1 ≡ record { reply = seen.reply; view = seen.view })
     (λ x. cut_judged x.1 ≡ seen.cut) (λ x. cut_judged x.1 ≡ seen.cut)
     (λ x. (length (record_judged x.1).view ≡ n) × (length (cut_judged x.1) ≡ n))
     (λ x tells saw again.
@@ -93,7 +98,8 @@ returns-clause-new_words g c =
     let scanned = c.call_and_see-seen.new.steps in
     let few = c.call_and_see-seen.ensures.ticks in
     ok_from c.judge_after.result
-    (λ r. TicksForJudged n c.args.gathered.now r.1 c.judge_after.new.gathered scanned c.judge_after.new.steps)
+    (λ r. TicksForJudged n c.args.gathered.now r.1 c.judge_after.new.gathered scanned
+    c.judge_after.new.steps)
     (λ r. TicksForCallAfter n c.args.gathered.now r.1 c.judge_after.new.gathered c.args.steps.now
     c.judge_after.new.steps)
     (λ r new_words. (scanned, few.0, few.1, new_words))

@@ -9,7 +9,8 @@ pub last_standing-requires : goal.last_standing-requires
 last_standing-requires g c =
     let object = c.args.object.now in
     let book = c.args.book.now in
-    subst (λ (ms : List OrderMark). (k : ℕ) (m : OrderMark) → k < length ms → m ≡ slice_index_or ms k m
+    subst
+    (λ (ms : List OrderMark). (k : ℕ) (m : OrderMark) → k < length ms → m ≡ slice_index_or ms k m
     → IsAsWide book m) (sym c.deref.ensures.value)
     (marks_wide (g.S.SeqObject.init object)
     (g.S.SeqObject.next object) book c.args.order.items c.args.marks.now.items c.requires.marks)
@@ -38,7 +39,8 @@ returns-in_ok-found-in-Some-clause-put g c =
     let marks = c.args.marks.now.items in
     let low = subst (λ (ms : List OrderMark). c.in-Some.index < length ms) c.deref.ensures.value
     c.in-Some.ensures.within in
-    let stands = subst (λ (ms : List OrderMark). (m : OrderMark) → m ≡ slice_index_or ms c.in-Some.index m
+    let stands =
+    subst (λ (ms : List OrderMark). (m : OrderMark) → m ≡ slice_index_or ms c.in-Some.index m
     → StillStands c.args.book.now m) c.deref.ensures.value c.in-Some.ensures.stands in
     mark_resumed (g.S.SeqObject.init object) (g.S.SeqObject.next object) c.args.book.now
     c.args.order.items marks c.in-Some.index c.index.result.now c.in_ok-found-in-Some.found.0

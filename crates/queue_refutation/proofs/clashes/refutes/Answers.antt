@@ -12,4 +12,5 @@ pub returns : goal.returns
 returns c told =
     takes-refute c.args.table.now c.args.ahead c.args.other c.args.put_moment c.args.take_moment
     (omega arith) (omega arith)
-    (c.takes_of_are_ahead.ensures c.if-not-takes_of_are_ahead.false) (inr (c.puts_of_are_ahead.ensures told))
+    (c.takes_of_are_ahead.ensures c.if-not-takes_of_are_ahead.false)
+    (inr (c.puts_of_are_ahead.ensures told))

@@ -49,7 +49,8 @@ returns-in_err-read_end-clause-refused c =
     let kind = c.in_ok-head.head.kind in
     let calls = c.in_ok-head.head.calls in
     let told = joined (lines_in c.in_ok-callers.callers.items) in
-    let so_far = goes_to_end_line c.args.bytes.now kind calls c.new-lines.result c.read_head.new.lines
+    let so_far =
+    goes_to_end_line c.args.bytes.now kind calls c.new-lines.result c.read_head.new.lines
     c.new-lines.ensures c.in_ok-head.ensures.found (lines_in c.in_ok-callers.callers.items)
     c.read_callers.new.lines c.in_ok-callers.ensures.found in
     rw (p.1, p.2) (stops_later report_rules (InHead TitleDue) (InLines kind calls told [])
@@ -63,7 +64,8 @@ of_lines-requires c =
     let calls = c.in_ok-head.head.calls in
     let lines = lines_in c.in_ok-callers.callers.items in
     let text =
-    is_text_read c.args.bytes.now kind calls c.new-lines.result c.read_head.new.lines c.new-lines.ensures
+    is_text_read c.args.bytes.now kind calls c.new-lines.result c.read_head.new.lines
+    c.new-lines.ensures
     c.in_ok-head.ensures.found lines c.read_callers.new.lines c.in_ok-callers.ensures.found
     c.read_end.new.lines c.in_ok-callers.ensures.sizes c.in_ok-read_end.ensures.found in
     (read_is_written c.args.bytes.now (record { kind = kind; lines = lines }) text).writable
@@ -74,7 +76,8 @@ returns-clause-found c =
     let calls = c.in_ok-head.head.calls in
     let lines = lines_in c.in_ok-callers.callers.items in
     let text =
-    is_text_read c.args.bytes.now kind calls c.new-lines.result c.read_head.new.lines c.new-lines.ensures
+    is_text_read c.args.bytes.now kind calls c.new-lines.result c.read_head.new.lines
+    c.new-lines.ensures
     c.in_ok-head.ensures.found lines c.read_callers.new.lines c.in_ok-callers.ensures.found
     c.read_end.new.lines c.in_ok-callers.ensures.sizes c.in_ok-read_end.ensures.found in
     subst (IsReportText c.args.bytes.now) (sym c.of_lines.ensures) text

@@ -13,10 +13,12 @@ loop-caller-preserved g c =
     let shown : Option ℕ = c.args.shown in
     elim c.if-has.branch [
       | then-has+then-puts_needless w ↦
-          subst (λ (m : MarkedCallers). AreLeft reading book cut words shown c.args.marks m) (sym w.left-is)
+          subst (λ (m : MarkedCallers). AreLeft reading book cut words shown c.args.marks m)
+          (sym w.left-is)
           (one_less_left reading book cut words shown c.loop-caller.caller c.args.marks
           c.loop-caller.left _ w.without-left.ensures
           (w.puts_needless.ensures w.if-puts_needless.true) c.loop-caller.invariant)
-      | else-has w ↦ subst (λ (m : MarkedCallers). AreLeft reading book cut words shown c.args.marks m)
+      | else-has w ↦
+          subst (λ (m : MarkedCallers). AreLeft reading book cut words shown c.args.marks m)
           (sym w.left-is) c.loop-caller.invariant
     ]

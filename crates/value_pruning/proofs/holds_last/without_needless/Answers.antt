@@ -12,7 +12,8 @@ loop-caller-preserved g c =
     let held : ℕ = c.args.held in
     elim c.if-has.branch [
       | then-has+then-is_needless w ↦
-          subst (λ (m : MarkedCallers). AreNeeded reading book cut held c.args.marks m) (sym w.left-is)
+          subst (λ (m : MarkedCallers). AreNeeded reading book cut held c.args.marks m)
+          (sym w.left-is)
           (one_less_needed reading book cut held c.loop-caller.caller c.args.marks
           c.loop-caller.left _ w.without-left.ensures
           (w.is_needless.ensures w.if-is_needless.true) c.loop-caller.invariant)

@@ -11,7 +11,8 @@ use Rattle.call_handles.proofs.caller_handle.CallerHandle.announce.Goals as goal
 pub returns-else-left-eq0-clause-sound : goal.returns-else-left-eq0-clause-sound
 returns-else-left-eq0-clause-sound c =
     let self = c.args.self in
-    let stands = subst (λ (s : HandleStage). IsSoundAt (rows_of self) self.kept.kind self.kept.gathered s)
+    let stands =
+    subst (λ (s : HandleStage). IsSoundAt (rows_of self) self.kept.kind self.kept.gathered s)
     c.in-Idle.is c.requires.sound.0 in
     let begun = subst
     (λ (r : Rows _). IsAnnouncedBy every_reply r c.in-Idle.caller c.args.op c.announce_alone.result)
@@ -28,7 +29,8 @@ returns-else-left-eq0-clause-sound c =
 pub returns-else-left-eq0-clause-when : goal.returns-else-left-eq0-clause-when
 returns-else-left-eq0-clause-when c =
     let self = c.args.self in
-    let stands = subst (λ (s : HandleStage). IsSoundAt (rows_of self) self.kept.kind self.kept.gathered s)
+    let stands =
+    subst (λ (s : HandleStage). IsSoundAt (rows_of self) self.kept.kind self.kept.gathered s)
     c.in-Idle.is c.requires.sound.0 in (
       λ _. (
         c.in-Idle.caller,

@@ -6,7 +6,8 @@ use Rattle.call_handles.proofs.caller_handle.CallerHandle.into_caller.Goals as g
 pub returns-in-Announced-clause-caller : goal.returns-in-Announced-clause-caller
 returns-in-Announced-clause-caller c =
     let self = c.args.self in
-    let stands = subst (λ (s : HandleStage). IsSoundAt (rows_of self) self.kept.kind self.kept.gathered s)
+    let stands =
+    subst (λ (s : HandleStage). IsSoundAt (rows_of self) self.kept.kind self.kept.gathered s)
     c.in-Announced.is c.requires.sound.0 in
     c.stop.ensures.same.rows every_reply (rows_of self) stands.0
 

@@ -13,7 +13,8 @@ returns-in-Announced-clause-sound c =
     let self = c.args.self in
     let call = c.in-Announced.call in
     let caller = c.publish_alone.result in
-    let stands = subst (λ (s : HandleStage). IsSoundAt (rows_of self) self.kept.kind self.kept.gathered s)
+    let stands =
+    subst (λ (s : HandleStage). IsSoundAt (rows_of self) self.kept.kind self.kept.gathered s)
     c.in-Announced.is c.requires.sound.0 in
     let (told, seen, at) = c.publish_alone.ensures.published in
     let published =
