@@ -1,4 +1,4 @@
-ghost use Rattle.std.specs.Prelude.{◌≡◌, ℕ, ◌+◌, ◌-◌, ◌<◌, ◌≤◌, ◌↔◌, List, length, replicate, slice_index, slice_set, IsTrue};
+ghost use Rattle.std.specs.Prelude.{◌≡◌, ℕ, ◌+◌, ◌-◌, ◌<◌, ◌≤◌, ◌↔◌, List, length, max, replicate, slice_index, slice_set, IsTrue};
 ghost use Rattle.book_base.specs.Cut.{Holds, IsWithin};
 ghost use Rattle.book_base.specs.declared.TheConstants.{MAX_CALLERS};
 
@@ -89,6 +89,21 @@ impl Cut {
         ensures { self.new ≡ slice_set self.old i count }
     {
         self.at[i as usize] = count;
+    }
+
+    /// Raises each count to the other cut's, where that is greater.
+    pub fn raise(&mut self, other: &Cut)
+        // The cuts have equally many counts.
+        requires { length other.now ≡ length self.old }
+        // The cut has as many counts as before.
+        ensures wide { length self.new ≡ length self.old }
+        // Each count is the greater one of that before and the other cut's.
+        ensures counts { (i : ℕ) → slice_index self.new i
+            ≡ max (slice_index self.old i) (slice_index other.now i) }
+    {
+        for caller in 0..self.n() {
+            self.set(caller, self.get(caller).max(other.get(caller)));
+        }
     }
 
     /// All counts, by caller.

@@ -6,18 +6,6 @@ ghost use Rattle.row_gather.specs.Known.{AreGreatest, lists_in};
 
 use book_base::{Cut, Record};
 
-// Raises each count of the cut to that of the view where the view's is greater.
-fn raise(held: &mut Cut, view: &Cut)
-    requires wide { length view.now ≡ length held.old }
-    ensures wide { length held.new ≡ length held.old }
-    ensures counts { (i : ℕ)
-        → slice_index held.new i ≡ max (slice_index held.old i) (slice_index view.now i) }
-{
-    for caller in 0..held.n() {
-        held.set(caller, held.get(caller).max(view.get(caller)));
-    }
-}
-
 // Raises each count of the cut to the greatest one for its caller in the views of these records,
 // where that is greater.
 fn raise_to_all(held: &mut Cut, records: &[Record])
@@ -27,7 +15,7 @@ fn raise_to_all(held: &mut Cut, records: &[Record])
         → slice_index held.new i ≡ max (slice_index held.old i) (greatest_of records.now i) }
 {
     for answer in records {
-        raise(held, &answer.view);
+        held.raise(&answer.view);
     }
 }
 

@@ -47,19 +47,7 @@ fn raise_by_lines(greatest: &mut Cut, report: &Report, caller: u32)
     for number in 0..report.lines(caller) {
         let line = report.line(Call { caller, number });
         if let LineEnd::Delivered(_, seen) = line.end {
-            raise(greatest, &seen);
+            greatest.raise(&seen);
         }
-    }
-}
-
-/// Raises each count of a cut to the other cut's, where that is greater.
-fn raise(cut: &mut Cut, other: &Cut)
-    requires { length other.now ≡ length cut.old }
-    ensures wide { length cut.new ≡ length cut.old }
-    ensures counts { (i : ℕ)
-        → slice_index cut.new i ≡ max (slice_index cut.old i) (slice_index other.now i) }
-{
-    for caller in 0..cut.n() {
-        cut.set(caller, cut.get(caller).max(other.get(caller)));
     }
 }
