@@ -1,4 +1,4 @@
-ghost use Rattle.std.specs.Prelude.{◌≡◌, ℕ, ◌+◌, ◌≤◌, length, slice_index, IsTrue};
+ghost use Rattle.std.specs.Prelude.{◌≡◌, ℕ, ◌+◌, ◌<◌, ◌≤◌, false, length, slice_index, IsTrue};
 ghost use Rattle.book_base.specs.Book.{answers_of};
 ghost use Rattle.book_base.specs.Pruning.{HasOneOpen};
 
@@ -6,11 +6,12 @@ use book_base::{Book, Call, Cut};
 
 /// Looks whether each view of a book holds at most one unanswered call of each caller, as in each
 /// book that a run gathers. Of each caller only the last view is looked at, since it contains the
-/// others. No clause says that a book with one open is found to be one: where it isn't, a search
-/// only tries more.
+/// others.
 pub fn has_one_open(book: &Book) -> bool
     // The answer is `true` only where each view holds at most one unanswered call of each caller.
-    ensures { IsTrue result → HasOneOpen book.now }
+    ensures one { IsTrue result → HasOneOpen book.now }
+    // The answer is `false` only where some view holds more of them of one caller.
+    ensures more { result ≡ false → ¬ HasOneOpen book.now }
 {
     for caller in 0..book.callers() {
         let answers = book.answers(caller);
@@ -30,7 +31,8 @@ pub fn has_one_open(book: &Book) -> bool
 // Whether a view holds at most one unanswered call of each caller.
 fn holds_one_open(book: &Book, view: &Cut) -> bool
     requires { length view.now ≡ length book.now }
-    ensures { IsTrue result → (i : ℕ) → slice_index view.now i ≤ answers_of book.now i + 1 }
+    ensures one { IsTrue result → (i : ℕ) → slice_index view.now i ≤ answers_of book.now i + 1 }
+    ensures more { result ≡ false → (i : ℕ) × (answers_of book.now i + 1 < slice_index view.now i) }
 {
     for caller in 0..book.callers() {
         if view.get(caller).saturating_sub(1) > book.answers(caller) {

@@ -15,3 +15,4 @@ pub mod Removing
 pub mod PartsOfParts
 pub mod KeyRemoval
 pub mod Moments
+pub mod Sizes

@@ -1,5 +1,5 @@
 //! Whether a book has a legal order, for an object of a kind.
-ghost use Rattle.std.specs.Prelude.{◌≡◌, ◌<◌, ◌≤◌, false, length, IfOk, IsTrue};
+ghost use Rattle.std.specs.Prelude.{◌≡◌, ◌<◌, false, length, IfOk, IsTrue};
 ghost use Rattle.book_base.specs.Cut.{IsWithin};
 ghost use Rattle.book_base.specs.Book.{answered};
 ghost use Rattle.book_base.specs.BookAt.{book_at};
@@ -10,10 +10,10 @@ ghost use Rattle.smaller_book.specs.declared.TheConstants.{FEW_CALLS};
 ghost use Rattle.smaller_book.specs.Part.{size_of};
 
 use crate::FEW_CALLS;
-use crate::one_open::has_one_open;
 use book_base::{Book, Cut, NoMemory};
 use broken_rules::broken_rule;
 use frontier_check::{Verdict, check};
+use next_calls::has_one_open;
 use seq_objects::Kind;
 use std::alloc::Global;
 
@@ -84,13 +84,13 @@ pub fn is_large_and_open_at(alloc: Global, book: &Book, cut: &Cut) -> Result<boo
 
 /// How many calls a book has.
 pub fn calls_of_all(book: &Book) -> u64
-    ensures { result ≤ size_of book.now }
+    ensures { result ≡ size_of book.now }
 {
-    let mut calls: u64 = 0;
+    let mut total = 0;
     for caller in 0..book.callers() {
-        calls = calls.saturating_add(book.calls(caller));
+        total += book.calls(caller);
     }
-    calls
+    total
 }
 
 /// Whether the book at a cut has no legal order.

@@ -12,9 +12,9 @@ use crate::composing::smaller_still;
 use crate::judging::is_illegal;
 use crate::keys::{key_of, keys_of};
 use crate::numbered::part;
-use crate::one_open::has_one_open;
 use crate::removal::{Smaller, has_fewer, push_if};
 use book_base::{Book, Call, NoMemory};
+use next_calls::has_one_open;
 use seq_objects::Kind;
 use std::alloc::Global;
 

@@ -10,7 +10,6 @@ mod keyless;
 mod keys;
 pub mod laws;
 mod numbered;
-mod one_open;
 mod open_cuts;
 mod read_only_calls;
 mod removal;
@@ -18,6 +17,7 @@ mod shrinking;
 mod thinning;
 
 pub use cuts::earliest;
+pub use judging::calls_of_all;
 pub use numbered::part;
 pub use removal::Smaller;
 pub use shrinking::shrink;

@@ -1,20 +1,19 @@
 //! Which calls of a book are marked in its picture: those of a smaller book that no order explains
 //! either.
 
-ghost use Rattle.std.specs.Prelude.{◌≡◌, IfOk};
+ghost use Rattle.std.specs.Prelude.{IfOk};
 ghost use Rattle.book_base.specs.Order.{HasLegalOrder};
 ghost use Rattle.frontier_check.specs.Verdict.{IsRight};
 ghost use Rattle.seq_objects.specs.Objects.{kind_init, kind_next};
 ghost use Rattle.book_picture.specs.MarkedCalls.{numbers_in};
 ghost use Rattle.book_picture.specs.Titles.{is_legal};
-ghost use Rattle.smaller_book.specs.Part.{size_of};
 ghost use Rattle.witness_texts.specs.Marking.{AreOfASmallerBook, AreMarksOf, AreMarksFor};
 
 use book_base::{Book, NoMemory};
 use book_picture::MarkedCalls;
 use frontier_check::Verdict;
 use seq_objects::Kind;
-use smaller_book::shrink;
+use smaller_book::{calls_of_all, shrink};
 use std::alloc::Global;
 
 /// A smaller book is sought of a book of at most this many calls, since each try is a whole check.
@@ -57,15 +56,4 @@ fn smaller_numbers(alloc: Global, kind: Kind, book: &Book) -> Result<Vec<Vec<u64
         Some(smaller) => Ok(smaller.numbers),
         None => unreachable!(),
     }
-}
-
-// How many calls a book has.
-fn calls_of_all(book: &Book) -> u64
-    ensures { result ≡ size_of book.now }
-{
-    let mut total = 0;
-    for caller in 0..book.callers() {
-        total += book.calls(caller);
-    }
-    total
 }

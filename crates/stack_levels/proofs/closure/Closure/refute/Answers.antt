@@ -7,6 +7,6 @@ returns g c told =
     c.args.self.now.table.now.levels.items
     c.args.self.now.table.now.cuts.keys c.args.self.now.table.now.nodes.keys
     c.callers-callers.ensures.valid
-    (c.has_one_open.ensures c.if-not-has_one_open.false)
+    (c.has_one_open.ensures.one c.if-not-has_one_open.false)
     (c.begins.ensures c.if-not-begins.false)
     (c.levels_are_kept.ensures c.if-not-levels_are_kept.false) (c.are_closed.ensures told)
