@@ -6,7 +6,8 @@ use crate::fault::NoMemory;
 use std::alloc::Global;
 use std::marker::Model;
 
-/// The state of a sequential object: a list of words with a fixed capacity, in the code `room`.
+/// The state of a sequential object: a list of words with a fixed capacity, which the code and the
+/// clauses name `room`.
 ///
 /// The list is never longer than its capacity, which is taken when the state is made, so that no
 /// later call but [`State::copy`] takes memory.

@@ -48,7 +48,7 @@ covered_by_step reading next is list op w v above below Takes e held none other 
 covered_by_step reading next is list op w v above below Neither e held none other apart =
     (above, is.neither list op e ∙ held, none)
 
--- While v isn't taken and w isn't put in, no w comes to be over v in a stack that had v on top.
+-- While v isn't taken and w isn't put in, a stack that had v on top never has w over v.
 stays_covered : (reading : Reading) (next : List ℕ → ℕ → List ℕ × ℕ) → IsStack reading next
     → (list : List ℕ) (steps : List (ℕ × ℕ)) → IsRunFrom next list steps
     → (w v : ℕ) (below : List ℕ) (m d : ℕ)

@@ -45,7 +45,7 @@ in_flat_map f (first ∷ xs) (suc i) j x y e own =
     let later = in_flat_map f xs i j x y e own in
     append_right (f first) (flat_map f xs) later.0 y later.1
 
--- an element of a list is one of the list with or without an item in front
+-- an element of a list is also one of the list before which an optional first item is put
 suffix : {Y : Type 0} (o : Option Y) (ys : List Y) (k : ℕ) (y : Y) → slice_get ys k ≡ Some y
     → (j : ℕ) × (slice_get (cons_option o ys) j ≡ Some y)
 suffix None ys k y e = (k, e)

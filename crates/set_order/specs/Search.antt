@@ -1,4 +1,4 @@
--- The search for a legal set order: the pairs of a cut and a list that it comes to, and what it
+-- The search for a legal set order: the pairs of a cut and a list that it reaches, and what it
 -- knows there.
 use Rattle.std.specs.Prelude.{◌≡◌, ◌≢◌, ℕ, zero, suc, ◌+◌, ◌*◌, ◌-◌, ◌/◌, ◌%◌, ◌^◌, ◌<◌, ◌≤◌, ◌==◌, ◌⊎◌, List, [], ◌∷◌, length, map, replicate, Option, Some, unwrap_or, slice_index, slice_set, if◌then◌else◌}
 use Rattle.std.specs.List.{AllByRecursion}
