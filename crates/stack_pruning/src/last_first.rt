@@ -7,12 +7,11 @@ ghost use Rattle.stack_pruning.specs.LastFirst.{GivesLastFirst, HasTop, IsSmall,
 use crate::again::puts_are_next_or_later;
 use crate::forced::{forced_take, without_needless};
 use crate::kept::kept_put;
-use crate::takes::next_least_take;
 use crate::top::Top;
 use crate::words::{holds, last_word};
 use book_base::{Book, Call, Cut, MarkedCallers, Sight};
 use container_pruning::Reader;
-use value_pruning::{is_put_once, value_put};
+use value_pruning::{is_put_once, next_least_take, value_put};
 
 /// Which callers' next calls a search has to try, at a list of a stack. Only a take of the last
 /// item, where it has the least view of all answered calls outside the cut that take this value,

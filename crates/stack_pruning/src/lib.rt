@@ -5,7 +5,6 @@ mod again;
 mod forced;
 mod kept;
 mod last_first;
-mod takes;
 mod top;
 mod words;
 

@@ -3,6 +3,6 @@ pub mod Placing
 pub mod Taking
 pub mod Putting
 pub mod Listing
-pub mod Least
+pub mod LeastViews
 pub mod Writing
 pub mod Wanting

@@ -1,12 +1,11 @@
 -- Sights that list, for each value, the calls of a book that put it in or show it.
-use Rattle.std.specs.Prelude.{◌≡◌, ℕ, ◌<◌, ◌≤◌, List, [], length, map, Option, Some, None, slice_get, slice_index, slice_index_or}
+use Rattle.std.specs.Prelude.{◌≡◌, ℕ, ◌<◌, List, [], length, map, Option, Some, None, slice_get, slice_index_or}
 use Rattle.std.specs.Ordering.{nat_cmp}
 use Rattle.std.specs.BTreeMap.{is_at}
 use Rattle.std.specs.Map.{lookup}
 use Rattle.book_base.specs.declared.call.Call.{Call}
 use Rattle.book_base.specs.declared.sight.Sight.{Sight}
 use Rattle.book_base.specs.Book.{Page}
-use Rattle.book_base.specs.Pruning.{ViewsAreWithin}
 use Rattle.history_rules.specs.Container.{Reading}
 use Rattle.history_rules.specs.Calls.{PutsIn, TakesOut}
 use Rattle.container_pruning.specs.Uses.{IsReadTo}
@@ -83,8 +82,3 @@ pub record ListsValues (reading : Reading) (book : List Page) (sight : Sight) : 
   pub puts : (call : Call) (v : ℕ) → PutsIn reading book call v → IsListed (puts_of sight v) call
   pub takes : (call : Call) (v : ℕ) → TakesOut reading book call v
       → IsListed (shows_of sight v) call
-
--- A call's view is within those of all listed calls outside a cut.
-abbrev pub IsLeastListed : List Page → List ℕ → List Call → Call → Type 0
-IsLeastListed book cut calls call = (other : Call) → IsListed calls other
-    → slice_index cut other.caller ≤ other.number → ViewsAreWithin book call other

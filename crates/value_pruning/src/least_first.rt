@@ -4,10 +4,11 @@ ghost use Rattle.book_base.specs.Next.{next_call, MayComeNext};
 ghost use Rattle.book_base.specs.Pruning.{HasOneOpen, IsForced, IsMarked, IsMarkedWithin, IsReached, MarksAllNext, MarksSuffice};
 ghost use Rattle.history_rules.specs.Container.{Takes};
 ghost use Rattle.value_pruning.specs.Sights.{ListsValues};
-ghost use Rattle.value_pruning.specs.LeastFirst.{GivesLeastFirst, IsBelowFirst, IsLeastTake, IsNeverFirst, IsRising, IsTakenByNone, IsUnwanted, CouldTake, PutsLeast, TakesFirst};
+ghost use Rattle.value_pruning.specs.LeastFirst.{GivesLeastFirst, IsBelowFirst, IsNeverFirst, IsRising, IsTakenByNone, IsUnwanted, CouldTake, PutsLeast, TakesFirst};
 
 use crate::outside::reads_outside;
-use crate::sight::{is_put_once, least_take};
+use crate::sight::is_put_once;
+use crate::takes::next_least_take;
 use crate::values::{value_put, value_taken};
 use book_base::{Book, Call, Cut, MarkedCallers, Sight};
 use container_pruning::{Reader, Role};
@@ -50,7 +51,7 @@ pub fn narrow_least_first<R: Reader>(
         → MarksSuffice book.now next cut.now words.now result }
 {
     let _callers = book.callers();
-    if let Some(caller) = first_take(reader, sight, book, cut, words, marks) {
+    if let Some(caller) = first_take(reader, book, cut, words, marks) {
         return MarkedCallers::only(caller);
     }
     if let Some(caller) = least_put(reader, sight, book, cut, words, marks) {
@@ -62,57 +63,20 @@ pub fn narrow_least_first<R: Reader>(
 // A marked caller whose next call takes the first item, with the least view.
 fn first_take<R: Reader>(
     reader: &R,
-    sight: &Sight,
     book: &Book,
     cut: &Cut,
     words: &[u64],
     marks: MarkedCallers,
 ) -> Option<u32>
-    requires sight { ListsValues (R.reading reader.now) book.now sight.now }
     requires wide { length cut.now ≡ length book.now }
     ensures caller { IfSome result (λ i. i < length book.now) }
     ensures marked { IfSome result (IsMarked marks) }
     ensures take { IfSome result (TakesFirst (R.reading reader.now) book.now cut.now words.now) }
 {
     match words.first() {
-        Some(low) => next_take(reader, sight, book, cut, marks, *low),
+        Some(low) => next_least_take(reader, book, cut, marks, *low),
         None => None,
     }
-}
-
-/// A marked caller whose next call takes out a value, with the least view of all answered calls
-/// outside the cut that take it out. No clause says that one is found, since not finding it costs
-/// time alone.
-pub fn next_take<R: Reader>(
-    reader: &R,
-    sight: &Sight,
-    book: &Book,
-    cut: &Cut,
-    marks: MarkedCallers,
-    value: u64,
-) -> Option<u32>
-    // The sight lists each call of the book that puts in a value, and each answered one that takes
-    // it out.
-    requires sight { ListsValues (R.reading reader.now) book.now sight.now }
-    // The cut has a count for each caller of the book.
-    requires wide { length cut.now ≡ length book.now }
-    // A caller that is answered is one of the book's.
-    ensures caller { IfSome result (λ i. i < length book.now) }
-    // A caller that is answered is marked.
-    ensures marked { IfSome result (IsMarked marks) }
-    // The next call of the answered caller takes out the value, and has the least view of all
-    // answered calls outside the cut that do.
-    ensures take { IfSome result
-        (λ i. IsLeastTake (R.reading reader.now) book.now cut.now value (next_call cut.now i)) }
-{
-    let take = least_take(sight, book, cut, value)?;
-    if !marks.has(take.caller) || cut.get(take.caller) != take.number {
-        return None;
-    }
-    if value_taken(reader, book, take)? != value {
-        return None;
-    }
-    Some(take.caller)
 }
 
 // A marked caller whose next call alone puts in a value less than all items, where the value's
@@ -171,7 +135,7 @@ fn puts_least<R: Reader>(
     if !is_put_once(sight, value) {
         return false;
     }
-    next_take(reader, sight, book, cut, marks, value).is_some()
+    next_least_take(reader, book, cut, marks, value).is_some()
 }
 
 // Whether a value is less than the first of these words, where there is one.

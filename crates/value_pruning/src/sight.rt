@@ -1,8 +1,7 @@
 ghost use Rattle.std.specs.Prelude.{◌≡◌, [], ℕ, ◌+◌, ◌<◌, ◌≤◌, ◌==◌, ◌↔◌, if◌then◌else◌, Some, length, slice_index, IfOk, IfNone, IfSome, IsTrue, OnOk};
 ghost use Rattle.book_base.specs.Book.{IsCall, IsAnswered};
 ghost use Rattle.value_pruning.specs.Sights as sights;
-ghost use Rattle.value_pruning.specs.Sights.{place_of, HasItsPlaces, HasPlace, HasPut, HasTake, IsLeastListed, ListsRead, ListsValues};
-ghost use Rattle.book_base.specs.Pruning.{ViewsAreWithin};
+ghost use Rattle.value_pruning.specs.Sights.{place_of, HasItsPlaces, HasPlace, HasPut, HasTake, ListsRead, ListsValues};
 
 use crate::values::{value_put, value_taken};
 use book_base::{Book, Call, Cut, Labelled, NoMemory, Sight};
@@ -142,34 +141,6 @@ pub fn is_put_once(sight: &Sight, value: u64) -> bool
     }
 }
 
-/// Of the answered calls outside a cut that take out a value one with the least view. No clause
-/// says that one is found, since not finding it costs time alone.
-pub fn least_take(sight: &Sight, book: &Book, cut: &Cut, value: u64) -> Option<Call>
-    requires { length cut.now ≡ length book.now }
-    ensures answered { IfSome result (IsAnswered book.now) }
-    ensures least { IfSome result
-        (IsLeastListed book.now cut.now (sights.shows_of sight.now value)) }
-{
-    least_outside(book, cut, &labelled_of(sight, value)?.shows)
-}
-
-// One with the least view of these calls that are answered and outside a cut.
-fn least_outside(book: &Book, cut: &Cut, calls: &[Call]) -> Option<Call>
-    requires { length cut.now ≡ length book.now }
-    ensures answered { IfSome result (IsAnswered book.now) }
-    ensures least { IfSome result (IsLeastListed book.now cut.now calls.now) }
-{
-    let _callers = book.callers();
-    let mut least = None;
-    for k in 0..calls.len() {
-        let call = calls[k];
-        if is_outside(book, cut, call) && is_before(book, call, least) {
-            least = Some(call);
-        }
-    }
-    least
-}
-
 /// Whether a call is answered, and outside a cut.
 pub fn is_outside(book: &Book, cut: &Cut, call: Call) -> bool
     requires { length cut.now ≡ length book.now }
@@ -179,19 +150,4 @@ pub fn is_outside(book: &Book, cut: &Cut, call: Call) -> bool
     call.caller < book.callers()
         && call.number < book.answers(call.caller)
         && !cut.holds(call.caller, call.number)
-}
-
-// Whether the view of an answered call is within that of another one, where there is another.
-fn is_before(book: &Book, call: Call, other: Option<Call>) -> bool
-    requires answered { IsAnswered book.now call }
-    requires other { IfSome other (IsAnswered book.now) }
-    ensures { IsTrue result ↔ IfSome other (ViewsAreWithin book.now call) }
-{
-    match other {
-        None => true,
-        Some(other) => {
-            let view = book.record(call).view;
-            view.within(&book.record(other).view)
-        }
-    }
 }

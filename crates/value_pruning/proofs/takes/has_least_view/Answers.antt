@@ -6,8 +6,8 @@ use Rattle.book_base.specs.Book.{calls_of, record_of}
 use Rattle.book_base.specs.Cut.{IsWithin}
 use Rattle.book_base.proofs.PageLemmas.{caller_from_call}
 use Rattle.history_rules.specs.Calls.{TakesOut}
-use Rattle.stack_pruning.proofs.NextOrLater.{least_view}
-use Rattle.stack_pruning.proofs.takes.has_least_view.Goals as goal
+use Rattle.value_pruning.proofs.LeastViews.{least_view}
+use Rattle.value_pruning.proofs.takes.has_least_view.Goals as goal
 
 pub loop-caller-preserved : goal.loop-caller-preserved
 loop-caller-preserved g c i n below low less takes =

@@ -3,7 +3,7 @@ use Rattle.book_base.specs.declared.call.Record.{Record}
 use Rattle.book_base.specs.Book.{record_of}
 use Rattle.book_base.specs.Cut.{IsWithin}
 use Rattle.history_rules.specs.Calls.{TakesOut}
-use Rattle.stack_pruning.proofs.takes.takes_sooner.Given as goal
+use Rattle.value_pruning.proofs.takes.takes_sooner.Given as goal
 
 abbrev pub invariant-loop-number : goal.invariant-loop-number
 invariant-loop-number g l =

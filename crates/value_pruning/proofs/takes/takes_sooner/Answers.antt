@@ -4,7 +4,7 @@ use Rattle.book_base.specs.declared.call.Record.{Record}
 use Rattle.book_base.specs.Book.{record_of}
 use Rattle.book_base.specs.Cut.{IsWithin}
 use Rattle.history_rules.specs.Calls.{TakesOut}
-use Rattle.stack_pruning.proofs.takes.takes_sooner.Goals as goal
+use Rattle.value_pruning.proofs.takes.takes_sooner.Goals as goal
 
 pub loop-number-preserved : goal.loop-number-preserved
 loop-number-preserved g c n low below takes =

@@ -8,9 +8,9 @@ ghost use Rattle.book_base.specs.Pruning.{IsMarked, ViewsAreWithin};
 ghost use Rattle.history_rules.specs.Calls.{TakesOut};
 ghost use Rattle.value_pruning.specs.LeastFirst.{IsLeastTake};
 
+use crate::values::value_taken;
 use book_base::{Book, Call, Cut, MarkedCallers};
 use container_pruning::Reader;
-use value_pruning::value_taken;
 
 /// A marked caller whose next call takes out a value, with the least view of all answered calls
 /// outside the cut that take it out. A call that the take's view doesn't hold has no lesser view,
@@ -23,9 +23,14 @@ pub fn next_least_take<R: Reader>(
     marks: MarkedCallers,
     value: u64,
 ) -> Option<u32>
+    // The cut has a count for each caller of the book.
     requires wide { length cut.now ≡ length book.now }
+    // A caller that is answered is one of the book's.
     ensures caller { IfSome result (λ i. i < length book.now) }
+    // A caller that is answered is marked.
     ensures marked { IfSome result (IsMarked marks) }
+    // The next call of the answered caller takes out the value, and has the least view of all
+    // answered calls outside the cut that do.
     ensures take { IfSome result
         (λ i. IsLeastTake (R.reading reader.now) book.now cut.now value (next_call cut.now i)) }
 {
