@@ -1,6 +1,6 @@
 //! The sequential object of a kind behind a lock.
 
-use crate::trial::calls_of_all;
+use crate::trial::calls_of_script;
 use book_base::{BAD, MAX_ROOM, NoMemory, OpWord, SeqObject, State};
 use client_scripts::Script;
 use drv_wrapper::{Announced, BlackBox};
@@ -55,7 +55,7 @@ impl Maker<Locked> for LockedObjects {
         script: &Script,
         noise: Noise,
     ) -> Result<(Locked, Vec<CountingPass>), NoMemory> {
-        let mut state = State::with_room(alloc, calls_of_all(script).min(MAX_ROOM - 1) + 1)?;
+        let mut state = State::with_room(alloc, calls_of_script(script).min(MAX_ROOM - 1) + 1)?;
         self.kind.reset(&mut state);
         let object = Locked {
             kind: self.kind,

@@ -1,6 +1,6 @@
 //! The ring buffer of a queue, behind a lock or torn.
 
-use crate::trial::calls_of_all;
+use crate::trial::calls_of_script;
 use book_base::{BAD, NoMemory, OpWord};
 use client_scripts::Script;
 use crossbeam_utils::atomic::AtomicCell;
@@ -95,7 +95,7 @@ impl Maker<Ring> for Rings {
         noise: Noise,
     ) -> Result<(Ring, Vec<CountingPass>), NoMemory> {
         let mut places = Vec::new(alloc);
-        for _ in 0..calls_of_all(script) {
+        for _ in 0..calls_of_script(script) {
             places.push(AtomicCell::new(0))?;
         }
         let ring = Ring {

@@ -1,6 +1,6 @@
 //! A stack of linked places, with or without the check of its top (Treiber 1986).
 
-use crate::trial::calls_of_all;
+use crate::trial::calls_of_script;
 use book_base::{BAD, NoMemory, OpWord};
 use client_scripts::Script;
 use crossbeam_utils::atomic::AtomicCell;
@@ -113,7 +113,7 @@ impl Maker<Stack> for Stacks {
         noise: Noise,
     ) -> Result<(Stack, Vec<CountingPass>), NoMemory> {
         let mut places = Vec::new(alloc);
-        for _ in 0..calls_of_all(script) {
+        for _ in 0..calls_of_script(script) {
             places.push(StackPlace::default())?;
         }
         let stack = Stack {

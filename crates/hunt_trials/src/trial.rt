@@ -66,7 +66,7 @@ impl Display for HuntFindings {
 }
 
 /// How many calls the callers of a script make.
-pub(crate) fn calls_of_all(script: &Script) -> u64 {
+pub(crate) fn calls_of_script(script: &Script) -> u64 {
     let mut count = 0u64;
     for caller in 0..script.callers() {
         count = count.saturating_add(script.calls(caller));
