@@ -7,7 +7,7 @@ use Rattle.book_base.specs.Cut.{IsWithin}
 use Rattle.book_base.specs.Book.{Page, IsValid, record_of}
 use Rattle.book_base.specs.Pruning.{ViewsAreWithin}
 
--- The view of a call that this one's view doesn't hold is no less.
+-- In a valid book, a view that doesn't hold an answered call is within the view of this call.
 pub within_past : (book : List Page) → IsValid book → (take other : Call) (view : List ℕ)
     (r s : Record)
     → record_of book take ≡ Some r → view ≡ r.view → record_of book other ≡ Some s
@@ -23,7 +23,8 @@ within_past book valid take other view r s its same others past =
       ))
     ]
 
--- A call's view is within that of another one, if it is so wherever the view holds the other one.
+-- In a valid book, a call's view is within that of another call, if it is so where it holds the
+-- other call.
 pub least_view : (book : List Page) → IsValid book → (take other : Call) (view : List ℕ)
     → IsSomeAnd (record_of book take) (λ (r : Record). view ≡ r.view)
     → ((s : Record) → record_of book other ≡ Some s → other.number < get_or view other.caller 0
