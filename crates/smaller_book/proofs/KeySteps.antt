@@ -85,9 +85,9 @@ record IsContainer (kind : Kind) (put taking : OperationEntry) (put_into : List 
   others : (list : List ℕ) (word : ℕ) → is_operation_of word put ≡ false
       → is_operation_of word taking ≡ false → kind_next kind list word ≡ (list, reply_bad)
 
--- A take either finds no item, and then all items pass; or it shows an item. If this item passes,
--- the take from the items that pass has the same effect on them; if it doesn't, the take keeps them
--- all.
+-- A take either finds no item, and then all items pass; or it shows an item. If this item passes, a
+-- take from the items that pass shows it too and takes it out of them; if it doesn't pass, the take
+-- keeps all items that pass.
 abbrev TakesOne : (ℕ → Bool) → (List ℕ → List ℕ × ℕ) → List ℕ → Type 0
 TakesOne p taken list =
     ((taken list ≡ (list, reply_none)) × (filter p list ≡ list))

@@ -18,7 +18,8 @@ lacks_none next book i = record {
   lacks = λ number less. absurd (omega arith);
 }
 
--- Where numbers lack only read-only calls below n, they do so below n + 1 with n at their end.
+-- Where numbers lack only read-only calls below n, the numbers with n at their end lack only
+-- read-only calls below n + 1.
 pub lacks_kept : (next : List ℕ → ℕ → List ℕ × ℕ) (book : List Page) (i n : ℕ) (numbers : List ℕ)
     → LacksReadOnlyOf next book i n numbers
     → LacksReadOnlyOf next book i (n + 1) (numbers ++ n ∷ [])

@@ -111,9 +111,9 @@ fn without_some(
     }
 }
 
-/// The book without the calls of the first key without which it has no legal order; none, where it
-/// has a legal order without each single key. None is looked for where a view holds two unanswered
-/// calls of a caller.
+/// The book without the calls of the first key without which it has no legal order. No book is
+/// answered where the book has a legal order without each single key, or where a view holds two
+/// unanswered calls of a caller.
 pub fn without_one_key(alloc: Global, kind: Kind, book: &Book) -> Result<Option<Smaller>, NoMemory>
     ensures smaller { IfOk result (λ found. IfSome found (λ smaller.
         IsSmaller kind book.now (numbers_in smaller.numbers.items) smaller.book)) }

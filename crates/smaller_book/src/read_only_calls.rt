@@ -15,8 +15,8 @@ use book_base::{Book, Call, MAX_CALLS, NoMemory};
 use seq_objects::Kind;
 use std::alloc::Global;
 
-/// The book without a read-only call, where it has no legal order without this call; none, where it
-/// has one without each single read-only call.
+/// The book without a read-only call, where it has no legal order without this call. No book is
+/// answered where the book has a legal order without each single read-only call.
 pub fn without_read_only(
     alloc: Global,
     kind: Kind,

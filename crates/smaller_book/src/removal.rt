@@ -23,8 +23,8 @@ pub struct Smaller {
 }
 
 /// The book without the first read-only call, of this caller or a later one, without which it has
-/// no legal order, with the caller of this call; none, where it has one without each single one of
-/// them.
+/// no legal order, with the caller of this call. No book is answered where the book has a legal
+/// order without each single one of these calls.
 pub fn without_one(
     alloc: Global,
     kind: Kind,

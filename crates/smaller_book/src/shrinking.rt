@@ -22,8 +22,8 @@ use book_base::{Book, NoMemory};
 use seq_objects::Kind;
 use std::alloc::Global;
 
-/// Of a book without a legal order a part without one, which no rule makes smaller; none, where the
-/// book has a legal order.
+/// Of a book without a legal order a part without one, which no rule makes smaller. No book is
+/// answered where the book has a legal order.
 ///
 /// The rules are three: the book at an earlier cut, the book without an answered read-only call of
 /// the object, and the book without all calls of one key, where each view holds at most one
@@ -47,7 +47,7 @@ pub fn shrink(alloc: Global, kind: Kind, book: &Book) -> Result<Option<Smaller>,
     // The smaller book has no legal order.
     ensures illegal { IfOk result (λ found. IfSome found (λ smaller.
         ¬ HasLegalOrder (kind_init kind) (kind_next kind) smaller.book)) }
-    // No rule makes the smaller book smaller still and leaves it without a legal order.
+    // No rule makes the smaller book smaller still and keeps it without a legal order.
     ensures minimal { IfOk result (λ found. IfSome found (λ smaller.
         IsMinimal kind smaller.book)) }
 {
@@ -118,7 +118,7 @@ fn next_smaller(alloc: Global, kind: Kind, book: &Book) -> Result<Option<Smaller
 }
 
 // The book without the calls of a key that isn't needed, or else without a read-only call that
-// isn't needed; none, where each key and each read-only call is needed.
+// isn't needed. No book is answered where each key and each read-only call is needed.
 fn without_calls(alloc: Global, kind: Kind, book: &Book) -> Result<Option<Smaller>, NoMemory>
     ensures smaller { IfOk result (λ found. IfSome found (λ smaller.
         IsSmaller kind book.now (numbers_in smaller.numbers.items) smaller.book)) }

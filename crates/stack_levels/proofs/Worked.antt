@@ -531,7 +531,7 @@ no_start (suc (suc k)) e = none-some (0, 0 ∷ []) e
 pub start_left_out : IsClosed pile (puts_and_takes 1) one_below_two (IsAmong without_start) → ⊥
 start_left_out closed = no_start closed.start.0 closed.start.1
 
--- ---- what leaves a list, and where a take leads
+-- ---- which calls don't change a list, and where a take leads
 
 neither_no_put : (v : ℕ) → Puts v ≡ Neither → ⊥
 neither_no_put v e = put_no_neither v (sym e)

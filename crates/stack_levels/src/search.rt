@@ -60,8 +60,8 @@ struct Here {
     top: Top,
 }
 
-/// A call that is to be tried, and its turn: the search goes on first from the call of the least
-/// turn.
+/// A call that is to be tried, and its turn: the nodes to which the call of the least turn leads
+/// are looked at first.
 #[derive(Clone, Copy, Drop)]
 struct Turn {
     turn: u64,

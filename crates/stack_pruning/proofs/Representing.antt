@@ -14,8 +14,8 @@ use Rattle.stack_pruning.specs.declared.top.Top.{Top}
 use Rattle.stack_pruning.specs.LastFirst.{IsSmall, Lacks, EndsWith, TakesLast, PutsPaired, PutsKept, PutsNeedless, IsItem, HasTop, StandFor}
 use Rattle.stack_pruning.proofs.Stepping.{all-prefix}
 
--- Where a caller's next call takes the last word, as `TakesLast` says, it takes the last item of
--- each list for which the words stand.
+-- Where `TakesLast` holds of a caller and the first words, it holds of the caller and each list for
+-- which the words stand.
 pub takes_last : (reading : Reading) (book : List Page) (cut ends others list : List ℕ)
     (look : Bool) (caller : ℕ)
     → StandFor reading book cut ends others look list → TakesLast reading book cut ends caller
@@ -28,8 +28,8 @@ takes_last reading book cut ends others list look caller stands it =
       takes = it.takes;
     }
 
--- Where a caller's next call puts in a value that the other words lack, as `PutsPaired` says, it
--- does so for each list for which the words stand.
+-- Where `PutsPaired` holds of a caller and the other words, it holds of the caller and each list
+-- for which the words stand.
 pub puts_paired_in : (reading : Reading) (book : List Page) (cut ends others list : List ℕ)
     (look : Bool) (caller : ℕ)
     → StandFor reading book cut ends others look list → PutsPaired reading book cut others caller
@@ -43,8 +43,8 @@ puts_paired_in reading book cut ends others list look caller stands it = record 
   takes = it.takes;
 }
 
--- Where a caller's next call puts in a kept value above kept words, as `PutsKept` says, it does so
--- for each list for which these words stand, if it is asked whether they are kept.
+-- Where `PutsKept` holds of a caller and the other words, and it is asked whether these are kept,
+-- it holds of the caller and each list for which the words stand.
 pub puts_kept : (reading : Reading) (book : List Page) (cut ends others list : List ℕ) (look : Bool)
     (caller : ℕ) → IsTrue look
     → StandFor reading book cut ends others look list → PutsKept reading book cut others caller

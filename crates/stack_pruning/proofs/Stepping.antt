@@ -174,7 +174,7 @@ small-taken reading next bound is P list op takes all = elim (cases_end list) [
       (all-prefix P some.0 some.1 (subst (λ (xs : List ℕ). AllByRecursion P xs) some.2 all)).0
 ]
 
--- A property of each item of a list, and of each value that an operation puts in, is one of each
+-- What holds of each item of a list, and of each value that an operation puts in, holds of each
 -- item of the list after this operation.
 pub all_next : (reading : Reading) (next : List ℕ → ℕ → List ℕ × ℕ) (bound : ℕ)
     → GivesLastFirst reading next bound → (P : ℕ → Type 0) (list : List ℕ) (op : ℕ)
