@@ -104,8 +104,8 @@ record Onward (reading : Reading) (book : List Page) (next : List ℕ → ℕ �
   items : AllByRecursion (IsItem reading book cut bound) (upright tops)
   goes : Continues book next cut (upright tops) rest
 
--- After one more call, each item of the list is below the bound and was put in by a call of the
--- cut.
+-- Where each item of the list is below the bound and was put in by a call of the cut, it is so
+-- after one more call, with the cut that has this call.
 items_after : (reading : Reading) (next : List ℕ → ℕ → List ℕ × ℕ) (bound : ℕ)
     → GivesLastFirst reading next bound → (book : List Page)
     (cut list : List ℕ) (place : Place) (op : ℕ) → length book ≤ length cut

@@ -32,8 +32,9 @@ Nodes = ℕ → List ℕ → Type 0
 abbrev pub IsAmong : List (ℕ × List ℕ) → Nodes
 IsAmong pairs l cut = (k : ℕ) × (slice_get pairs k ≡ Some (l, cut))
 
--- A take leads from a level to the pairs: with the cut after the take, each parent of a level with
--- a last word is a pair, or a level without a last word itself.
+-- A take leads from a level to the pairs: where the level has a last word, each of its parents is a
+-- pair with the cut after the take; where it has no last word, the level itself is a pair with this
+-- cut.
 abbrev pub TakeLeads : Nodes → ℕ → Option ℕ → List ℕ → List ℕ → Type 0
 TakeLeads nodes l None parents after = nodes l after
 TakeLeads nodes l (Some v) parents after = (p : ℕ) → IsOneLevel parents p → nodes p after
