@@ -46,38 +46,3 @@ next_or_later book cut take put view marks all seen next =
           inr (inl (subst (λ (o : Option Record). IsSomeAnd o misses) (sym found.1)
           (subst (λ (w : List ℕ). get_or w put.caller 0 ≤ put.number) same past)))
     ]
-<<<<<<< ours
-=======
-
--- In a valid book, a view that doesn't hold an answered call is within the view of this call.
-pub within_past : (book : List Page) → IsValid book → (take other : Call) (view : List ℕ)
-    (r s : Record)
-    → record_of book take ≡ Some r → view ≡ r.view → record_of book other ≡ Some s
-    → get_or view other.caller 0 ≤ other.number → IsWithin view s.view
-within_past book valid take other view r s its same others past =
-    elim (valid.comparable take other r s its others) [
-      | inl within ↦ subst (λ (w : List ℕ). IsWithin w s.view) (sym same) within
-      | inr within ↦ absurd (omega (
-        arith,
-        within other.caller,
-        valid.own other s others,
-        subst (λ (w : List ℕ). get_or w other.caller 0 ≤ other.number) same past,
-      ))
-    ]
-
--- In a valid book, a call's view is within that of another call, if this is so wherever the first
--- view holds the other call.
-pub least_view : (book : List Page) → IsValid book → (take other : Call) (view : List ℕ)
-    → IsSomeAnd (record_of book take) (λ (r : Record). view ≡ r.view)
-    → ((s : Record) → record_of book other ≡ Some s → other.number < get_or view other.caller 0
-    → IsWithin view s.view)
-    → ViewsAreWithin book take other
-least_view book valid take other view seen held r s its others =
-    let same : view ≡ r.view =
-    subst (λ (o : Option Record). IsSomeAnd o (λ (r : Record). view ≡ r.view)) its seen in
-    subst (λ (w : List ℕ). IsWithin w s.view) same
-    (elim (cases_lt other.number (get_or view other.caller 0)) [
-      | inl less ↦ held s others less
-      | inr past ↦ within_past book valid take other view r s its same others past
-    ])
->>>>>>> theirs
