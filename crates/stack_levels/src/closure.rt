@@ -441,31 +441,50 @@ impl<R: Reader> Closure<'_, R> {
     {
         let _callers = self.on.book.callers();
         let counts = raised(&node.counts, call.caller);
+        let Some(cut) = self.cut_of(counts) else {
+            return false;
+        };
         match self.on.reader.role(self.on.book.op(call)) {
-            Role::Put(value) => self.put_leads(node.level, value, counts),
-            Role::Take => self.take_leads(node.level, level, counts),
-            Role::Other => self.has(node.level, counts),
+            Role::Put(value) => self.put_leads(node.level, level, value, cut, counts),
+            Role::Take => self.take_leads(node.level, level, cut, counts),
+            Role::Other => self.has_at(node.level, cut, counts),
         }
     }
 
     // Whether a put of a value, after which the cut has these counts, leads from a level to one of
     // the nodes.
-    fn put_leads(&self, level: usize, value: u64, counts: [u16; MAX_CALLERS]) -> bool
+    fn put_leads(
+        &self,
+        place: usize,
+        level: &Level,
+        value: u64,
+        cut: usize,
+        counts: [u16; MAX_CALLERS],
+    ) -> bool
+        requires cut { slice_get self.now.table.now.cuts.keys cut ≡ Some counts }
         ensures { IsTrue result → (m : ℕ)
-            × LiesOn (layers_of self.now.table.now.levels.items) m level value
+            × LiesOn (layers_of self.now.table.now.levels.items) m place value
             × nodes_of self.now.on.now.book.now self.now.table.now.cuts.keys
             self.now.table.now.nodes.keys m
             (take (length self.now.on.now.book.now) counts) }
     {
-        if self.put_leads_to(level, value, counts, true) {
+        if level.top.kept && self.put_leads_to(place, value, cut, counts, true) {
             return true;
         }
-        self.put_leads_to(level, value, counts, false)
+        self.put_leads_to(place, value, cut, counts, false)
     }
 
     // Whether a put of a value leads from a level to a node whose level is kept, or isn't, as is
     // asked.
-    fn put_leads_to(&self, level: usize, value: u64, counts: [u16; MAX_CALLERS], kept: bool) -> bool
+    fn put_leads_to(
+        &self,
+        level: usize,
+        value: u64,
+        cut: usize,
+        counts: [u16; MAX_CALLERS],
+        kept: bool,
+    ) -> bool
+        requires cut { slice_get self.now.table.now.cuts.keys cut ≡ Some counts }
         ensures { IsTrue result → (m : ℕ)
             × LiesOn (layers_of self.now.table.now.levels.items) m level value
             × nodes_of self.now.on.now.book.now self.now.table.now.cuts.keys
@@ -476,18 +495,23 @@ impl<R: Reader> Closure<'_, R> {
             last: Some(value),
             kept,
         };
-        let Some(cut) = self.table.cuts.get_index_of(&counts) else {
-            return false;
-        };
-        match self.table.beginnings.get_full(&Beginning { cut, top }) {
-            Some((above, _)) => self.leads_to(above, level, value, counts),
+        match self.table.beginnings.get_index_of(&Beginning { cut, top }) {
+            Some(above) => self.leads_to(above, level, value, cut, counts),
             None => false,
         }
     }
 
     // Whether a level has this value as its last word and another level as a parent, and is in a
     // node with the cut of these counts.
-    fn leads_to(&self, above: usize, level: usize, value: u64, counts: [u16; MAX_CALLERS]) -> bool
+    fn leads_to(
+        &self,
+        above: usize,
+        level: usize,
+        value: u64,
+        cut: usize,
+        counts: [u16; MAX_CALLERS],
+    ) -> bool
+        requires cut { slice_get self.now.table.now.cuts.keys cut ≡ Some counts }
         ensures { IsTrue result
             → LiesOn (layers_of self.now.table.now.levels.items) above level value
             × nodes_of self.now.on.now.book.now self.now.table.now.cuts.keys
@@ -497,7 +521,7 @@ impl<R: Reader> Closure<'_, R> {
         if !self.lies_on(above, level, value) {
             return false;
         }
-        self.has(above, counts)
+        self.has_at(above, cut, counts)
     }
 
     // Whether a level has this value as its last word, and another level as a parent.
@@ -516,7 +540,14 @@ impl<R: Reader> Closure<'_, R> {
 
     // Whether a take, after which the cut has these counts, leads from a level to the nodes: to
     // each of its parents, and from the bottom to the bottom.
-    fn take_leads(&self, place: usize, level: &Level, counts: [u16; MAX_CALLERS]) -> bool
+    fn take_leads(
+        &self,
+        place: usize,
+        level: &Level,
+        cut: usize,
+        counts: [u16; MAX_CALLERS],
+    ) -> bool
+        requires cut { slice_get self.now.table.now.cuts.keys cut ≡ Some counts }
         ensures { IsTrue result
             → TakeLeads (nodes_of self.now.on.now.book.now self.now.table.now.cuts.keys
             self.now.table.now.nodes.keys) place
@@ -524,20 +555,8 @@ impl<R: Reader> Closure<'_, R> {
             level.now.parents.items (take (length self.now.on.now.book.now) counts) }
     {
         match level.top.last {
-            Some(_) => self.has_all(&level.parents, counts),
-            None => self.has(place, counts),
-        }
-    }
-
-    // Whether each of these levels is in a node with the cut of these counts.
-    fn has_all(&self, parents: &[usize], counts: [u16; MAX_CALLERS]) -> bool
-        ensures { IsTrue result → (p : ℕ) → IsOneLevel parents.now p
-            → nodes_of self.now.on.now.book.now self.now.table.now.cuts.keys
-            self.now.table.now.nodes.keys p (take (length self.now.on.now.book.now) counts) }
-    {
-        match self.cut_of(counts) {
-            Some(cut) => self.has_all_at(parents, cut, counts),
-            None => false,
+            Some(_) => self.has_all_at(&level.parents, cut, counts),
+            None => self.has_at(place, cut, counts),
         }
     }
 

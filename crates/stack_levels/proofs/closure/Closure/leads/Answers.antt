@@ -49,4 +49,4 @@ returns-in-Other g c told =
     c.args.node.now (layer_of c.args.level.now) c.args.look.now.cut c.raised-counts.result
     c.args.call c.op.result c.role.result roles.Other
     c.op.ensures c.role.ensures c.in-Other.is c.requires.cut c.requires.caller
-    c.raised-counts.ensures (c.has.ensures told)
+    c.raised-counts.ensures (c.has_at.ensures told)

@@ -10,7 +10,7 @@ returns-in-Some g c told =
     (nodes_of book c.args.self.now.table.now.cuts.keys c.args.self.now.table.now.nodes.keys)
     c.args.place o c.args.level.now.parents.items (take (length book) c.args.counts))
     (sym c.in-Some.is)
-    (λ p one. c.has_all.ensures told p
+    (λ p one. c.has_all_at.ensures told p
     (subst (λ (xs : List ℕ). IsOneLevel xs p) (sym c.deref.ensures.value) one))
 
 pub returns-in-None : goal.returns-in-None
@@ -19,4 +19,4 @@ returns-in-None g c told =
     subst (λ (o : Option ℕ). TakeLeads
     (nodes_of book c.args.self.now.table.now.cuts.keys c.args.self.now.table.now.nodes.keys)
     c.args.place o c.args.level.now.parents.items (take (length book) c.args.counts))
-    (sym c.in-None.is) (c.has.ensures told)
+    (sym c.in-None.is) (c.has_at.ensures told)
