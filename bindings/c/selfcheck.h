@@ -58,8 +58,8 @@ uint32_t selfcheck_certify(const uint8_t *text, size_t length, uint8_t *buffer, 
  * which has no legal order and shows that the whole book has none, and which no rule makes smaller. The text is that of
  * a book, in version 1 or 2, or all that `run` or `monitor` have written with a witness; a refusal's line is counted from
  * the title of the book. ILLEGAL where the smaller book is in the buffer, LEGAL where the book has a legal order and there
- * is none, REFUSED, NO_MEMORY or NO_ROOM; but for ILLEGAL the buffer is as it was. It is no longer than the book in
- * version 2. */
+ * is none, REFUSED, NO_MEMORY or NO_ROOM; but for ILLEGAL the buffer is as it was. As much room as the book takes in
+ * version 2 should do, which no clause says; with NO_ROOM `written` says how much is needed. */
 uint32_t selfcheck_smaller(const uint8_t *text, size_t length, uint8_t *buffer, size_t room, size_t *written,
                            struct selfcheck_refusal *refusal);
 
