@@ -2,3 +2,4 @@ pub mod Entries
 pub mod Counting
 pub mod Holding
 pub mod Refuting
+pub mod Worked

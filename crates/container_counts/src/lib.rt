@@ -2,6 +2,7 @@
 //! gives out.
 #![tactic(auto)]
 
+pub mod cases;
 mod counts;
 pub mod laws;
 mod refute;

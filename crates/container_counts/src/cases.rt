@@ -1,0 +1,43 @@
+//! Worked cases: small books of a bag, with and without a legal order, and what counts say of them.
+
+ghost use Rattle.std.specs.Prelude.{[], ◌∷◌};
+ghost use Rattle.book_base.specs.Order.{HasLegalOrder};
+ghost use Rattle.history_rules.specs.Container.{IsContainer};
+ghost use Rattle.queue_pairs.specs.declared.table.Table.{Table};
+ghost use Rattle.queue_pairs.specs.Tables.{IsTable};
+ghost use Rattle.container_counts.specs.Counts.{IsRefuted, PutsAhead, TakesAhead};
+ghost use Rattle.container_counts.specs.Cases.{bag, bag_next, put_and_taken, taken_unput};
+
+/// A value is taken out that nobody put in.
+pub fn what_is_taken_was_put_in()
+    // By the view of the take more ones have been taken out than put in.
+    ensures ahead { (table : Table) → IsTable bag taken_unput table
+        → TakesAhead table (1 ∷ []) 1 1 }
+    // No twos have.
+    ensures other { (table : Table) → IsTable bag taken_unput table
+        → ¬ TakesAhead table (2 ∷ []) 1 1 }
+    // So the book's table is refuted, and a refuted table's book has no legal order of the bag.
+    ensures refuted { (table : Table) → IsTable bag taken_unput table
+        → IsRefuted table × ¬ HasLegalOrder [] bag_next taken_unput }
+{}
+
+/// A take finds nothing after a put, although nothing was taken out.
+pub fn what_is_left_is_found()
+    // One 1 has been put in before any view holds the take that finds nothing, and none may have
+    // been taken out by its view.
+    ensures ahead { (table : Table) → IsTable bag (put_and_taken 0) table
+        → PutsAhead table (1 ∷ []) 1 2 }
+    // So the bag has no legal order of the book.
+    ensures none { (table : Table) → IsTable bag (put_and_taken 0) table
+        → ¬ HasLegalOrder [] bag_next (put_and_taken 0) }
+{}
+
+/// A book with a legal order isn't refuted.
+pub fn legal_books_are_not_refuted()
+    // The bag is a container.
+    ensures bag { IsContainer bag bag_next }
+    // It has a legal order of the book in which the 1 is put in and taken out.
+    ensures legal { HasLegalOrder [] bag_next (put_and_taken 2) }
+    // The table of this book isn't refuted.
+    ensures kept { (table : Table) → IsTable bag (put_and_taken 2) table → ¬ IsRefuted table }
+{}
