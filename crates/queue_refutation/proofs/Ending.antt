@@ -1,15 +1,11 @@
 -- Standings that a search entered lead to one another alone.
-use Rattle.std.proofs.Common.{◌≡◌, ℕ, ◌+◌, ◌<◌, ◌≤◌, ◌⊎◌, ◌∙◌, List, length, get_or, max, Some, option_map, refl, sym, ap, subst, inl, inr, slice_get, arith}
-use Rattle.std.proofs.lemmas.Bool.{cases_lt}
-use Rattle.std.proofs.lemmas.List.{get_or_past}
+use Rattle.std.proofs.Common.{◌≡◌, ℕ, ◌<◌, ◌≤◌, ◌⊎◌, ◌∙◌, List, length, max, Some, option_map, refl, sym, ap, subst, inl, inr, slice_get, arith}
 use Rattle.std.proofs.lemmas.Option.{slice_get-map, slice_get_within}
 use Rattle.list_laws.proofs.Options.{map_some}
 use Rattle.book_base.specs.declared.TheConstants.{MAX_CALLERS}
 use Rattle.book_base.specs.declared.call.Call.{Call}
-use Rattle.book_base.specs.declared.call.Record.{Record}
-use Rattle.book_base.specs.Book.{Page, answers_of, IsCall, record_of}
+use Rattle.book_base.specs.Book.{Page, answers_of, record_of}
 use Rattle.book_base.specs.Pruning.{HasOneOpen}
-use Rattle.book_base.proofs.GrowthLemmas.{below_calls}
 use Rattle.history_rules.specs.Container.{Reading}
 use Rattle.container_pruning.specs.Deals.{deal_of}
 use Rattle.queue_pairs.specs.declared.TheConstants.{NEVER}
@@ -19,15 +15,14 @@ use Rattle.queue_pairs.specs.declared.standing.PairState.{PairState}
 use Rattle.queue_pairs.specs.declared.table.QueueDeal.TheVariants as did
 use Rattle.queue_pairs.specs.declared.table.Table.{Table}
 use Rattle.queue_pairs.specs.declared.table.TimedCall.{TimedCall}
-use Rattle.queue_pairs.specs.Moments.{moment_of}
 use Rattle.queue_pairs.specs.Pairs.{Paired, Pair, MayPair, IsWhole, none_paired}
 use Rattle.queue_pairs.specs.Serving.{IsDueNoLater}
-use Rattle.queue_pairs.specs.Tables.{known_deal, put_at, take_at, timed_at, IsTimed, IsTable}
+use Rattle.queue_pairs.specs.Tables.{known_deal, put_at, take_at, IsTimed, IsTable}
 use Rattle.queue_pairs.specs.NextEntries.{paired, pair_of, AreNextEntries, IsNextEntry, IsNextPair, IsPast, Serves}
 use Rattle.queue_pairs.proofs.Serving.{held_later}
 use Rattle.queue_refutation.specs.Closed.{IsOnePaired, PairServesFor, AreClosed, IsClosedAt}
 use Rattle.queue_refutation.specs.DeadEnds.{listed, QueueHasNoOrder, Lead, IsOf, IsAny, FindsLeadOn, StandAtOnce, ClosedAt, IsServed}
-use Rattle.queue_refutation.proofs.Entries.{next-put, next-take, put-is, took-is, open-is, timed-is, timed-there, held-first, answered-last, unanswered-last}
+use Rattle.queue_refutation.proofs.Entries.{next-put, next-take, put-is, took-is, open-is, held-first, answered-last, unanswered-last}
 use Rattle.queue_refutation.proofs.Passing.{is-overdue}
 use Rattle.queue_refutation.proofs.Refuting.{closed_starts_have_no_order}
 
@@ -265,37 +260,3 @@ refuted table book standings one start closed reading init next is queue empty h
     (one reading is) (closed reading book is) start has
 
 -- ---- one open
-
--- each view holds at most one unanswered call of a caller whose second unanswered call no view
--- holds
-pub one-open_of : (reading : Reading) (book : List Page) (table : Table) (caller : ℕ) (call : Call)
-    (r : Record) → IsTable reading book table → record_of book call ≡ Some r
-    → ((t : TimedCall) → timed_at table caller (answers_of book caller + 1) ≡ Some t
-    → t.span.first < NEVER → ⊥)
-    → get_or r.view caller 0 ≤ answers_of book caller + 1
-one-open_of reading book table caller call r is known unheld =
-    let number : ℕ = answers_of book caller + 1 in
-    let second : Call = record { caller = caller; number = number } in
-    elim (cases_lt number (get_or r.view caller 0)) [
-      | inr few ↦ few
-      | inl holds ↦
-          let there : IsCall book second
-          = omega (arith, holds, below_calls book r.view (is.valid.within call r known) caller) in
-          let entry = timed-there reading book table second is there in
-          let timed : IsTimed reading book second entry.0
-          = timed-is reading book table caller number entry.0 is entry.1 in
-          absurd (unheld entry.0 entry.1
-          (timed.span.least (moment_of r) (call, r, known, holds, omega arith)).1)
-    ]
-
-pub one-open_all : (book : List Page) (below : ℕ) → length book ≤ below
-    → ((call : Call) (r : Record) → record_of book call ≡ Some r → length r.view ≡ length book)
-    → ((i : ℕ) → i < below → (call : Call) (r : Record) → record_of book call ≡ Some r
-    → get_or r.view i 0 ≤ answers_of book i + 1)
-    → HasOneOpen book
-one-open_all book below all wide each call r i known =
-    elim (cases_lt i below) [
-      | inl inside ↦ each i inside call r known
-      | inr past ↦
-          omega (arith, get_or_past r.view i 0 (omega (arith, wide call r known, all, past)))
-    ]

@@ -3,9 +3,9 @@ ghost use Rattle.container_counts.specs.Counts.{PutsAhead, TakesAhead};
 ghost use Rattle.queue_refutation.specs.Counts.{HasNoPairs};
 ghost use Rattle.queue_refutation.specs.DeadEnds.{QueueHasNoOrder};
 
-use crate::one_open::has_one_open;
 use book_base::{Book, NoMemory};
 use container_counts::{puts_are_ahead, takes_are_ahead};
+use next_calls::has_one_open;
 use queue_pairs::{NEVER, QueueDeal, Table, TimedCall};
 use std::alloc::Global;
 
@@ -33,7 +33,7 @@ struct ValueMoments {
 pub fn refute_by_counts(alloc: Global, table: &Table, book: &Book) -> Result<bool, NoMemory>
     ensures { IfOk result (λ refuted. IsTrue refuted → QueueHasNoOrder table.now book.now) }
 {
-    if !has_one_open(table, book) {
+    if !has_one_open(book) {
         return Ok(false);
     }
     match moments_of(alloc, table)? {

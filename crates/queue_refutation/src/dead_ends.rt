@@ -10,9 +10,9 @@ ghost use Rattle.queue_pairs.specs.NextEntries.{paired, pair_of, AreNextEntries,
 ghost use Rattle.queue_refutation.specs.Closed.{IsOnePaired, AreClosed};
 ghost use Rattle.queue_refutation.specs.DeadEnds.{listed, QueueHasNoOrder, Lead, IsOf, IsOfTaker, IsOfPut, IsOfPutter, IsAny, FindsLeadOn, StandAtOnce, ClosedAt, IsServed};
 
-use crate::one_open::has_one_open;
 use book_base::{Book, Call, MAX_CALLERS, MAX_CALLS};
 use indexmap::IndexSet;
+use next_calls::has_one_open;
 use queue_pairs::{NEVER, NextEntries, PairState, QueueDeal, Table, TimedCall, TimedPair};
 
 /// Standings that a search entered, to be checked once more. Where whatever may come next at each
@@ -39,7 +39,7 @@ impl DeadEnds<'_> {
     pub fn refute(&self, book: &Book) -> bool
         ensures { IsTrue result → QueueHasNoOrder self.now.table.now book.now }
     {
-        if !has_one_open(self.table, book) {
+        if !has_one_open(book) {
             return false;
         }
         if !self.has(&PairState::start()) {

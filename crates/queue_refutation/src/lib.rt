@@ -7,6 +7,5 @@ mod clashes;
 mod dead_ends;
 mod decide;
 pub mod laws;
-mod one_open;
 
 pub use decide::decide_queue;

@@ -3,4 +3,4 @@ use Rattle.queue_refutation.proofs.clashes.refute_by_counts.Goals as goal
 
 pub returns-in-Some : goal.returns-in-Some
 returns-in-Some c told = unpaired c.args.table.now c.args.book.now
-    (c.has_one_open.ensures c.if-not-has_one_open.false) (c.refute.ensures told)
+    (λ reading is. c.has_one_open.ensures.one c.if-not-has_one_open.false) (c.refute.ensures told)
