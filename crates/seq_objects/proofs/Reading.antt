@@ -28,7 +28,7 @@ shown_item item =
     (eq-eqb (reply_value item / 2 ^ 32) 2 (omega arith))
     ∙ ap Some (omega arith)
 
--- a value that a reply shows is small
+-- a value that a reply shows is below 2^32
 shown_small : (reply v : ℕ) → shown_value reply ≡ Some v → v < 2 ^ 32
 shown_small reply v e =
     let parts = if_some (is_value reply) (Some (value_of reply)) v e in
@@ -100,7 +100,7 @@ pushed_is_small word =
     (λ _. cond_both {A = Option StackOperation}
     (is_operation_of word words.pop) _ _ stack_puts_small (λ pop. tt) (λ other. tt))
 
--- the values of a list with one more word begin with that word's value
+-- the values of a stack's list with one more word, newest first, begin with that word's value
 shown_pushed : (list : List ℕ) (word : ℕ)
     → shown_first (list ++ word ∷ []) ≡ value_of word ∷ shown_first list
 shown_pushed list word = ap reverse (map-append value_of list (word ∷ []))
@@ -148,7 +148,7 @@ stack_is_read = record {
   neither = λ list op e. stack_neither list (stack_operation op) e;
 }
 
--- a word of a list that is a value is one of the values that the list holds
+-- a word of a list that is below 2^32 is one of the values of the list
 Contains-value : (list : List ℕ) (v : ℕ) → v < 2 ^ 32 → Contains list v
     → Contains (map value_of list) v
 Contains-value list v small inside =

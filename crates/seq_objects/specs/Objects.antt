@@ -1,6 +1,6 @@
 -- The sequential objects by kind: the list that each begins with, and for every list and every
--- operation word the new list and the reply. A list begins small, grows by one item at most, and
--- isn't changed by an unknown word.
+-- operation word the new list and the reply. The first list has at most one item, an operation adds
+-- at most one, and an unknown word changes no list and gets the reply `BAD`.
 use Rattle.std.proofs.Common.{◌≡◌, ℕ, ◌+◌, ◌≤◌, false, List, [], ◌∷◌, length}
 use Rattle.book_base.specs.declared.TheConstants.{BAD}
 use Rattle.seq_objects.specs.declared.kind.Kind.{Kind}
@@ -38,6 +38,7 @@ kind_next kinds.Pqueue list word = pqueue_after list (pqueue_operation word)
 kind_next kinds.CasRegister list word = cas_register_after list (cas_register_operation word)
 kind_next kinds.Map list word = map_after list (map_operation word)
 
+-- The list that an object of a kind begins with has at most one item.
 pub length-kind_init : (kind : Kind) → length (kind_init kind) ≤ 1
 length-kind_init kinds.Queue = length-none
 length-kind_init kinds.Stack = length-none
@@ -48,6 +49,7 @@ length-kind_init kinds.Pqueue = length-none
 length-kind_init kinds.CasRegister = length-one
 length-kind_init kinds.Map = length-none
 
+-- An operation word makes a list longer by at most one item.
 pub length-kind_next : (kind : Kind) (list : List ℕ) (word : ℕ)
     → length (kind_next kind list word).0 ≤ length list + 1
 unfolding kind_next
@@ -61,6 +63,7 @@ length-kind_next kinds.CasRegister list word =
     length-cas_register_after list (cas_register_operation word)
 length-kind_next kinds.Map list word = length-map_after list (map_operation word)
 
+-- A word that a kind doesn't know changes no list of its object, and gets the reply `BAD`.
 pub kind_next-unknown : (kind : Kind) (list : List ℕ) (word : ℕ) → is_known_word kind word ≡ false
     → kind_next kind list word ≡ (list, BAD)
 unfolding kind_next
