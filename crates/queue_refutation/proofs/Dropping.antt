@@ -1,5 +1,5 @@
--- A pair of an unanswered put and an unanswered take may be left out: where it takes effect no view
--- holds a later call of either caller.
+-- In a book with one open a pair of an unanswered put and an unanswered take may be left out: no
+-- view that holds one of the two calls holds a later call of its caller.
 use Rattle.std.proofs.Common.{◌≡◌, ◌≢◌, ℕ, ◌+◌, ◌<◌, ◌≤◌, ◌∙◌, List, [], ◌∷◌, length, get_or, set, Some, refl, sym, ap, subst, inl, inr, arith}
 use Rattle.std.proofs.lemmas.Bool.{cases_lt, cases_eq}
 use Rattle.std.proofs.lemmas.Option.{slice_get_within}

@@ -1,4 +1,5 @@
--- Closed lists of standings: whatever may come next at one of them leads to one of them.
+-- Closed lists of standings: whatever may come next at one of them leads to one of them, or needn't
+-- be tried.
 use Rattle.std.specs.Prelude.{◌≡◌, ℕ, ◌<◌, ◌≤◌, ◌⊎◌, List, length, Some, slice_get, slice_index}
 use Rattle.book_base.specs.declared.call.Call.{Call}
 use Rattle.book_base.specs.declared.call.Record.{Record}
@@ -37,9 +38,9 @@ abbrev pub IsOverdue : Reading → List Page → Paired → ℕ → ℕ → Type
 IsOverdue reading book s put_moment take_moment = HasPutBefore reading book s put_moment
     ⊎ HasTakeBefore reading book s take_moment ⊎ HasFindBefore reading book s take_moment
 
--- One pair serves for another at a standing: its put puts in the same value, its take takes out the
--- same or is unanswered too, each of them is next and takes effect no later, and each is due no
--- later.
+-- A pair serves for a second one at a standing: its put puts in the value that the second put does,
+-- its take takes out the value that the second take does, or both takes are unanswered; and each of
+-- its calls is next there, and takes effect and is due no later than that of the second pair.
 pub record PairServesFor (reading : Reading) (book : List Page) (s : Paired) (other pair : Pair)
     : Type 0 where
   pub puts : (v : ℕ) → IsPutOf reading book v pair.put → IsPutOf reading book v other.put
@@ -76,8 +77,9 @@ NoneFindAt reading book s m = (e : Call) → deal_of reading book e ≡ deals.Fo
     → IsHeldBy book e m → IsHeldBy book e s.found
 
 -- Takes that find nothing at a moment lead to one of these standings or needn't be tried: the
--- standing covers them all already; or an earlier or equal moment, later than those of the takes
--- that it covers, leads to one of the standings, or leaves some call overdue.
+-- standing covers them all already; or the step that covers such takes up to an earlier or equal
+-- moment, later than the one up to which the standing covers them, leads to one of the standings,
+-- or leaves some call overdue.
 abbrev pub FindsLead : Reading → List Page → List Paired → Paired → ℕ → Type 0
 FindsLead reading book standings s m =
     NoneFindAt reading book s m
@@ -93,16 +95,19 @@ pub record AllLead (reading : Reading) (book : List Page) (standings : List Pair
   pub pairs : (pair : Pair) → MayPair reading book s pair → PairLeads reading book standings s pair
   pub finds : (m : ℕ) → MayFind reading book s m → FindsLead reading book standings s m
 
--- Takes that find nothing may be covered at once, which delays no other call: they have no later
--- moment than the last take so far, no remaining put is due before that moment, and they lead to
--- one of these standings.
+-- The takes that find nothing up to the moment of the last take so far may be covered at once,
+-- which delays no other call: the standing covers such takes only up to an earlier moment, no
+-- remaining put is due before the moment of that last take, and the step leads to one of these
+-- standings.
 pub record FindsStandAtOnce (reading : Reading) (book : List Page) (standings : List Paired)
     (s : Paired) : Type 0 where
   pub more : s.found < s.take_moment
   pub in_time : HasPutBefore reading book s s.take_moment → ⊥
   pub leads : IsOnePaired standings (after s (FindNothing s.take_moment))
 
--- The standing leads to these standings alone, and it has a number for each caller.
+-- The standing leads to these standings alone: by all that may come next there, or by takes that
+-- find nothing and that may be covered at once. It has a number of puts and one of takes for each
+-- caller.
 pub record IsClosedAt (reading : Reading) (book : List Page) (standings : List Paired)
     (s : Paired) : Type 0 where
   pub wide_puts : length book ≤ length s.puts
@@ -114,8 +119,8 @@ abbrev pub AreClosed : Reading → List Page → List Paired → Type 0
 AreClosed reading book standings = (s : Paired) → IsOnePaired standings s
     → IsClosedAt reading book standings s
 
--- The standing isn't whole, and these standings have the one after each step that may come next at
--- it.
+-- The standing isn't whole, its last put has no later moment than its last take, and for each step
+-- that may come next there, the standing after that step is one of these standings.
 pub record HasSuccessors (reading : Reading) (book : List Page) (standings : List Paired)
     (s : Paired) : Type 0 where
   pub wide_puts : length book ≤ length s.puts

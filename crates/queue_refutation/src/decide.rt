@@ -14,14 +14,14 @@ use queue_pairs::{
 };
 use std::alloc::Global;
 
-// How many steps the search for pairs has, and how many a second search has, in which unanswered
-// takes may take any value.
+// The greatest number of steps of the search for pairs, and that of a second search, in which
+// unanswered takes may take any value.
 const STEPS: u64 = 500_000;
 
 const STEPS_ANEW: u64 = 200_000;
 
-/// What the pairs of a queue's book say of it (after Henzinger, Sezgin and Vafeiadis 2013, whose
-/// order of puts and takes they keep).
+/// Decides by pairs of puts and takes whether a queue's book has a legal order, or answers `Unsaid`
+/// (after Henzinger, Sezgin and Vafeiadis 2013, whose order of puts and takes the pairs keep).
 ///
 /// Counts of puts and takes are compared first: where they contradict one another, the book has no
 /// legal order, and there is no search.
@@ -102,7 +102,8 @@ fn refute(book: &Book, table: &Table, standings: &IndexSet<PairState>) -> bool
     ends.refute(book)
 }
 
-// The order that the pairs of a walk make, where it is legal.
+// The decision by the order that the pairs of a walk make: that order if it is legal, else
+// `Unsaid`.
 fn order_of<Q: SeqObject + Reader>(
     alloc: Global,
     queue: &Q,
