@@ -45,8 +45,8 @@ LocalsDetermineLines =
     (lines others : List (List Line))
     → AreLinesOf init next locals lines → AreLinesOf init next locals others → lines ≡ others
 
--- In a lawful report the seen cut of a delivered line is within that of each error line, and
--- doesn't contain it.
+-- In a lawful report the seen cut of each delivered line is within the seen cut of each error line,
+-- and the error line's isn't within the delivered line's.
 abbrev pub ErrorsAreFinal : Type 0
 ErrorsAreFinal =
     (init : List ℕ) (next : List ℕ → ℕ → List ℕ × ℕ) (s : Shape) (operations : List (List ℕ))
@@ -71,8 +71,8 @@ LinesBeforeTheLastAreDelivered =
     → IsAllotted operations allotment own → slice_get own k ≡ Some line
     → k + 1 < length own → (r : Record) × (cut : List ℕ) × (line.end ≡ Delivered r cut)
 
--- The seen cut of a line was published: at one moment of a run that ends with these locals the
--- callers' published records were exactly those that the cut counts.
+-- The seen cut of a line counts what was published at some moment: in some run that ends with these
+-- locals, the callers' published records were then exactly those that the cut counts.
 abbrev pub SeenCutsWerePublished : Type 0
 SeenCutsWerePublished =
     (init : List ℕ) (next : List ℕ → ℕ → List ℕ × ℕ) (s : Shape) (locals : List Local)

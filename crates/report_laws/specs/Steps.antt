@@ -1,4 +1,4 @@
--- A caller's phases, one by one: what each does to how far the caller has come.
+-- A caller's phases, one by one: how each of them changes the caller's progress.
 use Rattle.std.specs.Prelude.{ℕ, ◌+◌, ◌*◌, ◌<◌, List, [], length, slice_index}
 use Rattle.book_base.specs.declared.call.Record.{Record}
 use Rattle.report_lines.specs.Phases.{Progress, no_progress, IsProgressAfter}
@@ -8,7 +8,8 @@ use Rattle.report_lines.specs.Progress.{after_announcing, after_viewing, after_p
 abbrev pub NoPhaseIsMade : Type 0
 NoPhaseIsMade = (operations : List ℕ) → IsProgressAfter operations 0 no_progress
 
--- With k calls judged, a caller that has an operation left announces it.
+-- Announcing the next operation is a phase of a caller that has one left and whose k calls so far
+-- are judged.
 abbrev pub AnnouncingIsAPhase : Type 0
 AnnouncingIsAPhase =
     (operations : List ℕ) (k : ℕ) (progress : Progress) → k < length operations
