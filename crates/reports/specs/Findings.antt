@@ -13,7 +13,7 @@ use Rattle.text_fields.specs.Counts.{AreAtMost}
 use Rattle.report_lines.specs.declared.line.Line.{Line}
 use Rattle.report_lines.specs.Lines.{book_of_lines, lines_at, line_at, delivered_in, error_in, seen_at, error_at, any_error}
 
--- What a report says.
+-- What a report says: the kind of the object, and the lines of each caller.
 pub record Findings : Type 0 where
   -- the kind of the object
   pub kind : Kind
@@ -46,7 +46,10 @@ abbrev pub AreDelivered : List (List Line) → Type 0
 AreDelivered lines = (call : Call) (line : Line) → line_at lines call ≡ Some line
     → call.number + 1 < length (lines_at lines call.caller) → IsSome (delivered_in line.end)
 
--- What a report says is what texts of version 2 can have.
+-- A text of version 2 can say these findings: there is at least one caller, the callers and the
+-- lines of each are at most as many as a text may have, the operations are operation words, the
+-- replies are below 2^64, the book of the lines is valid, the seen cuts fit the lines, and each
+-- line but a caller's last is delivered.
 pub record IsReport (findings : Findings) : Type 0 where
   pub some : 1 ≤ length findings.lines
   pub callers : length findings.lines ≤ TEXT_CALLERS
