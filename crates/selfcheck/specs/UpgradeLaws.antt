@@ -13,13 +13,14 @@ use Rattle.selfcheck.specs.declared.command.Command.TheVariants.{Upgrade}
 use Rattle.byte_streams.specs.declared.status.Status.TheVariants.{Fine}
 use Rattle.selfcheck.specs.Output.{IsOutputOf}
 
--- What is read of the text in version 2 is what is read of the bytes in version 1.
+-- The bytes in version 1 and the text in version 2 are texts of exactly the same books and plans.
 pub record SaysTheSame (bytes text : List ℕ) : Type 0 where
   pub books : (kind : Kind) (book : List Page) → IsBookText First bytes kind book
       ↔ IsBookText Second text kind book
   pub scripts : (plan : Plan) → IsScriptText First bytes plan ↔ IsScriptText Second text plan
 
--- What `upgrade` writes says the same as its input.
+-- Where `upgrade` succeeds, what it writes is in version 2 a text of exactly those books and plans
+-- of which its input is a text in version 1.
 abbrev pub UpgradesSayTheSame : Type 0
 UpgradesSayTheSame = (bytes text : List ℕ) → IsOutputOf Upgrade bytes Fine text
     → SaysTheSame bytes text
@@ -30,7 +31,7 @@ HaveOneOrder kind book other another order =
     IsLegalOrder (kind_init kind) (kind_next kind) book order
     ↔ IsLegalOrder (kind_init other) (kind_next other) another order
 
--- The book in the output has the legal orders of the book in the input.
+-- The book in the output of `upgrade` has exactly the legal orders of the book in its input.
 abbrev pub UpgradesKeepOrders : Type 0
 UpgradesKeepOrders = (bytes text : List ℕ) (kind other : Kind) (book another : List Page)
     → IsOutputOf Upgrade bytes Fine text
