@@ -37,7 +37,8 @@ abbrev pub IsSmallerText : Kind → List Page → List ℕ → Type 0
 IsSmallerText kind book text = (part : List Page) × IsSmallerWitness kind book part
     × books.IsWrittenText Second text kind part
 
--- The text is a picture of a smaller witness of a book, which says that this has no legal order.
+-- The text is a picture of a smaller witness of a book, and its first lines say that this witness
+-- has no legal order.
 abbrev pub IsSmallerPicture : Kind → List Page → List ℕ → Type 0
 IsSmallerPicture kind book text =
     (part : List Page) × IsSmallerWitness kind book part × ShowsEachCall kind part Unasked text
@@ -49,15 +50,16 @@ IsReportShown kind catch text =
     (report : List ℕ) × (witness : List ℕ) × reports.IsWrittenText report catch.report
     × books.IsWrittenText Second witness kind catch.witness × (text ≡ report ++ witness)
 
--- What is shown of a catch over an object of this kind.
+-- What is shown of a catch over an object of this kind, as it was asked for: a smaller witness, the
+-- report with its witness, or a picture of a smaller witness.
 abbrev pub IsShown : Kind → Catch → Shown → List ℕ → Type 0
 IsShown kind catch Smaller text = IsSmallerText kind catch.witness text
 IsShown kind catch Report text = IsReportShown kind catch text
 IsShown kind catch Picture text = IsSmallerPicture kind catch.witness text
 
--- The output of a hunt that made this many runs, with its status: what is shown of the catch of the
--- last one, or, where all the runs that it may make were made and were quiet, that no run had an
--- error.
+-- The output of a hunt that made this many runs is this text, with this status: `Found`, and what
+-- is shown of the catch of the last run; or `Fine`, and that no run had an error, where the hunt
+-- made all the runs that it may make, and all were quiet.
 abbrev pub IsHuntOutput : {T : Type 0} → (T → ℕ) → (T → Option (List (ℕ × ℕ))) → Settings → Shown
     → ℕ → Status → List ℕ → Type 0
 IsHuntOutput made told settings shown runs Found text =
@@ -68,9 +70,9 @@ IsHuntOutput made told settings shown runs Fine text =
     × (text ≡ codes "no run had an error\n")
 IsHuntOutput made told settings shown runs status text = ⊥
 
--- A hunt that made this many runs has ended with a status: what it wrote, after the bytes that the
--- sink had taken, and that whoever looks on was told of each run, in order, unless memory was
--- wanted.
+-- A hunt has ended with a status after some number of runs. It wrote its output for these runs, as
+-- far as the status has it, after the bytes that the sink had taken; and unless memory was lacking,
+-- the onlooker was told the seed of each run, in order.
 pub record EndsHunt {T : Type 0} (made : T → ℕ) (told : T → Option (List (ℕ × ℕ)))
     (settings : Settings) (shown : Shown) (status : Status) (taken taken' : Option (List ℕ))
     (heard heard' : Option (List ℕ)) : Type 0 where
