@@ -1,5 +1,5 @@
--- What the parts of a report's text say, each after whatever comes before it, and where a reader
--- stops in them.
+-- What a reader makes of the parts of a report's text, whatever comes before each, and with which
+-- fault it stops in them.
 use Rattle.std.specs.Prelude.{◌≡◌, ◌≢◌, ◌⊎◌, ℕ, ◌<◌, ◌^◌, List, [], ◌∷◌, ◌++◌, length, slice_index, codes, Option, Some, None}
 use Rattle.book_base.specs.declared.call.Call.{Call}
 use Rattle.book_base.specs.declared.call.Record.{Record}
@@ -30,13 +30,17 @@ use Rattle.report_text.specs.Drafts.{StandBefore, AreLimits, AreSeenCounts, IsDr
 
 -- ---- the words of a line
 
--- After the operation the words are 'pending' alone, or begin with this answer.
+-- The words after the operation are 'pending' alone, where there is no answer; else they are the
+-- answer's reply, 'view' and the pairs of its view, and then this suffix, which begins with no
+-- pair.
 abbrev pub SayAnswer : ℕ → List (List ℕ) → Option Record → List (List ℕ) → Type 0
 SayAnswer n words None suffix = words ≡ codes "pending" ∷ []
 SayAnswer n words (Some r) suffix = IsAnswer n r × NoPairFirst suffix
     × (words ≡ reply_word r.reply ∷ codes "view" ∷ (pair_words 0 r.view ++ suffix))
 
--- Why the words after the operation neither are 'pending' alone nor begin with an answer.
+-- The words after the operation say no answer, and this is the test that they fail: `Reply`, where
+-- they neither are 'pending' alone nor begin with a reply; `View`, where 'view' doesn't follow the
+-- reply, or one of the pairs after 'view' is bad.
 abbrev pub IsNoAnswer : ℕ → List (List ℕ) → What → Type 0
 IsNoAnswer n words what.Reply = (words ≢ codes "pending" ∷ [])
     × ((reply : ℕ) (others : List (List ℕ)) → reply < 2 ^ 64 → words ≢ reply_word reply ∷ others)
@@ -79,7 +83,9 @@ HasVerdict n r (Error s cut) = (s ≡ r) × IsCut n cut
 abbrev pub SayVerdict : ℕ → Record → List (List ℕ) → LineEnd → Type 0
 SayVerdict n r words end = HasVerdict n r end × (words ≡ verdict_words end)
 
--- Why the words after the view say no end of a line.
+-- The words after the view say no end of a line, and this is the test that they fail: `Mark`, where
+-- they neither are 'unchecked' alone nor begin as a verdict; `Seen`, where they begin as a verdict,
+-- and one of the pairs after it is bad, or a word after it is no pair.
 abbrev pub IsNoVerdict : ℕ → List (List ℕ) → What → Type 0
 IsNoVerdict n words what.Mark = (words ≢ codes "unchecked" ∷ [])
     × ((others : List (List ℕ)) → ¬ (BeginAsVerdict words others))
@@ -99,12 +105,13 @@ abbrev pub MayTell : List Page → Call → Option Record → Type 0
 MayTell book call None = Unit {0}
 MayTell book call (Some r) = MayAnswer book call.caller r.view
 
--- The book with what a line says of its call.
+-- The book with the operation of a call, and with its record where it has one, as a line says them.
 abbrev pub with_told : List Page → Call → Line → List Page
 with_told book call line = with_line book call line.op (answer_in line.end)
 
--- An answer with this view, or the words after it in the line with this number, are refused: for
--- want of memory, by a test of views, or since the words say no verdict.
+-- The line with this number is refused for an answer with this view, or for the words after it: for
+-- lack of memory, by the first test of views that the view fails, or since the words say no
+-- verdict.
 abbrev pub IsAnswerRefused : List Page → Call → List ℕ → List (List ℕ) → ℕ → ReadFault → Type 0
 IsAnswerRefused book call view words number e =
     (e ≡ NoMemory)
@@ -113,8 +120,8 @@ IsAnswerRefused book call view words number e =
     × IsFirstFault book call.caller view fault)
     ⊎ (MayAnswer book call.caller view × IsNoVerdict (length book) words name)))
 
--- The line with this number is refused for want of memory, or for the first test that it fails
--- after lines that give this book.
+-- The line with these words and this number is refused for lack of memory, or for the test that it
+-- fails first after any lines that give this book.
 abbrev pub AreWordsRefused : Kind → List Page → Call → List (List ℕ) → ℕ → ReadFault → Type 0
 AreWordsRefused kind book call words number e =
     (e ≡ NoMemory)
@@ -124,20 +131,22 @@ AreWordsRefused kind book call words number e =
 
 -- ---- how a line fits
 
--- The seen cut of the line of this call fits the calls and the lines before it, or the call, where
--- it is pending, fits their seen cuts.
+-- The seen cut of the line of this call, where it has one, isn't wrong among these lines; and where
+-- the call is pending, no seen cut of these lines holds it.
 pub record FitsCuts (counts : List ℕ) (lines : List (List Line)) (call : Call)
     (line : Line) : Type 0 where
   pub seen : (cut : List ℕ) → seen_in line.end ≡ Some cut → ¬ (IsWrongCut counts lines call cut)
   pub pending : line.end ≡ Pending → ¬ (IsSeenBefore lines call)
 
--- The line of this call, but for its view, fits the lines before it and its caller's further lines.
+-- The line of this call fits the cuts of these lines (`FitsCuts`), and it is delivered or is its
+-- caller's last.
 pub record FitsOthers (counts : List ℕ) (lines : List (List Line)) (call : Call)
     (line : Line) : Type 0 where
   pub cuts : FitsCuts counts lines call line
   pub last : ¬ (EndsTooEarly counts call line)
 
--- The first test that a line fails, of those on cuts and on its caller's further lines.
+-- This is the first test that a line fails, of two: `Seen`, that it fits the cuts of these lines
+-- (`FitsCuts`); and `Last`, that it is delivered or is its caller's last.
 abbrev pub IsMisfit : List ℕ → List (List Line) → Call → Line → What → Type 0
 IsMisfit counts lines call line what.Seen =
     ((cut : List ℕ) × (seen_in line.end ≡ Some cut) × IsWrongCut counts lines call cut)
@@ -146,14 +155,15 @@ IsMisfit counts lines call line what.Last = FitsCuts counts lines call line
     × EndsTooEarly counts call line
 IsMisfit counts lines call line _ = ⊥
 
--- A line fits all lines that have these limits and these greatest counts.
+-- The line of a call fits all lines that have these limits and these greatest counts of seen cuts,
+-- where its caller has this many calls.
 abbrev pub AlwaysFits : List ℕ → List ℕ → Call → ℕ → Line → Type 0
 AlwaysFits limits seen call count line = (counts : List ℕ) (lines : List (List Line))
     → AreLimits counts lines limits → AreSeenCounts (length counts) lines seen
     → slice_index counts call.caller ≡ count → FitsOthers counts lines call line
 
--- This is the first test that a line fails, after all lines that have these limits and these
--- greatest counts.
+-- This is the first of those two tests that the line of a call fails, after all lines that have
+-- these limits and these greatest counts of seen cuts, where its caller has this many calls.
 abbrev pub IsAlwaysMisfit : List ℕ → List ℕ → Call → ℕ → Line → What → Type 0
 IsAlwaysMisfit limits seen call count line name = (counts : List ℕ) (lines : List (List Line))
     → AreLimits counts lines limits → AreSeenCounts (length counts) lines seen
@@ -161,30 +171,31 @@ IsAlwaysMisfit limits seen call count line name = (counts : List ℕ) (lines : L
 
 -- ---- lines
 
--- The next line is the one of this call that says this, and with it the lines so far have this
--- draft.
+-- The next line is right and is this line of this call; the lines so far and this one together have
+-- this draft.
 pub record IsLineRead (kind : Kind) (counts : List ℕ) (told : List Line) (call : Call)
     (more : List Call) (text : Unread) (line : Line) (after : Draft) (left : Unread) : Type 0 where
   pub goes : GoesTo report_rules (InLines kind counts told (call ∷ more)) text
       (InLines kind counts (told ++ line ∷ []) more) left
   pub draft : IsDraft counts (told ++ line ∷ []) after
 
--- The next line is read as this line of this call, and takes one draft to another, whatever the
--- other callers have.
+-- The next line is read as this line of this call after all lines that have the first draft and end
+-- before this call, and together with them it has the second draft.
 abbrev pub LineIsRead : Kind → Draft → Call → Unread → Line → Draft → Unread → Type 0
 LineIsRead kind before call text line after left =
     (counts : List ℕ) (told : List Line) (more : List Call)
     → IsDraft counts told before → StandBefore counts told call.caller call.number
     → IsLineRead kind counts told call more text line after left
 
--- In the next line, which is to be that of this call, a reader stops.
+-- In the next line, where that of this call is due, a reader stops with this fault, after all lines
+-- that have this draft and end before this call.
 abbrev pub LineIsStopped : Kind → Draft → Call → Unread → ReadFault → Type 0
 LineIsStopped kind before call text e = (counts : List ℕ) (told : List Line) (more : List Call)
     → IsDraft counts told before → StandBefore counts told call.caller call.number
     → StopsFor report_rules (InLines kind counts told (call ∷ more)) text e
 
--- The next lines are those of the first calls of a caller, this many, and say these; and with them
--- the lines so far have this draft.
+-- The next lines are right and are these lines of a caller's calls, which are this many; the lines
+-- so far and these together have this draft.
 pub record AreOwnRead (kind : Kind) (counts : List ℕ) (told : List Line) (i count : ℕ)
     (more : List Call) (text : Unread) (own : List Line) (after : Draft)
     (left : Unread) : Type 0 where
@@ -192,15 +203,16 @@ pub record AreOwnRead (kind : Kind) (counts : List ℕ) (told : List Line) (i co
       (InLines kind counts (told ++ own) more) left
   pub draft : IsDraft counts (told ++ own) after
 
--- The next lines are read as these lines of a caller, and take one draft to another, whatever the
--- other callers have.
+-- The next lines are read as these lines of a caller's calls after all lines that have the first
+-- draft and end before them, and together with them they have the second draft.
 abbrev pub LinesAreRead : Kind → Draft → ℕ → ℕ → Unread → List Line → Draft → Unread → Type 0
 LinesAreRead kind before i count text own after left =
     (counts : List ℕ) (told : List Line) (more : List Call)
     → IsDraft counts told before → StandBefore counts told i 0
     → AreOwnRead kind counts told i count more text own after left
 
--- In the next lines, which are to be those of this many calls of a caller, a reader stops.
+-- In the next lines, where those of a caller's calls are due, which are this many, a reader stops
+-- with this fault, after all lines that have this draft and end before them.
 abbrev pub LinesAreStopped : Kind → Draft → ℕ → ℕ → Unread → ReadFault → Type 0
 LinesAreStopped kind before i count text e = (counts : List ℕ) (told : List Line) (more : List Call)
     → IsDraft counts told before → StandBefore counts told i 0
@@ -210,13 +222,14 @@ LinesAreStopped kind before i count text e = (counts : List ℕ) (told : List Li
 abbrev pub joined : List (List Line) → List Line
 joined lines = flat_map (λ own. own) lines
 
--- The next lines are those of all calls of callers with these numbers of calls, and say these.
+-- The next lines are right, and are these lines of all calls of callers that have these numbers of
+-- calls.
 abbrev pub AreAllRead : Kind → List ℕ → Unread → List (List Line) → Unread → Type 0
 AreAllRead kind counts text lines left = GoesTo report_rules
     (InLines kind counts [] (all_calls 0 counts)) text (InLines kind counts (joined lines) []) left
 
--- In the next lines, which are to be those of all calls of callers with these numbers of calls, a
--- reader stops.
+-- In the next lines, where those of all calls of callers with these numbers of calls are due, a
+-- reader stops with this fault.
 abbrev pub AreAllStopped : Kind → List ℕ → Unread → ReadFault → Type 0
 AreAllStopped kind counts text e =
     StopsFor report_rules (InLines kind counts [] (all_calls 0 counts)) text e

@@ -19,12 +19,12 @@ use text_fields::{Lines, read_head};
 ///
 /// A text fault names the first line that is wrong, and of its tests the first that it fails.
 pub fn read_report(alloc: Global, bytes: &[u8]) -> Result<Report, ReadFault>
-    // What is read is this report's text.
+    // The bytes are the text of the report that is answered.
     ensures found { IfOk result (λ report. IsReportText bytes.now report) }
     // A text of a report is read as that report, unless memory runs out.
     ensures only { (findings : Findings) → IsReportText bytes.now findings
         → MatchResult result (λ report. report ≡ findings) (λ e. e ≡ ReadFault.NoMemory) }
-    // A fault of the text is the first fault of bytes that are no report's text.
+    // A refusal is for lack of memory, or is the first fault of bytes that are no report's text.
     ensures refused { IfErr result (λ e. (e ≡ ReadFault.NoMemory)
         ⊎ ((fault : TextFault) × (e ≡ ReadFault.Text fault)
         × IsFirstReportFault bytes.now fault × IsNoReportText bytes.now)) }
