@@ -4,19 +4,20 @@ use Rattle.shared_log.specs.declared.entry.Entry.{Entry}
 use Rattle.shared_log.specs.Entries.{entry}
 use Rattle.faulty_objects.specs.Calls.{is_put, earlier, last_call, unless, reply_after}
 
--- The operation of a caller that waits after a call of its own: the call's, if it is a put.
+-- A caller's waiting operation after a call of its own: the call's, if it is a put, and else none.
 abbrev pub waits_after : ℕ → Option ℕ
 waits_after op = if is_put op then Some op else None
 
--- The operation of a caller that waits after some calls, where `waits` waits before them: that of
--- the caller's last call, if it is a put.
+-- A caller's waiting operation after some calls, where `waits` is its waiting one before them:
+-- `waits` where none of the calls is the caller's; else that of its last one, if it is a put, or
+-- none.
 abbrev pub waiting_from : ℕ → Option ℕ → List Entry → Option ℕ
 waiting_from i waits [] = waits
 waiting_from i waits (e ∷ log) =
     waiting_from i (if e.caller == i then waits_after e.op else waits) log
 
--- The operation of a caller that waits after some calls: that of the caller's last call, if it is a
--- put.
+-- A caller's waiting operation after some calls: that of its last one, if there is one and it is a
+-- put, and else none.
 abbrev pub waiting_of : ℕ → List Entry → Option ℕ
 waiting_of i log = waiting_from i None log
 
