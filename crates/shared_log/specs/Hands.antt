@@ -5,7 +5,7 @@ use Rattle.shared_log.specs.Entries.{calls_by, BeginsWith}
 use Rattle.shared_log.specs.Words.{number_of, operation_index}
 
 -- The log as far as a caller knows it, the words of its next operation that it has stored, and the
--- words of the table at which it made an exchange, in order.
+-- indices of the words of the table at which it made an exchange, in order.
 pub record Hand : Type 0 where
   pub log : List Entry
   pub staged : List ℕ
@@ -35,8 +35,7 @@ next_number cap i h = number_of cap i (length (calls_by i h.log))
 -- A hand of caller i agrees with these words and this log: the log begins with what the caller
 -- knows of it, and has no other entries of the caller; and the words have what the caller has
 -- staged.
-pub record HandFits (n cap : ℕ) (words : List ℕ) (log : List Entry) (i : ℕ)
-    (h : Hand) : Type 0 where
+pub record Fits (n cap : ℕ) (words : List ℕ) (log : List Entry) (i : ℕ) (h : Hand) : Type 0 where
   pub caller : i < n
   pub prefix : BeginsWith log h.log
   pub own : calls_by i log ≡ calls_by i h.log

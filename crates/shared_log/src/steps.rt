@@ -51,8 +51,8 @@ impl SharedLog {
         self.table.shared.load::<Look<J>>(&mut seat.seat, index)
     }
 
-    // Exchanges a free ticket at the first place that the caller doesn't know for the ticket of the
-    // next call.
+    // Puts the ticket of the next call at the first place that the caller doesn't know, where this
+    // place is free, and answers the ticket that was found there: 0 for a free place.
     fn place_as<J: Part>(&self, seat: &mut OneSeat, index: usize, ticket: u64, op: OpWord) -> u64
         requires seat { IsPlaced self.now seat.old }
         requires part { (J.callers ≡ self.now.callers) × (J.cap ≡ self.now.cap)
