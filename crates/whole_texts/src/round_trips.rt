@@ -6,8 +6,8 @@ use client_scripts::{read_script, write_script};
 use report_text::{read_report, report_text};
 use std::test::Fail;
 
-// The books have operations of two values, one that its kind doesn't know, and a reply without a
-// name.
+// Among the operations of the books are some with two values, and one that the book's kind doesn't
+// know; and one of the replies has no name.
 #[test]
 fn books_are_written_as_they_were_read(rt: HostRuntime) -> Result<(), Fail> {
     let texts: [&[u8]; 4] = [

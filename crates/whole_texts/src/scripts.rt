@@ -3,7 +3,8 @@ use client_scripts::{make_script, write_script};
 use seq_objects::Kind;
 use std::test::Fail;
 
-// The base of the number 7 is 28672, and the third call of caller 1 has the value 28672 + 256 + 2.
+// The values of the script of number 7 begin at 7 * 4096 = 28672, and the third call of caller 1
+// has the value 28672 + 256 + 2.
 #[test]
 fn a_script_is_made_from_a_number(rt: HostRuntime) -> Result<(), Fail> {
     let script = make_script(rt.alloc(), 7, 2, 3, Kind::Queue)?;
@@ -17,9 +18,9 @@ fn a_script_is_made_from_a_number(rt: HostRuntime) -> Result<(), Fail> {
     Ok(())
 }
 
-// The base of the number 1048577 is 4096, since 2^20 is subtracted. Keys below 8 begin again at 0
-// after 7, and so does the value that a cas writes, which is one more than the value that it
-// expects.
+// The values of the script of number 1048577 begin at 4096, since the number is taken modulo 2^20.
+// Keys are below 8 and begin again at 0 after 7, and the value that a cas writes, one more than the
+// value that it expects, begins again likewise.
 #[test]
 fn each_kind_has_its_operations(rt: HostRuntime) -> Result<(), Fail> {
     let cases: [(Kind, u8, &str); 7] = [
