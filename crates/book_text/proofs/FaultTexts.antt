@@ -66,8 +66,8 @@ named_still book after (call ∷ calls) size h = (
   named_still book after calls size h.1,
 )
 
--- the state can be completed to a text: each call that is due has a caller and a number that can be
--- written
+-- right lines can complete a text from the state: each call that is due has a caller and a number
+-- that can be written
 abbrev CanCome : Version → BookDue → Type 0
 CanCome version (InHead TitleDue) = Unit {0}
 CanCome version (InHead ObjectDue) = Unit {0}
@@ -95,7 +95,7 @@ all_named book most i (count ∷ counts) inside few small h =
     (all_named book most (i + 1) counts (omega arith) few small h.1)
 
 module _ (version : Version) where
-  -- the state after a right line can be completed
+  -- from the state after a right line a text can be completed, where it can be from that before it
   comes_next : (due after : BookDue) (words : List (List ℕ)) → CanCome version due
       → BookPasses version due words after → CanCome version after
   comes_next (InHead TitleDue) after words can h =
@@ -147,7 +147,7 @@ module _ (version : Version) where
     right = (AtEnd kind book, (refl, refl), refl);
   }
 
-  -- the calls that are due can be written without answers
+  -- the lines of the calls that are due, without answers, and the end complete a text
   calls_come : (kind : Kind) (book : List Page) (calls : List Call)
       → AllByRecursion (IsNamedCall book) calls → Completes (InCalls kind book calls)
   calls_come kind book [] h = end_comes kind book
@@ -318,7 +318,7 @@ module _ (version : Version) where
 
   module _ (reached : BookDue) (lines : List (List (List ℕ)))
       (right : AllPass (BookPasses version) (InHead TitleDue) lines reached) where
-    -- where a whole line is wrong, no text begins with the lines up to it
+    -- no text begins with right lines and a whole line after them that is wrong
     no_text_so : (bytes line : List ℕ) (name : What) → book_wanted reached ≡ ALine
         → IsWrongLine (book_rules version) reached (line ++ 10 ∷ bytes) name
         → (kind : Kind) (book : List Page)

@@ -15,8 +15,8 @@ use book_base::{Book, BookFault, Call, Cut, ReadFault, Record, TextFault, What};
 use std::alloc::Global;
 use text_fields::{Lines, OpText, Version};
 
-/// The book whose calls the lines give, by the words of these operations; the lines after them are
-/// left.
+/// Reads the lines of a book's calls, with the operations in the words that `operations` has for
+/// them, and answers the book; the lines after those of the calls are left unread.
 ///
 /// `calls` has the number of calls of each of the `n` callers. A text fault is the first fault of
 /// the lines of the calls. After a refusal the lines stay as they were.
@@ -31,11 +31,11 @@ pub fn read_calls<T: OpText>(
     requires callers { length calls.now ≡ n }
     // Each caller has at most `MAX_CALLS` calls.
     requires few { (i : ℕ) → slice_index calls.now i ≤ MAX_CALLS }
-    // A book that was read is that of the lines of calls with which the text began, and these are
-    // taken.
+    // A book that was read is that of the lines of calls with which the unread text began, and what
+    // follows these lines is left.
     ensures found { IfOk result (λ book.
         AreCallLines Second (T.operations operations.now) calls.now book lines.old lines.new) }
-    // A refusal is the first fault of the lines, or want of memory.
+    // A refusal is the first fault of the lines, or lack of memory.
     ensures refused { IfErr result
         (AreNoCallLines Second (T.operations operations.now) calls.now lines.old) }
     // A refusal leaves the lines as they were.
@@ -137,7 +137,7 @@ fn read_call<T: OpText>(
     }
 }
 
-/// Whether an earlier call of this caller is unanswered.
+/// Whether an earlier call of this call's caller is unanswered.
 fn is_gap(book: &Book, call: Call) -> bool
     requires { call.caller < length book.now }
     ensures { result ≡ is_gap_lem book.now call }
@@ -169,12 +169,12 @@ fn record_entry(book: &mut Book, call: Call, entry: CallEntry) -> Result<(), Boo
 
 /// The fault with which a text is refused where the book refused the view in this line.
 pub fn refusal(line: u64, fault: BookFault) -> ReadFault
-    // The fault is one of a test of views, or want of memory.
+    // The fault is one of a test of views, or lack of memory.
     requires { MayRefuse fault }
     // A fault of a test of views is answered as a refusal of this line with the name of that test.
     ensures text { IfSome (view_test fault) (λ what.
         result ≡ ReadFault.Text (record { line = line; what = what })) }
-    // Want of memory is answered as such.
+    // Lack of memory is answered as `NoMemory`.
     ensures memory { IfNone (view_test fault) (result ≡ ReadFault.NoMemory) }
 {
     let what = match fault {
