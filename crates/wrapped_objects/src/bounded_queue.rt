@@ -15,8 +15,8 @@ pub(crate) struct BoundedQueue<R> {
     items: ArrayQueue<u32>,
 }
 
-// The reply of the kit's queue to an operation. Where the queue is full the reply is `BAD`, which a
-// queue never gives.
+// The reply of the kit's queue to an operation word. A put that finds the queue full gets `BAD`,
+// which a sequential queue gives to no put.
 pub(crate) fn reply_of<R: Wait>(rt: &R, items: &ArrayQueue<u32>, op: OpWord) -> u64 {
     match QueueCall::from_word(op) {
         Some(QueueCall::Enqueue(value)) => match items.push(rt, value) {
