@@ -9,15 +9,15 @@ use crate::links::{Link, Links};
 use crate::uses::Uses;
 use book_base::{Book, Call, Cut};
 
-/// What the links of the calls that were passed say: a predecessor bound whose calls must come
-/// before a put, and the greatest reach.
+/// What the links of the calls that were passed say of a put: which calls must come before it, as a
+/// predecessor bound, and the greatest reach of these links.
 #[derive(Clone, Copy)]
 pub struct Past {
-    /// How many of each caller's calls were passed.
+    /// How many first calls of each caller `pass_preceding` has passed.
     pub passed: Cut,
-    /// The calls that come before the put.
+    /// The calls that must come before the put.
     pub predecessor_bound: Cut,
-    /// The greatest reach of a call that was passed.
+    /// The greatest reach of a call that was passed, or 0 where none was.
     pub limit: u64,
 }
 

@@ -17,7 +17,7 @@ pub enum Role {
 
 /// How the operations and replies of an object are read: as puts and takes of values.
 pub trait Reader {
-    /// How the object is read.
+    /// How the object's operations, replies and lists are read.
     ghost reading: { Self → Reading };
 
     /// What an operation word does.

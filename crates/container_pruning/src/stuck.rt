@@ -10,8 +10,8 @@ ghost use Rattle.container_pruning.specs.Stuck.{IsBlocked};
 use book_base::{Book, Call, Cut, MAX_CALLERS, MAX_CALLS, PruningRules};
 
 /// Whether a book is stuck: the calls that predecessor bounds and precedence allow, one after
-/// another, don't include all answered ones. So puts of which each must come before the other are
-/// found before a search.
+/// another, don't include all answered ones. This refuses, before any search, a book that has puts
+/// of which each must come before the other.
 pub fn is_stuck(book: &Book, known: &PruningRules) -> bool
     ensures { (init : List ℕ) (next : List ℕ → ℕ → List ℕ × ℕ)
         → ArePruningRules init next book.now known.now → IsTrue result
