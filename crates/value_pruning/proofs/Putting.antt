@@ -18,14 +18,14 @@ use Rattle.value_pruning.specs.LeastFirst.{placed, GivesLeastFirst, IsLeastTake,
 use Rattle.value_pruning.proofs.Placing.{placed-before_all, placed-after, placed-between, placed-first, all-placed, all-weaker, below_all, small_all, cases_deed}
 use Rattle.value_pruning.proofs.Taking.{word_at, word_is, word_stands, GoesOnAfter, goes_on_over, least_later, its_place, not_done, Parted, taken_first, take_stands}
 
--- A list around a value that isn't in it: lesser items first, and then greater ones, all below a
+-- A list around a value that it lacks: lesser items first, and then greater ones, which are below a
 -- bound.
 record Around (bound v : ℕ) (before after : List ℕ) : Type 0 where
   below : AllByRecursion (λ (x : ℕ). x < v) before
   above : AllByRecursion (λ (y : ℕ). v < y) after
   small : AllByRecursion (λ (y : ℕ). y < bound) after
 
--- An operation that doesn't put in the value makes of a list around it another list around it.
+-- An operation makes of a list around a value another list around this value.
 record StaysAround (next : List ℕ → ℕ → List ℕ × ℕ) (bound v op : ℕ)
     (before after : List ℕ) : Type 0 where
   new_before : List ℕ
@@ -128,7 +128,7 @@ shows_other reading next bound is v op (x ∷ before) after small takes around s
 pub put_is_no_take : (v : ℕ) → Puts v ≡ Takes → ⊥
 put_is_no_take v e = cc
 
--- the word of a call
+-- the operation word of a call of the book
 abbrev pub word_of_call : List Page → Call → ℕ
 word_of_call book call = unwrap_or (operation_of book call) 0
 
@@ -137,8 +137,9 @@ abbrev pub Gives : (List ℕ → ℕ → List ℕ × ℕ) → List Page → Call
 Gives next book call = (list : List ℕ) (r : Record) → record_of book call ≡ Some r
     → r.reply ≡ (next list (word_of_call book call)).1
 
--- Where places continue an order from a list without the value, at least two fewer continue it from
--- there once the value has been put in and taken.
+-- Where places continue an order from a list around a value, places that are at least two fewer
+-- continue it from this list after the put and the take of the value; and the recorded reply of the
+-- put is the one that the object gives, at each list.
 put_and_taken : (reading : Reading) (next : List ℕ → ℕ → List ℕ × ℕ) (bound : ℕ)
     → GivesLeastFirst reading next bound → (book : List Page) (v : ℕ) (put take : Call)
     → v < bound → IsValid book → HasOneOpen book → PutsInAlone reading book put v

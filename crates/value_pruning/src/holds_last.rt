@@ -10,11 +10,14 @@ use crate::values::value_put;
 use book_base::{Book, Call, Cut, MarkedCallers, Sight};
 use container_pruning::Reader;
 
-/// Which of the calls that may come next a search has to try, of a register that holds a value:
-/// some of those that are marked, and they suffice. No clause says which. It is one answered write
-/// alone, where no answered call outside the cut reads its value or the one held; and else all but
-/// the writes over a value that is still read and no longer written, and the unanswered writes of
-/// what isn't read.
+/// The callers whose next calls a search has to try, in the book of a register that holds a value:
+/// some of the marked callers, and these marks suffice. No clause says which.
+///
+/// Where no answered call outside the cut reads the value held, and the next call of a marked
+/// caller is an answered write of a value that no such call reads either, it is that caller alone.
+/// Else it is each marked caller but those whose next calls write another value over the one held,
+/// where calls outside the cut still read the one held and no call outside it writes that one, or
+/// are unanswered writes of a value that no answered call outside the cut reads.
 pub fn narrow_holds_last<R: Reader>(
     reader: &R,
     sight: &Sight,
@@ -37,9 +40,9 @@ pub fn narrow_holds_last<R: Reader>(
     requires marks { MarksAllNext book.now cut.now marks }
     // Each caller that the answer marks was marked.
     ensures fewer { IsMarkedWithin result marks }
-    // For each object that holds the value written last, and holds this one at a list: where places
-    // continue an order from the cut and the list, as many or fewer that begin with the next call
-    // of a caller that the answer marks do too.
+    // For each object that holds the value written last, and holds `held` at a list: where places
+    // continue an order from the cut and the list, places that begin with the next call of a caller
+    // that the answer marks continue one from there as well, and are no more.
     ensures suffice { (held_in : List ℕ → ℕ) (next : List ℕ → ℕ → List ℕ × ℕ) (list : List ℕ)
         → HoldsLast (R.reading reader.now) held_in next
         → held_in list ≡ held → MarksSuffice book.now next cut.now list result }
@@ -51,8 +54,8 @@ pub fn narrow_holds_last<R: Reader>(
     }
 }
 
-// A marked caller whose next call is answered and writes what no answered call outside the cut
-// reads, where none reads the value held either.
+// A marked caller whose next call is answered and writes a value that no answered call outside the
+// cut reads, where no such call reads the value held either.
 fn unread_write<R: Reader>(
     reader: &R,
     sight: &Sight,
@@ -176,7 +179,7 @@ fn is_unread_write<R: Reader>(reader: &R, sight: &Sight, book: &Book, cut: &Cut,
     }
 }
 
-// Whether a value is read by a call outside a cut, and written by none.
+// Whether a value is read by an answered call outside a cut, and written by no call outside it.
 fn is_irreplaceable<R: Reader>(
     reader: &R,
     sight: &Sight,
