@@ -27,7 +27,7 @@ use Rattle.client_calls.specs.Clients.{Spent}
 use Rattle.client_calls.specs.Finishing.{end_at, is_unjudged}
 use Rattle.client_calls.proofs.Lines.{one_more_line, no_more_errors}
 
--- an error line among some lines is an error of them
+-- lines of which one is an error have an error
 pub error_among : (own : List Line) (k : ℕ) (line : Line) → slice_get own k ≡ Some line
     → is_error line ≡ true → any_error own ≡ true
 error_among [] k line there error = absurd (none-some line there)
@@ -51,7 +51,8 @@ begun_few operations p progress h =
       length-take (begun p) operations,
     )
 
--- without an error, all phases of the allotment are made
+-- a caller whose lines have no error, and that has made the phases of its allotment, has made those
+-- that its lines show, and keeps to its allotment
 left_without_error : (operations : List ℕ) (allotment p : ℕ) (l : Local) (own : List Line)
     → any_error own ≡ false → p ≡ allotment → HasMade operations p l
     → HasMade operations (phases_of allotment own) l × KeepsTo allotment own
@@ -68,7 +69,8 @@ left_without_error operations allotment p l own none is made =
       is ∙ sym phases,
     )
 
--- with an error at the end, all phases of each line are made
+-- a caller whose last line alone is an error, and that has made all phases of its lines within its
+-- allotment, has made those that its lines show, and keeps to its allotment
 left_with_error : (operations : List ℕ) (allotment p : ℕ) (l : Local) (own : List Line)
     → EndsInError own → p ≡ 5 * length own → p ≤ allotment → HasMade operations p l
     → HasMade operations (phases_of allotment own) l × KeepsTo allotment own
@@ -105,7 +107,7 @@ module _ {P : Type 0} (meaning : P → ℕ → ℕ → Meaning) (r : Rows P)
   abbrev Come : CallerState P → Type 0
   Come s = HasCome meaning r says who operations s own
 
-  -- a call under way has an operation
+  -- where a client's caller is within a call, its lines are fewer than its operations
   pub operation_left : (s : CallerState P) (end : LineEnd) → Come s → end_at s ≡ Some end
       → length own < length operations
   operation_left (Idle c) end h is = absurd (none-some end is)

@@ -17,14 +17,14 @@ use row_table::{Rows, Steps};
 use std::sync::ledger::Ledger;
 use world_core::Program;
 
-/// What a client works with: whose it is, the operations of its caller, and a line for each call
-/// that has ended, by this ending, with capacity for a line for each operation.
+/// What a client works with: its caller, that caller's operations, a line for each call of it that
+/// has ended, with capacity for a line for each operation, and the ending by which its calls end.
 ///
-/// The book that the caller gathered last is kept from call to call, so that the next one grows
-/// from it, and so is what stands of its order. Neither is kept before the first call that is
-/// judged, after an error, and where memory was wanted. Forgetting them would cost time alone, so
-/// no clause says that they are kept; the kept book is one that the caller itself gathered
-/// (`Client`).
+/// The book that the caller gathered last is kept from call to call, and the next one grows from
+/// it; the kept order that stands in this book is kept with it. Neither is kept before the first
+/// call that is judged, after an error, and where memory was lacking. Forgetting them would cost
+/// time alone, and no clause says that they are kept; a kept book is one that the caller itself
+/// gathered (`Client`).
 pub struct Sheet<'a, E> {
     pub who: u32,
     pub operations: &'a [OpWord],
@@ -34,7 +34,8 @@ pub struct Sheet<'a, E> {
     pub standing: Option<KeptOrder>,
 }
 
-// Puts the line of a call that has ended after the caller's other lines, where the call has a line.
+// Adds the line of an ended call to the lines of its caller, unless the call is unjudged for lack
+// of memory and has no line, and answers the state of the caller.
 fn noted<P: Program>(ended: Ended<P>, op: OpWord, lines: &mut Vec<Line>) -> CallerState<P>
     requires { vec_len lines.old < vec_capacity lines.old }
     ensures noted { IsNoted op lines.old.items ended lines.new.items result }
