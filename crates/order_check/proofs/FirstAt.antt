@@ -14,13 +14,14 @@ use Rattle.order_check.specs.Standing.{IsStanding, IsFirstAt}
 use Rattle.order_check.proofs.Faults.{stands_here, same_stands}
 use Rattle.order_check.proofs.Placing.{PassesTest, first_at, late_ties}
 
--- the call at the place is one of the book's
+-- each call that stands at a place is the book's, where the call that the place names is
 known : (book : List Page) (order : List Place) (p : ℕ) (place : Place) → slice_get order p
     ≡ Some place → IsCall book (call_at place) → (c : Call) → StandsAt order p c → IsCall book c
 known book order p place at is c here = subst (IsCall book)
     (same_stands order p (call_at place) c (stands_here order p place at) here) is
 
--- the call at the place stands at no earlier place, where the cut doesn't hold it
+-- the call at a place stands at no earlier place, where the cut of the earlier places doesn't hold
+-- the call that the place names
 once : (book : List Page) (order : List Place) (p : ℕ) (standing : List ℕ) (place : Place)
     → IsStanding book order p standing → slice_get order p ≡ Some place
     → get_or standing place.caller 0 ≤ place.number → (j : ℕ) (c : Call) → StandsAt order p c
@@ -31,8 +32,8 @@ once book order p standing place h at out j c here less bt =
     (h.stands j c less bt) in
     absurd (omega (arith, held, out))
 
--- the previous call of the caller stands earlier, where the call at the place is the next one after
--- the cut
+-- the previous call of a caller stands at an earlier place, where the call at the place is the
+-- caller's next one after the cut of the earlier places
 in_turn : (book : List Page) (order : List Place) (p : ℕ) (standing : List ℕ) (place : Place)
     → IsStanding book order p standing → slice_get order p ≡ Some place
     → place.number ≡ get_or standing place.caller 0 → (c : Call) → StandsAt order p c → (n : ℕ)
@@ -50,7 +51,7 @@ in_turn book order p standing place h at number c here n e =
       ap (λ (x : Call). get_or standing x.caller 0) one,
     ))
 
--- within a turn no test is tried before one of step 0
+-- no test of a place has the turn of a test of step 0 and a lower step than this one
 alone : (init : List ℕ) (next : List ℕ → ℕ → List ℕ × ℕ) (book : List Page) (order : List Place)
     (p : ℕ) (fault : OrderFault) → step_of fault ≡ 0
     → (other : OrderFault) → place_of order other ≡ p → turn_of other ≡ turn_of fault
@@ -58,6 +59,7 @@ alone : (init : List ℕ) (next : List ℕ → ℕ → List ℕ × ℕ) (book : 
 alone init next book order p fault one other here turn less failed =
     absurd (omega (arith, one, less))
 
+-- where the call at a place isn't the book's, `Unknown` is the place's first fault
 pub unknown_first : (init : List ℕ) (next : List ℕ → ℕ → List ℕ × ℕ) (book : List Page)
     (order : List Place) (p : ℕ) (place : Place) → slice_get order p ≡ Some place
     → (IsCall book (call_at place) → ⊥) → IsFirstAt init next book order p (Unknown p)
@@ -66,13 +68,15 @@ unknown_first init next book order p place at unknown =
     (call_at place, stands_here order p place at, unknown) refl
     (λ s less. absurd (omega (arith, less))) (alone init next book order p (Unknown p) refl)
 
--- the first test is passed
+-- a place whose call is the book's passes the first test
 passes_one : (init : List ℕ) (next : List ℕ → ℕ → List ℕ × ℕ) (book : List Page)
     (order : List Place) (p : ℕ) (place : Place) → slice_get order p ≡ Some place
     → IsCall book (call_at place) → (s : ℕ) → s < 1 → PassesTest init next book order p s
 passes_one init next book order p place at is zero less = known book order p place at is
 passes_one init next book order p place at is (suc s) less = absurd (omega arith)
 
+-- where the call at a place is the book's, and the cut of the earlier places holds it, `Twice` is
+-- the place's first fault
 pub twice_first : (init : List ℕ) (next : List ℕ → ℕ → List ℕ × ℕ) (book : List Page)
     (order : List Place) (p : ℕ) (standing : List ℕ) (place : Place)
     → IsStanding book order p standing → slice_get order p ≡ Some place
@@ -84,7 +88,8 @@ twice_first init next book order p standing place h at is held =
     (call_at place, stands_here order p place at, before.0, before.1, before.2) refl
     (passes_one init next book order p place at is) (alone init next book order p (Twice p) refl)
 
--- the first two tests are passed
+-- a place passes the first two tests where its call is the book's, and the cut of the earlier
+-- places doesn't hold it
 passes_two : (init : List ℕ) (next : List ℕ → ℕ → List ℕ × ℕ) (book : List Page)
     (order : List Place) (p : ℕ) (standing : List ℕ) (place : Place)
     → IsStanding book order p standing → slice_get order p ≡ Some place
@@ -97,6 +102,8 @@ passes_two init next book order p standing place h at is out (suc zero) less =
 passes_two init next book order p standing place h at is out (suc (suc s)) less =
     absurd (omega arith)
 
+-- where the call at a place is the book's, and its caller's next one after the cut of the earlier
+-- places is an earlier call, `Skipped` is the place's first fault
 pub skipped_first : (init : List ℕ) (next : List ℕ → ℕ → List ℕ × ℕ) (book : List Page)
     (order : List Place) (p : ℕ) (standing : List ℕ) (place : Place)
     → IsStanding book order p standing → slice_get order p ≡ Some place
@@ -116,7 +123,8 @@ skipped_first init next book order p standing place h at is more =
     (passes_two init next book order p standing place h at is (omega (arith, more)))
     (alone init next book order p (Skipped p) refl)
 
--- the first three tests are passed
+-- a place passes the first three tests where its call is the book's, and is its caller's next one
+-- after the cut of the earlier places
 passes_three : (init : List ℕ) (next : List ℕ → ℕ → List ℕ × ℕ) (book : List Page)
     (order : List Place) (p : ℕ) (standing : List ℕ) (place : Place)
     → IsStanding book order p standing → slice_get order p ≡ Some place
@@ -131,6 +139,8 @@ passes_three init next book order p standing place h at is number (suc (suc zero
 passes_three init next book order p standing place h at is number (suc (suc (suc s))) less =
     absurd (omega arith)
 
+-- where the call at a place is the book's and its caller's next one, and precedes a call at an
+-- earlier place, `Late` with the first such place is the place's first fault
 pub late_first : (init : List ℕ) (next : List ℕ → ℕ → List ℕ × ℕ) (book : List Page)
     (order : List Place) (p q : ℕ) (standing : List ℕ) (place : Place)
     → IsStanding book order p standing → slice_get order p ≡ Some place
@@ -146,7 +156,8 @@ late_first init next book order p q standing place h at is number less b bt befo
     (passes_three init next book order p standing place h at is number)
     (late_ties init next book order p q (call_at place) inside here least)
 
--- the first four tests are passed
+-- a place passes the first four tests where its call is the book's, is its caller's next one after
+-- the cut of the earlier places, and precedes no call at an earlier place
 passes_four : (init : List ℕ) (next : List ℕ → ℕ → List ℕ × ℕ) (book : List Page)
     (order : List Place) (p : ℕ) (standing : List ℕ) (place : Place)
     → IsStanding book order p standing → slice_get order p ≡ Some place
@@ -167,6 +178,8 @@ passes_four init next book order p standing place h at is number in_time
 passes_four init next book order p standing place h at is number in_time
     (suc (suc (suc (suc s)))) less = absurd (omega arith)
 
+-- where the call at a place is the book's and its caller's next one, precedes no call at an earlier
+-- place, and has another recorded reply than the place, `Record` is the place's first fault
 pub record_first : (init : List ℕ) (next : List ℕ → ℕ → List ℕ × ℕ) (book : List Page)
     (order : List Place) (p : ℕ) (standing : List ℕ) (place : Place) (r : Answer)
     → IsStanding book order p standing → slice_get order p ≡ Some place
