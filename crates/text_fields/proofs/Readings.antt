@@ -67,6 +67,7 @@ module _ {Due Said : Type 0} (rules : Rules Due) (are_sharp : AreSharp rules) (s
 
   -- ---- a reader that answers what it read, or the fault with which it stopped
 
+  -- where bytes are a text, a reader answers what the text says, unless memory is lacking
   pub only_read : (bytes : List ℕ) (result : Result Said ReadFault)
       → IfOk result (λ said. IsText bytes said)
       → IfErr result (λ e. StopsFor rules start (whole bytes) e)
@@ -75,6 +76,7 @@ module _ {Due Said : Type 0} (rules : Rules Due) (are_sharp : AreSharp rules) (s
   only_read bytes (Err NoMemory) h k said read = refl
   only_read bytes (Err (Text fault)) h k said read = absurd (no_first bytes said fault read k)
 
+  -- a reader refuses bytes for lack of memory, or with the first fault of bytes that are no text
   pub refused_read : (bytes : List ℕ) (result : Result Said ReadFault)
       → IfErr result (λ e. StopsFor rules start (whole bytes) e)
       → IfErr result (λ e. (e ≡ NoMemory) ⊎ ((fault : TextFault) × (e ≡ Text fault)
@@ -84,6 +86,7 @@ module _ {Due Said : Type 0} (rules : Rules Due) (are_sharp : AreSharp rules) (s
   refused_read bytes (Err (Text fault)) k =
       inr (fault, refl, k, λ said read. no_first bytes said fault read k)
 
+  -- where bytes have a first fault, a reader answers that fault, unless memory is lacking
   pub first_read : (bytes : List ℕ) (result : Result Said ReadFault)
       → IfOk result (λ said. IsText bytes said)
       → IfErr result (λ e. StopsFor rules start (whole bytes) e)

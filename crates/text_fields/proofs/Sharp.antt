@@ -152,7 +152,7 @@ same_parts : (a b c d : List ℕ) → ◌≡◌ {A = Option (List ℕ × List �
 same_parts a b c d e = let same : ◌≡◌ {A = List ℕ × List ℕ} (a, b) (c, d) = cc in
     (ap (λ (x : List ℕ × List ℕ). x.0) same, ap (λ (x : List ℕ × List ℕ). x.1) same)
 
--- two lines that begin one text are the same line
+-- two lines that begin one text are the same line, and the same bytes follow them
 pub same_line : (v w : List (List ℕ)) (x y : List ℕ) → AreSolid v → AreSolid w
     → line_text v ++ x ≡ line_text w ++ y → (v ≡ w) × (x ≡ y)
 same_line v w x y h k e =
@@ -208,7 +208,7 @@ module _ {Due : Type 0} (rules : Rules Due) where
 
   -- ---- a line that was read
 
-  -- one right line leads from a state to the next
+  -- reading a line that is right leads from the state before it to the state after it
   pub goes_line : (due after : Due) (text left : Unread) (line : List ℕ) → line_at text
       ≡ Ok (line, left) → rules.Passes due (words_of line) after → GoesTo rules due text after left
   goes_line due after text left line e h =
@@ -225,7 +225,7 @@ module _ {Due : Type 0} (rules : Rules Due) where
             (parts.0, record { bytes = parts.1; number = text.number + 1 }) (line, left) = cc in
             sym (ap (λ (x : List ℕ × Unread). x.1.number) same)
 
-  -- a reader stops where a line is wanted and no whole line is left
+  -- a reader stops with the fault `Cut` where a line is due and no whole line is left
   pub stops_cut : (due : Due) (text : Unread) (fault : TextFault) → rules.wanted due ≡ ALine
       → line_at text ≡ Err fault → IsFirstFault rules due text fault
   stops_cut due text fault w e =
@@ -248,7 +248,7 @@ module _ {Due : Type 0} (rules : Rules Due) where
         )
         cut_from (Some parts) is e = absurd cc
 
-  -- a reader stops at a line with the first test that the line fails
+  -- a reader stops at a line that is due with the first test that the line fails
   pub stops_line : (due : Due) (text left : Unread) (line : List ℕ) (what : What) → rules.wanted due
       ≡ ALine → line_at text ≡ Ok (line, left) → IsFirstTest (rules.Fails due (words_of line)) what
       → IsFirstFault rules due text (record { line = text.number; what = what })
@@ -293,7 +293,7 @@ module _ {Due : Type 0} (rules : Rules Due) where
     no_line TheEnd e bytes h = absurd cc
     no_line Nothing e bytes h = absurd cc
 
-    -- where the next line is right, nothing is wrong
+    -- where a line is due and the next line is right, no test finds the bytes wrong
     not_wrong : (due after : Due) (words : List (List ℕ)) (rest : List ℕ) (what : What)
         → rules.Passes due words after → IsWrong rules due ALine (line_text words ++ rest) what → ⊥
     not_wrong due after words rest what h (inl cut) = let whole =
@@ -435,8 +435,8 @@ module _ {Due : Type 0} (rules : Rules Due) where
     wanted_apart TheEnd h k = cc
     wanted_apart Nothing h k = cc
 
-    -- of two lists of right lines that end where no line is wanted, and begin one text, none is
-    -- longer
+    -- where two lists of right lines begin one text, and after each of them the end is due, the
+    -- bytes that follow them are the same
     pub same_rest : (due e f : Due) (a b : List (List (List ℕ))) (x y : List ℕ)
         → AllPass rules.Passes due a e → AllPass rules.Passes due b f → rules.wanted e ≡ TheEnd
         → rules.wanted f ≡ TheEnd
