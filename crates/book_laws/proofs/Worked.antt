@@ -28,7 +28,7 @@ overtaken_answers zero = omega arith
 overtaken_answers (suc zero) = omega arith
 overtaken_answers (suc (suc i)) = omega arith
 
--- a property of the three records of `overtaken` is one of each of its records
+-- what holds of the three views of `overtaken` holds of the view of each record of this book
 overtaken_records : (P : ℕ → ℕ → List ℕ → Type 0) → P 0 0 (1 ∷ 1 ∷ []) → P 0 1 (2 ∷ 1 ∷ [])
     → P 1 0 (1 ∷ 1 ∷ [])
     → (i k : ℕ) (r : Record) → record_of overtaken (record { caller = i; number = k }) ≡ Some r
@@ -130,7 +130,7 @@ overtaking_third = record {
   reply = refl;
 }
 
--- after the three calls all answered calls are in the order
+-- the cut after the three calls of the order holds all answered calls
 overtaking_last : (i k : ℕ) → k < answers_of overtaken_seen i → k < get_or (2 ∷ 1 ∷ []) i 0
 overtaking_last zero k h = h
 overtaking_last (suc zero) k h = h
@@ -195,7 +195,7 @@ overtaking_ends_early =
     (is_the_book_at overtaken_seen (1 ∷ 0 ∷ []) seen_is_valid) overtaking_is_legal
     (record { all = early_ends; last = early_lasts })
 
--- a property of the two records of `mistaken` is one of each of its records
+-- what holds of the two views of `mistaken` holds of the view of each record of this book
 mistaken_records : (P : ℕ → ℕ → List ℕ → Type 0) → P 0 0 (1 ∷ 0 ∷ []) → P 1 0 (1 ∷ 1 ∷ [])
     → (i k : ℕ) (r : Record) → record_of mistaken (record { caller = i; number = k }) ≡ Some r
     → P i k r.view
