@@ -59,13 +59,13 @@ IfNone-parsed word (Err e) parses =
     λ n small same. let gives : Err e ≡ Ok n =
     parse-decimal 64 n word (Err e) small small (sym same) parses in cc
 
--- bytes that are no text are no number's text
+-- bytes that aren't UTF-8 are no number's text
 pub decimal-other_bytes : (word : List ℕ) → ¬ (IsUtf8 word) → (n : ℕ) → n < 2 ^ 64
     → decimal n ≢ word
 decimal-other_bytes word other n small same =
     other (subst IsUtf8 same (IsUtf8-from_ascii (decimal n) (IsAscii-decimal n small)))
 
--- a number's text is no smaller number's text
+-- the text of a number that isn't below a bound is the text of no number below the bound
 pub IfNone-narrowed : {E : Type 0} (word : List ℕ) (m bound : ℕ) (r : Result ℕ E) → bound ≤ 2 ^ 64
     → m < 2 ^ 64 → decimal m ≡ word → OkIff r (m < bound) m
     → IfNone (result_ok r) ((n : ℕ) → n < bound → decimal n ≢ word)
