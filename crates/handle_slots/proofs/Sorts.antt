@@ -44,8 +44,8 @@ pub same_table : (t u : TableHandle)
     → ◌≡◌ {A = Option Handle} (Some (Table t)) (Some (Table u)) → t ≡ u
 same_table t u e = ap (table_or t) e
 
--- where the place has this caller's handle, what is equivalent to a fact on the handle is
--- equivalent to this fact on the caller in the place
+-- where a place has this caller's handle, what holds exactly when the handle has a property holds
+-- exactly when the place has a caller's handle with this property
 pub callers_iff : (Yes : Type 0) (Is : CallerHandle → Type 0) (found : Option Handle)
     (h : CallerHandle) → found ≡ Some (Caller h) → (Yes ↔ Is h) → (Yes ↔ IsCallers Is found)
 callers_iff Yes Is found h is iff = (
@@ -53,8 +53,8 @@ callers_iff Yes Is found h is iff = (
   λ held. iff.1 (subst Is (same_caller held.0 h (sym held.1 ∙ is)) held.2),
 )
 
--- where the place has this monitor's handle, what is equivalent to a fact on the handle is
--- equivalent to this fact on the monitor in the place
+-- where a place has this monitor's handle, what holds exactly when the handle has a property holds
+-- exactly when the place has a monitor's handle with this property
 pub monitors_iff : (Yes : Type 0) (Is : MonitorHandle → Type 0) (found : Option Handle)
     (m : MonitorHandle) → found ≡ Some (Monitor m) → (Yes ↔ Is m) → (Yes ↔ IsMonitors Is found)
 monitors_iff Yes Is found m is iff = (
@@ -62,7 +62,8 @@ monitors_iff Yes Is found m is iff = (
   λ held. iff.1 (subst Is (same_monitor held.0 m (sym held.1 ∙ is)) held.2),
 )
 
--- a table gives a caller where not all are given
+-- where a place has a table, and no caller is given exactly when all callers of the table were
+-- given before, one is given exactly when the place has a table that may give one
 pub gives_iff : {X : Type 0} (given : Option X) (found : Option Handle) (t : TableHandle)
     → found ≡ Some (Table t) → (IsNone given ↔ (next_of t ≡ (rows_in t).callers))
     → (IsSome given ↔ MayGive found)
