@@ -13,7 +13,7 @@ use Rattle.container_pruning.specs.declared.deal.Deal.TheVariants as deals
 use Rattle.container_pruning.specs.Deals.{shown_deal, recorded_deal, deal_by_deed, deal_by_operation, deal_of}
 use Rattle.container_pruning.proofs.Dealing.{deal_of_put}
 
--- an effect with a value that it takes out is that of a take, which shows this value
+-- an effect by which a value is taken out is a take, and this value is the one that the reply shows
 taken_from_value : (deed : Effect) (shown : Option ℕ) (v : ℕ) → value_taken deed shown ≡ Some v
     → (deed ≡ Takes) × (shown ≡ Some v)
 taken_from_value (Puts w) shown v e = absurd (none-some v e)
@@ -68,7 +68,7 @@ taker_of_step reading init next book order legal k v step e is =
           )
     ]
 
--- A step that puts in a value is the operation of a call that does.
+-- A step that puts in a value is the operation of a call that puts in this value.
 pub putter_of_step : (reading : Reading) (init : List ℕ) (next : List ℕ → ℕ → List ℕ × ℕ)
     (book : List Page) (order : List Place) → IsLegalOrder init next book order
     → (k v : ℕ) (step : ℕ × ℕ) → slice_get (steps_of book order) k ≡ Some step
