@@ -22,6 +22,7 @@ pub record IsPrefixOf (book : List Page) (events : List Event) (caller : ℕ)
   pub told : (number : ℕ) (interval : Interval) → slice_get lane number ≡ Some interval
       → IsIntervalOf book events interval
 
+-- an empty list is a prefix of each caller's intervals
 pub prefix_none : (book : List Page) (events : List Event) (caller : ℕ) (lane : List Interval)
     → lane ≡ [] → IsPrefixOf book events caller lane
 prefix_none book events caller lane empty =
@@ -33,6 +34,7 @@ prefix_none book events caller lane empty =
       told = λ number interval at. absurd (none number interval at);
     }
 
+-- a prefix of a caller's intervals, with the interval of the caller's next call, is one too
 pub prefix_more : (book : List Page) (events : List Event) (caller : ℕ) (lane : List Interval)
     (interval : Interval) → IsPrefixOf book events caller lane
     → interval.call ≡ record { caller = caller; number = length lane }
@@ -66,7 +68,8 @@ pub record AreLanesOf (book : List Page) (events : List Event)
   pub own : (caller : ℕ) → caller < length lanes
       → IsLaneOf book events caller (get_or lanes caller [])
 
--- the lanes of one more caller are right
+-- where n lists are the lanes of the first n callers, and one more list is the lane of caller n,
+-- they are together the lanes of the first n + 1 callers
 pub lanes_more : (book : List Page) (events : List Event) (lanes : List (Vec Interval Global))
     (lane : Vec Interval Global) (n : ℕ) → length (rows_of lanes) ≡ n
     → ((i : ℕ) → i < n → IsLaneOf book events i (get_or (rows_of lanes) i []))
