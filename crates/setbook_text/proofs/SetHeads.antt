@@ -1,5 +1,5 @@
--- The head of a set book is read as at most one head, and has at most one first fault; and it has a
--- place in the text of a set book.
+-- The head of a set book is read as at most one head, and has at most one first fault; and what is
+-- read or refused of it is read or refused in the text of a set book.
 use Rattle.std.proofs.Common.{◌≡◌, ℕ, List, [], ◌∷◌, refl, ap, sym, subst, ◌∙◌}
 use Rattle.std.proofs.lemmas.List.{length-replicate}
 use Rattle.book_base.specs.declared.fault.TextFault.{TextFault}
