@@ -51,7 +51,7 @@ BookFails version (InCalls kind book (call ∷ calls)) words what =
     CallFails version (kind_operations version kind) book (call ∷ calls) words what
 BookFails version (AtEnd kind book) words what = ⊥
 
--- what is wanted in each state of reading a book's text
+-- what is due next in each state of reading a book's text
 abbrev pub book_wanted : BookDue → Wanted
 book_wanted (InHead due) = ALine
 book_wanted (InCalls kind book calls) = ALine

@@ -209,7 +209,7 @@ CallFails version operations book (call ∷ calls) words name =
     EntryFails version operations (length book) (is_gap book call) call words name
     ⊎ ViewFails version operations book call words name
 
--- a line is wanted as long as some call is due
+-- what is due next: a line as long as some call is due, and after the last call nothing
 abbrev pub call_wanted : List Call → Wanted
 call_wanted [] = Nothing
 call_wanted (call ∷ calls) = ALine

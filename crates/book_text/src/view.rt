@@ -47,11 +47,11 @@ fn second_view(words: &mut Words, n: u32) -> Option<Cut>
     }
 }
 
-/// Takes the next word, which is to be the wanted one.
+/// Takes the next word, which is to be `wanted`.
 pub fn take_word(words: &mut Words, wanted: &[u8]) -> Option<()>
-    // An answer Some comes only where the next word was the wanted one, and it is taken.
+    // An answer Some comes only where the next word was `wanted`, and it is taken.
     ensures found { IfSome result (λ _. words.old ≡ wanted.now ∷ words.new) }
-    // An answer None comes only where the next word isn't the wanted one.
+    // An answer None comes only where the next word isn't `wanted`.
     ensures none { IfNone result ((suffix : List (List ℕ)) → words.old ≢ wanted.now ∷ suffix) }
 {
     if words.next()? == wanted {

@@ -72,7 +72,7 @@ CertificateFails (OrderDue kind book) words name = (name ≡ what.Head) × (word
 CertificateFails (InPlaces kind book order) words name = PlaceFails words name
 CertificateFails (AllRead kind book order) words name = ⊥
 
--- what is wanted in each state of reading a certificate's text
+-- what is due next in each state of reading a certificate's text
 abbrev pub certificate_wanted : CertificateDue → Wanted
 certificate_wanted (InBook due) = ALine
 certificate_wanted (OrderDue kind book) = ALine

@@ -176,7 +176,7 @@ ScriptFails version (InBody kind begun (call ∷ calls)) words name =
 ScriptFails version (Turned plan) words name = (name ≡ what.End) × (words ≢ end_words)
 ScriptFails version (AtEnd plan) words name = ⊥
 
--- what is wanted in each state of reading a script's text
+-- what is due next in each state of reading a script's text
 abbrev pub script_wanted : ScriptDue → Wanted
 script_wanted (InHead due) = ALine
 script_wanted (InBody kind begun calls) = ALine

@@ -207,7 +207,7 @@ ReportFails (InLines kind counts told (call ∷ calls)) words name =
     LineFails kind counts told call words name
 ReportFails (AtEnd findings) words name = ⊥
 
--- Whether a further line or the end is wanted in the text of a report.
+-- What is due next in each state of reading a report's text: a line, or the end.
 abbrev pub report_wanted : ReportDue → Wanted
 report_wanted (InHead due) = ALine
 report_wanted (InLines kind counts told calls) = ALine

@@ -68,7 +68,7 @@ SetBookFails (InCalls book (call ∷ calls)) words name =
     CallFails Second join_operations book (call ∷ calls) words name
 SetBookFails (AtEnd book) words name = ⊥
 
--- what is wanted in each state of reading a set book's text
+-- what is due next in each state of reading a set book's text
 abbrev pub setbook_wanted : SetBookDue → Wanted
 setbook_wanted TitleDue = ALine
 setbook_wanted ObjectDue = ALine

@@ -8,8 +8,8 @@ use Rattle.book_base.specs.declared.fault.What.{What}
 use Rattle.book_base.specs.declared.fault.What.TheVariants.{Long, Cut, Head, Object, Callers, Calls, Place, Op, Gap, Reply, View, ViewOutside, ViewLacksOwn, ViewHasLater, ViewsCross, Mark, Seen, Last, Stop, Turns, End, Rest}
 use Rattle.text_fields.specs.Lines.{Unread, AreSolid, text_of, cut_at, words_of}
 
--- what a reader wants next: a line, the end of the bytes, or nothing, since other rules read what
--- follows
+-- what is due next for a reader: a line, the end of the bytes, or nothing, since other rules read
+-- what follows
 pub data Wanted : Type 0 where
   ALine : Wanted
   TheEnd : Wanted
@@ -22,7 +22,7 @@ pub record Rules (Due : Type 0) : Type 1 where
   pub Passes : Due → List (List ℕ) → Due → Type 0
   -- a line of these words fails the test with this name in this state
   pub Fails : Due → List (List ℕ) → What → Type 0
-  -- what is wanted next in a state
+  -- what is due next in a state
   pub wanted : Due → Wanted
 
 -- the turn of a test: the tests of one line are tried in this order
@@ -63,8 +63,8 @@ pub record IsWrongLine {Due : Type 0} (rules : Rules Due) (due : Due) (bytes : L
   pub whole : cut_at 10 bytes ≡ Some (line, rest)
   pub test : IsFirstTest (rules.Fails due (words_of line)) what
 
--- What is wrong with these bytes, by what is wanted: the next line isn't whole, the line fails a
--- test, or bytes follow the end.
+-- The bytes are wrong by this test: where a line is due, the next line isn't whole, or this is the
+-- first test that the line fails; where the end is due, bytes follow it.
 abbrev pub IsWrong : {Due : Type 0} → Rules Due → Due → Wanted → List ℕ → What → Type 0
 IsWrong rules due ALine bytes what = ((what ≡ Cut) × (cut_at 10 bytes ≡ None))
     ⊎ IsWrongLine rules due bytes what
@@ -107,8 +107,8 @@ abbrev pub StopsFor : {Due : Type 0} → Rules Due → Due → Unread → ReadFa
 StopsFor rules due text NoMemory = Unit {0}
 StopsFor rules due text (Text fault) = IsFirstFault rules due text fault
 
--- Nothing is left for these rules to read: where the end is wanted, the bytes have ended; where
--- nothing is wanted, other rules read on.
+-- Nothing is left for these rules to read: where the end is due, the bytes have ended; where
+-- nothing is due, other rules read on.
 abbrev pub IsThrough : Wanted → List ℕ → Type 0
 IsThrough ALine bytes = ⊥
 IsThrough TheEnd bytes = bytes ≡ []
@@ -132,6 +132,6 @@ pub record AreSharp {Due : Type 0} (rules : Rules Due) : Type 0 where
   -- the words of a right line have no space and no line feed
   pub solid : (due after : Due) (words : List (List ℕ)) → rules.Passes due words after
       → AreSolid words
-  -- a line is right only in a state in which a line is wanted
+  -- a line is right only in a state in which a line is due
   pub lines : (due after : Due) (words : List (List ℕ)) → rules.Passes due words after
       → rules.wanted due ≡ ALine

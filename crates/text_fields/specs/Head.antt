@@ -64,7 +64,7 @@ HeadPasses version title (HeadRead kind calls) words after = ⊥
 
 -- the tests of the lines of a head, of which each has one
 abbrev pub HeadFails : Version → List ℕ → HeadDue → List (List ℕ) → What → Type 0
--- the line isn't the title that is wanted
+-- the line isn't the title that is due
 HeadFails version title TitleDue words what = (what ≡ Head) × (words ≢ title_words version title)
 -- the line isn't 'object' and the name of a kind that texts have
 HeadFails version title ObjectDue words what = (what ≡ Object)
@@ -77,7 +77,7 @@ HeadFails version title (CountsDue kind n) words what = (what ≡ Calls)
     × ((calls : List ℕ) → AreCalls version n calls → words ≢ calls_words calls)
 HeadFails version title (HeadRead kind calls) words what = ⊥
 
--- what is wanted in each state of reading a head
+-- what is due next in each state of reading a head
 abbrev pub head_wanted : HeadDue → Wanted
 head_wanted TitleDue = ALine
 head_wanted ObjectDue = ALine

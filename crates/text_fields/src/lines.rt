@@ -59,7 +59,7 @@ impl<'a> Lines<'a> {
         }
     }
 
-    /// The number, counted from 1, of the line that the next call of [`Lines::line`] wants.
+    /// The number, counted from 1, of the line that the next call of [`Lines::line`] takes.
     pub fn number(&self) -> u64
         ensures { result ≡ self.now.number }
     {
