@@ -45,7 +45,8 @@ same-set one other i n h = record {
   ];
 }
 
--- a call that is the next of its kind at some numbers is so at others with its caller's number
+-- a call that is the next of its kind at some numbers is the next at other numbers that have the
+-- same number for its caller
 pub next-at : (kind : Call → Type 0) (one other : List ℕ) (call : Call) → get_or one call.caller 0
     ≡ get_or other call.caller 0 → IsNext kind other call → IsNext kind one call
 next-at kind one other call same next = record {

@@ -53,7 +53,7 @@ pub last_down : {X : Type 0} (n : ℕ) (Is : ℕ → X → Type 0) (xs xs' : Lis
 last_down n Is xs xs' k x took place h =
     h k (length xs') x place (last_at xs' xs x (length xs') took refl)
 
--- items in order are so without the last of them
+-- items in order are in order without the last of them
 pub one_less_in_order : {X : Type 0} (Is : ℕ → X → Type 0) (xs xs' : List X) (x : X)
     → xs ≡ xs' ++ x ∷ [] → AreInOrder Is xs → AreInOrder Is xs'
 one_less_in_order Is xs xs' x took h i y there = h i y (still_at xs' xs x y i took there)

@@ -109,7 +109,7 @@ picked-each low (i ∷ callers) from (j ∷ part) rise rises all = elim all.0 [
       (without_first i callers j (j ∷ part) (omega (arith, above)) within all))
 ]
 
--- a property of each caller is one of each that is picked
+-- what holds of each caller holds of each caller that is picked
 pub picked-all : (P : ℕ → Type 0) (number : ℕ) (callers : List ℕ) → AllByRecursion P callers
     → AllByRecursion P (picked number callers)
 picked-all P number [] all = tt

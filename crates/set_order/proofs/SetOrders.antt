@@ -282,7 +282,7 @@ first_recorded served book cut list places sets whole p place at r known =
     (sym (same_Some places found.1 first)) here in
     ap (λ (x : Place). x.reply) (same_Some it place (sym there ∙ at))
 
--- a property at each place of a list is one of each element
+-- what holds of the element at each place of a list holds of each element
 all_from : {X : Type 0} (P : X → Type 0) (xs : List X)
     → ((k : ℕ) (x : X) → slice_get xs k ≡ Some x → P x) → AllByRecursion P xs
 all_from P [] h = tt

@@ -24,7 +24,7 @@ pub all-weaker : (P Q : ℕ → Type 0) (list : List ℕ) → ((x : ℕ) → P x
 all-weaker P Q [] weaker all = tt
 all-weaker P Q (x ∷ rest) weaker all = (weaker x all.0, all-weaker P Q rest weaker all.1)
 
--- a property of a value and of each item of a list is one of each item of the list with the value
+-- what holds of a value and of each item of a list holds of each item of the list with the value
 pub all-placed : (P : ℕ → Type 0) (v : ℕ) (list : List ℕ) → P v → AllByRecursion P list
     → AllByRecursion P (placed v list)
 all-placed P v [] it all = (it, tt)

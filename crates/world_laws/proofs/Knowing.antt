@@ -434,7 +434,8 @@ pub start_low : (s : Shape) → AllLow s (start s)
 start_low s i low = subst (λ (l : Local). Low s (start s) l)
     (sym (get_or-replicate_default s.callers i fresh)) (fresh_low s (start s))
 
--- A world keeps its shape, and no local has a count above the world's: every reachable world is so.
+-- A world keeps its shape, and no local has a count above the world's; this holds of every
+-- reachable world.
 pub record Sound (s : Shape) (w : World) : Type 0 where
   pub kept : Kept s w
   pub low : AllLow s w

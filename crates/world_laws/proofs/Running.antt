@@ -19,7 +19,7 @@ use Rattle.world_laws.proofs.Raising.{announced_counts, published_counts}
 use Rattle.world_laws.proofs.Agreeing.{own_agrees}
 
 -- The words and the locals of a world are as many as its shape has, and each local agrees with the
--- words: every reachable world is so.
+-- words; this holds of every reachable world.
 pub record Kept (s : Shape) (w : World) : Type 0 where
   pub words_long : length w.words ≡ words_of s
   pub locals_long : length w.locals ≡ s.callers
