@@ -17,7 +17,8 @@ use Rattle.smaller_book.proofs.Following.{word_at, AgreesAt, IsFollowed, has_one
 use Rattle.smaller_book.proofs.KeySteps.{Restricts, keeps_keys}
 use Rattle.smaller_book.proofs.KeyRows.{named_stays, unnamed_goes}
 
--- An operation that is about one of some keys without a reply is about one of them with each reply.
+-- Where the value that an operation of a container moves is one of some keys before a reply is
+-- known, it is one of them with each reply.
 moved_with : (keys : ℕ → Bool) (put : OperationEntry) (word reply : ℕ)
     → is_among keys (value_moved put word None) ≡ true
     → is_among keys (value_moved put word (Some reply)) ≡ true
@@ -72,8 +73,8 @@ answered_key kind book whole call r agrees known =
     ap (λ (o : Option Record). key_of_step kind word (option_map (λ s. s.reply) o)) known
     ∙ ap (λ (reply : ℕ). key_of_step kind word (Some reply)) (agrees r known)
 
--- Where a call is about one of some keys, its operation is about one of them with the reply that
--- the object gives at a list, if this is the recorded reply of the call, where it has one.
+-- Where a call is about one of some keys, and its recorded reply, if it has one, is the reply that
+-- the object gives at a list, its operation with that reply is about one of them too.
 goes_at : (kind : Kind) (keys : ℕ → Bool) (book : List Page) (whole : List ℕ) (call : Call)
     → AgreesAt book (kind_next kind) whole call
     → is_among keys (key_of_call kind book call) ≡ true → is_among keys
@@ -91,8 +92,8 @@ goes_at kind keys book whole call agrees goes =
           sym (ap (is_among keys) (answered_key kind book whole call some.0 agrees some.1)) ∙ goes
     ]
 
--- Where the book has one open, each call keeps the relation of a list with all items and one
--- without those of some keys.
+-- Where the book has one open, each call of it keeps the relation between a list with all items and
+-- one without the items of some keys, as `IsFollowed` says.
 followed : (kind : Kind) (keys : ℕ → Bool) (book : List Page) → HasOneOpen book
     → IsFollowed (Restricts kind keys) (kind_next kind) book (all_without kind keys book)
 followed kind keys book one_open = record {

@@ -71,7 +71,7 @@ numbers_of-all book i =
           ∙ sym (ap (λ (p : Page). range_with_len 0 (length p.operations)) (page_past book i past))
     ]
 
--- Where all calls of a book are named, the call of the book that a call was is this call.
+-- In a part that has all calls of a book, each call has the number that it has in the book.
 pub original-all : (book : List Page) (call : Call) → IsCall book call
     → original (all_numbers book) call ≡ call
 original-all book call inside =
@@ -125,7 +125,8 @@ illegal_at_all init next book valid none = record {
   illegal = λ h. none ((has_one_where_the_book_has init next book valid).0 h);
 }
 
--- A cut with a smaller or equal count of one caller is within the cut.
+-- A cut that is changed to a smaller or equal count of one caller is within the cut before the
+-- change.
 pub set-within : (cut : List ℕ) (i count : ℕ) → count ≤ get_or cut i 0
     → IsWithin (set cut i count) cut
 set-within cut i count few j =
@@ -151,8 +152,8 @@ set-within_answered init next book cut i count is few = (
   λ (j : ℕ). omega (arith, set-within cut i count few j, is.within j),
 )
 
--- A cut at which the book has no legal order stays such a cut with a smaller or equal count of one
--- caller, where the book has no legal order at the changed cut.
+-- A cut at which the book has no legal order, changed to a smaller or equal count of one caller, is
+-- one as `IsIllegalCut` says where the book has no legal order at the changed cut.
 pub illegal_with : (init : List ℕ) (next : List ℕ → ℕ → List ℕ × ℕ) (book : List Page)
     (cut : List ℕ) (i count : ℕ) → IsIllegalCut init next book cut → count ≤ get_or cut i 0
     → ¬ HasLegalOrder init next (book_at (set cut i count) book)
@@ -219,8 +220,8 @@ least_stays init next book cut i j count valid other few h =
           )
         ]
 
--- A cut that is within another one and counts less of a caller is within the other cut with one
--- count less of this caller.
+-- A cut that is within another one and counts fewer calls of a caller is also within that other cut
+-- with its count of this caller less by 1.
 within_one_less : (cut other : List ℕ) (i : ℕ) → IsWithin other cut
     → get_or other i 0 < get_or cut i 0 → IsWithin other (one_less cut i)
 within_one_less cut other i within less k =
@@ -274,9 +275,9 @@ pub legal_below_stays : (init : List ℕ) (next : List ℕ → ℕ → List ℕ 
 legal_below_stays init next book cut few i high low within le legal other inside less one =
     legal other (λ j. omega (arith, inside j, within j)) (omega (arith, less, le)) one
 
--- Where a book has a legal order at a cut within which lies each cut, of those within a given one,
--- that has at most some count of a caller and at which the book has one open, it is legal below the
--- next count within the given cut.
+-- A book is legal below the count `count + 1` of a caller within a cut where it has a legal order
+-- at some cut that contains all these: the cuts within the first one that count at most `count`
+-- calls of the caller and at which the book has one open.
 pub legal_below_from_greatest : (init : List ℕ) (next : List ℕ → ℕ → List ℕ × ℕ) (book : List Page)
     (cut tried : List ℕ) (i count : ℕ) → IsValid book → HasLegalOrder init next (book_at tried book)
     → ((other : List ℕ) → IsWithin other cut → get_or other i 0 ≤ count

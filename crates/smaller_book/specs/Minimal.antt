@@ -1,4 +1,5 @@
--- Minimal books: whatever a rule takes out of one, the rest has a legal order.
+-- Minimal books, which have a legal order once they are made smaller; and books that are made
+-- smaller and have no legal order.
 use Rattle.std.specs.Prelude.{◌≡◌, ℕ, ◌+◌, ◌-◌, ◌<◌, ◌≤◌, ◌++◌, cond, nat_eq, List, length, map, slice_index, Some}
 use Rattle.std.specs.List.{range_with_len}
 use Rattle.book_base.specs.declared.call.Call.{Call}
@@ -46,7 +47,9 @@ IsNeeded kind book call = HasOneWith kind book (all_but book call)
 abbrev pub IsKeyNeeded : Kind → List Page → ℕ → Type 0
 IsKeyNeeded kind book key = HasOneWith kind book (all_without kind (keys_from_to key key) book)
 
--- A book is minimal: no rule makes it smaller and keeps it without a legal order.
+-- A book is minimal: it has a legal order once it is made smaller in one of three ways, each with
+-- its conditions: back to an earlier cut, without one read-only call, or without all calls of one
+-- key.
 pub record IsMinimal (kind : Kind) (book : List Page) : Type 0 where
   -- the book has a legal order at each earlier cut at which it is tried, and each of its calls is
   -- in some view
@@ -71,8 +74,9 @@ pub record IsSmaller (kind : Kind) (book : List Page) (names : List (List ℕ))
 abbrev pub picked : List ℕ → List ℕ → List ℕ
 picked numbers places = map (λ place. slice_index numbers place) places
 
--- For each caller the numbers that the calls of a part of a part have in the book: of the first
--- part's numbers those at the places that the second part's numbers say.
+-- For each caller the numbers that its calls in a part of a part have in the book: the second
+-- part's numbers are places among those of the first part, and each stands for the number at its
+-- place.
 abbrev pub composed : List (List ℕ) → List (List ℕ) → List (List ℕ)
 composed first second =
     map (λ i. picked (numbers_of first i) (numbers_of second i)) (range_with_len 0 (length second))

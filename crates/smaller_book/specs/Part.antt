@@ -11,8 +11,8 @@ use Rattle.book_base.specs.Order.{HasLegalOrder}
 abbrev pub size_of : List Page → ℕ
 size_of book = sum (announced book)
 
--- The numbers of those calls of a caller that a part has, by the caller's list of numbers; none
--- where there is no such list.
+-- The numbers of those calls of a caller that a part has: the caller's list among `names`, or the
+-- empty list where `names` has no list for the caller.
 abbrev pub numbers_of : List (List ℕ) → ℕ → List ℕ
 numbers_of names i = slice_index_or names i []
 

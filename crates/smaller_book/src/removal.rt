@@ -22,9 +22,9 @@ pub struct Smaller {
     pub numbers: Vec<Vec<u64>>,
 }
 
-/// The book without the first read-only call, of this caller or a later one, without which it has
-/// no legal order, with the caller of this call. No book is answered where the book has a legal
-/// order without each single one of these calls.
+/// The book without the first read-only call, of the caller `from` or a later one, without which it
+/// has no legal order, with the caller of this call. No book is answered where leaving out any
+/// single read-only call of these callers gives a book with a legal order.
 pub fn without_one(
     alloc: Global,
     kind: Kind,
@@ -72,7 +72,7 @@ fn without_one_of(
     Ok(None)
 }
 
-/// The book without this read-only call, where it has no legal order without it.
+/// The book without this read-only call, if that smaller book has no legal order.
 pub fn without(
     alloc: Global,
     kind: Kind,
@@ -175,7 +175,7 @@ pub fn has_fewer(few: &Book, book: &Book) -> bool
     false
 }
 
-/// Appends a number where it is kept.
+/// Appends a number if `keeps` is true.
 pub fn push_if(numbers: &mut Vec<u64>, keeps: bool, number: u64) -> Result<(), NoMemory>
     ensures { OnOk result (numbers.new.items
         ≡ numbers.old.items ++ (if keeps then number ∷ [] else [])) }
