@@ -9,7 +9,7 @@ use Rattle.frontier_check.specs.declared.memo.MemoEntry.{MemoEntry}
 use Rattle.frontier_check.specs.declared.memo.Memo.{Memo}
 use Rattle.frontier_check.specs.Memo.{IsMemo, Remembers, counts_at, words_at}
 
--- a part of a list that ends in its prefix is the part of that prefix
+-- a range of two joined lists that ends within the first list is that range of the first list
 range-append_left : (xs ys : List ℕ) (from to : ℕ) → from ≤ to → to ≤ length xs
     → slice_range (xs ++ ys) from to ≡ slice_range xs from to
 range-append_left xs ys from to le within =
@@ -17,7 +17,8 @@ range-append_left xs ys from to le within =
     ap (λ (l : List ℕ). take (to - from) l) e
     ∙ take-append-le (to - from) (drop from xs) ys (omega (arith, length-drop from xs))
 
--- the part of a list after its prefix is its suffix
+-- the range of two joined lists that begins where the first list ends, and is as long as the second
+-- list, is the second list
 range-append_right : (xs ys : List ℕ) (from to : ℕ) → from ≡ length xs → to ≡ from + length ys
     → slice_range (xs ++ ys) from to ≡ ys
 range-append_right xs ys from to at end =
@@ -119,7 +120,7 @@ pub remembers-slots : (old new : Memo) → new ≡ record old { slots = new.slot
     → (cut list : List ℕ) → Remembers new cut list → Remembers old cut list
 remembers-slots old new is cut list h = subst (λ (m : Memo). Remembers m cut list) is h
 
--- What holds in any case holds after an answer Ok.
+-- What holds whatever a call answers holds after an answer Ok.
 pub OnOk-holds : {T E P : Type 0} (r : Result T E) → P → OnOk r P
 OnOk-holds (Ok x) p = p
 OnOk-holds (Err e) p = tt

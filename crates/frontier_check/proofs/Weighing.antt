@@ -23,8 +23,9 @@ lighter choices fresh above below e positive few =
     let le : fresh * below ≤ MAX_CALLERS * below = mul-le-mul_right below few in
     omega arith
 
--- Frames with a further one at their end, and at most as many fresh choices as there may be
--- callers, weigh less than those frames with the choices of the further one and one more.
+-- A walk whose frames, at most `depth` of them, end with a further one, and which has at most as
+-- many fresh choices as there may be callers, weighs less than the frames before the further one
+-- with its choices and one more.
 pub weigh-push : (depth : ℕ) (frames : List WalkFrame) (frame : WalkFrame) (fresh : ℕ)
     → length frames < depth → fresh ≤ MAX_CALLERS
     → weigh depth (frames ++ frame ∷ []) fresh < weigh depth frames (length frame.choices.items + 1)
@@ -34,15 +35,15 @@ weigh-push depth [] frame fresh h few = lighter (length frame.choices.items) fre
 weigh-push depth (first ∷ frames) frame fresh h few =
     omega (arith, weigh-push (depth - 1) frames frame fresh (omega arith) few)
 
--- Frames weigh less with one choice fewer after them.
+-- A walk with one choice fewer and equal frames weighs less.
 pub weigh-skip : (depth : ℕ) (frames : List WalkFrame) (choices : ℕ)
     → weigh depth frames choices < weigh depth frames (choices + 1)
 unfolding weigh
 weigh-skip depth [] choices = omega (arith, ways_positive depth)
 weigh-skip depth (first ∷ frames) choices = omega (arith, weigh-skip (depth - 1) frames choices)
 
--- Frames with the choices of a further frame after them weigh less than those frames and the
--- further one with no choice after them.
+-- A walk with the choices of a further frame weighs less than the walk whose frames end with that
+-- frame and which has no choice.
 pub weigh-pop : (depth : ℕ) (frames : List WalkFrame) (frame : WalkFrame)
     → weigh depth frames (length frame.choices.items) < weigh depth (frames ++ frame ∷ []) 0
 unfolding weigh

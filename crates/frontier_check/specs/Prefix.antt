@@ -38,8 +38,8 @@ LeavesOpen book cut = (i : ℕ) (r : Record) → record_of book (next_call cut i
     → IsWithin cut r.view
 
 -- The places of a prefix reach its cut and its list, in a valid and small book. The cut has one
--- count for each caller of the book and counts no more of its calls than the book has, and the list
--- has at most one word more than the cut counts calls.
+-- count for each caller of the book, none of them above the caller's number of calls in the book,
+-- and the list has at most one word more than the cut counts calls.
 pub record PrefixReaches (init : List ℕ) (next : List ℕ → ℕ → List ℕ × ℕ) (book : List Page)
     (prefix : Prefix) : Type 0 where
   pub valid : IsValid book

@@ -24,9 +24,9 @@ abbrev pub IsQuiet : List ℕ → List ℕ → List Page → Type 0
 IsQuiet cut before book = (i : ℕ) → i < length book → (slice_index cut i ≤ slice_index before i)
     ⊎ (answers_of book i ≤ slice_index before i)
 
--- A mark is one of an order: it counts the places of a prefix with which the order begins, and has
--- its cut and its words. These places were put in this book or in one from which it has grown, and
--- the mark has how many records of each caller that book had.
+-- A mark is one of an order where the order begins with the places of a prefix that is put in this
+-- book, or in one from which this book has grown; the mark has the number of these places, the cut
+-- and the words of the prefix, and how many records of each caller that book had.
 pub record IsMark (init : List ℕ) (next : List ℕ → ℕ → List ℕ × ℕ) (book : List Page)
     (order : List Place) (mark : OrderMark) : Type 0 where
   pub earlier : List Page
@@ -75,7 +75,8 @@ pub record IsMarkAtEnd (prefix : Prefix) (records : List ℕ) (mark : OrderMark)
   pub answered : mark.answered ≡ records
 
 -- In each book with these numbers of records in which a prefix is put, whatever the object is:
--- where the old marks are marks of the places of the prefix, so are the new ones.
+-- where the old marks are marks of the places of the prefix, the new marks are marks of these
+-- places too.
 abbrev pub AddsMarks : Prefix → List ℕ → List OrderMark → List OrderMark → Type 0
 AddsMarks prefix records marks more =
     (init : List ℕ) (next : List ℕ → ℕ → List ℕ × ℕ) (book : List Page)

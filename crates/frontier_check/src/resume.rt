@@ -95,11 +95,11 @@ fn kept_of(index: usize, len: usize) -> usize
     }
 }
 
-/// The places of an order before its last mark for which they may still begin an order of the book,
-/// as a prefix, and the other places of the order. The marks after that mark are removed, and the
-/// mark itself too where the number of places before it isn't a multiple of `INTERVAL`. Where no
-/// mark is such, the prefix without places and the whole order are answered, and all marks are
-/// removed.
+/// Splits an order at its last mark that still stands: the last one for which the places before it
+/// may still begin an order of the book. Answers the places before that mark as a prefix, and the
+/// other places. The marks after that mark are removed, and the mark itself too where the number of
+/// places before it isn't a multiple of `INTERVAL`. Where no mark still stands, the prefix without
+/// places and the whole order are answered, and all marks are removed.
 pub fn resume<S: SeqObject>(
     alloc: Global,
     object: &S,
