@@ -37,8 +37,8 @@ pub zero_counts : (book : List Page) → length book ≤ MAX_CALLERS
     → take (length book) (replicate MAX_CALLERS 0) ≡ no_calls book
 zero_counts book few = take-replicate (length book) MAX_CALLERS 0 few
 
--- Where the counts have one more call of a caller, so has the cut of the first n counts, if the
--- caller is below n.
+-- The first n of some counts with one more call of a caller, whose number is below n, are the cut
+-- of the first n counts with one more call of this caller.
 pub cut_raised : (n : ℕ) (counts : List ℕ) (i : ℕ) → i < n
     → take n (set counts i (get_or counts i 0 + 1)) ≡ raised (take n counts) i
 cut_raised n counts i below =
@@ -86,8 +86,8 @@ closed_at reading book levels nodes l level cut mine marks wide at same suffice 
       (layer_of level) c (next_call c i)) same (followed i marked);
 }
 
--- A call leads from a level where what its role does leads, with the cut that has one more call of
--- its caller than the node.
+-- A call leads from a node of a table, with the cut that has one more call of its caller than the
+-- node's, where what the call's role does leads from the node with that cut.
 pub call_leads : (reading : Reading) (book : List Page) (layers : List Layer) (nodes : Nodes)
     (node : Node) (layer : Layer) (cut new : List ℕ) (call : Call)
     (op : ℕ) (role its : Role) → operation_of book call ≡ Some op → deed_of role ≡ reading.deed op
@@ -109,9 +109,9 @@ call_leads reading book layers nodes node layer cut new call op role its known d
           (sym (ap deed_of is) ∙ deed) leads),
     )
 
--- Where a table has the bottom after no call, its levels that are said to be kept are so, and each
--- of its nodes is closed, no object that gives its last value first and begins with the empty list
--- has a legal order of a valid book with one open.
+-- Where a table has the bottom after no call, each of its levels that is said to be kept is kept,
+-- and each of its nodes is closed, no object that gives its last value first and begins with the
+-- empty list has a legal order of a valid book with one open.
 pub refuted : (reading : Reading) (book : List Page) (levels : List Level) (cuts : List (List ℕ))
     (nodes : List NodeKey)
     → IsValid book → HasOneOpen book

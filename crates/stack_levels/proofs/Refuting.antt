@@ -56,7 +56,7 @@ ends_last layers (v ∷ below) l layer at ends =
     (upright below, refl)
 
 -- Where a level that ends a list is said to be kept, no answered call that a cut lacks takes any
--- word of the list, if each level that is said to be kept may be said to be so.
+-- word of the list, if each level that is said to be kept is kept, as `IsKeptLayer` says.
 all-kept : (reading : Reading) (book : List Page) (layers : List Layer)
     → ((l : ℕ) (layer : Layer) → slice_get layers l ≡ Some layer → IsTrue layer.top.kept
     → IsKeptLayer reading book layers layer)
@@ -104,8 +104,9 @@ record Onward (reading : Reading) (book : List Page) (next : List ℕ → ℕ �
   items : AllByRecursion (IsItem reading book cut bound) (upright tops)
   goes : Continues book next cut (upright tops) rest
 
--- Where each item of the list is below the bound and was put in by a call of the cut, it is so
--- after one more call, with the cut that has this call.
+-- Where each item of a list is below the bound and was put in by a call of the cut, each item of
+-- the list after one more call is below the bound and was put in by a call of the cut with that
+-- call.
 items_after : (reading : Reading) (next : List ℕ → ℕ → List ℕ × ℕ) (bound : ℕ)
     → GivesLastFirst reading next bound → (book : List Page)
     (cut list : List ℕ) (place : Place) (op : ℕ) → length book ≤ length cut
@@ -132,7 +133,7 @@ items_after reading next bound is book cut list place op wide may known items =
     }) later
 
 -- Where a take leads from a level that ends a list to the pairs, some level ends the list after the
--- take, and is a pair with the cut after it.
+-- take, and this level is a pair with the cut after the take.
 take-leads : (reading : Reading) (next : List ℕ → ℕ → List ℕ × ℕ) (bound : ℕ)
     → GivesLastFirst reading next bound → (layers : List Layer) (nodes : Nodes)
     (tops : List ℕ) (l op : ℕ) (layer : Layer) (after : List ℕ) → reading.deed op ≡ Takes
@@ -162,8 +163,9 @@ take-leads reading next bound is layers nodes (v ∷ below) l op layer after tak
       is.take (upright below) v op takes,
     )
 
--- Where the call of a first place leads from a level that ends the list to the pairs, the places
--- after it continue the order from a list that some level ends, which is a pair with the new cut.
+-- Where the call of a first place leads from a level that ends the list to the pairs, some level
+-- ends the list after this call and is a pair with the new cut, and the places after the first one
+-- continue the order from that list.
 leads_on : (reading : Reading) (next : List ℕ → ℕ → List ℕ × ℕ) (bound : ℕ)
     → GivesLastFirst reading next bound → (book : List Page) (layers : List Layer) (nodes : Nodes)
     (cut tops : List ℕ) (l : ℕ) (layer : Layer) (place : Place) (rest : List Place)
@@ -254,8 +256,8 @@ nothing_taken next bound reading is layers (v ∷ below) l op layer at ends take
     let same : ends.0 ≡ layer = same_Some ends.0 layer (sym ends.1 ∙ at) in
     absurd (none-some v (sym none ∙ (sym (ap (λ (x : Layer). x.top.last) same) ∙ ends.2)))
 
--- A first place whose call is unanswered and doesn't change the list may be left out: at most as
--- many places as come after it continue the order.
+-- A first place whose call is unanswered and doesn't change the list may be left out: some places,
+-- at most as many as come after it, continue the order.
 left_out : (reading : Reading) (next : List ℕ → ℕ → List ℕ × ℕ) (bound : ℕ)
     → GivesLastFirst reading next bound → (book : List Page) → HasOneOpen book
     → (layers : List Layer)
