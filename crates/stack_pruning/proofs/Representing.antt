@@ -43,8 +43,8 @@ puts_paired_in reading book cut ends others list look caller stands it = record 
   takes = it.takes;
 }
 
--- Where `PutsKept` holds of a caller and the other words, and it is asked whether these are kept,
--- it holds of the caller and each list for which the words stand.
+-- Where `PutsKept` holds of a caller and the other words, and `look` is true, it holds of the
+-- caller and each list for which the words stand.
 pub puts_kept : (reading : Reading) (book : List Page) (cut ends others list : List ℕ) (look : Bool)
     (caller : ℕ) → IsTrue look
     → StandFor reading book cut ends others look list → PutsKept reading book cut others caller
@@ -52,8 +52,9 @@ pub puts_kept : (reading : Reading) (book : List Page) (cut ends others list : L
 puts_kept reading book cut ends others list look caller told stands it =
     record { put = it.put; below = stands.kept told it.below; never_empty = it.never_empty }
 
--- Where each caller whose mark was taken away puts in a value that a take doesn't show, or the last
--- word, it puts in such a value, or the last item, for each list for which the words stand.
+-- Where the next call of each caller whose mark was taken away puts in a value that a take doesn't
+-- show, or the last one of the first words, it puts in a value that the take doesn't show, or the
+-- last item of each list for which the words stand.
 pub puts_needless : (reading : Reading) (book : List Page) (cut ends others list : List ℕ)
     (look : Bool) (shown : Option ℕ) (all left : MarkedCallers)
     → StandFor reading book cut ends others look list
@@ -83,7 +84,8 @@ small_items reading book cut bound list all =
     all-weaker (IsItem reading book cut bound) (λ (x : ℕ). x < bound) list
     (λ (x : ℕ) (item : IsItem reading book cut bound x). item.small) all
 
--- A value that a caller's next call alone puts in is none of the items of a list after the cut.
+-- A value that a caller's next call, and no other call, puts in is none of the items of a list
+-- after the cut.
 lacks_it : (reading : Reading) (book : List Page) (cut : List ℕ) (bound : ℕ) (list : List ℕ)
     (caller v : ℕ) → AllByRecursion (IsItem reading book cut bound) list
     → PutsInAlone reading book (next_call cut caller) v → Lacks list v

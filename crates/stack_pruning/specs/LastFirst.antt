@@ -60,9 +60,9 @@ pub record TakesLast (reading : Reading) (book : List Page) (cut list : List ℕ
   pub puts : PutsAreNextOrLater reading book cut value (next_call cut caller)
   pub takes : IsLeastTake reading book cut value (next_call cut caller)
 
--- The next call of a caller alone puts in a value that isn't in the list, and the next call of
--- another caller may come next and takes this value, with the least view of all answered calls
--- outside the cut that take it.
+-- The next call of a caller is the only call that puts in some value, which isn't in the list; and
+-- the next call of another caller may come next and takes this value, with the least view of all
+-- answered calls outside the cut that take it.
 pub record PutsPaired (reading : Reading) (book : List Page) (cut list : List ℕ)
     (caller : ℕ) : Type 0 where
   pub value : ℕ
@@ -117,10 +117,10 @@ pub record HasTop (reading : Reading) (book : List Page) (cut : List ℕ) (bound
   pub items : AllByRecursion (IsItem reading book cut bound) list
   pub kept : IsTrue top.kept → AllByRecursion (IsKept reading book cut) list
 
--- Two lists of words stand for a list after a cut: the list ends with each word with which the
--- first one ends; the list lacks each value that the next call of some caller alone puts in and
--- that the other words lack; and, where this is asked for, if all the other words are kept, all
--- items of the list are.
+-- Two lists of words, `ends` and `others`, stand for a list after a cut: the list ends with the
+-- last word of `ends`, if there is one; the list lacks each value that isn't among `others` and
+-- that a caller's next call, and no other call, puts in; and, where `look` is true, no answered
+-- call outside the cut takes an item of the list if none takes one of `others`.
 pub record StandFor (reading : Reading) (book : List Page) (cut ends others : List ℕ) (look : Bool)
     (list : List ℕ) : Type 0 where
   pub last : (v : ℕ) → EndsWith ends v → EndsWith list v

@@ -9,8 +9,8 @@ use book_base::{Book, Call, Cut, MarkedCallers};
 use container_pruning::Reader;
 use value_pruning::value_put;
 
-/// Whether each call outside the cut that puts in a value is a marked caller's next call, or the
-/// next call of this caller, which is answered, precedes it.
+/// Whether each call outside the cut that puts in a value is a marked caller's next call, or is
+/// preceded by the next call of the caller `taker`, which is answered.
 pub fn puts_are_next_or_later<R: Reader>(
     reader: &R,
     book: &Book,

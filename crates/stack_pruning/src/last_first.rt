@@ -13,13 +13,15 @@ use book_base::{Book, Call, Cut, MarkedCallers, Sight};
 use container_pruning::Reader;
 use value_pruning::{is_put_once, next_least_take, value_put};
 
-/// Which callers' next calls a search has to try, at a list of a stack. Only a take of the last
-/// item, where it has the least view of all answered calls outside the cut that take this value,
-/// and each call outside the cut that puts the value in may come next or comes after the take. Else
-/// only a put of a value that is put in once and isn't in the list, where its take may come next
-/// too. Else only an answered put of a value that no answered call outside the cut takes, where
-/// none takes an item of the list or finds nothing. Otherwise, where the forced call is a take, all
-/// but the puts of other values than it shows, and of the last item.
+/// Which callers' next calls a search has to try at a list of a stack. It is one caller alone where
+/// some marked caller's next call is one of these, looked for in this order: a take of the last
+/// item, with the least view of all answered calls outside the cut that take this value, if each
+/// call outside the cut that puts the value in may come next or comes after the take; the only put
+/// of a value that isn't in the list, if a take of the value with that least view may come next
+/// too; an answered put of a value that no answered call outside the cut takes, if none of these
+/// calls takes an item of the list or finds nothing. Otherwise it is all marked callers, but where
+/// the forced call is a take, those are left out whose next calls put in the last item or a value
+/// that this take doesn't show.
 pub fn narrow_last_first<R: Reader>(
     reader: &R,
     sight: &Sight,
@@ -53,7 +55,7 @@ pub fn narrow_last_first<R: Reader>(
     narrow_by(reader, sight, book, cut, words, words, true, forced, marks)
 }
 
-/// Which callers' next calls a search has to try, at each list of a stack with this top, as
+/// Which callers' next calls a search has to try at each list of a stack with this top, as
 /// `narrow_last_first` says it for one list. A value that is put in once, by a call that may come
 /// next, is in no such list.
 pub fn narrow_by_top<R: Reader>(
@@ -102,9 +104,10 @@ pub fn narrow_by_top<R: Reader>(
     }
 }
 
-// Which callers' next calls a search has to try, where two lists of words stand for the list: the
-// list ends as the first words do, and lacks a value that the other words lack. Whether all the
-// other words are kept is looked at only where this is asked for.
+// Which callers' next calls a search has to try at each list for which two lists of words stand, as
+// `StandFor` says: the list ends with the last word of `ends`, and lacks what is put in by one call
+// and isn't among `others`. Whether all of `others` are kept is looked at only where `look` is
+// true.
 fn narrow_by<R: Reader>(
     reader: &R,
     sight: &Sight,
@@ -144,8 +147,8 @@ fn narrow_by<R: Reader>(
     }
 }
 
-// A marked caller whose next call is answered and puts in a kept value, where this is asked for,
-// the other words are kept too, and no answered call outside the cut finds nothing.
+// If `look` is true, a marked caller whose next call is answered and puts in a kept value, where
+// all of `others` are kept too and no answered call outside the cut finds nothing.
 fn put_if_kept<R: Reader>(
     reader: &R,
     sight: &Sight,
@@ -194,8 +197,8 @@ fn last_take<R: Reader>(
     Some(caller)
 }
 
-// A marked caller whose next call alone puts in a value that isn't among the words, where the take
-// of this value with the least view may come next.
+// A marked caller whose next call is the only one that puts in some value, which isn't among the
+// words, where the take of this value with the least view may come next.
 fn paired_put<R: Reader>(
     reader: &R,
     sight: &Sight,
@@ -219,8 +222,8 @@ fn paired_put<R: Reader>(
     None
 }
 
-// Whether a marked caller's next call alone puts in a value that isn't among the words, and the
-// take of this value with the least view may come next.
+// Whether a marked caller's next call is the only one that puts in some value, which isn't among
+// the words, and the take of this value with the least view may come next.
 fn puts_paired<R: Reader>(
     reader: &R,
     sight: &Sight,
