@@ -52,8 +52,8 @@ grown s i l early late a b (locals, together, low, is) first second within =
     (book_at_is_the_book_at (book_in locals) cut valid) in
     grown_at (book_in locals) early late a b within (at early a first) (at late b second)
 
--- An order that is taken from what was kept has its marks in the new book too, where the kept book
--- is of the rows' callers and its cut is within that of the new book.
+-- A kept order that is taken up once more has its marks in the new book too, where the kept book
+-- has as many callers as the table and its cut is within that of the new book.
 pub stands_on : (init : List ℕ) (next : List ℕ → ℕ → List ℕ × ℕ) (s : Shape) (i n : ℕ) (l : Local)
     (kept : Option Gathered) (standing taken : Option KeptOrder) (cut : List ℕ) (book : List Page)
     → n ≡ s.callers → IsLocalOf s i l → IsGatheredBy l kept → IsGathered s.callers l cut book

@@ -124,28 +124,28 @@ pub fn judge_line<P: Program, S: SeqObject, L: Ledger>(
     // book or in one from which that book has grown.
     requires stands { OrderStandsIn (S.init object.now)
         (S.next object.now) gathered.old standing.old }
-    // With an end of the line the caller is still one of these rows, with the same number.
+    // The caller of a judged call is still one of these rows, with the same number.
     ensures caller { IfOk result (λ r. IsStill P.meaning rows.now (caller_seen seen) r.0) }
-    // With an end of the line the caller has made peeks and no other event, and the counter of
-    // steps has risen by 1 for each of them.
+    // The caller of a judged call has made peeks and no other event, and the counter of steps has
+    // risen by 1 for each of them.
     ensures peeks { IfOk result (λ r. OnlyPeeks (caller_seen seen) r.0 steps.old steps.new) }
-    // With an end of the line the caller is idle.
+    // The caller of a judged call is idle.
     ensures idle { IfOk result (λ r. IsIdle (local_with r.0)) }
     // After `Error` the caller is halted, and after any other end it is ready for its next call.
     ensures stance { IfOk result (λ r. stance_of r.0 ≡ stance_after_line r.1) }
-    // The line ends with `Delivered` or with `Error`, and with the record and the seen cut of the
-    // seen call.
+    // The line of a judged call ends with `Delivered` or with `Error`, and with the record and the
+    // seen cut of the seen call.
     ensures end { IfOk result (λ r. IsVerdictOn
         (record { reply = reply_seen seen; view = view_seen seen }) (cut_seen seen) r.1) }
-    // With an end of the line, the count for the caller in the seen cut is the number of records
-    // that the caller has published.
+    // The count for the caller of a judged call in its seen cut is the number of records that this
+    // caller has published.
     ensures own { IfOk result (λ r. HoldsOwn (cut_seen seen) r.0) }
     // The end of the line is right for a book at its cut each of whose words the caller has peeked:
     // after `Delivered` that book has a legal order, and after `Error` it has no legal order.
     ensures verdict { IfOk result (λ r.
         IsJudgedBy (S.init object.now) (S.next object.now) rows.now.callers (local_with r.0) r.1) }
-    // With an end of the line, where a book is now kept, it is one at the cut that is kept with it,
-    // and the caller has peeked each of its words.
+    // Where the call is judged and a book is now kept, the book is one at the cut that is kept with
+    // it, and the caller has peeked each of its words.
     ensures kept { IfOk result (λ r. IsGatheredBy (local_with r.0) gathered.new) }
     // After `Delivered` a book of as many callers as the rows have is kept, with the seen cut, and
     // after any other end no book is kept.
@@ -154,10 +154,10 @@ pub fn judge_line<P: Program, S: SeqObject, L: Ledger>(
     // that book or in one from which that book has grown.
     ensures stands { OrderStandsIn (S.init object.now)
         (S.next object.now) gathered.new standing.new }
-    // With an end of the line, where a book is now kept, the counter of steps has risen by the
-    // number of words that this book has and the book kept before lacks, where that one is of as
-    // many callers as the rows have and its cut is within the new one; where no book was kept
-    // before, by the number of words of the book that is now kept.
+    // Where the call is judged and a book is now kept, the counter of steps has risen by the number
+    // of words that this book has and the book kept before lacks, if that one is of as many callers
+    // as the rows have and its cut is within the new one; if no book was kept before, by the number
+    // of words of the book that is now kept.
     ensures new_words { IfOk result (λ r. IfSome gathered.new (λ g.
         TicksForNew rows.now.callers gathered.old g steps.old steps.new)) }
     // The caller of an unjudged call is still one of these rows, with the same number.
