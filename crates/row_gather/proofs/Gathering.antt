@@ -239,8 +239,8 @@ gathered_is_valid s i l cut book (locals, t, low, is) g =
     subst IsValid (sym (is_book_of_all s i l cut book low g locals t is))
     (stays_valid (book_in locals) cut (books_are_valid s locals t))
 
--- The greatest counts in the views of records that were peeked in a reachable world are at most
--- each number that the cap doesn't exceed.
+-- Where the cap is at most a number, the greatest counts in the views of records that were peeked
+-- in a reachable world are at most this number too.
 pub counts_few : (s : Shape) (i : ℕ) (l : Local) (cut : List ℕ) (kept : List Page)
     (lists : List (List Record)) (counts : List ℕ) (most : ℕ) → IsLocalOf s i l
     → ArePeekedTo s.callers l kept cut s.callers lists → length counts ≡ s.callers
