@@ -15,9 +15,9 @@ pub record ScannedWords : Type 0 where
   pub looks : List Looked
   pub peeks : List Peeked
 
--- What a scan has found with one more word `x`, by what it needed: where that was a look at a
--- caller, one more look, which found the count `x`; where it was a peek into a row, one more peeked
--- word of the cut that the row embeds; and nothing more where the scan is done.
+-- What a scan that has found `found` has found after one more word `x`: where it needed a look at a
+-- caller, one more look, which found the count `x`; where it needed a peek into a row, one more
+-- peeked word of the cut that the row embeds; and nothing more where it was done.
 abbrev pub found_with : ℕ → Region → Want → ℕ → ScannedWords → ScannedWords
 found_with n region (Look j) x found =
     record found { looks = record { region = region; caller = j; count = x } ∷ found.looks }
@@ -33,9 +33,9 @@ found_with n region (Peek j row entry) x found =
     }
 found_with n region (Done cut) x found = found
 
--- What a scan of a region of n callers has found that had found `found` with the words `taken`,
--- after it took these further words in turn: each is the word of the look or peek that the scan
--- needed when it took that word.
+-- What a scan of a region of n callers has found once it takes these further words in turn, after
+-- the words `taken`, with which it had found `found`: each further word is that of the look or peek
+-- that the scan needed when it took the word.
 abbrev pub found_from : ℕ → Region → List ℕ → ScannedWords → List ℕ → ScannedWords
 found_from n region taken found [] = found
 found_from n region taken found (x ∷ words) =
@@ -76,7 +76,7 @@ local_in_scan n before region opening taken =
 
 -- A caller's local after a scan that began on the local `before` with this opening, took these
 -- words and ended with this cut: no scan is under way, the cut is the last one that was given, and
--- it has served its purpose.
+-- it is put to the use that `purpose_of` says.
 abbrev pub local_after_scan : ℕ → Local → Region → Opening → List ℕ → List ℕ → Local
 local_after_scan n before region opening taken cut =
     went_on (local_in_scan n before region opening taken)

@@ -66,15 +66,15 @@ impl<P: Program> Scan<P> {
         // The scan keeps its caller and its region, and has now made its first turn.
         ensures scan { (scanner_of self.new ≡ scanner_of self.old)
             × (region_of self.new ≡ region_of self.old) × (has_begun self.new ≡ true) }
-        // After the first turn, without an answered cut, the caller's local is the one before the
-        // turn with the scan begun, under way, and with one word taken; with an answered cut, it is
-        // the one before the turn, changed by one whole scan that ended with that cut.
+        // After a first turn that answers no cut, the caller's local is the one before the turn
+        // with the scan begun, under way, and with one word taken; after a first turn that answers
+        // a cut, it is the one before the turn, changed by one whole scan that ended with that cut.
         ensures first { has_begun self.old ≡ false → HasTurned rows.now.callers (region_of self.old)
             (opening_at caller.old (region_of self.old)) [] result (local_with caller.old)
             (local_with caller.new) }
-        // After a later turn, without an answered cut, the scan is under way with one word more
-        // than before the turn; with an answered cut, the caller's local is the one on which the
-        // scan began, changed by one whole scan that ended with that cut.
+        // After a later turn that answers no cut, the scan is under way with one word more than
+        // before the turn; after a later turn that answers a cut, the caller's local is the one on
+        // which the scan began, changed by one whole scan that ended with that cut.
         ensures later { (before : Local) (opening : Opening) (taken : List ℕ)
             → has_begun self.old ≡ true → local_with caller.old
             ≡ local_in_scan rows.now.callers before (region_of self.old) opening taken
