@@ -13,7 +13,7 @@ use Rattle.row_table.specs.Seats.{View, has, the, only, Ruled, Together, Tells, 
 use Rattle.row_table.specs.Callers.{key_of}
 use Rattle.row_table.proofs.Keeping.{does, stores, learns, moved_here, only_here}
 
--- The key that a table was told is the one of its rows.
+-- The key that a table has is the key of its rows.
 pub key_told : {P : Type 0} (r : Rows P) → r.table.shared.key ≡ key_of r
 key_told r = λ i.
     record { program = r.told i; callers = r.sized.2 i; cap = r.sized.3 i; objects = r.sized.4 i }
@@ -73,7 +73,7 @@ pub record Told (s : Shape) (who : ℕ) (me after : Me (Unit {0}) View) (event :
   pub local : the (has after.0 who) ≡ local_after s.callers (the (has me.0 who)) event
   pub reached : IsLocalOf s who (the (has after.0 who))
 
--- A caller whose seat has its local alone knows this after a step of its own.
+-- A caller whose seat has its local alone knows what `Told` says after a step of its own.
 pub told_as : (s z : Shape) (who w : ℕ) (event e : ℕ → Event) (me after : Me (Unit {0}) View)
     (x : ℕ) → z ≡ s → w ≡ who → e ≡ event → me ≡ (only who (the (has me.0 who)), [])
     → who < s.callers → Tells z w e me x after → Told s who me after (event x)

@@ -33,7 +33,7 @@ module _ (n : ℕ) (items : List (Option Kept)) (v : View) (who : ℕ) (l : Loca
   place_low = let low = inside v who l here in let wide = places_wide n items v tied in omega arith
 
   module _ (found : Option Kept) (value : found ≡ slice_index_or items who found) where
-    -- What was found is what the bench keeps there.
+    -- What was found is what the bench keeps at the caller's place.
     pub place_found : slice_index_or items who None ≡ found
     place_found = index_any items who None found place_low ∙ sym value
 
@@ -140,8 +140,8 @@ module _ (n : ℕ) (items : List (Option Kept)) (v : View) (who : ℕ)
         omega arith),
   )
 
--- Places as they are at the start, with one more such place at their end, are places as they are at
--- the start.
+-- Places that keep callers at their start, with one more such place at the end, are places that
+-- keep callers at their start.
 pub push_fresh : (xs new : List (Option Kept)) (m : ℕ) (k : Notes) (s : Stance)
     → new ≡ xs ++ Some (record { notes = k; stance = s }) ∷ [] → xs ≡ replicate m (Some fresh_kept)
     → k ≡ notes_of 0 0 fresh → s ≡ fresh_stance → new ≡ replicate (m + 1) (Some fresh_kept)

@@ -19,7 +19,7 @@ opening_with (Some M) reply = Scan
 abbrev pub opening_by : Stance → Opening
 opening_by s = opening_with s.begins s.reply
 
--- The reply that is kept after a look which begins this: none after one that begins the view's
+-- The reply that is kept after a look with this opening: none after one that begins the view's
 -- scan, which carries the reply, and else the one kept before.
 abbrev pub reply_after : Opening → Option ℕ → Option ℕ
 reply_after (View x) reply = None

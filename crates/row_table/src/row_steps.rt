@@ -34,12 +34,12 @@ impl<P: Program> Rows<P> {
         // The region is the one of the scan that the caller means to begin, if it means to begin
         // one.
         requires region { FitsRegion (stance_of caller.old).begins region }
-        // The caller's next look, at this count, may begin what the caller means it to.
+        // By a look at this count the caller may begin what it means to begin.
         requires begins { MayBegin P.meaning self.now caller.old region j }
         // The caller is still one of these rows, with the same number.
         ensures caller { IsStill P.meaning self.now caller.old caller.new }
-        // The caller's local is its earlier one after one look, which found the answered count and
-        // began what the caller meant it to.
+        // The caller's local is the one before, changed by one look, which found the answered count
+        // and began what the caller meant to begin.
         ensures event { HasDone self.now caller.old caller.new
             (event.Look region j result (opening_of caller.old)) }
         // The caller means to begin no scan any more, and keeps no reply that the look carried.
@@ -82,8 +82,8 @@ impl<P: Program> Rows<P> {
             (event.knows_row self.now.callers (local_with caller.old) region j row) }
         // The caller is still one of these rows, with the same number.
         ensures caller { IsStill P.meaning self.now caller.old caller.new }
-        // The caller's local is its earlier one after one peek, which found the answered word at
-        // that place.
+        // The caller's local is the one before, changed by one peek, which found the answered word
+        // at that place.
         ensures event { HasDone self.now caller.old caller.new
             (event.Peek region j row place result) }
         // The caller's stance stays.
@@ -100,7 +100,7 @@ impl<P: Program> Rows<P> {
     }
 
     /// Stores a word at a place of the caller's own row under way, in a region. The row exists, and
-    /// the word is what belongs there in its phase.
+    /// the word is the one due at this place in the caller's phase.
     pub fn stage(&self, caller: &mut Caller<P>, region: Region, place: u32, word: u64)
         // The caller is one of these rows.
         requires caller { IsCallerOf P.meaning self.now caller.old }
@@ -108,7 +108,7 @@ impl<P: Program> Rows<P> {
         requires due { MayStage P.meaning self.now caller.old region place word }
         // The caller is still one of these rows, with the same number.
         ensures caller { IsStill P.meaning self.now caller.old caller.new }
-        // The caller's local is its earlier one after this word was staged at this place.
+        // The caller's local is the one before, changed by the staging of this word at this place.
         ensures event { HasDone self.now caller.old caller.new (event.Stage region place word) }
         // The caller's stance stays.
         ensures stance { stance_of caller.new ≡ stance_of caller.old }
@@ -130,7 +130,7 @@ impl<P: Program> Rows<P> {
             (event.is_row_staged self.now.callers (local_with caller.old) Region.N) }
         // The caller is still one of these rows, with the same number.
         ensures caller { IsStill P.meaning self.now caller.old caller.new }
-        // The caller's local is its earlier one after the announcement of its call.
+        // The caller's local is the one before, changed by the announcement of its call.
         ensures event { HasDone self.now caller.old caller.new event.Announce }
         // The caller's stance stays.
         ensures stance { stance_of caller.new ≡ stance_of caller.old }
@@ -151,7 +151,7 @@ impl<P: Program> Rows<P> {
             (event.is_row_staged self.now.callers (local_with caller.old) Region.M) }
         // The caller is still one of these rows, with the same number.
         ensures caller { IsStill P.meaning self.now caller.old caller.new }
-        // The caller's local is its earlier one after the publication of its record.
+        // The caller's local is the one before, changed by the publication of its record.
         ensures event { HasDone self.now caller.old caller.new event.Publish }
         // The caller's stance stays.
         ensures stance { stance_of caller.new ≡ stance_of caller.old }
