@@ -10,7 +10,7 @@ place_fits : (n : ℕ) (r : Region) (p : ℕ) → p < places n r → first_place
 place_fits n N p h = omega arith
 place_fits n M p h = omega arith
 
--- places of a row that are equal as words of the row are of one region, and equal in it
+-- places that are one word of a row are of one region, and are one place of it
 place_apart : (n : ℕ) (r q : Region) (p t : ℕ) → p < places n r → t < places n q
     → first_place n r + p ≡ first_place n q + t → (r ≡ q) × (p ≡ t)
 place_apart n N N p t a b e = (refl, omega arith)
