@@ -47,7 +47,8 @@ tally-none test f (suc n) none =
     let rest : tally test f n ≡ 0 = tally-none test f n (λ w low. none w (omega (arith, low))) in
     omega (arith, here, rest)
 
--- Of a value below the bound the sum is 1 where it passes, and else 0.
+-- The sum of 1 for one value below the bound, and of 0 for each other number, is 1 where the value
+-- passes the test, and else 0.
 tally-one : (test : ℕ → Bool) (v n : ℕ) → v < n
     → tally test (λ w. is_once w (Some v)) n ≡ bit (test v)
 tally-one test v zero low = absurd (omega (arith, low))
@@ -134,8 +135,9 @@ amount-of test n o v below e = ap (amount test n) e ∙ tally-shown test v n bel
 amount-none : (test : ℕ → Bool) (n : ℕ) (o : Option ℕ) → o ≡ None → amount test n o ≡ 0
 amount-none test n o e = ap (amount test n) e ∙ tally-empty test n
 
--- Of the values that pass, what the deal of a step shows and what the step puts in are together at
--- most what its deal puts in and what the step takes out.
+-- Of values that pass the test: the one that the deal of a step shows as taken, and the one that
+-- the step puts in, are together at most as many as the one that the deal puts in and the one that
+-- the step takes out.
 pub shown-put : (test : ℕ → Bool) (n : ℕ) (d : QueueDeal) (put taken : Option ℕ) → IsBelow test n
     → Does (known_deal d) put taken
     → bit (shows_one test d) + amount test n put ≤ bit (puts_one test d) + amount test n taken
@@ -148,8 +150,9 @@ shown-put test n did.FoundNothing put taken below does =
 shown-put test n did.OpenTake put taken below does = omega (arith, amount-none test n put does)
 shown-put test n did.Other put taken below does = omega (arith, amount-none test n put does.0)
 
--- Of the values that pass, what the deal of a step puts in and what the step takes out are together
--- at most what its deal may take and what the step puts in.
+-- Of values that pass the test: the one that the deal of a step puts in, and the one that the step
+-- takes out, are together at most as many as the one that the deal may take and the one that the
+-- step puts in.
 pub put-taken : (test : ℕ → Bool) (n : ℕ) (d : QueueDeal) (put taken : Option ℕ) → IsBelow test n
     → Does (known_deal d) put taken
     → bit (puts_one test d) + amount test n taken ≤ bit (may_take_one test d) + amount test n put

@@ -151,9 +151,9 @@ wider book cut i wide = omega (arith, wide, length-set cut i (get_or cut i 0 + 1
 
 -- ---- takes follow puts
 
--- Where places continue an order, the takes outside the cut that have taken effect by a moment are
--- at most as many as the puts outside it that may have taken effect by then and the values that are
--- held.
+-- Where places continue an order, the takes of some values outside the cut that have taken effect
+-- by a moment are at most as many as the puts of them outside it that may have taken effect by
+-- then, together with those of the values that are held.
 takes-behind : (reading : Reading) (book : List Page) (next : List ℕ → ℕ → List ℕ × ℕ)
     (table : Table) (values : List ℕ) (m : ℕ) → IsTable reading book table
     → IsContainer reading next → m < NEVER → (cut list : List ℕ) (rest : List Place)
@@ -239,9 +239,10 @@ no-due reading book table values m cut call is few may before =
           (held-next book cut found.0.call call its.0 m its.1 its.2 found.2 may))
     ]
 
--- Where places continue an order, and a take that finds nothing isn't in the cut, the puts outside
--- the cut that have taken effect by an earlier moment and the values that are held are together at
--- most as many as the takes outside it that may have taken effect by the take's own moment.
+-- Where places continue an order, and a take that finds nothing isn't in the cut, the puts of some
+-- values outside the cut that have taken effect by a moment up to which no view holds this take,
+-- together with those of the values that are held, are at most as many as the takes outside it that
+-- may have taken effect by the moment of its own view, or by a later one.
 finds-behind : (reading : Reading) (book : List Page) (next : List ℕ → ℕ → List ℕ × ℕ)
     (table : Table) (find : Call) (r : Record) (values : List ℕ) (m n : ℕ)
     → IsTable reading book table → IsContainer reading next
@@ -326,9 +327,9 @@ takes_follow_puts reading book table values m few ahead init next is container e
           (λ i. get_or-replicate_default (length book) i 0) has.1),
     )
 
--- Where a take finds nothing, and before any view holds it more puts of some values have taken
--- effect than takes may have taken out by its own view, no container that begins empty has a legal
--- order of a book with this table.
+-- Where a take finds nothing and no view up to a moment holds it, and by that moment more puts of
+-- some values have taken effect than takes may have taken out by the moment of the take's own view,
+-- or by a later one, no container that begins empty has a legal order of a book with this table.
 pub finds_leave_nothing : FindsLeaveNothing
 finds_leave_nothing reading book table find r values m n found known before low few ahead init
     next is container empty has =

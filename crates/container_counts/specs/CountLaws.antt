@@ -1,4 +1,4 @@
--- Counts of puts and takes in books of containers that have a legal order.
+-- Counts of puts and takes by which a container's book has no legal order.
 use Rattle.std.specs.Prelude.{◌≡◌, ℕ, ◌<◌, ◌≤◌, List, Some}
 use Rattle.book_base.specs.declared.call.Call.{Call}
 use Rattle.book_base.specs.declared.call.Record.{Record}
@@ -17,9 +17,9 @@ abbrev pub TakesFollowPuts : Type 0
 TakesFollowPuts = (reading : Reading) (book : List Page) (table : Table) (values : List ℕ) (m : ℕ)
     → m < NEVER → TakesAhead table values m m → ContainerHasNoOrder reading table book
 
--- Where a take finds nothing, and by a moment up to which no view holds it more puts of some values
--- have taken effect than takes may have taken out by the moment of its own view, or by a later one,
--- no container that begins empty has a legal order of a book with this table.
+-- Where a take finds nothing and no view up to a moment holds it, and by that moment more puts of
+-- some values have taken effect than takes may have taken out by the moment of the take's own view,
+-- or by a later one, no container that begins empty has a legal order of a book with this table.
 abbrev pub FindsLeaveNothing : Type 0
 FindsLeaveNothing = (reading : Reading) (book : List Page) (table : Table) (find : Call)
     (r : Record) (values : List ℕ) (m n : ℕ) → deal_of reading book find ≡ deals.FoundNothing

@@ -41,9 +41,10 @@ may_take_one test did.FoundNothing = false
 may_take_one test did.OpenTake = true
 may_take_one test did.Other = false
 
--- Whether a call is counted, of these values and up to a moment: a put or a take that shows a value
--- is due where its own view is no later than the moment, and early where some view that is no later
--- holds it; an unanswered take counts as an early take.
+-- Whether a call is counted, of these values and up to a moment: a put of one of them, or a take
+-- that shows one, is due where the last moment of its span is no later than this one, and early
+-- where the first moment of its span is no later; an unanswered take is early where the first
+-- moment of its span is no later.
 abbrev pub is_counted : Counted → List ℕ → ℕ → TimedCall → Bool
 is_counted counted.DuePuts values m t =
     if puts_one (listed values) t.deal then nat_le t.span.last m else false

@@ -9,10 +9,11 @@ use std::alloc::Global;
 // How many different values are looked at, at most, where a take finds nothing.
 const MOST_VALUES: usize = 64;
 
-/// Those calls of a table that some view holds, each with its value and a moment, in order:
-/// answered puts and takes with the moment of their own view, and puts, answered takes and
-/// unanswered takes, these with the value 0, with that of the first view that holds them; and the
-/// values of some answered puts.
+/// Moments of those calls of a table that some view holds, each with the call's value, in order: in
+/// `due_puts` and `due_takes` the moments of the own views of the answered puts, and of the takes
+/// that show a value; in the others the moments of the first views that hold the calls, in
+/// `early_puts` of all puts, in `early_takes` of the takes that show a value, in `open_takes` of
+/// the unanswered takes, with the value 0. And `values` has values of answered puts, each once.
 #[derive(Drop)]
 struct TableMoments {
     due_puts: Vec<(u64, u64)>,
