@@ -39,8 +39,8 @@ pub fn announce<P: Program, L: Ledger>(
     ensures caller { IsStill P.meaning rows.now caller (caller_announced result) }
     // The announced call has this operation.
     ensures operation { op_announced result ≡ op }
-    // The caller's local is its earlier one after a scan of N and the row of this operation, with
-    // no other event.
+    // The caller's local is the one before, changed by a scan of N, then by the row of this
+    // operation, and by no other event.
     ensures announced { HasAnnounced rows.now.callers op (local_with caller)
         (announced_local result) }
     // The caller's calls are those before with the announced one at the end, and its published

@@ -37,8 +37,8 @@ pub fn view<P: Program, L: Ledger>(
         × (reply_viewed result ≡ reply_answered answered) }
     // The view has one count for each caller.
     ensures wide { length (view_viewed result) ≡ rows.now.callers }
-    // The caller's local is its earlier one after a scan of N that began with the reply and gave
-    // the view, with no other event.
+    // The caller's local is the one before, changed by a scan of N that began with the reply and
+    // gave the view, and by no other event.
     ensures viewed { HasViewed rows.now.callers (reply_viewed result) (view_viewed result)
         (answered_local answered) (viewed_local result) }
     // The caller's last call has its record, of the reply and the view, and its progress is as

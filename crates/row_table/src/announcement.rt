@@ -20,7 +20,8 @@ pub fn announce_row<P: Program>(rows: &Rows<P>, caller: &mut Caller<P>, op: OpWo
     requires may { MayAnnounce rows.now.callers rows.now.cap cut.now (local_with caller.old) }
     // The caller is still one of these rows, with the same number.
     ensures caller { IsStill P.meaning rows.now caller.old caller.new }
-    // The caller's local is its earlier one after the announcement of a call with this operation.
+    // The caller's local is the one before, changed by the announcement of a call with this
+    // operation.
     ensures announced { local_with caller.new
         ≡ local_announced rows.now.callers op (local_with caller.old) }
     // The caller's stance stays.

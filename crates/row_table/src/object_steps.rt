@@ -30,8 +30,8 @@ impl<P: InWorld> Rows<P> {
         requires program { MayStep P.meaning self.now caller.old place (λ x. x) }
         // The caller is still one of these rows, with the same number.
         ensures caller { IsStill P.meaning self.now caller.old caller.new }
-        // The caller's local is its earlier one after one object step, which found the answered
-        // word and left it there.
+        // The caller's local is the one before, changed by one object step, which found the
+        // answered word and left it there.
         ensures event { HasDone self.now caller.old caller.new (object_step place result result) }
         // The caller's stance stays.
         ensures stance { stance_of caller.new ≡ stance_of caller.old }
@@ -52,8 +52,8 @@ impl<P: InWorld> Rows<P> {
         requires program { MayStep P.meaning self.now caller.old place (λ _. word) }
         // The caller is still one of these rows, with the same number.
         ensures caller { IsStill P.meaning self.now caller.old caller.new }
-        // The caller's local is its earlier one after one object step, which found some word and
-        // left the stored one.
+        // The caller's local is the one before, changed by one object step, which found some word
+        // and left the stored one.
         ensures event { (x : ℕ) × (x < 2 ^ 64)
             × (HasDone self.now caller.old caller.new (object_step place x word)) }
         // The caller's stance stays.
@@ -76,8 +76,8 @@ impl<P: InWorld> Rows<P> {
         requires program { MayStep P.meaning self.now caller.old place (λ x. (x + add) % 2 ^ 64) }
         // The caller is still one of these rows, with the same number.
         ensures caller { IsStill P.meaning self.now caller.old caller.new }
-        // The caller's local is its earlier one after one object step, which found the answered
-        // word and left the sum modulo 2^64.
+        // The caller's local is the one before, changed by one object step, which found the
+        // answered word and left the sum modulo 2^64.
         ensures event { HasDone self.now caller.old caller.new
             (object_step place result ((result + add) % 2 ^ 64)) }
         // The caller's stance stays.
@@ -107,8 +107,8 @@ impl<P: InWorld> Rows<P> {
             (λ x. either (x == old) new x) }
         // The caller is still one of these rows, with the same number.
         ensures caller { IsStill P.meaning self.now caller.old caller.new }
-        // The caller's local is its earlier one after one object step, which found the answered
-        // word, and left `new` exactly where that was `old`.
+        // The caller's local is the one before, changed by one object step, which found the
+        // answered word, and left `new` exactly where that was `old`.
         ensures event { HasDone self.now caller.old caller.new (object_step place (found_by result)
             (either (found_by result == old) new (found_by result))) }
         // The caller's stance stays.

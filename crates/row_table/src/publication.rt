@@ -28,7 +28,7 @@ pub fn publish_row<P: Program>(
     requires may { MayPublish rows.now.callers reply view.now cut.now (local_with caller.old) }
     // The caller is still one of these rows, with the same number.
     ensures caller { IsStill P.meaning rows.now caller.old caller.new }
-    // The caller's local is its earlier one after the publication of its record.
+    // The caller's local is the one before, changed by the publication of its record.
     ensures published { HasDone rows.now caller.old caller.new event.Publish }
     // The caller's stance stays.
     ensures stance { stance_of caller.new ≡ stance_of caller.old }
