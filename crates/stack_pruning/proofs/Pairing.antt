@@ -161,8 +161,8 @@ both_hold bound v [] lacks small = tt
 both_hold bound v (x ∷ rest) lacks small =
     ((lacks.0, small.0), both_hold bound v rest lacks.1 small.1)
 
--- Marks suffice where they are on a caller whose next call alone puts in a value that isn't in the
--- list, and the take of this value with the least view may come next.
+-- Marks suffice where they are on a caller whose next call is the only one that puts in some value,
+-- which isn't in the list, and the take of this value with the least view may come next.
 pub paired_put_suffices : (reading : Reading) (next : List ℕ → ℕ → List ℕ × ℕ) (bound : ℕ)
     → GivesLastFirst reading next bound → (book : List Page) (cut list : List ℕ)
     (caller : ℕ) (marks : MarkedCallers) → IsSmall bound list → IsValid book → HasOneOpen book

@@ -23,8 +23,8 @@ within_past book valid take other view r s its same others past =
       ))
     ]
 
--- In a valid book, a call's view is within that of another call, if it is so where it holds the
--- other call.
+-- In a valid book, a call's view is within that of another call, if it is within that view where it
+-- holds the other call.
 pub least_view : (book : List Page) → IsValid book → (take other : Call) (view : List ℕ)
     → IsSomeAnd (record_of book take) (λ (r : Record). view ≡ r.view)
     → ((s : Record) → record_of book other ≡ Some s → other.number < get_or view other.caller 0

@@ -396,8 +396,8 @@ has_take old mid new v place call was now is there same items puts shows =
           (length was.shows.items, slice_get-push_last was.shows.items call);
     }
 
--- A caller's next call puts the least value where it alone puts in a value less than all items, and
--- the take of this value with the least view may come next.
+-- `PutsLeast` holds of a caller where its next call is the only one that puts in some value less
+-- than all items, and the take of this value with the least view may come next.
 pub puts_least : (reading : Reading) (book : List Page) (cut list : List ℕ) (sight : Sight)
     (marks : MarkedCallers) (caller v : ℕ) (taker : Option ℕ) → ListsValues reading book sight
     → MarksAllNext book cut marks → PutsIn reading book (next_call cut caller) v

@@ -237,8 +237,8 @@ put_and_taken reading next bound is book v put take small valid one alone two
           )
     ]
 
--- Where the next call of a caller alone puts in a value less than all items, and its take may come
--- next, the put suffices.
+-- Where the next call of a caller is the only one that puts in some value less than all items, and
+-- the value's take with the least view may come next, the put suffices.
 pub put_suffices : (reading : Reading) (next : List ℕ → ℕ → List ℕ × ℕ) (bound : ℕ)
     → GivesLeastFirst reading next bound → (book : List Page) (cut list : List ℕ)
     (caller : ℕ) (marks : MarkedCallers) → IsRising bound list → IsValid book → HasOneOpen book

@@ -58,8 +58,9 @@ abbrev pub IsBelowFirst : ℕ → List ℕ → Type 0
 IsBelowFirst v [] = Unit {0}
 IsBelowFirst v (x ∷ rest) = v < x
 
--- The next call of a caller alone puts in a value that is less than all items, and the next call of
--- another one takes it.
+-- The next call of a caller is the only one that puts in some value, which is less than the first
+-- item, if there is one; and the next call of another caller may come next and takes this value,
+-- with the least view of all answered calls outside the cut that take it.
 pub record PutsLeast (reading : Reading) (book : List Page) (cut list : List ℕ)
     (caller : ℕ) : Type 0 where
   pub value : ℕ

@@ -79,8 +79,8 @@ fn first_take<R: Reader>(
     }
 }
 
-// A marked caller whose next call alone puts in a value less than all items, where the value's
-// take may come next.
+// A marked caller whose next call is the only one that puts in some value less than all items,
+// where the value's take with the least view may come next.
 fn least_put<R: Reader>(
     reader: &R,
     sight: &Sight,
@@ -104,8 +104,8 @@ fn least_put<R: Reader>(
     None
 }
 
-// Whether a marked caller's next call alone puts in a value less than all items, and the value's
-// take may come next.
+// Whether a marked caller's next call is the only one that puts in some value less than all items,
+// and the value's take with the least view may come next.
 fn puts_least<R: Reader>(
     reader: &R,
     sight: &Sight,
