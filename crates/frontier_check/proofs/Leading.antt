@@ -166,8 +166,8 @@ reached-from_leads init next book prefix frames cut list f leads = record {
 pub sum_raised : (cut : List ℕ) (i : ℕ) → i < length cut → sum (raised cut i) ≡ sum cut + 1
 sum_raised cut i h = omega (arith, sum_by-set (λ (n : ℕ). n) cut i (get_or cut i 0 + 1) 0 h)
 
--- Where a cut counts no more calls than a book has, so does the cut that is raised by a caller's
--- next call, which the book has.
+-- Where a cut counts no more calls of any caller than a book has, the cut that is raised by a
+-- caller's next call, which the book has, counts no more of any caller than the book has either.
 pub raised_within : (book : List Page) (cut : List ℕ) (call : Call) → call.caller < length cut
     → IsCall book call → call.number ≡ get_or cut call.caller 0
     → ((i : ℕ) → get_or cut i 0 ≤ calls_of book i) → (i : ℕ)

@@ -104,8 +104,8 @@ impl Takes {
     }
 
     // Whether the takes take out first what was put in first, when two words are put in by the two
-    // kept operations, in either order; it is so too where no take or fewer than two operations are
-    // kept.
+    // kept operations, in either order; the answer is `true` too where no take is kept, or fewer
+    // than two operations that may put a word in.
     fn is_queue<S: SeqObject>(&self, object: &S, spare: &mut State) -> bool
         requires { spare.old.room ≡ CAPACITY }
         ensures { spare.new.room ≡ CAPACITY }

@@ -30,7 +30,7 @@ account_of l =
       steps = all_steps_of l;
     }
 
--- Where a caller's account stays as it was, so does its progress.
+-- Where a caller's account stays as it was, its progress stays as it was.
 abbrev pub NothingGrows : Type 0
 NothingGrows = (l m : Local) → account_of m ≡ account_of l → progress_of m ≡ progress_of l
 

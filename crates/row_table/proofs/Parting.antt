@@ -361,7 +361,8 @@ together_at_start s =
       locals_are = λ i l e. get_or-replicate_default s.callers i fresh ∙ fresh_is s.callers i l e;
     }
 
--- Locals of one reachable world are so without the local of one caller.
+-- Locals of one reachable world are still those of one reachable world without the local of one
+-- caller.
 pub together_but : (s : Shape) (v : View) (who : ℕ) → Together s v
     → Together s (slice_set v who None)
 together_but s v who h =

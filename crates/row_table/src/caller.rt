@@ -81,8 +81,9 @@ impl<P> Caller<P> {
         // The answer is what is due next in the scan under way, and None where no scan is under
         // way.
         ensures wants { result ≡ wanted_next self.now.callers (local_with self.now).scan }
-        // A look or a peek that is due is at a caller of the table, and so is the entry of such a
-        // peek; the cut of a scan that has ended has one count for each caller.
+        // A look that is due is at a caller of the table, and a peek that is due is into a row of
+        // one of them, at the entry for one of them; the cut of a scan that has ended has one count
+        // for each caller.
         ensures fits { IfSome result (λ want. FitsCallers self.now.callers want) }
     {
         match &self.notes.scan {

@@ -25,8 +25,8 @@ LeavesBy step reply = (list : List ℕ) → (step list).1 ≡ reply → (step li
 abbrev pub Changes : (List ℕ → List ℕ × ℕ) → ℕ → Type 0
 Changes step reply = (list : List ℕ) × ((step list).1 ≡ reply) × ((step list).0 ≡ list → ⊥)
 
--- a test tells with which replies a step is read-only, where it is so with each for which the
--- answer is yes, and changes a list with each for which it is no
+-- a test answers whether a step is read-only with a reply, where its answer yes means that the step
+-- is, and its answer no that the step changes some list at which it has this reply
 pub tells_read_only : (test : Bool) (step : List ℕ → List ℕ × ℕ) (reply : ℕ)
     → (test ≡ true → LeavesBy step reply) → (test ≡ false → Changes step reply) → IsTrue test
     ↔ LeavesBy step reply

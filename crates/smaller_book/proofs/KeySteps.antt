@@ -800,7 +800,8 @@ alike_by key a b c d e f alike = (
 )
 
 -- Where a get of a step's key replies the same on two lists, each without two items of one key, the
--- step has the same reply on both, and so has a get of the key after it.
+-- step has the same reply on both, and a get of the key after the step has the same reply on both
+-- too.
 replies_alike : (xs ys : List ℕ) (word : ℕ) → HasKeysOnce xs → HasKeysOnce ys
     → got xs (argument_of word) ≡ got ys (argument_of word)
     → AreAlike (argument_of word) (map_after xs (map_operation word))

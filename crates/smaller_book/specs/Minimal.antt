@@ -74,9 +74,8 @@ pub record IsSmaller (kind : Kind) (book : List Page) (names : List (List ℕ))
 abbrev pub picked : List ℕ → List ℕ → List ℕ
 picked numbers places = map (λ place. slice_index numbers place) places
 
--- For each caller the numbers that its calls in a part of a part have in the book: the second
--- part's numbers are places among those of the first part, and each stands for the number at its
--- place.
+-- For each caller the numbers that its calls in a part of a part have in the book: those that the
+-- first part's list has at the places that the second part's list has.
 abbrev pub composed : List (List ℕ) → List (List ℕ) → List (List ℕ)
 composed first second =
     map (λ i. picked (numbers_of first i) (numbers_of second i)) (range_with_len 0 (length second))

@@ -136,7 +136,8 @@ abbrev pub no_calls : List Page → List ℕ
 no_calls book = replicate (length book) 0
 
 -- A table is closed: its first level is the bottom, the bottom after no call is one of its pairs,
--- each level that is said to be kept may be said to be so, and each of its pairs is closed.
+-- each level that is said to be kept is kept, as `IsKeptLayer` says, and each of its pairs is
+-- closed.
 pub record IsClosed (reading : Reading) (book : List Page) (layers : List Layer)
     (nodes : Nodes) : Type 0 where
   pub bottom : Layer

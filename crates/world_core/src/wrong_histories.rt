@@ -8,7 +8,7 @@ ghost use Rattle.world_core.specs.WrongHistories.{both_return_0, second_returns_
 
 /// Which histories aren't linearizable for an object whose reply is the number of operations
 /// before. The reply of each call counts, whichever caller's call it is, and whether it is the
-/// caller's first or a later one; and so does the order of any two calls, whether other calls stand
+/// caller's first or a later one. The order of any two calls counts too, whether other calls stand
 /// between them or not.
 #[tactic(auto, using(crate::proofs::WrongHistories::both_0_forbidden, crate::proofs::WrongHistories::second_1_forbidden, crate::proofs::WrongHistories::unanswered_forbidden, crate::proofs::WrongHistories::beside_forbidden, crate::proofs::WrongHistories::again_forbidden))]
 pub fn wrong_histories_are_not_linearizable()

@@ -60,8 +60,9 @@ AllOwned s w = (i : ℕ) → i < s.callers → Owned s w i (local_of w i) (local
 owns_none : (i count : ℕ) (kept : Option (List ℕ)) → kept ≡ None → OwnsKept i count kept
 owns_none i count kept none = subst (λ (o : Option (List ℕ)). OwnsKept i count o) (sym none) tt
 
--- where the own entry of each cut k of a list is k and some number more, it is so with one cut more
--- whose own entry fits
+-- where the own entry of each cut of a list is the cut's place and some number more, and the own
+-- entry of one more cut at the end fits its place, each cut of the longer list has its place and
+-- that number more as its own entry
 pushed_own : (i more : ℕ) (cuts : List (List ℕ)) (cut : List ℕ)
     → ((k : ℕ) → k < length cuts → slice_index (slice_index_or cuts k []) i ≡ k + more)
     → slice_index cut i ≡ length cuts + more → (k : ℕ) → k < length (cuts ++ cut ∷ [])

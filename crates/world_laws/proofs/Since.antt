@@ -119,7 +119,7 @@ module _ (s : Shape) (from : World) where
       → AreHigh scan.region scan.taken
 
   -- Each row that a caller counted since, but the first, embeds a cut that is high; and once it
-  -- counted one, so are the cut that it may embed next and the words of its scan under way.
+  -- counted one, the cut that it may embed next and the words of its scan under way are high too.
   pub record High (j : ℕ) (l : Local) : Type 0 where
     pub grows : (r : Region) → count_of s from r j ≤ own_count l r
     pub rows : (r : Region) (k : ℕ) → count_of s from r j < k → k < own_count l r
