@@ -76,7 +76,7 @@ local_in_scan n before region opening taken =
 
 -- A caller's local after a scan that began on the local `before` with this opening, took these
 -- words and ended with this cut: no scan is under way, the cut is the last one that was given, and
--- it is put to the use that `purpose_of` says.
+-- it has served the purpose that `purpose_of` says.
 abbrev pub local_after_scan : ℕ → Local → Region → Opening → List ℕ → List ℕ → Local
 local_after_scan n before region opening taken cut =
     went_on (local_in_scan n before region opening taken)
