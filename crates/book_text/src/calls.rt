@@ -35,7 +35,7 @@ pub fn read_calls<T: OpText>(
     // follows these lines is left.
     ensures found { IfOk result (λ book.
         AreCallLines Second (T.operations operations.now) calls.now book lines.old lines.new) }
-    // A refusal is the first fault of the lines, or lack of memory.
+    // A refusal is the first fault of the lines, or want of memory.
     ensures refused { IfErr result
         (AreNoCallLines Second (T.operations operations.now) calls.now lines.old) }
     // A refusal leaves the lines as they were.
@@ -169,12 +169,12 @@ fn record_entry(book: &mut Book, call: Call, entry: CallEntry) -> Result<(), Boo
 
 /// The fault with which a text is refused where the book refused the view in this line.
 pub fn refusal(line: u64, fault: BookFault) -> ReadFault
-    // The fault is one of a test of views, or lack of memory.
+    // The fault is one of a test of views, or want of memory.
     requires { MayRefuse fault }
     // A fault of a test of views is answered as a refusal of this line with the name of that test.
     ensures text { IfSome (view_test fault) (λ what.
         result ≡ ReadFault.Text (record { line = line; what = what })) }
-    // Lack of memory is answered as `NoMemory`.
+    // Want of memory is answered as `NoMemory`.
     ensures memory { IfNone (view_test fault) (result ≡ ReadFault.NoMemory) }
 {
     let what = match fault {

@@ -123,7 +123,7 @@ pub(crate) fn halted<P: Program>(rows: &Rows<P>, caller: Caller<P>) -> Caller<P>
 /// 2023).
 ///
 /// After `Delivered` the caller is live and idle, and after `Illegal` it is halted. `Unjudged`
-/// comes for lack of memory alone. The guide keeps the last order that was found; it costs or saves
+/// comes for want of memory alone. The guide keeps the last order that was found; it costs or saves
 /// time, and never changes a verdict.
 ///
 /// `gathered` is the book that this caller has gathered before, or `None`: the new book grows from

@@ -96,7 +96,7 @@ pub(crate) fn decide_after<P: Program, S: SeqObject, L: Ledger>(
 /// its last order with marks: answers how the line ends (Castañeda and Rodríguez 2023).
 ///
 /// After `Delivered` the caller is live and idle, and after `Error` it is halted. `Unjudged` comes
-/// for lack of memory alone.
+/// for want of memory alone.
 ///
 /// `gathered` is the book that this caller has gathered before, and `standing` an order with its
 /// marks in that book, for this object; both are `None` before the caller's first call. The new

@@ -110,7 +110,7 @@ abbrev pub with_told : List Page → Call → Line → List Page
 with_told book call line = with_line book call line.op (answer_in line.end)
 
 -- The line with this number is refused for an answer with this view, or for the words after it: for
--- lack of memory, by the first test of views that the view fails, or since the words say no
+-- want of memory, by the first test of views that the view fails, or since the words say no
 -- verdict.
 abbrev pub IsAnswerRefused : List Page → Call → List ℕ → List (List ℕ) → ℕ → ReadFault → Type 0
 IsAnswerRefused book call view words number e =
@@ -120,7 +120,7 @@ IsAnswerRefused book call view words number e =
     × IsFirstFault book call.caller view fault)
     ⊎ (MayAnswer book call.caller view × IsNoVerdict (length book) words name)))
 
--- The line with these words and this number is refused for lack of memory, or for the test that it
+-- The line with these words and this number is refused for want of memory, or for the test that it
 -- fails first after any lines that give this book.
 abbrev pub AreWordsRefused : Kind → List Page → Call → List (List ℕ) → ℕ → ReadFault → Type 0
 AreWordsRefused kind book call words number e =

@@ -24,7 +24,7 @@ pub fn read_report(alloc: Global, bytes: &[u8]) -> Result<Report, ReadFault>
     // A text of a report is read as that report, unless memory runs out.
     ensures only { (findings : Findings) → IsReportText bytes.now findings
         → MatchResult result (λ report. report ≡ findings) (λ e. e ≡ ReadFault.NoMemory) }
-    // A refusal is for lack of memory, or is the first fault of bytes that are no report's text.
+    // A refusal is for want of memory, or is the first fault of bytes that are no report's text.
     ensures refused { IfErr result (λ e. (e ≡ ReadFault.NoMemory)
         ⊎ ((fault : TextFault) × (e ≡ ReadFault.Text fault)
         × IsFirstReportFault bytes.now fault × IsNoReportText bytes.now)) }

@@ -76,7 +76,7 @@ module _ {Due Said : Type 0} (rules : Rules Due) (are_sharp : AreSharp rules) (s
   only_read bytes (Err NoMemory) h k said read = refl
   only_read bytes (Err (Text fault)) h k said read = absurd (no_first bytes said fault read k)
 
-  -- a reader refuses bytes for lack of memory, or with the first fault of bytes that are no text
+  -- a reader refuses bytes for want of memory, or with the first fault of bytes that are no text
   pub refused_read : (bytes : List ℕ) (result : Result Said ReadFault)
       → IfErr result (λ e. StopsFor rules start (whole bytes) e)
       → IfErr result (λ e. (e ≡ NoMemory) ⊎ ((fault : TextFault) × (e ≡ Text fault)
